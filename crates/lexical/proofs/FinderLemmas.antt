@@ -1,0 +1,190 @@
+-- Each word on forms has a finder.
+use Rattle.std.proofs.Common.{◌≡◌, ℕ, Bool, true, false, cond, ◌==◌, List, [], ◌∷◌, ◌++◌, Option, Some, None, IfSome, IsTrue, inl, inr, refl, sym, ap, ap₂, ◌∙◌, subst, append_assoc, eqb-true, eq-eqb}
+use Rattle.std.specs.List.{list_all}
+use Rattle.std.proofs.lemmas.Bool.{cond-true, cond-false, cond_both, and_parts, and_from}
+use Rattle.lexical.specs.Text.{begins_any, first_passes}
+use Rattle.lexical.specs.Form.{Form, HasNone, Then, Either, NotAt, Exactly, One, Run, Never}
+use Rattle.lexical.specs.Finder.{Finder, Finds, while_front, while_rest, behind, and_find, or_find, if_passes, find_then, find_else, find_if, find_not_at, find_where, find_one, find_run, find_text, find_never}
+
+-- a finder's answer
+abbrev pub Answer : Type 0
+Answer = Option (List ℕ × List ℕ)
+
+-- what was found is of the form
+abbrev pub IsSplit : Form → List ℕ → List ℕ × List ℕ → Type 0
+IsSplit A text x = (text ≡ x.0 ++ x.1) × A x.0 x.1
+
+-- ---- what every finder gives
+
+pub found_is : (f : Finder) (A : Form) → Finds f A → (text p r : List ℕ) → f text ≡ Some (p, r) → (text ≡ p ++ r) × A p r
+found_is f A h text p r e = subst (λ o. IfSome o (IsSplit A text)) e (h.sound text)
+
+pub none_is : (f : Finder) (A : Form) → Finds f A → (text : List ℕ) → f text ≡ None → HasNone A text
+none_is f A h text e p r whole is =
+    let clash : ◌≡◌ {A = Answer} None (Some (p, r)) = sym e ∙ (ap f whole ∙ h.complete p r is) in
+    cc
+
+pub none_found : (f : Finder) (A : Form) → Finds f A → (text : List ℕ) → HasNone A text → f text ≡ None
+none_found f A h text none = by_cases (f text) (h.sound text)
+  where
+    by_cases : (o : Answer) → IfSome o (IsSplit A text) → o ≡ None
+    by_cases None is = refl
+    by_cases (Some x) is = absurd (none x.0 x.1 is.0 is.1)
+
+-- at most one split of a text is a piece of the form
+pub one_split : (f : Finder) (A : Form) → Finds f A → (p q r s : List ℕ) → A p r → A q s → p ++ r ≡ q ++ s → (p ≡ q) × (r ≡ s)
+one_split f A h p q r s is other e =
+    let same : ◌≡◌ {A = Answer} (Some (p, r)) (Some (q, s)) = sym (h.complete p r is) ∙ (ap f e ∙ h.complete q s other) in
+    let parts : ◌≡◌ {A = List ℕ × List ℕ} (p, r) (q, s) = cc in
+    (ap (λ x. x.0) parts, ap (λ x. x.1) parts)
+
+-- forms with the same pieces
+pub finds_same : (f : Finder) (A B : Form) → Finds f A → ((p r : List ℕ) → A p r → B p r) → ((p r : List ℕ) → B p r → A p r) → Finds f B
+finds_same f A B h to from = record {
+  sound = λ text. by_cases text (f text) (h.sound text);
+  complete = λ p r is. h.complete p r (from p r is);
+}
+  where
+    by_cases : (text : List ℕ) (o : Answer) → IfSome o (IsSplit A text) → IfSome o (IsSplit B text)
+    by_cases text None is = tt
+    by_cases text (Some x) is = (is.0, to x.0 x.1 is.1)
+
+-- ---- `Then`
+
+then_back : (A B : Form) (text : List ℕ) (x : List ℕ × List ℕ) → IsSplit A text x → (o : Answer) → IfSome o (IsSplit B x.1) → IfSome (behind x.0 o) (IsSplit (Then A B) text)
+then_back A B text x is None more = tt
+then_back A B text x is (Some y) more = (
+  is.0 ∙ (ap (λ xs. x.0 ++ xs) more.0 ∙ sym (append_assoc x.0 y.0 y.1)),
+  record { front = x.0; back = y.0; whole = refl; first = subst (λ xs. A x.0 xs) more.0 is.1; second = more.1 },
+)
+
+then_front : (g : Finder) (A B : Form) → Finds g B → (text : List ℕ) (o : Answer) → IfSome o (IsSplit A text) → IfSome (and_find g o) (IsSplit (Then A B) text)
+then_front g A B h text None is = tt
+then_front g A B h text (Some x) is = then_back A B text x is (g x.1) (h.sound x.1)
+
+-- a text that begins with a piece of the first form and then one of the second
+pub then_whole : (A B : Form) (p r : List ℕ) (h : Then A B p r) → p ++ r ≡ h.front ++ (h.back ++ r)
+then_whole A B p r h = ap (λ q. q ++ r) h.whole ∙ append_assoc h.front h.back r
+
+pub finds_then : (f g : Finder) (A B : Form) → Finds f A → Finds g B → Finds (find_then f g) (Then A B)
+finds_then f g A B h j = record {
+  sound = λ text. then_front g A B j text (f text) (h.sound text);
+  complete = λ p r is.
+      ap (λ t. and_find g (f t)) (then_whole A B p r is)
+      ∙ (ap (and_find g) (h.complete is.front (is.back ++ r) is.first)
+      ∙ (ap (behind is.front) (j.complete is.back r is.second) ∙ ap (λ q. Some (q, r)) (sym is.whole)));
+}
+
+-- ---- a form where this holds
+
+if_sound : (holds : Bool) (A : Form) (text : List ℕ) (o : Answer) → holds ≡ true → IfSome o (IsSplit A text) → IfSome o (IsSplit (λ p r. IsTrue holds × A p r) text)
+if_sound holds A text None e is = tt
+if_sound holds A text (Some x) e is = (is.0, (e, is.1))
+
+pub finds_if : (holds : Bool) (f : Finder) (A : Form) → Finds f A → Finds (find_if holds f) (λ p r. IsTrue holds × A p r)
+finds_if holds f A h = record {
+  sound = λ text. cond_both holds (f text) None (λ o. IfSome o (IsSplit (λ p r. IsTrue holds × A p r) text)) (λ e. if_sound holds A text (f text) e (h.sound text)) (λ e. tt);
+  complete = λ p r is. cond-true _ _ _ is.0 ∙ h.complete p r is.1;
+}
+
+-- ---- `Either`, where the first finder finds nothing that the second does
+
+either_sound : (A B : Form) (text : List ℕ) (o other : Answer) → IfSome o (IsSplit A text) → IfSome other (IsSplit B text) → IfSome (or_find o other) (IsSplit (Either A B) text)
+either_sound A B text None None h j = tt
+either_sound A B text None (Some x) h j = (j.0, inr j.1)
+either_sound A B text (Some x) other h j = (h.0, inl h.1)
+
+pub finds_either : (f g : Finder) (A B : Form) → Finds f A → Finds g B → ((p r : List ℕ) → B p r → f (p ++ r) ≡ None) → Finds (find_else f g) (Either A B)
+finds_either f g A B h j none = record {
+  sound = λ text. either_sound A B text (f text) (g text) (h.sound text) (j.sound text);
+  complete = λ p r is. elim is [
+    | inl a ↦ ap (λ o. or_find o (g (p ++ r))) (h.complete p r a)
+    | inr b ↦ ap (λ o. or_find o (g (p ++ r))) (none p r b) ∙ j.complete p r b
+  ];
+}
+
+-- ---- `NotAt`
+
+not_at_sound : (A : Form) (fronts : List (List ℕ)) (text : List ℕ) (o : Answer) → begins_any fronts text ≡ false → IfSome o (IsSplit A text) → IfSome o (IsSplit (NotAt fronts A) text)
+not_at_sound A fronts text None e is = tt
+not_at_sound A fronts text (Some x) e is = (is.0, (is.1, ap (begins_any fronts) (sym is.0) ∙ e))
+
+pub finds_not_at : (fronts : List (List ℕ)) (f : Finder) (A : Form) → Finds f A → Finds (find_not_at fronts f) (NotAt fronts A)
+finds_not_at fronts f A h = record {
+  sound = λ text. cond_both (begins_any fronts text) None (f text) (λ o. IfSome o (IsSplit (NotAt fronts A) text)) (λ e. tt) (λ e. not_at_sound A fronts text (f text) e (h.sound text));
+  complete = λ p r is. cond-false _ _ _ is.1 ∙ h.complete p r is.0;
+}
+
+-- ---- a form whose pieces pass
+
+where_sound : (test : List ℕ → List ℕ → Bool) (A : Form) (text : List ℕ) (o : Answer) → IfSome o (IsSplit A text) → IfSome (if_passes test o) (IsSplit (λ p r. A p r × IsTrue (test p r)) text)
+where_sound test A text None is = tt
+where_sound test A text (Some x) is = cond_both (test x.0 x.1) (Some x) None (λ o. IfSome o (IsSplit (λ p r. A p r × IsTrue (test p r)) text)) (λ e. (is.0, (is.1, e))) (λ e. tt)
+
+pub finds_where : (test : List ℕ → List ℕ → Bool) (f : Finder) (A : Form) → Finds f A → Finds (find_where test f) (λ p r. A p r × IsTrue (test p r))
+finds_where test f A h = record {
+  sound = λ text. where_sound test A text (f text) (h.sound text);
+  complete = λ p r is. ap (if_passes test) (h.complete p r is.0) ∙ cond-true _ _ _ is.1;
+}
+
+-- ---- `Run`
+
+pub while_whole : (passes : ℕ → Bool) (text : List ℕ) → while_front passes text ++ while_rest passes text ≡ text
+while_whole passes [] = refl
+while_whole passes (c ∷ text) = cond_both (passes c) (c ∷ while_front passes text) [] (λ xs. xs ++ cond (passes c) (while_rest passes text) (c ∷ text) ≡ c ∷ text)
+    (λ e. ap (λ ys. (c ∷ while_front passes text) ++ ys) (cond-true _ _ _ e) ∙ ap (λ ys. c ∷ ys) (while_whole passes text))
+    (λ e. cond-false _ _ _ e)
+
+while_passes : (passes : ℕ → Bool) (text : List ℕ) → list_all passes (while_front passes text) ≡ true
+while_passes passes [] = refl
+while_passes passes (c ∷ text) = cond_both (passes c) (c ∷ while_front passes text) [] (λ xs. list_all passes xs ≡ true) (λ e. and_from _ _ e (while_passes passes text)) (λ e. refl)
+
+while_stops : (passes : ℕ → Bool) (text : List ℕ) → first_passes passes (while_rest passes text) ≡ false
+while_stops passes [] = refl
+while_stops passes (c ∷ text) = cond_both (passes c) (while_rest passes text) (c ∷ text) (λ xs. first_passes passes xs ≡ false) (λ e. while_stops passes text) (λ e. e)
+
+pub while_rest_none : (passes : ℕ → Bool) (r : List ℕ) → first_passes passes r ≡ false → (while_front passes r ≡ []) × (while_rest passes r ≡ r)
+while_rest_none passes [] stops = (refl, refl)
+while_rest_none passes (c ∷ r) stops = (cond-false _ _ _ stops, cond-false _ _ _ stops)
+
+-- the front and the rest are the only such split
+while_split : (passes : ℕ → Bool) (q r : List ℕ) → list_all passes q ≡ true → first_passes passes r ≡ false → (while_front passes (q ++ r) ≡ q) × (while_rest passes (q ++ r) ≡ r)
+while_split passes [] r all stops = while_rest_none passes r stops
+while_split passes (c ∷ q) r all stops =
+    let parts = and_parts _ _ all in
+    let more = while_split passes q r parts.1 stops in
+    (cond-true _ _ _ parts.0 ∙ ap (λ xs. c ∷ xs) more.0, cond-true _ _ _ parts.0 ∙ more.1)
+
+pub finds_run : (passes : ℕ → Bool) → Finds (find_run passes) (Run passes)
+finds_run passes = record {
+  sound = λ text. (sym (while_whole passes text), record { each = while_passes passes text; stops = while_stops passes text });
+  complete = λ q r is. let split = while_split passes q r is.each is.stops in ap₂ (λ x y. Some (x, y)) split.0 split.1;
+}
+
+-- ---- `One`, `Exactly`, `Never`
+
+one_sound : (passes : ℕ → Bool) (text : List ℕ) → IfSome (find_one passes text) (IsSplit (One passes) text)
+one_sound passes [] = tt
+one_sound passes (c ∷ text) = cond_both (passes c) (Some (c ∷ [], text)) None (λ o. IfSome o (IsSplit (One passes) (c ∷ text))) (λ e. (refl, (c, refl, e))) (λ e. tt)
+
+pub finds_one : (passes : ℕ → Bool) → Finds (find_one passes) (One passes)
+finds_one passes = record {
+  sound = one_sound passes;
+  complete = λ q r is. subst (λ x. find_one passes (x ++ r) ≡ Some (x, r)) (sym is.1) (cond-true _ _ _ is.2);
+}
+
+-- a text is its first character and then the others
+text_to : (c : ℕ) (front p r : List ℕ) → Then (One (λ d. d == c)) (Exactly front) p r → Exactly (c ∷ front) p r
+text_to c front p r h = h.whole ∙ ap₂ (λ xs ys. xs ++ ys) (h.first.1 ∙ ap (λ x. x ∷ []) (eqb-true h.first.0 c h.first.2)) h.second
+
+text_from : (c : ℕ) (front p r : List ℕ) → Exactly (c ∷ front) p r → Then (One (λ d. d == c)) (Exactly front) p r
+text_from c front p r is = record { front = c ∷ []; back = front; whole = is; first = (c, refl, eq-eqb c c refl); second = refl }
+
+pub finds_text : (front : List ℕ) → Finds (find_text front) (Exactly front)
+finds_text [] = record { sound = λ text. (refl, refl); complete = λ p r is. subst (λ q. find_text [] (q ++ r) ≡ Some (q, r)) (sym is) refl }
+finds_text (c ∷ front) = finds_same (find_text (c ∷ front)) (Then (One (λ d. d == c)) (Exactly front)) (Exactly (c ∷ front))
+    (finds_then (find_one (λ d. d == c)) (find_text front) (One (λ d. d == c)) (Exactly front) (finds_one (λ d. d == c)) (finds_text front))
+    (text_to c front) (text_from c front)
+
+pub finds_never : Finds find_never Never
+finds_never = record { sound = λ text. tt; complete = λ p r is. absurd is }

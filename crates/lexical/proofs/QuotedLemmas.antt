@@ -1,0 +1,141 @@
+-- Strings before another rest, and how they begin.
+use Rattle.std.proofs.Common.{◌≡◌, ℕ, Bool, true, false, ◌||◌, ◌==◌, List, [], ◌∷◌, ◌++◌, codes, refl, sym, ap, ◌∙◌, subst, inl, inr}
+use Rattle.std.specs.List.{concat, list_any}
+use Rattle.std.specs.Char.{is_ascii_hexdigit}
+use Rattle.std.proofs.lemmas.Bool.{both_ways}
+use Rattle.unicode_ident.proofs.Computing.{unicode_ident}
+use Rattle.lexical.specs.Class.{is_ident_start, is_ident_continue}
+use Rattle.lexical.proofs.ClassLemmas.{any_of}
+use Rattle.lexical.specs.Text.{first_passes}
+use Rattle.lexical.specs.Form.{Form, HasNone, Then, Either, Exactly, One, Many, Each}
+use Rattle.lexical.specs.Identifier.{Name}
+use Rattle.lexical.specs.Quoted.{Simple, is_octal_digit, Hex, LowPair, Code, Unicode, StringEscape, Newline, Continuation, BodyUnit, is_string_plain, StringUnit, Suffix, Str}
+
+-- ---- forms that don't look at what follows
+
+abbrev pub Free : Form → Type 0
+Free A = (p r s : List ℕ) → A p r → A p s
+
+free_one : (passes : ℕ → Bool) → Free (One passes)
+free_one passes p r s is = is
+
+free_text : (text : List ℕ) → Free (Exactly text)
+free_text text p r s is = is
+
+free_then : (A B : Form) → Free A → Free B → Free (Then A B)
+free_then A B one other p r s is = record {
+  front = is.front;
+  back = is.back;
+  whole = is.whole;
+  first = one is.front (is.back ++ r) (is.back ++ s) is.first;
+  second = other is.back r s is.second;
+}
+
+free_either : (A B : Form) → Free A → Free B → Free (Either A B)
+free_either A B one other p r s is = elim is [ inl x ↦ inl (one p r s x) | inr y ↦ inr (other p r s y) ]
+
+free_each : (A : Form) → Free A → (units : List (List ℕ)) (r s : List ℕ) → Each A units r → Each A units s
+free_each A free [] r s each = tt
+free_each A free (unit ∷ units) r s each = (free unit (concat units ++ r) (concat units ++ s) each.0, free_each A free units r s each.1)
+
+pub free_many : (A : Form) → Free A → Free (Many A)
+free_many A free p r s is = record { units = is.units; whole = is.whole; each = free_each A free is.units r s is.each }
+
+-- ---- a string's units
+
+-- a code looks as far as the brace behind it
+free_braced : (allowed : ℕ → Bool) → Free (Then (Code allowed) (Exactly (codes "}")))
+free_braced allowed p r s is =
+    let digits = is.first.0 in
+    let stops : first_passes (λ c. is_ascii_hexdigit c || (c == 95)) (is.back ++ s) ≡ false = ap (λ back. first_passes (λ c. is_ascii_hexdigit c || (c == 95)) (back ++ s)) is.second in
+    record {
+      front = is.front;
+      back = is.back;
+      whole = is.whole;
+      first = (record { front = digits.front; back = digits.back; whole = digits.whole; first = digits.first; second = record { each = digits.second.each; stops = stops } }, is.first.1);
+      second = is.second;
+    }
+
+free_unicode : (allowed : ℕ → Bool) → Free (Unicode allowed)
+free_unicode allowed = free_then (Exactly (codes "u{")) (Then (Code allowed) (Exactly (codes "}"))) (free_text (codes "u{")) (free_braced allowed)
+
+free_low_pair : Free LowPair
+free_low_pair = free_then (One is_octal_digit) (One is_ascii_hexdigit) (free_one is_octal_digit) (free_one is_ascii_hexdigit)
+
+free_hex : (Pair : Form) → Free Pair → Free (Hex Pair)
+free_hex Pair free = free_then (Exactly (codes "x")) Pair (free_text (codes "x")) free
+
+free_string_escape : Free StringEscape
+free_string_escape = free_either (Simple (codes "nrt\\0'\"")) (Either (Hex LowPair) (Unicode (λ n. true))) (λ p r s is. is)
+    (free_either (Hex LowPair) (Unicode (λ n. true)) (free_hex LowPair free_low_pair) (free_unicode (λ n. true)))
+
+pub free_unit : (plain : ℕ → Bool) (Escape : Form) → Free Escape → Free (BodyUnit plain Escape)
+free_unit plain Escape free = free_either (One plain) (Either Newline (Then (Exactly (codes "\\")) (Either Continuation Escape))) (free_one plain)
+    (free_either Newline (Then (Exactly (codes "\\")) (Either Continuation Escape)) (free_text (codes "\r\n"))
+    (free_then (Exactly (codes "\\")) (Either Continuation Escape) (free_text (codes "\\"))
+    (free_either Continuation Escape (λ p r s is. is) free)))
+
+free_string_unit : Free StringUnit
+free_string_unit = free_unit is_string_plain StringEscape free_string_escape
+
+-- ---- suffixes
+
+-- where no identifier starts, no name stands
+pub no_name : (r : List ℕ) → first_passes is_ident_start r ≡ false → HasNone Name r
+no_name r none p q whole is =
+    both_ways _ none (ap (first_passes is_ident_start) (whole ∙ ap (λ xs. xs ++ q) (is.whole ∙ ap (λ xs. xs ++ is.back) is.first.1)) ∙ is.first.2)
+
+-- nothing that goes on with a suffix stands at the front
+pub record EndsSuffix (r : List ℕ) : Type 0 where
+  pub start : first_passes is_ident_start r ≡ false
+  pub continue : first_passes is_ident_continue r ≡ false
+
+pub suffix_before : (p r s : List ℕ) → EndsSuffix s → Suffix p r → Suffix p s
+suffix_before p r s ends is = elim is [
+  | inl name ↦ inl (record { front = name.front; back = name.back; whole = name.whole; first = name.first; second = record { each = name.second.each; stops = ends.continue } })
+  | inr none ↦ inr (subst (λ q. HasNone Name (q ++ s)) (sym none.1) (no_name s ends.start), none.1)
+]
+
+-- ---- strings
+
+pub str_before : (p r s : List ℕ) → EndsSuffix s → Str p r → Str p s
+unfolding Str
+str_before p r s ends is =
+    let body = is.second in
+    let close = body.second in
+    record {
+      front = is.front;
+      back = is.back;
+      whole = is.whole;
+      first = is.first;
+      second = record {
+        front = body.front;
+        back = body.back;
+        whole = body.whole;
+        first = free_many StringUnit free_string_unit body.front (body.back ++ r) (body.back ++ s) body.first;
+        second = record { front = close.front; back = close.back; whole = close.whole; first = close.first; second = suffix_before close.back r s ends close.second };
+      };
+    }
+
+-- it begins with a quote
+pub str_first : (p r : List ℕ) → Str p r → (more : List ℕ) × (p ≡ 34 ∷ more)
+unfolding Str
+str_first p r is = (is.back, is.whole ∙ ap (λ front. front ++ is.back) is.first)
+
+-- ---- stops
+
+-- a space, LF, a closer, or the end
+abbrev pub stops : List ℕ → Bool
+stops [] = true
+stops (c ∷ r) = list_any (λ d. d == c) (codes " \n)]}")
+
+pub stop_ends : (r : List ℕ) → stops r ≡ true → EndsSuffix r
+unfolding unicode_ident
+stop_ends [] e = record { start = refl; continue = refl }
+stop_ends (c ∷ r) e = record {
+  start = any_of (λ d. is_ident_start d ≡ false) (codes " \n)]}") c (refl, (refl, (refl, (refl, (refl, tt))))) e;
+  continue = any_of (λ d. is_ident_continue d ≡ false) (codes " \n)]}") c (refl, (refl, (refl, (refl, (refl, tt))))) e;
+}
+
+pub str_before_stop : (p r s : List ℕ) → stops s ≡ true → Str p r → Str p s
+str_before_stop p r s e is = str_before p r s (stop_ends s e) is

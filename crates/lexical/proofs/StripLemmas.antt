@@ -1,0 +1,56 @@
+-- What is left of a text without its front or its end.
+use Rattle.std.proofs.Common.{◌≡◌, ◌≢◌, ℕ, ◌<◌, true, false, List, [], ◌∷◌, ◌++◌, length, take, get_or, Option, Some, None, MatchOption, Bor, refl, sym, ap, ◌∙◌, subst, arith, append-nil, length-append, ltb-true}
+use Rattle.std.specs.Str.{chars, IsUtf8, IsAscii, encode_utf8_all}
+use Rattle.std.specs.Str.Pattern.{FindsTextPrefix, StripsPrefix}
+use Rattle.std.specs.Prelude.{if◌then◌else◌}
+use Rattle.std.proofs.lemmas.Bool.{and_parts, false_from_ne_true, cond-true, cond-false}
+use Rattle.std.proofs.lemmas.List.{take_at, get_or_at}
+use Rattle.std.proofs.lemmas.Str.{IsUtf8-from_ascii, IsUtf8-take, IsCharBoundary-before_ascii, chars-append, chars-IsAscii, encode_ascii}
+use Rattle.std.proofs.lemmas.Str.Ascii.{IsAscii-nil, IsAscii-cons}
+use Rattle.lexical.specs.Ascii.{all_ascii}
+use Rattle.lexical.specs.Text.{begins_with, ends_with}
+use Rattle.lexical.proofs.TextLemmas.{begins_chars, begins_splits, ends_splits, ends_back, seam_bytes}
+
+-- ---- the front
+
+is_ascii : (front : List ℕ) → all_ascii front ≡ true → IsAscii front
+is_ascii [] h = IsAscii-nil
+is_ascii (c ∷ front) h = let parts = and_parts _ _ h in IsAscii-cons c front (ltb-true c 128 parts.0) (is_ascii front parts.1)
+
+-- the clause of `strip_prefix` at an ASCII text, by characters
+pub strips_chars : (front text : List ℕ) (r : Option (Bor (List ℕ))) → IsUtf8 text → all_ascii front ≡ true
+    → MatchOption r (FindsTextPrefix front text None) (λ x. StripsPrefix (FindsTextPrefix front) text x.now)
+    → MatchOption r (begins_with front (chars text) ≡ false) (λ x. chars text ≡ front ++ chars x.now)
+strips_chars front text None utf8 ascii h =
+    sym (begins_chars front text utf8 ascii) ∙ false_from_ne_true _ (λ begins. let split = begins_splits front text begins in h split.0 split.1)
+strips_chars front text (Some x) utf8 ascii h =
+    let bytes = is_ascii front ascii in
+    ap chars (h.1.1 ∙ ap (λ ys. front ++ ys) (sym h.2)) ∙ (chars-append front x.now (IsUtf8-from_ascii front bytes) ∙ ap (λ xs. xs ++ chars x.now) (chars-IsAscii front bytes))
+
+-- ---- the CR at the end
+
+-- what a text loses without the CR at its end
+abbrev pub last_return : List ℕ → List ℕ
+last_return text = if ends_with 13 text then 13 ∷ [] else []
+
+utf8_before : (text front : List ℕ) (c : ℕ) → IsUtf8 text → text ≡ front ++ (c ∷ []) → c < 128 → IsUtf8 front
+utf8_before text front c utf8 whole low =
+    let byte : get_or text (length front) 0 ≡ c = ap (λ xs. get_or xs (length front) 0) whole ∙ get_or_at front c [] 0 (length front) refl in
+    let within : length front < length text = omega (arith, ap length whole, length-append front (c ∷ [])) in
+    let cut : take (length front) text ≡ front = ap (take (length front)) whole ∙ take_at front (c ∷ []) (length front) refl in
+    subst IsUtf8 cut (IsUtf8-take text (length front) utf8 (IsCharBoundary-before_ascii text (length front) within (subst (λ b. b < 128) (sym byte) low)))
+
+pub return_stripped : (text front : List ℕ) → IsUtf8 text → text ≡ front ++ (13 ∷ []) → chars text ≡ chars front ++ last_return (chars text)
+return_stripped text front utf8 whole =
+    let split : chars text ≡ chars front ++ (13 ∷ []) =
+    ap chars whole ∙ (chars-append front (13 ∷ []) (utf8_before text front 13 utf8 whole (omega arith))
+    ∙ ap (λ xs. chars front ++ xs) (chars-IsAscii (13 ∷ []) (IsAscii-cons 13 [] (omega arith) IsAscii-nil))) in
+    split ∙ ap (λ xs. chars front ++ xs) (sym (cond-true _ _ _ (ap (ends_with 13) split ∙ ends_back 13 (chars front))))
+
+pub no_return : (text : List ℕ) → IsUtf8 text → ((front : List ℕ) → text ≢ front ++ (13 ∷ [])) → chars text ≡ chars text ++ last_return (chars text)
+no_return text utf8 none =
+    let plain : ends_with 13 (chars text) ≡ false =
+    false_from_ne_true _ (λ ends.
+    let split = ends_splits 13 (chars text) ends in
+    none (encode_utf8_all split.0) (seam_bytes text split.0 (13 ∷ []) utf8 split.1 ∙ ap (λ b. encode_utf8_all split.0 ++ (b ++ [])) (encode_ascii 13 (omega arith)))) in
+    sym (append-nil (chars text)) ∙ ap (λ xs. chars text ++ xs) (sym (cond-false _ _ _ plain))

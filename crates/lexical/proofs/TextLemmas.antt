@@ -1,0 +1,201 @@
+-- Lemmas on the characters of a text.
+use Rattle.std.proofs.Common.{◌≡◌, ℕ, suc, ◌+◌, ◌<◌, ◌≤◌, ◌-◌, inl, inr, Bool, true, false, ◌&&◌, eqb, List, [], ◌∷◌, ◌++◌, length, take, length-append, drop, refl, sym, ap, ap₂, ◌∙◌, subst, arith, ltb-true, ne_eqb, eqb-true, eq-eqb, append-nil, ◌==◌}
+use Rattle.std.specs.List.{starts_with, list_all}
+use Rattle.std.specs.Str.{chars, IsUtf8, encode_utf8_all, IsCharBoundary}
+use Rattle.std.specs.Bool.{one_answer}
+use Rattle.std.specs.Cmp.Lexicographic.{pointwise}
+use Rattle.std.specs.Prelude.{nat_eq, nat_lt, encode_utf8}
+use Rattle.std.specs.Str.{all_scalars as scalars}
+use Rattle.std.proofs.lemmas.Bool.{both_ways, cases_lt, and_parts, and_from, and_cases, and_left, and_right, or_parts, or_from, false_from_ne_true}
+use Rattle.std.proofs.lemmas.List.{append_cancel_right, take_at, drop_at}
+use Rattle.std.proofs.lemmas.Str.{chars-encodes, encodes-append, encodes_same, IsCharBoundary-at_seam, chars-append, scalars-chars, IsUtf8-take, encode_ascii, encodes-chars, char_from_byte, length-encode, len_utf8_bounds, length-le-encodes}
+use Rattle.std.proofs.lemmas.Slice.Eq.{bytes_eq-Decides}
+use Rattle.lexical.specs.Text.{begins_with, begins_any, first_passes, ends_with}
+use Rattle.lexical.specs.Ascii.{all_ascii}
+
+-- std's `starts_with` at numbers
+pub starts_with_is : (bytes front : List ℕ) → starts_with eqb bytes front ≡ begins_with front bytes
+starts_with_is bytes [] = refl
+starts_with_is [] (c ∷ front) = refl
+starts_with_is (d ∷ bytes) (c ∷ front) = ap (λ b. (c == d) && b) (starts_with_is bytes front)
+
+cons_of : (xs : List ℕ) → 1 ≤ length xs → (b : ℕ) × (more : List ℕ) × (xs ≡ b ∷ more)
+cons_of [] h = absurd (omega arith)
+cons_of (b ∷ more) h = (b, more, refl)
+
+-- a character past ASCII begins with a byte past ASCII
+first_byte : (d : ℕ) → 128 ≤ d → (b : ℕ) × (more : List ℕ) × (encode_utf8 d ≡ b ∷ more) × (128 ≤ b)
+first_byte d h =
+    let cell = cons_of (encode_utf8 d) (omega (arith, length-encode d, len_utf8_bounds d)) in (
+      cell.0,
+      cell.1,
+      cell.2,
+      elim (cases_lt cell.0 128) [
+        | inl low ↦ absurd (past cell.0 cell.1 cell.2 low)
+        | inr high ↦ high
+      ],
+    )
+  where
+    past : (b : ℕ) (more : List ℕ) → encode_utf8 d ≡ b ∷ more → b < 128 → ⊥
+    past b more e low =
+        let same : d ≡ b = char_from_byte (b ∷ more) [] d (sym (append-nil (encode_utf8 d) ∙ e)) low (omega arith) in
+        omega arith
+
+apart : (c d : ℕ) (x y : Bool) → c < 128 → 128 ≤ d → ((c == d) && x) ≡ false
+apart c d x y h k = ap (λ b. b && x) (ne_eqb c d (λ e. omega arith))
+
+-- an ASCII text begins the bytes where it begins the characters
+begins_encodes : (front cs : List ℕ) → all_ascii front ≡ true → begins_with front (encode_utf8_all cs) ≡ begins_with front cs
+begins_encodes [] cs h = refl
+begins_encodes (c ∷ front) [] h = refl
+begins_encodes (c ∷ front) (d ∷ cs) h =
+    let parts = and_parts (nat_lt c 128) (all_ascii front) h in
+    let low : c < 128 = ltb-true c 128 parts.0 in
+    elim (cases_lt d 128) [
+      | inl ascii ↦ rw (encode_ascii d ascii) (ap (λ b. (c == d) && b) (begins_encodes front cs parts.1))
+      | inr past ↦
+          let cell = first_byte d past in
+          rw cell.2 (apart c cell.0 (begins_with front (cell.1 ++ encode_utf8_all cs)) false low cell.3 ∙ sym (apart c d (begins_with front cs) false low past))
+    ]
+
+pub begins_chars : (front bytes : List ℕ) → IsUtf8 bytes → all_ascii front ≡ true → begins_with front bytes ≡ begins_with front (chars bytes)
+begins_chars front bytes utf8 h = ap (begins_with front) (sym (encodes-chars bytes utf8)) ∙ begins_encodes front (chars bytes) h
+
+-- an ASCII text has as many bytes as characters
+pub ascii_bytes : (front : List ℕ) → all_ascii front ≡ true → length (encode_utf8_all front) ≡ length front
+ascii_bytes [] h = refl
+ascii_bytes (c ∷ front) h =
+    let parts = and_parts (nat_lt c 128) (all_ascii front) h in
+    ap (λ bytes. length (bytes ++ encode_utf8_all front)) (encode_ascii c (ltb-true c 128 parts.0)) ∙ ap (λ n. suc n) (ascii_bytes front parts.1)
+
+-- the bytes of a text and of an end of it
+pub front_bytes : (text rest front : List ℕ) → IsUtf8 text → IsUtf8 rest → chars text ≡ front ++ chars rest → text ≡ encode_utf8_all front ++ rest
+front_bytes text rest front t r e =
+    sym (encodes-chars text t) ∙ (ap encode_utf8_all e ∙ (encodes-append front (chars rest) ∙ ap (λ ys. encode_utf8_all front ++ ys) (encodes-chars rest r)))
+
+pub front_len : (text rest front : List ℕ) → IsUtf8 text → IsUtf8 rest → chars text ≡ front ++ chars rest → length (encode_utf8_all front) + length rest ≡ length text
+front_len text rest front t r e = sym (ap length (front_bytes text rest front t r e) ∙ length-append (encode_utf8_all front) rest)
+
+pub front_boundary : (text rest front : List ℕ) → IsUtf8 text → IsUtf8 rest → chars text ≡ front ++ chars rest → IsCharBoundary text (length text - length rest)
+front_boundary text rest front t r e =
+    let same : length (encode_utf8_all front) ≡ length text - length rest = omega (arith, front_len text rest front t r e) in
+    subst (IsCharBoundary text) same (IsCharBoundary-at_seam text (encode_utf8_all front) rest (front_bytes text rest front t r e) r)
+
+pub front_chars : (text rest front : List ℕ) → IsUtf8 text → IsUtf8 rest → chars text ≡ front ++ chars rest → chars (take (length text - length rest) text) ≡ front
+front_chars text rest front t r e =
+    let bytes = front_bytes text rest front t r e in
+    let same : length (encode_utf8_all front) ≡ length text - length rest = omega (arith, front_len text rest front t r e) in
+    let cut : take (length text - length rest) text ≡ encode_utf8_all front = ap (take (length text - length rest)) bytes ∙ take_at (encode_utf8_all front) rest _ same in
+    let utf8 : IsUtf8 (take (length text - length rest) text) = IsUtf8-take text _ t (front_boundary text rest front t r e) in
+    let whole : text ≡ take (length text - length rest) text ++ rest = bytes ∙ ap (λ xs. xs ++ rest) (sym cut) in
+    append_cancel_right _ _ (chars rest) (sym (ap chars whole ∙ chars-append _ rest utf8) ∙ e)
+
+-- an ASCII text is its own encoding
+encode_all_ascii : (text : List ℕ) → all_ascii text ≡ true → encode_utf8_all text ≡ text
+encode_all_ascii [] h = refl
+encode_all_ascii (c ∷ text) h =
+    let parts = and_parts _ _ h in
+    rw (encode_ascii c (ltb-true c 128 parts.0)) (ap (λ x. c ∷ x) (encode_all_ascii text parts.1))
+
+-- a text is an ASCII one in bytes where it is in characters
+pub ascii_same : (text ascii : List ℕ) → IsUtf8 text → all_ascii ascii ≡ true → pointwise nat_eq text ascii ≡ pointwise nat_eq (chars text) ascii
+ascii_same text ascii utf8 h =
+    let bytes = bytes_eq-Decides text ascii in
+    let points = bytes_eq-Decides (chars text) ascii in
+    let own = encode_all_ascii ascii h in
+    one_answer (pointwise nat_eq text ascii) (pointwise nat_eq (chars text) ascii) bytes (
+      λ e. sym (encodes-chars text utf8) ∙ (ap encode_utf8_all (points.0 e) ∙ own),
+      λ e. points.1 (encodes_same (chars text) ascii (encodes-chars text utf8 ∙ (e ∙ sym own))),
+    )
+
+split_scalars : (p r : List ℕ) → scalars (p ++ r) ≡ true → (scalars p ≡ true) × (scalars r ≡ true)
+split_scalars [] r h = (refl, h)
+split_scalars (c ∷ p) r h =
+    let parts = and_parts _ _ h in
+    let more = split_scalars p r parts.1 in
+    (and_from _ _ parts.0 more.0, more.1)
+
+-- a text may be cut between its characters
+pub seam_utf8 : (text p r : List ℕ) → IsUtf8 text → chars text ≡ p ++ r → IsUtf8 (encode_utf8_all r)
+seam_utf8 text p r t e = (r, ((split_scalars p r (ap scalars (sym e) ∙ scalars-chars text t)).1, refl))
+
+pub seam_rest : (text p r : List ℕ) → IsUtf8 text → chars text ≡ p ++ r → chars (encode_utf8_all r) ≡ r
+seam_rest text p r t e = chars-encodes r (split_scalars p r (ap scalars (sym e) ∙ scalars-chars text t)).1
+
+pub seam_front : (text p r : List ℕ) → IsUtf8 text → chars text ≡ p ++ r → chars (encode_utf8_all p) ≡ p
+seam_front text p r t e = chars-encodes p (split_scalars p r (ap scalars (sym e) ∙ scalars-chars text t)).0
+
+pub seam_bytes : (text p r : List ℕ) → IsUtf8 text → chars text ≡ p ++ r → text ≡ encode_utf8_all p ++ encode_utf8_all r
+seam_bytes text p r t e = sym (encodes-chars text t) ∙ (ap encode_utf8_all e ∙ encodes-append p r)
+
+pub seam_boundary : (text p r : List ℕ) (n : ℕ) → IsUtf8 text → chars text ≡ p ++ r → n ≡ length (encode_utf8_all p) → IsCharBoundary text n
+seam_boundary text p r n t e is = subst (IsCharBoundary text) (sym is) (IsCharBoundary-at_seam text (encode_utf8_all p) (encode_utf8_all r) (seam_bytes text p r t e) (seam_utf8 text p r t e))
+
+pub seam_take : (text p r : List ℕ) (n : ℕ) → IsUtf8 text → chars text ≡ p ++ r → n ≡ length (encode_utf8_all p) → chars (take n text) ≡ p
+seam_take text p r n t e is = ap chars (ap (take n) (seam_bytes text p r t e) ∙ take_at (encode_utf8_all p) (encode_utf8_all r) n (sym is)) ∙ seam_front text p r t e
+
+pub seam_drop : (text p r : List ℕ) (n : ℕ) → IsUtf8 text → chars text ≡ p ++ r → n ≡ length (encode_utf8_all p) → chars (drop n text) ≡ r
+seam_drop text p r n t e is = ap chars (ap (drop n) (seam_bytes text p r t e) ∙ drop_at (encode_utf8_all p) (encode_utf8_all r) n (sym is)) ∙ seam_rest text p r t e
+
+-- a text with no characters has no bytes
+pub bytes_from_no_chars : (text : List ℕ) → IsUtf8 text → chars text ≡ [] → length text ≡ 0
+bytes_from_no_chars text t e = ap length (sym (encodes-chars text t) ∙ ap encode_utf8_all e)
+
+-- a text has no more characters than bytes
+pub chars_within : (text : List ℕ) → IsUtf8 text → length (chars text) ≤ length text
+chars_within text t = subst (λ n. length (chars text) ≤ n) (ap length (encodes-chars text t)) (length-le-encodes (chars text))
+
+-- ---- how a text begins and ends
+
+-- a text that begins so is that and a rest
+pub begins_splits : (front text : List ℕ) → begins_with front text ≡ true → (rest : List ℕ) × (text ≡ front ++ rest)
+begins_splits [] text h = (text, refl)
+begins_splits (c ∷ front) [] h = absurd (both_ways _ refl h)
+begins_splits (c ∷ front) (d ∷ text) h =
+    let parts = and_parts (c == d) (begins_with front text) h in
+    let more = begins_splits front text parts.1 in
+    (more.0, ap₂ (λ x xs. x ∷ xs) (sym (eqb-true c d parts.0)) more.1)
+
+-- and the other way
+pub begins_front : (front rest : List ℕ) → begins_with front (front ++ rest) ≡ true
+begins_front [] rest = refl
+begins_front (c ∷ front) rest = and_from _ _ (eq-eqb c c refl) (begins_front front rest)
+
+-- a text that ends so is a front and that
+pub ends_splits : (c : ℕ) (text : List ℕ) → ends_with c text ≡ true → (front : List ℕ) × (text ≡ front ++ (c ∷ []))
+ends_splits c [] h = absurd (both_ways _ refl h)
+ends_splits c (d ∷ []) h = ([], ap (λ x. x ∷ []) (eqb-true d c h))
+ends_splits c (d ∷ (e ∷ text)) h =
+    let more = ends_splits c (e ∷ text) h in
+    (d ∷ more.0, ap (λ xs. d ∷ xs) more.1)
+
+-- and the other way
+pub ends_back : (c : ℕ) (front : List ℕ) → ends_with c (front ++ (c ∷ [])) ≡ true
+ends_back c [] = eq-eqb c c refl
+ends_back c (d ∷ []) = eq-eqb c c refl
+ends_back c (d ∷ (e ∷ front)) = ends_back c (e ∷ front)
+
+-- past a character that is another
+pub ends_past : (c d : ℕ) (text : List ℕ) → (d == c) ≡ false → ends_with c (d ∷ text) ≡ ends_with c text
+ends_past c d [] other = other
+ends_past c d (e ∷ text) other = refl
+
+-- ---- a text before another
+
+begins_cut : (passes : ℕ → Bool) (front w v s : List ℕ) → list_all passes front ≡ true → first_passes passes s ≡ false → begins_with front (w ++ v) ≡ false → begins_with front (w ++ s) ≡ false
+begins_cut passes [] w v s all ends h = h
+begins_cut passes (c ∷ front) [] v [] all ends h = refl
+begins_cut passes (c ∷ front) [] v (d ∷ s) all ends h =
+    and_left (c == d) (begins_with front s) (false_from_ne_true (c == d) (λ e. both_ways (passes d) ends (subst (λ x. passes x ≡ true) (eqb-true c d e) (and_parts _ _ all).0)))
+begins_cut passes (c ∷ front) (d ∷ w) v s all ends h = elim (and_cases (c == d) (begins_with front (w ++ v)) h) [
+  | inl here ↦ and_left (c == d) (begins_with front (w ++ s)) here
+  | inr there ↦ and_right (c == d) (begins_with front (w ++ s)) (begins_cut passes front w v s (and_parts _ _ all).1 ends there)
+]
+
+-- where w begins none of these before one text, it begins none before another whose first character is in none
+pub any_cut : (passes : ℕ → Bool) (fronts : List (List ℕ)) (w v s : List ℕ) → list_all (list_all passes) fronts ≡ true → first_passes passes s ≡ false → begins_any fronts (w ++ v) ≡ false → begins_any fronts (w ++ s) ≡ false
+any_cut passes [] w v s all ends h = refl
+any_cut passes (front ∷ fronts) w v s all ends h =
+    let both = and_parts _ _ all in
+    let parts = or_parts (begins_with front (w ++ v)) (begins_any fronts (w ++ v)) h in
+    or_from (begins_with front (w ++ s)) (begins_any fronts (w ++ s)) (begins_cut passes front w v s both.0 ends parts.0) (any_cut passes fronts w v s both.1 ends parts.1)

@@ -1,0 +1,51 @@
+use Rattle.std.proofs.Common.{rules, sym, ap, ◌∙◌, subst}
+use Rattle.std.specs.Str.{chars}
+use Rattle.lexical.specs.Reading.{Answers, IsFound}
+use Rattle.lexical.specs.declared.class.Start.TheVariants as starts
+use Rattle.lexical.proofs.PieceLemmas.{found_end, from_start}
+use Rattle.lexical.proofs.lexer.find_piece.Goals as goal
+
+pub returns-in_err-first : goal.returns-in_err-first
+returns-in_err-first c =
+    let nothing = found_end c.args.at_front (chars c.args.text.now) (ap chars (sym c.new.ensures.rest) ∙ c.in_err-first.ensures) in
+    search (rules, nothing)
+
+pub returns-in-White : goal.returns-in-White
+returns-in-White c =
+    let split = ap chars (sym c.new.ensures.rest) ∙ c.in_ok-first.ensures.0 in
+    subst (λ o. IsFound o c.white.result) (sym (from_start c.args.at_front _ _ _ starts.White split (sym c.in-White.ensures))) c.white.ensures
+
+pub returns-in-Letter : goal.returns-in-Letter
+returns-in-Letter c =
+    let split = ap chars (sym c.new.ensures.rest) ∙ c.in_ok-first.ensures.0 in
+    subst (λ o. Answers o c.identifier.result) (sym (from_start c.args.at_front _ _ _ starts.Letter split (sym c.in-Letter.ensures))) c.identifier.ensures
+
+pub returns-in-Opener : goal.returns-in-Opener
+returns-in-Opener c =
+    let split = ap chars (sym c.new.ensures.rest) ∙ c.in_ok-first.ensures.0 in
+    subst (λ o. Answers o c.opener.result) (sym (from_start c.args.at_front _ _ _ starts.Opener split (sym c.in-Opener.ensures))) c.opener.ensures
+
+pub returns-in-Closer : goal.returns-in-Closer
+returns-in-Closer c =
+    let split = ap chars (sym c.new.ensures.rest) ∙ c.in_ok-first.ensures.0 in
+    subst (λ o. IsFound o c.closer.result) (sym (from_start c.args.at_front _ _ _ starts.Closer split (sym c.in-Closer.ensures))) c.closer.ensures
+
+pub returns-in-Other : goal.returns-in-Other
+returns-in-Other c =
+    let split = ap chars (sym c.new.ensures.rest) ∙ c.in_ok-first.ensures.0 in
+    subst (λ o. Answers o c.mark.result) (sym (from_start c.args.at_front _ _ _ starts.Other split (sym c.in-Other.ensures))) c.mark.ensures
+
+pub returns-in-Slash : goal.returns-in-Slash
+returns-in-Slash c =
+    let split = ap chars (sym c.new.ensures.rest) ∙ c.in_ok-first.ensures.0 in
+    subst (λ o. Answers o c.slash.result) (sym (from_start c.args.at_front _ _ _ starts.Slash split (sym c.in-Slash.ensures))) c.slash.ensures
+
+pub returns-in-FrontMark : goal.returns-in-FrontMark
+returns-in-FrontMark c =
+    let split = ap chars (sym c.new.ensures.rest) ∙ c.in_ok-first.ensures.0 in
+    subst (λ o. Answers o c.front_mark.result) (sym (from_start c.args.at_front _ _ _ starts.FrontMark split (sym c.in-FrontMark.ensures))) c.front_mark.ensures
+
+pub returns-in-Quote : goal.returns-in-Quote
+returns-in-Quote c =
+    let split = ap chars (sym c.new.ensures.rest) ∙ c.in_ok-first.ensures.0 in
+    subst (λ o. Answers o c.lone_quote.result) (sym (from_start c.args.at_front _ _ _ starts.Quote split (sym c.in-Quote.ensures))) c.lone_quote.ensures

@@ -1,0 +1,16 @@
+-- Classes of characters. A character is its code point.
+use Rattle.std.specs.Prelude.{ℕ, Bool, not, ◌&&◌, ◌||◌, ◌==◌}
+use Rattle.std.specs.Char.{is_whitespace}
+use Rattle.unicode_ident.specs.Ident.{is_xid_start, is_xid_continue}
+
+-- `white`: white space, and the two marks of direction
+abbrev pub is_white : ℕ → Bool
+is_white c = is_whitespace c || (c == 0x200E) || (c == 0x200F)
+
+-- `identifier-start`: a character that may begin an identifier
+abbrev pub is_ident_start : ℕ → Bool
+is_ident_start c = ((c == 95) || is_xid_start c) && not (is_white c) && not (c == 0xFEFF)
+
+-- `identifier-continue`: a character that may go on with one
+abbrev pub is_ident_continue : ℕ → Bool
+is_ident_continue c = is_xid_continue c

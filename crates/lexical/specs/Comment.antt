@@ -1,0 +1,78 @@
+-- Comments and doc comments. CR is 13, and LF is 10.
+use Rattle.std.specs.Prelude.{ℕ, Bool, false, not, ◌&&◌, ◌||◌, ◌==◌, ◌≡◌, List, [], ◌∷◌, ◌++◌, IsFalse, codes, length, if◌then◌else◌}
+use Rattle.lexical.specs.Text.{begins_with, begins_any, ends_with}
+use Rattle.lexical.specs.Form.{Form, Then, Where, Either, Exactly, Run}
+
+-- ---- comments
+
+-- `line-comment`: `//` and all characters up to the next LF or the end, a CR before that LF among them
+abbrev pub LineComment : Form
+LineComment = Then (Exactly (codes "//")) (Run (λ c. not (c == 10)))
+
+-- how a block comment begins and ends
+abbrev pub block_signs : List (List ℕ)
+block_signs = codes "/*" ∷ codes "*/" ∷ []
+
+-- what stands in a block comment: nothing, or a block comment and more, or one character and more.
+-- At that character neither sign begins, in the whole text from it on: `after` is all that follows the body
+pub data BlockBody : List ℕ → List ℕ → Type 0 where
+  Empty : {body after : List ℕ} → body ≡ [] → BlockBody body after
+  Nested : {body after : List ℕ} (inner more : List ℕ) → body ≡ codes "/*" ++ (inner ++ (codes "*/" ++ more))
+      → BlockBody inner (codes "*/" ++ (more ++ after)) → BlockBody more after → BlockBody body after
+  Single : {body after : List ℕ} (c : ℕ) (more : List ℕ) → body ≡ c ∷ more
+      → IsFalse (begins_any block_signs (c ∷ (more ++ after))) → BlockBody more after → BlockBody body after
+
+-- `block-comment`
+abbrev pub BlockComment : Form
+BlockComment = Then (Exactly (codes "/*")) (Then BlockBody (Exactly (codes "*/")))
+
+-- a comment
+abbrev pub Comment : Form
+Comment = Either LineComment BlockComment
+
+-- ---- doc comments
+
+-- how the doc comments begin that document what they stand in
+abbrev pub inner_fronts : List (List ℕ)
+inner_fronts = codes "//!" ∷ codes "/*!" ∷ []
+
+-- how those begin that document what follows them
+abbrev pub outer_fronts : List (List ℕ)
+outer_fronts = codes "///" ∷ codes "/**" ∷ []
+
+-- and how comments begin that look so and are none. What begins with the last is that comment itself
+abbrev pub plain_fronts : List (List ℕ)
+plain_fronts = codes "////" ∷ codes "/***" ∷ codes "/**/" ∷ []
+
+-- whether the comment documents what it stands in
+abbrev pub is_inner : List ℕ → Bool
+is_inner p = begins_any inner_fronts p
+
+-- `doc-comment`: whether the comment is one
+abbrev pub is_doc : List ℕ → Bool
+is_doc p = is_inner p || (begins_any outer_fronts p && not (begins_any plain_fronts p))
+
+-- what closes a doc comment and is no part of its text: `*/` a block, and CR a line that ends so before LF
+abbrev pub closing : List ℕ → List ℕ → List ℕ
+closing p r =
+    if begins_with (codes "/*") p then codes "*/"
+    else if ends_with 13 p && begins_with (codes "\n") r then 13 ∷ []
+    else []
+
+-- whether a CR stands in the text that no LF follows there
+abbrev pub has_bare_return : List ℕ → Bool
+has_bare_return [] = false
+has_bare_return (c ∷ text) = ((c == 13) && not (begins_with (codes "\n") text)) || has_bare_return text
+
+-- `doc-text`: a doc comment, and what it says: all but its first three characters and what closes it
+pub record Doc (inner : Bool) (text p r : List ℕ) : Type 0 where
+  pub comment : Where is_doc Comment p r
+  pub inward : inner ≡ is_inner p
+  pub front : List ℕ
+  pub three : length front ≡ 3
+  pub whole : p ≡ front ++ (text ++ closing p r)
+  pub returns : IsFalse (has_bare_return text)
+
+-- a comment that documents nothing
+abbrev pub PlainComment : Form
+PlainComment = Where (λ p. not (is_doc p)) Comment

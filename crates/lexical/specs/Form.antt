@@ -1,0 +1,76 @@
+-- Forms of pieces, and the words that forms are made of. `p` is a piece of text, and `r` all that follows it in the source.
+use Rattle.std.specs.Prelude.{ℕ, Bool, ◌≡◌, ◌⊎◌, List, [], ◌∷◌, ◌++◌, IsTrue, IsFalse}
+use Rattle.std.specs.List.{list_all, concat}
+use Rattle.lexical.specs.Text.{begins_any, first_passes}
+
+-- a relation between a piece and what follows it
+abbrev pub Form : Type 1
+Form = List ℕ → List ℕ → Type 0
+
+-- no piece of the form stands at the front of the text
+abbrev pub HasNone : Form → List ℕ → Type 0
+HasNone A text = (p r : List ℕ) → text ≡ p ++ r → A p r → ⊥
+
+-- a piece of the first form, and then one of the second
+pub record Then (A B : Form) (p r : List ℕ) : Type 0 where
+  pub front : List ℕ
+  pub back : List ℕ
+  pub whole : p ≡ front ++ back
+  pub first : A front (back ++ r)
+  pub second : B back r
+
+-- a piece of the form, where the text begins with none of these
+abbrev pub NotAt : List (List ℕ) → Form → Form
+NotAt fronts A p r = A p r × IsFalse (begins_any fronts (p ++ r))
+
+-- a piece of the form, whose text passes
+abbrev pub Where : (List ℕ → Bool) → Form → Form
+Where passes A p r = A p r × IsTrue (passes p)
+
+-- a piece of one of the forms
+abbrev pub Either : Form → Form → Form
+Either A B p r = A p r ⊎ B p r
+
+-- a piece of the second form, where none of the first stands
+abbrev pub Unless : Form → Form → Form
+Unless A B p r = HasNone A (p ++ r) × B p r
+
+-- a piece of the first form where one stands, and else one of the second
+abbrev pub Else : Form → Form → Form
+Else A B = Either A (Unless A B)
+
+-- the empty text
+abbrev pub Nothing : Form
+Nothing p r = p ≡ []
+
+-- a piece of the form where one stands, and else nothing
+abbrev pub Perhaps : Form → Form
+Perhaps A = Else A Nothing
+
+-- texts that stand one after another, each a piece of the form before what follows it
+abbrev pub Each : Form → List (List ℕ) → List ℕ → Type 0
+Each A [] r = Unit {0}
+Each A (unit ∷ units) r = A unit (concat units ++ r) × Each A units r
+
+-- pieces of the form, any number of them
+pub record Many (A : Form) (p r : List ℕ) : Type 0 where
+  pub units : List (List ℕ)
+  pub whole : p ≡ concat units
+  pub each : Each A units r
+
+-- this very text
+abbrev pub Exactly : List ℕ → Form
+Exactly text p r = p ≡ text
+
+-- one character that passes
+abbrev pub One : (ℕ → Bool) → Form
+One passes p r = (c : ℕ) × (p ≡ c ∷ []) × IsTrue (passes c)
+
+-- all the characters that pass, up to one that doesn't
+pub record Run (passes : ℕ → Bool) (p r : List ℕ) : Type 0 where
+  pub each : IsTrue (list_all passes p)
+  pub stops : IsFalse (first_passes passes r)
+
+-- no piece at all: a form that the grammar does not have yet
+abbrev pub Never : Form
+Never p r = ⊥

@@ -1,0 +1,43 @@
+-- Marks.
+use Rattle.std.specs.Prelude.{ℕ, Bool, not, ◌&&◌, ◌||◌, ◌==◌, ◌≡◌, List, [], ◌∷◌, ◌++◌, IsFalse, codes}
+use Rattle.std.specs.List.{list_any}
+use Rattle.lexical.specs.Text.{begins_any, first_passes}
+use Rattle.lexical.specs.Form.{Form, NotAt, Exactly, One}
+use Rattle.lexical.specs.Token.{raw_front}
+use Rattle.lexical.specs.Identifier.{Named}
+
+-- `marks`: the 22 marks
+abbrev pub marks : List ℕ
+marks = codes "~!@#$%^&*-=+|;:,<.>/?'"
+
+abbrev pub is_mark : ℕ → Bool
+is_mark c = list_any (λ d. d == c) marks
+
+-- how a comment begins
+abbrev pub comment_fronts : List (List ℕ)
+comment_fronts = codes "//" ∷ codes "/*" ∷ []
+
+-- `mark`: one of the marks but `'`, where no comment begins
+abbrev pub Mark : Form
+Mark = NotAt comment_fronts (One (λ c. is_mark c && not (c == 39)))
+
+-- `joint`: whether a mark before r is Joint, as a mark follows that begins no comment
+abbrev pub joint_before : List ℕ → Bool
+joint_before r = first_passes is_mark r && not (begins_any comment_fronts r)
+
+-- whether the character bars a `'` before the identifier that it follows: `'`, and `#` behind a plain one
+abbrev pub bars_quote : Bool → ℕ → Bool
+bars_quote raw c = (c == 39) || ((c == 35) && not raw)
+
+-- the text begins with an identifier, whatever literal begins there, and no character that bars a `'` follows that
+pub record FollowsQuote (r : List ℕ) : Type 0 where
+  pub raw : Bool
+  pub name : List ℕ
+  pub rest : List ℕ
+  pub whole : r ≡ raw_front raw ++ (name ++ rest)
+  pub named : Named raw name rest
+  pub unbarred : IsFalse (first_passes (bars_quote raw) rest)
+
+-- `lone-quote`: the mark `'` before such a text. It takes none of it
+abbrev pub LoneQuote : Form
+LoneQuote p r = Exactly (codes "'") p r × FollowsQuote r

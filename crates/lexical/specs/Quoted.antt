@@ -1,0 +1,86 @@
+-- Quoted literals.
+use Rattle.std.specs.Prelude.{ℕ, Bool, true, not, ◌&&◌, ◌||◌, ◌==◌, ◌+◌, ◌*◌, List, codes, nat_lt, nat_le, cond, length, filter}
+use Rattle.std.specs.List.{list_any, fold}
+use Rattle.std.specs.Char.{is_digit, is_ascii_hexdigit, digit_value}
+use Rattle.lexical.specs.Form.{Form, Then, Where, Either, Perhaps, Many, Exactly, One, Run}
+use Rattle.lexical.specs.Identifier.{Name}
+
+abbrev pub is_one_of : List ℕ → ℕ → Bool
+is_one_of characters c = list_any (λ d. d == c) characters
+
+-- ---- what stands behind a backslash
+
+-- `simple-escape`: one of these letters
+abbrev pub Simple : List ℕ → Form
+Simple letters = One (is_one_of letters)
+
+abbrev pub is_octal_digit : ℕ → Bool
+is_octal_digit c = is_digit c 8
+
+-- two hex digits, the first 0 to 7
+abbrev pub LowPair : Form
+LowPair = Then (One is_octal_digit) (One is_ascii_hexdigit)
+
+-- `hex-escape`: `x` and two digits
+abbrev pub Hex : Form → Form
+Hex Pair = Then (Exactly (codes "x")) Pair
+
+-- the number that hex digits write, whatever `_` stand between them
+abbrev pub hex_value : List ℕ → ℕ
+hex_value digits = fold (λ n c. cond (c == 95) n (16 * n + digit_value c)) 0 digits
+
+-- whether the number is a character's
+abbrev pub is_scalar : ℕ → Bool
+is_scalar n = nat_lt n 0xD800 || (nat_le 0xE000 n && nat_lt n 0x11_0000)
+
+-- whether the text has six hex digits at most, and writes a character that is allowed
+abbrev pub is_code : (ℕ → Bool) → List ℕ → Bool
+is_code allowed p = nat_le (length (filter is_ascii_hexdigit p)) 6 && (is_scalar (hex_value p) && allowed (hex_value p))
+
+-- a hex digit and all the hex digits and `_` that follow, where they write a character
+abbrev pub Code : (ℕ → Bool) → Form
+Code allowed = Where (is_code allowed) (Then (One is_ascii_hexdigit) (Run (λ c. is_ascii_hexdigit c || (c == 95))))
+
+-- `unicode-escape`: `u{`, a character's code and `}`
+abbrev pub Unicode : (ℕ → Bool) → Form
+Unicode allowed = Then (Exactly (codes "u{")) (Then (Code allowed) (Exactly (codes "}")))
+
+-- `string-escape`
+abbrev pub StringEscape : Form
+StringEscape = Either (Simple (codes "nrt\\0'\"")) (Either (Hex LowPair) (Unicode (λ n. true)))
+
+-- ---- the body
+
+-- CR LF
+abbrev pub Newline : Form
+Newline = Exactly (codes "\r\n")
+
+-- `continuation`: a line end, of which the backslash before it makes nothing
+abbrev pub Continuation : Form
+Continuation = Either (Exactly (codes "\n")) Newline
+
+-- a character that passes, a line end, or a backslash and what may stand behind it
+abbrev pub BodyUnit : (ℕ → Bool) → Form → Form
+BodyUnit plain Escape = Either (One plain) (Either Newline (Then (Exactly (codes "\\")) (Either Continuation Escape)))
+
+-- any character but `"`, `\` and CR
+abbrev pub is_string_plain : ℕ → Bool
+is_string_plain c = not (is_one_of (codes "\"\\\r") c)
+
+-- `string-unit`
+abbrev pub StringUnit : Form
+StringUnit = BodyUnit is_string_plain StringEscape
+
+-- ---- cooked strings
+
+-- `suffix`: the longest name, where one starts there
+abbrev pub Suffix : Form
+Suffix = Perhaps Name
+
+-- what opens it, `string-body`: the units up to the first `"` that is in none of them, that quote, and a suffix
+abbrev pub Cooked : List ℕ → Form → Form
+Cooked front Unit = Then (Exactly front) (Then (Many Unit) (Then (Exactly (codes "\"")) Suffix))
+
+-- `string`: a literal between `"` and `"`
+unfoldable pub Str : Form
+Str = Cooked (codes "\"") StringUnit

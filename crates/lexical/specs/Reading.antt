@@ -1,0 +1,47 @@
+-- What the lexer's steps answer, against what the finders find.
+use Rattle.std.specs.Prelude.{ℕ, ◌≡◌, ◌≤◌, ◌+◌, List, ◌++◌, length, Option, Some, None, MatchOption}
+use Rattle.std.specs.Str.{chars, encode_utf8_all}
+use Rattle.lexical.specs.Found.{kind_of, LendsText}
+use Rattle.lexical.specs.Piece.{Kind}
+use Rattle.lexical.specs.Finder.{behind}
+use Rattle.lexical.specs.CommentFinder.{find_ends}
+use Rattle.lexical.specs.PieceFinder.{Found}
+use Rattle.lexical.specs.declared.cursor.Cursor.{Cursor}
+use Rattle.lexical.specs.declared.piece.Piece.{Piece}
+use Rattle.lexical.specs.declared.piece.PieceKind.{PieceKind}
+
+-- from one place to the other stands the piece that was found
+pub record Passes (answer : Option (List ℕ × List ℕ)) (at to : Cursor) : Type 0 where
+  pub front : List ℕ
+  pub found : answer ≡ Some (front, chars to.rest.now)
+  pub whole : chars at.rest.now ≡ front ++ chars to.rest.now
+  pub count : to.chars_before ≡ at.chars_before + length front
+
+-- the step leads past the piece that was found, or fails where none was
+abbrev pub Reads : Option (List ℕ × List ℕ) → Cursor → Option Cursor → Type 0
+Reads answer at result = MatchOption result (answer ≡ None) (Passes answer at)
+
+-- from one place to the other lead signs and characters of block comments, so many open at each
+pub record Leads (at : Cursor) (depth : ℕ) (to : Cursor) (inside : ℕ) : Type 0 where
+  pub front : List ℕ
+  pub found : find_ends depth (chars at.rest.now) ≡ behind front (find_ends inside (chars to.rest.now))
+  pub whole : chars at.rest.now ≡ front ++ chars to.rest.now
+  pub count : to.chars_before ≡ at.chars_before + length front
+  pub fits : inside ≤ to.chars_before
+
+-- the kind of the comment p is the one that was found, or none where none was
+abbrev pub Tells : Option Kind → List ℕ → Option PieceKind → Type 0
+Tells answer p result = MatchOption result (answer ≡ None) (λ kind. (answer ≡ Some (kind_of kind p)) × LendsText kind)
+
+-- the piece is the one that was found
+pub record IsFound (answer : Found) (piece : Piece) : Type 0 where
+  pub front : List ℕ
+  pub rest : List ℕ
+  pub found : answer ≡ Some (kind_of piece.kind front, front, rest)
+  pub bytes : piece.bytes ≡ length (encode_utf8_all front)
+  pub chars : piece.chars ≡ length front
+  pub lends : LendsText piece.kind
+
+-- the lexer answers the piece that was found, or none where none was
+abbrev pub Answers : Found → Option Piece → Type 0
+Answers answer result = MatchOption result (answer ≡ None) (IsFound answer)

@@ -1,0 +1,19 @@
+-- Tokens without their places.
+use Rattle.std.specs.Prelude.{ℕ, Bool, true, false, List, [], ◌∷◌, ◌++◌, codes}
+
+-- an identifier, raw or not, by its name; a mark, and whether it is Joint; a literal by its text
+pub data Token : Type 0 where
+  Name : Bool → List ℕ → Token
+  Mark : ℕ → Bool → Token
+  Literal : List ℕ → Token
+
+-- what stands before the name of an identifier
+abbrev pub raw_front : Bool → List ℕ
+raw_front true = codes "r#"
+raw_front false = []
+
+-- the token as it is written
+abbrev pub token_text : Token → List ℕ
+token_text (Name raw name) = raw_front raw ++ name
+token_text (Mark c joint) = c ∷ []
+token_text (Literal text) = text

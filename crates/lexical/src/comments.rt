@@ -1,0 +1,85 @@
+//! Comments.
+
+ghost use Rattle.std.specs.Prelude.{◌≡◌, ◌<◌, ◌≤◌, [], IfSome, MatchOption};
+ghost use Rattle.std.specs.Str.{chars};
+ghost use Rattle.lexical.specs.CommentFinder.{find_block, find_comment, find_ends, find_line};
+ghost use Rattle.lexical.specs.PieceFinder.{told};
+ghost use Rattle.lexical.specs.Reading.{Answers, Leads, Reads};
+
+use crate::cursor::Cursor;
+use crate::docs::comment_kind;
+use crate::piece::Piece;
+use crate::skip::skip_while;
+use crate::text::before;
+
+/// The place after the line comment that stands at the place, by the rule `line-comment`.
+fn skip_line(at: Cursor<'_>) -> Option<Cursor<'_>>
+    ensures { Reads (find_line (chars at.entry.rest.now)) at.entry result }
+{
+    let after = at.past("//")?;
+    Some(skip_while(after, |c| c != '\n'))
+}
+
+/// The place after the sign or the character at the place, and how many block comments are open
+/// there. `depth` are open at the place.
+fn step(at: Cursor<'_>, depth: usize) -> Option<(Cursor<'_>, usize)>
+    requires inside { 0 < depth }
+    requires fits { depth ≤ at.chars_before }
+    ensures leads { MatchOption result (chars at.entry.rest.now ≡ []) (λ x. Leads at.entry depth x.0 x.1) }
+    ensures on { IfSome result (λ x. at.entry.chars_before < x.0.chars_before) }
+{
+    let (c, after) = at.advance()?;
+    if c == '*' {
+        if let Some(closed) = after.past("/") {
+            return Some((closed, depth - 1));
+        }
+    }
+    if c == '/' {
+        if let Some(opened) = after.past("*") {
+            return Some((opened, depth + 1));
+        }
+    }
+    Some((after, depth))
+}
+
+/// The place where the block comment ends that is open at the place.
+fn skip_body(at: Cursor<'_>) -> Option<Cursor<'_>>
+    requires { 1 ≤ at.chars_before }
+    ensures { Reads (find_ends 1 (chars at.entry.rest.now)) at.entry result }
+{
+    let mut end = at;
+    let mut depth = 1;
+    while depth > 0 {
+        let (after, inside) = step(end, depth)?;
+        end = after;
+        depth = inside;
+    }
+    Some(end)
+}
+
+/// The place after the block comment that stands at the place, by the rule `block-comment`.
+fn skip_block(at: Cursor<'_>) -> Option<Cursor<'_>>
+    ensures { Reads (find_block (chars at.entry.rest.now)) at.entry result }
+{
+    skip_body(at.past("/*")?)
+}
+
+/// The place after the comment that stands at the place.
+fn skip_comment(at: Cursor<'_>) -> Option<Cursor<'_>>
+    ensures { Reads (find_comment (chars at.entry.rest.now)) at.entry result }
+{
+    match skip_line(at) {
+        Some(end) => Some(end),
+        None => skip_block(at),
+    }
+}
+
+/// The comment at the front of the text, a gap or a doc comment. None stands where a doc comment
+/// has a CR that no LF follows in its text.
+pub fn comment(text: &str) -> Option<Piece<'_>>
+    ensures { Answers (told (find_comment (chars text.now))) result }
+{
+    let end = skip_comment(Cursor::new(text))?;
+    let kind = comment_kind(before(text, end.rest), end.rest)?;
+    Some(end.piece_from(text, kind))
+}

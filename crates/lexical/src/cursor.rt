@@ -1,0 +1,92 @@
+//! Places in a text.
+
+ghost use Rattle.std.specs.Prelude.{◌≡◌, ◌+◌, ◌<◌, ◌^◌, length};
+ghost use Rattle.std.specs.Str.{IsUtf8, chars};
+
+use crate::piece::{Piece, PieceKind};
+use crate::text::{split_first, strip};
+
+/// A place in a text.
+#[derive(Clone, Copy)]
+pub struct Cursor<'a> {
+    /// What follows the place.
+    pub rest: &'a str,
+    /// How many characters of the text stand before it.
+    pub chars_before: usize,
+    // The rest is a text, and the count of characters cannot wrap.
+    pub ghost text: { ∥ IsUtf8 rest.now ∥₁ },
+    pub ghost room: { chars_before + length (chars rest.now) < 2 ^ 64 },
+}
+
+impl<'a> Cursor<'a> {
+    ghost use Rattle.std.specs.Prelude.{◌∷◌, ◌++◌, [], List, ℕ, MatchOption};
+    ghost use Rattle.std.specs.Prelude.{IsTrue};
+    ghost use Rattle.std.specs.Str.{encode_utf8_all};
+    ghost use Rattle.lexical.specs.Ascii.{all_ascii};
+    ghost use Rattle.lexical.specs.Finder.{find_text};
+    ghost use Rattle.lexical.specs.Reading.{Reads};
+
+    /// The front of a text.
+    pub fn new(text: &'a str) -> Self
+        ensures rest { result.rest.now ≡ text.now }
+        ensures chars { result.chars_before ≡ 0 }
+    {
+        // Its contract bounds how many bytes a text has, and so how many characters.
+        let _bytes = text.as_bytes().iter();
+        Cursor {
+            rest: text,
+            chars_before: 0,
+        }
+    }
+
+    /// The character after the place, and the place after that character.
+    pub fn advance(self) -> Option<(char, Self)>
+        ensures { MatchOption result (chars self.entry.rest.now ≡ []) (λ x.
+            (chars self.entry.rest.now ≡ x.0 ∷ chars x.1.rest.now)
+            × (x.1.chars_before ≡ self.entry.chars_before + 1)) }
+    {
+        let (first, rest) = split_first(self.rest)?;
+        let after = Cursor {
+            rest,
+            chars_before: self.chars_before + 1,
+        };
+        Some((first, after))
+    }
+
+    /// The place after the ASCII text `front`, where that stands at the place.
+    pub fn past(self, front: &str) -> Option<Self>
+        requires { IsTrue (all_ascii front.now) }
+        ensures { Reads (find_text front.now (chars self.entry.rest.now)) self.entry result }
+    {
+        let rest = strip(self.rest, front)?;
+        let after = Cursor {
+            rest,
+            chars_before: self.chars_before + front.len(),
+        };
+        Some(after)
+    }
+
+    /// How many bytes of the text stand before the place, which lies in it.
+    pub fn bytes_in(self, text: &str) -> usize
+        requires { (front : List ℕ) × (chars text.now ≡ front ++ chars self.rest.now) }
+        ensures { (front : List ℕ) → chars text.now ≡ front ++ chars self.entry.rest.now
+            → result ≡ length (encode_utf8_all front) }
+    {
+        text.len() - self.rest.len()
+    }
+
+    /// The piece of this kind from the front of the text up to the place, which lies in it.
+    pub fn piece_from(self, text: &str, kind: PieceKind<'a>) -> Piece<'a>
+        requires { (front : List ℕ) × (chars text.now ≡ front ++ chars self.rest.now)
+            × (self.chars_before ≡ length front) }
+        ensures kind { result.kind ≡ kind.entry }
+        ensures size { (front : List ℕ) → chars text.now ≡ front ++ chars self.entry.rest.now
+            → (result.bytes ≡ length (encode_utf8_all front)) × (result.chars ≡ length front) }
+    {
+        Piece {
+            kind,
+            bytes: self.bytes_in(text),
+            chars: self.chars_before,
+        }
+    }
+}

@@ -1,0 +1,85 @@
+//! Doc comments.
+
+ghost use Rattle.std.specs.Prelude.{◌≡◌, IsTrue, drop};
+ghost use Rattle.std.specs.Str.{chars};
+ghost use Rattle.lexical.specs.Comment.{Comment, has_bare_return as bare, is_doc as documents, is_inner as inward};
+ghost use Rattle.lexical.specs.CommentFinder.{comment_kind as kind_of_comment, doc_text as text_of_doc};
+ghost use Rattle.lexical.specs.Form.{Where};
+ghost use Rattle.lexical.specs.Reading.{Tells};
+
+use crate::cursor::Cursor;
+use crate::piece::PieceKind;
+use crate::text::{before, begins, without_return};
+
+/// Whether the comment documents what it stands in.
+fn is_inner(comment: &str) -> bool
+    ensures { result ≡ inward (chars comment.now) }
+{
+    begins(comment, "//!") || begins(comment, "/*!")
+}
+
+/// Whether the comment is a doc comment, by the rule `doc-comment`.
+fn is_doc(comment: &str) -> bool
+    ensures { result ≡ documents (chars comment.now) }
+{
+    let outer = begins(comment, "///") || begins(comment, "/**");
+    let plain = begins(comment, "////") || begins(comment, "/***") || begins(comment, "/**/");
+    is_inner(comment) || outer && !plain
+}
+
+/// What follows the first three characters of a doc comment.
+fn after_front(comment: &str) -> &str
+    requires { IsTrue (documents (chars comment.now)) }
+    ensures { chars result.now ≡ drop 3 (chars comment.now) }
+{
+    &comment[3..]
+}
+
+/// The text of a doc comment before `rest`, by the rule `doc-text`.
+fn doc_text<'a>(comment: &'a str, rest: &str) -> &'a str
+    requires { Where documents Comment (chars comment.now) (chars rest.now) }
+    ensures { chars result.now ≡ text_of_doc (chars comment.now) (chars rest.now) }
+{
+    let said = after_front(comment);
+    if begins(comment, "/*") {
+        before(said, "*/")
+    } else if begins(rest, "\n") {
+        without_return(said)
+    } else {
+        said
+    }
+}
+
+/// Whether a CR stands in the text that no LF follows there.
+fn has_bare_return(text: &str) -> bool
+    ensures { result ≡ bare (chars text.now) }
+{
+    let mut at = Cursor::new(text);
+    while let Some((c, after)) = at.advance() {
+        if c == '\r' && !begins(after.rest, "\n") {
+            return true;
+        }
+        at = after;
+    }
+    false
+}
+
+/// What kind of piece the comment before `rest` is. It is none where a doc comment has a CR that
+/// no LF follows in its text.
+pub fn comment_kind<'a>(comment: &'a str, rest: &str) -> Option<PieceKind<'a>>
+    requires { Comment (chars comment.now) (chars rest.now) }
+    ensures { Tells (kind_of_comment (chars comment.now) (chars rest.now)) (chars comment.now) result }
+{
+    if !is_doc(comment) {
+        return Some(PieceKind::Gap);
+    }
+    let text = doc_text(comment, rest);
+    if has_bare_return(text) {
+        return None;
+    }
+    let kind = PieceKind::Doc {
+        inner: is_inner(comment),
+        text,
+    };
+    Some(kind)
+}

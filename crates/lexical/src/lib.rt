@@ -1,0 +1,26 @@
+//! The lexer: which piece of the grammar stands at a place of a text.
+//!
+//! [`piece_at`] answers the one piece that stands at the front of what is left of a source, or
+//! that none stands there. The rules are in docs/GRAMMAR.md and, exactly, in `specs/`: a form is a
+//! relation between a piece and all that follows it. No call takes memory, and none looks at more
+//! of the text than the piece and a few characters behind it.
+#![tactic(auto)]
+
+mod class;
+mod comments;
+mod cursor;
+mod delimiters;
+mod docs;
+mod gaps;
+mod identifiers;
+pub mod laws;
+mod lexer;
+mod marks;
+pub mod piece;
+mod skip;
+mod text;
+
+pub use crate::identifiers::is_reserved;
+pub use crate::laws::one_piece;
+pub use crate::lexer::{literal_at, name_at, piece_at};
+pub use crate::piece::{Piece, PieceKind};

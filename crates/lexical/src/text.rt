@@ -1,0 +1,62 @@
+//! The few steps over the bytes of a text.
+
+ghost use Rattle.std.specs.Prelude.{◌≡◌, ◌∷◌, ◌++◌, [], List, ℕ, IfSome, IsTrue, false, MatchOption, if◌then◌else◌, nat_eq};
+ghost use Rattle.std.specs.Cmp.Lexicographic.{pointwise};
+ghost use Rattle.std.specs.Str.{IsUtf8, chars};
+ghost use Rattle.lexical.specs.Ascii.{all_ascii};
+ghost use Rattle.lexical.specs.Text.{begins_with, ends_with};
+
+/// The first character of a text, and the text after it.
+#[tactic(auto, using(std::proofs::lemmas::Str::chars_past_char))]
+pub fn split_first(text: &str) -> Option<(char, &str)>
+    ensures split { MatchOption result (chars text.now ≡ []) (λ x. chars text.now ≡ x.0 ∷ chars x.1.now) }
+    ensures utf8 { IfSome result (λ x. IsUtf8 x.1.now) }
+{
+    let mut characters = text.chars();
+    let first = characters.next()?;
+    Some((first, characters.as_str()))
+}
+
+/// Whether the text begins with the ASCII text `front`.
+pub fn begins(text: &str, front: &str) -> bool
+    requires { IsTrue (all_ascii front.now) }
+    ensures { result ≡ begins_with front.now (chars text.now) }
+{
+    text.starts_with(front)
+}
+
+/// Whether the text is the ASCII text `ascii`.
+pub fn is_text(text: &str, ascii: &str) -> bool
+    requires { IsTrue (all_ascii ascii.now) }
+    ensures { result ≡ pointwise nat_eq (chars text.now) ascii.now }
+{
+    text == ascii
+}
+
+/// What stands before `rest`, an end of the text.
+pub fn before<'a>(text: &'a str, rest: &str) -> &'a str
+    requires { (front : List ℕ) × (chars text.now ≡ front ++ chars rest.now) }
+    ensures { (front : List ℕ) → chars text.now ≡ front ++ chars rest.now → chars result.now ≡ front }
+{
+    &text[..text.len() - rest.len()]
+}
+
+/// What follows the ASCII text `front`, if the text begins with it.
+pub fn strip<'a>(text: &'a str, front: &str) -> Option<&'a str>
+    requires { IsTrue (all_ascii front.now) }
+    ensures split { MatchOption result (begins_with front.now (chars text.now) ≡ false)
+        (λ rest. chars text.now ≡ front.now ++ chars rest.now) }
+    ensures utf8 { IfSome result (λ rest. IsUtf8 rest.now) }
+{
+    text.strip_prefix(front)
+}
+
+/// The text without the CR at its end, if one stands there.
+pub fn without_return(text: &str) -> &str
+    ensures { chars text.now ≡ chars result.now ++ (if ends_with 13 (chars text.now) then 13 ∷ [] else []) }
+{
+    match text.strip_suffix('\r') {
+        Some(front) => front,
+        None => text,
+    }
+}

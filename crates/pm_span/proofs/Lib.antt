@@ -1,0 +1,5 @@
+pub mod AsciiLemmas
+mod Examples
+pub mod FileLemmas
+pub mod LineLemmas
+pub mod PlacedLemmas

@@ -1,0 +1,135 @@
+-- Lemmas on files that stand one after the other.
+use Rattle.std.proofs.Common.{◌≡◌, ℕ, zero, suc, ◌+◌, ◌-◌, ◌<◌, ◌≤◌, ◌↔◌, List, [], ◌∷◌, ◌++◌, length, map, get_or, refl, sym, ap, subst, ◌∙◌, arith}
+use Rattle.std.specs.List.Sorted.{IsNonDecreasingBy}
+use Rattle.std.proofs.lemmas.List.{get_or_read}
+use Rattle.pm_span.specs.Extent.{Extent}
+use Rattle.pm_span.specs.FileInfo.{PlacedText}
+use Rattle.pm_span.specs.Files.{Files, positions, IsFile, Holds}
+use Rattle.pm_span.specs.Placed.{file_0, ArePlaced, IsFileOf}
+use Rattle.pm_span.proofs.FileLemmas.{positions-cons}
+
+abbrev pub texts_of : List PlacedText → List (List ℕ)
+texts_of files = map (λ file. file.text) files
+
+pub ArePlaced-push :
+    (position : ℕ) (files : List PlacedText) (file : PlacedText) → ArePlaced position files
+    → file.lo ≡ position + positions (texts_of files) → ArePlaced position (files ++ file ∷ [])
+ArePlaced-push position [] file h e = (omega arith, tt)
+ArePlaced-push position (f ∷ files) file h e =
+    (h.0, ArePlaced-push (position + (length f.text + 1)) files file h.1 (omega (arith, positions-cons f.text (texts_of files))))
+
+-- each file stands where the files before it end
+pub placed_at :
+    (position : ℕ) (files : List PlacedText) (i : ℕ) (d : PlacedText) → ArePlaced position files
+    → i < length files
+    → (before : List (List ℕ)) × (after : List (List ℕ))
+    × (texts_of files ≡ before ++ ((get_or files i d).text ∷ after))
+    × ((get_or files i d).lo ≡ position + positions before)
+placed_at position [] i d h less = absurd (omega arith)
+placed_at position (file ∷ files) zero d h less = ([], texts_of files, refl, omega arith)
+placed_at position (file ∷ files) (suc i) d h less =
+    let more = placed_at (position + (length file.text + 1)) files i d h.1 (omega arith) in
+    (file.text ∷ more.0, more.1, ap (λ ts. file.text ∷ ts) more.2, omega (arith, more.3, positions-cons file.text more.0))
+
+-- the last file ends before the next one would begin
+pub last_end :
+    (position : ℕ) (files : List PlacedText) (i : ℕ) (d : PlacedText) → ArePlaced position files
+    → length files ≡ i + 1
+    → (get_or files i d).lo + length (get_or files i d).text + 1 ≡ position + positions (texts_of files)
+last_end position [] i d h e = absurd (omega arith)
+last_end position (file ∷ []) zero d h e = omega arith
+last_end position (file ∷ f ∷ files) zero d h e = absurd (omega arith)
+last_end position (file ∷ files) (suc i) d h e =
+    omega (arith, last_end (position + (length file.text + 1)) files i d h.1 (omega arith), positions-cons file.text (texts_of files))
+
+begins_past :
+    (position : ℕ) (files : List PlacedText) (i : ℕ) (d : PlacedText) → ArePlaced position files
+    → i < length files → position ≤ (get_or files i d).lo
+begins_past position files i d h less = omega (arith, (placed_at position files i d h less).3)
+
+-- files ascend
+pub rising : (position : ℕ) (files : List PlacedText) → ArePlaced position files → IsNonDecreasingBy (λ file. file.lo) files
+rising position [] h i j d le less = absurd (omega arith)
+rising position (file ∷ files) h zero j d le less = omega (arith, begins_past position (file ∷ files) j d h less)
+rising position (file ∷ files) h (suc i) zero d le less = absurd (omega arith)
+rising position (file ∷ files) h (suc i) (suc j) d le less = rising (position + (length file.text + 1)) files h.1 i j d (omega arith) (omega arith)
+
+-- of `file ∷ files` with n of `files` at or before the position, only the one at n may have it
+only_at :
+    (file : PlacedText) (files : List PlacedText) (n position : ℕ) (d : PlacedText) (before after : List (List ℕ)) (text : List ℕ)
+    → ArePlaced (file.lo + (length file.text + 1)) files → n ≤ length files
+    → ((j : ℕ) (e : PlacedText) → j < n → (get_or files j e).lo ≤ position)
+    → ((j : ℕ) (e : PlacedText) → n ≤ j → j < length files → position < (get_or files j e).lo)
+    → file.text ∷ texts_of files ≡ before ++ (text ∷ after) → file.lo + positions before ≤ position
+    → position ≤ file.lo + positions before + length text
+    → (text ≡ (get_or (file ∷ files) n d).text) × (file.lo + positions before ≡ (get_or (file ∷ files) n d).lo)
+only_at file files zero position d [] after text h bound below above e from to = (cc, omega arith)
+only_at file [] (suc n) position d [] after text h bound below above e from to = absurd (omega arith)
+only_at file (f ∷ files) (suc n) position d [] after text h bound below above e from to =
+    let same : file.text ≡ text = cc in
+    absurd (omega (arith, below 0 f (omega arith), h.0, ap length same))
+only_at file [] n position d (t ∷ []) after text h bound below above e from to = absurd (cc)
+only_at file [] n position d (t ∷ u ∷ ts) after text h bound below above e from to = absurd (cc)
+only_at file (f ∷ files) zero position d (t ∷ ts) after text h bound below above e from to =
+    let same : file.text ≡ t = cc in
+    absurd (omega (arith, above 0 f (omega arith) (omega arith), h.0, ap length same, positions-cons t ts))
+only_at file (f ∷ files) (suc n) position d (t ∷ ts) after text h bound below above e from to =
+    let same : file.text ≡ t = cc in
+    let k : f.lo + positions ts ≡ file.lo + positions (t ∷ ts) = omega (arith, h.0, ap length same, positions-cons t ts) in
+    let placed : ArePlaced (f.lo + (length f.text + 1)) files = subst (λ p. ArePlaced (p + (length f.text + 1)) files) (sym h.0) h.1 in
+    let rest = only_at f files n position d ts after text placed (omega arith)
+    (λ j e less. below (suc j) e (omega arith)) (λ j e le less. above (suc j) e (omega arith) (omega arith))
+    (cc) (omega arith) (omega arith) in
+    (rest.0, sym k ∙ rest.1)
+
+-- what a search for the last file that begins at or before the position finds
+pub file_found :
+    (limit : ℕ) (files : List PlacedText) (n position : ℕ) (d : PlacedText) → ArePlaced 1 files
+    → n ≤ length files → ((j : ℕ) (e : PlacedText) → j < n → (get_or files j e).lo ≤ position)
+    → ((j : ℕ) (e : PlacedText) → n ≤ j → j < length files → position < (get_or files j e).lo)
+    → IsFileOf (record { texts = texts_of files; limit = limit }) position (get_or (file_0 ∷ files) n d)
+file_found limit files n position d h bound below above = record {
+  is_file = (is_file n bound);
+  begins = (begins n bound below);
+  only = λ text lo file from to.
+      let same = only_at file_0 files n position d file.before file.after text h bound below above file.whole
+      (omega (arith, file.begins)) (omega (arith, file.begins)) in
+      (same.0, omega (arith, file.begins, same.1));
+}
+  where
+    is_file :
+        (n : ℕ) → n ≤ length files
+        → IsFile (record { texts = texts_of files; limit = limit }) (get_or (file_0 ∷ files) n d).text (get_or (file_0 ∷ files) n d).lo
+    is_file zero bound = record { before = []; after = texts_of files; whole = refl; begins = refl }
+    is_file (suc n) bound =
+        let at = placed_at 1 files n d h (omega arith) in
+        record {
+          before = [] ∷ at.0;
+          after = at.1;
+          whole = ap (λ ts. [] ∷ ts) at.2;
+          begins = omega (arith, at.3, positions-cons [] at.0);
+        }
+
+    begins :
+        (n : ℕ) → n ≤ length files → ((j : ℕ) (e : PlacedText) → j < n → (get_or files j e).lo ≤ position)
+        → (get_or (file_0 ∷ files) n d).lo ≤ position
+    begins zero bound below = omega arith
+    begins (suc n) bound below = below n d (omega arith)
+
+-- the element before the place n, or the first that stands for none
+pub get_or_before : {X : Type 0} (xs : List X) (n : ℕ) (x d : X) → (n ≡ 0 → ⊥) → n ≤ length xs → x ≡ get_or xs (n - 1) x → x ≡ get_or (d ∷ xs) n d
+get_or_before xs zero x d some bound e = absurd (some refl)
+get_or_before xs (suc n) x d some bound e =
+    let i : suc n - 1 ≡ n = omega arith in
+    get_or_read xs n x (omega arith) (e ∙ ap (λ j. get_or xs j x) i) d
+
+-- a span is held exactly if it ends in the file that may have its beginning
+pub holds_at :
+    (map : Files) (span : Extent) (file : PlacedText) → IsFileOf map span.lo file → span.lo ≤ span.hi
+    → (span.hi ≤ file.lo + length file.text) ↔ Holds map span
+holds_at map span file found ordered = (
+  λ to. record { text = file.text; lo = file.lo; file = found.is_file; from = found.begins; to = to },
+  λ held.
+      let same = found.only held.text held.lo held.file held.from (omega (arith, held.to)) in
+      omega (arith, held.to, ap length same.0, same.1),
+)

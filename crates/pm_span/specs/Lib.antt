@@ -1,0 +1,5 @@
+pub mod Place
+pub mod Extent
+pub mod FileInfo
+pub mod Files
+pub mod Placed

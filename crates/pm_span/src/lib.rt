@@ -1,0 +1,12 @@
+//! Places in source texts: positions, lines and columns, and the map of the files that were read.
+#![tactic(auto)]
+
+mod file_info;
+pub mod location;
+pub mod parts;
+pub mod source_map;
+pub mod spans;
+
+pub use location::LineColumn;
+pub use source_map::SourceMap;
+pub use spans::Span;

@@ -1,0 +1,51 @@
+//! What the crates above need of spans and of the map, and users don't.
+ghost use Rattle.std.specs.Prelude.{◌≡◌, ◌+◌, ◌^◌, ◌<◌, ◌≤◌, length, IfSome, OnOk, OnErr, SomeIff};
+ghost use Rattle.std.specs.Str.{chars};
+ghost use Rattle.pm_span.specs.Files.{Fits, next_lo, with_file};
+
+use crate::source_map::SourceMap;
+use crate::spans::Span;
+use std::alloc::{AllocError, Global};
+
+/// The span from `lo` to `hi`.
+pub fn span_of(lo: u32, hi: u32) -> Span
+    requires { lo ≤ hi }
+    ensures { result ≡ record { lo = lo; hi = hi } }
+{
+    Span::new(lo, hi)
+}
+
+/// Where the span begins and ends.
+pub fn bounds(span: Span) -> (u32, u32)
+    ensures value { result ≡ (span.lo, span.hi) }
+    ensures ordered { span.lo ≤ span.hi }
+{
+    span.bounds()
+}
+
+/// Where a file of `count` characters would begin (`next-position`), if it fits (`fits`).
+///
+/// `None` where it would end past the map's limit: in a new map with the limit 5, a file of 4
+/// characters would begin at 1, and one of 5 doesn't fit.
+pub fn fits(map: &SourceMap, count: usize) -> Option<u32>
+    ensures found { SomeIff result (Fits map.now count) (next_lo map.now) }
+    ensures within { IfSome result (λ lo. lo + count < 2 ^ 32) }
+{
+    map.fits(count)
+}
+
+/// Adds the text, which fits, as the map's next file.
+///
+/// Refused only for want of memory, and the map is then as before.
+pub fn add_file(map: &mut SourceMap, text: &str) -> Result<(), AllocError>
+    requires { Fits map.old (length (chars text.now)) }
+    ensures ok { OnOk result (map.new ≡ with_file map.old (chars text.now)) }
+    ensures kept { OnErr result (map.new ≡ map.old) }
+{
+    map.add_file(text)
+}
+
+/// What the map's memory is taken from, and that of the streams that are read with it.
+pub fn allocator(map: &SourceMap) -> Global {
+    map.allocator()
+}

@@ -1,0 +1,160 @@
+ghost use Rattle.std.specs.Prelude.{◌≡◌, ◌≤◌, ◌↔◌, ◌+◌, ◌-◌, ◌^◌, ◌<◌, ℕ, List, [], length, IfSome, IsTrue, OnOk, OnErr, SomeIff};
+ghost use Rattle.std.specs.Option.{unwrap_or, option_copied};
+ghost use Rattle.std.specs.Str.{chars};
+ghost use Rattle.pm_span.specs.Files.{Files, next_lo, Fits, IsFile, Holds, with_file};
+ghost use Rattle.pm_span.specs.Place.{line_column};
+ghost use Rattle.pm_span.specs.Placed.{file_0, IsFileOf};
+
+use crate::file_info::FileInfo;
+use crate::location::LineColumn;
+use crate::spans::Span;
+use std::alloc::{AllocError, Global};
+use std::marker::Model;
+
+/// The texts that were read, each a file at positions of its own.
+///
+/// Positions count characters. File 0 is the empty text at 0..0 (`file-0`), and each later file
+/// begins one past the end of the file before it (`next-position`), so that a position lies in
+/// one file only. After the texts `ab` and `c` the files stand at 0..0, 1..3 and 4..5.
+#[derive(Debug, Drop)]
+pub struct SourceMap {
+    alloc: Global,
+    /// The files from 1 on.
+    files: Vec<FileInfo>,
+    /// The last position that may be given.
+    limit: u32,
+}
+
+impl Model for SourceMap {
+    ghost use Rattle.std.specs.Prelude.{map};
+    ghost use Rattle.pm_span.specs.Files.{Files};
+    ghost use Rattle.pm_span.specs.Placed.{ArePlaced};
+
+    ghost Value = { Files };
+
+    ghost view = { λ source_map. record {
+      texts = map (λ file. file.text) source_map.files.items;
+      limit = source_map.limit;
+    } };
+
+    ghost invariant = { λ source_map. ArePlaced 1 source_map.files.items };
+}
+
+impl SourceMap {
+    /// A map with no file but file 0, whose positions go up to 4294967295; takes no memory.
+    pub fn new(alloc: Global) -> SourceMap
+        ensures { result ≡ record { texts = []; limit = 4294967295 } }
+    {
+        SourceMap::with_limit(alloc, u32::MAX)
+    }
+
+    /// A map with no file but file 0, whose positions go up to `limit`; takes no memory.
+    ///
+    /// A text whose file would end past the limit doesn't fit (`fits`). With the limit 5, `abcd`
+    /// stands at 1..5, and then not even the empty text fits.
+    pub fn with_limit(alloc: Global, limit: u32) -> SourceMap
+        ensures { result ≡ record { texts = []; limit = limit } }
+    {
+        SourceMap {
+            alloc,
+            files: Vec::new(alloc),
+            limit,
+        }
+    }
+
+    /// Whether some file of the map has all the positions of the span (`holds`).
+    ///
+    /// A file has the position at its end too. With the one text `ab` the map holds 0..0, 1..3
+    /// and 3..3, and neither 0..1 nor 3..4.
+    pub fn holds(&self, span: Span) -> bool
+        ensures { IsTrue result ↔ Holds self.now span }
+    {
+        let (lo, hi) = span.bounds();
+        match self.file_of(lo) {
+            None => hi == 0,
+            Some(file) => hi <= file.hi(),
+        }
+    }
+
+    /// The last file that begins at or before the position; `None` for file 0.
+    fn file_of(&self, position: u32) -> Option<&FileInfo>
+        ensures { IsFileOf self.now position (unwrap_or (option_copied result) file_0) }
+    {
+        let number = self.files.partition_point(|file| file.lo() <= position);
+        if number == 0 {
+            None
+        } else {
+            Some(&self.files[number - 1])
+        }
+    }
+
+    /// The last position of the last file.
+    fn last_hi(&self) -> u32
+        ensures { result + 1 ≡ next_lo self.now }
+    {
+        match self.files.last() {
+            None => 0,
+            Some(file) => file.hi(),
+        }
+    }
+
+    /// The line and column of a position of the map.
+    fn line_column(&self, position: u32) -> LineColumn
+        requires { Holds self.now (record { lo = position; hi = position }) }
+        ensures { (text : List ℕ) (lo : ℕ) → IsFile self.now text lo → lo ≤ position
+            → position ≤ lo + length text → result ≡ line_column text (position - lo) }
+    {
+        match self.file_of(position) {
+            None => LineColumn { line: 1, column: 0 },
+            Some(file) => file.line_column(position - file.lo()),
+        }
+    }
+
+    /// Where a file of `count` characters would begin, if it fits.
+    pub(crate) fn fits(&self, count: usize) -> Option<u32>
+        ensures found { SomeIff result (Fits self.now count) (next_lo self.now) }
+        ensures within { IfSome result (λ lo. lo + count < 2 ^ 32) }
+    {
+        let last = self.last_hi();
+        if last < self.limit && count < (self.limit - last) as usize {
+            Some(last + 1)
+        } else {
+            None
+        }
+    }
+
+    /// What the map's memory is taken from.
+    pub(crate) fn allocator(&self) -> Global {
+        self.alloc
+    }
+
+    /// Adds the text as the next file; a refused growth leaves the map as it was.
+    pub(crate) fn add_file(&mut self, text: &str) -> Result<(), AllocError>
+        requires { Fits self.old (length (chars text.now)) }
+        ensures ok { OnOk result (self.new ≡ with_file self.old (chars text.now)) }
+        ensures kept { OnErr result (self.new ≡ self.old) }
+    {
+        let lo = self.last_hi() + 1;
+        let file = FileInfo::new(self.alloc, text, lo)?;
+        self.files.push(file)?;
+        Ok(())
+    }
+}
+
+impl Span {
+    /// The line and column where the span begins (`line`, `column`), in a map that holds it.
+    ///
+    /// Lines count from 1 and end at LF alone; columns count characters, from 0. In the text
+    /// `aaa` LF `bbb` at 1..8, the span 6..8 starts at line 2, column 1.
+    pub fn start(self, map: &SourceMap) -> LineColumn
+        requires { Holds map.now self }
+        ensures { (text : List ℕ) (lo : ℕ) → IsFile map.now text lo → lo ≤ self.lo
+            → self.hi ≤ lo + length text → result ≡ line_column text (self.lo - lo) }
+    {
+        let (lo, _) = self.bounds();
+        map.line_column(lo)
+    }
+}
+
+#[cfg(test)]
+mod tests;

@@ -1,0 +1,77 @@
+use Rattle.std.proofs.Common.{rules, ◌<◌, arith, ap, sym, subst, ◌∙◌}
+use denote.Param.Weighed.{most}
+use Rattle.pm_stream.specs.Forest.{IsBuilt}
+use Rattle.pm_stream.specs.Level.{held}
+use Rattle.pm_stream.specs.Size.{count}
+use Rattle.pm_stream.specs.declared.stream.TokenStream.TheDeep.{size-TokenTree}
+use Rattle.pm_stream.proofs.Levels.{IsBuilt-taken, count-not_nil, count-taken, shared_size_le}
+use Rattle.pm_stream.proofs.+tree.Goals as goal
+use Rattle.pm_stream.proofs.+tree.Goals.{stream::TokenStream::drop-in-Some-take_last-2+then-not-is_empty+in-Ok, stream::TokenStream::drop-in-Some-take_last-2+then-not-is_empty+in-Err, stream::TokenStream::drop-in-Some-take_last-2+else-not-is_empty, stream::TokenStream::drop-in_default-take_last-2+in-Some-take_last-3}
+
+pub stream::TokenStream::drop-drop-shared-requires : goal.stream::TokenStream::drop-drop-shared-requires
+stream::TokenStream::drop-drop-shared-requires t c κs =
+    let below : most size-TokenTree c.take_last.new.shared.value.items < t =
+    omega (arith, shared_size_le c.take_last.new.shared.value.items _ (c.in_default-take_last.ensures ∙ ap held (sym c.in-Some.is) ∙ c.self.view_is), c.decreases) in
+    search (rules, below)
+
+pub stream::TokenStream::drop-invariant_of-here : goal.stream::TokenStream::drop-invariant_of-here
+stream::TokenStream::drop-invariant_of-here t c = IsBuilt-taken _ _ c.take_last.result c.take_last.ensures (subst IsBuilt (ap held c.in-Some.is) c.self.invariant)
+
+pub stream::TokenStream::drop-loop-init : goal.stream::TokenStream::drop-loop-init
+stream::TokenStream::drop-loop-init t c =
+    let same = ap count (ap held (sym c.in-Some.is) ∙ c.self.view_is) in
+    let taken = count-taken _ _ c.in-Some-take_last.last c.in-Some-take_last.ensures in
+    let into = ap count c.into_inside-outer.ensures in
+    record { here = omega (arith, same, taken, into); outer = omega (arith, same, taken, into); both = omega (arith, same, taken, into) }
+
+pub stream::TokenStream::drop-drop-inside-requires : goal.stream::TokenStream::drop-drop-inside-requires
+stream::TokenStream::drop-drop-inside-requires t c =
+    let taken = count-taken _ _ c.in-Some-take_last-2.tree c.in-Some-take_last-2.ensures in
+    let into = ap count c.into_inside-inside.ensures in
+    (omega (arith, taken, into, c.loop.invariant.here, c.decreases), tt)
+
+pub stream::TokenStream::drop-loop-preserved : goal.stream::TokenStream::drop-loop-preserved
+stream::TokenStream::drop-loop-preserved t c =
+    let was = c.loop.invariant in
+    elim c.match-take_last-2.branch [
+      | stream::TokenStream::drop-in-Some-take_last-2+then-not-is_empty+in-Ok w ↦
+          let taken = count-taken _ _ w.in-Some-take_last-2.tree w.in-Some-take_last-2.ensures in
+          let into = ap count w.into_inside-inside.ensures in
+          let some : 0 < count w.into_inside-inside.result = count-not_nil _ (search (rules, w.is_empty.ensures, w.if-not-is_empty.true)) in
+          let here = ap count w.here-is in
+          let outer = ap count w.outer-is in
+          let put = w.in-Ok.ensures.ok in
+          record {
+            here = omega (arith, was.here, taken, into, here);
+            outer = omega (arith, was.both, taken, into, some, outer, put);
+            both = omega (arith, was.both, taken, into, here, outer, put);
+          }
+      | stream::TokenStream::drop-in-Some-take_last-2+then-not-is_empty+in-Err w ↦
+          let taken = count-taken _ _ w.in-Some-take_last-2.tree w.in-Some-take_last-2.ensures in
+          let here = ap count (w.here-is ∙ w.in-Err.ensures.err.1) in
+          let outer = ap count (w.outer-is ∙ w.in-Err.ensures.err.0) in
+          record {
+            here = omega (arith, was.here, taken, here);
+            outer = omega (arith, was.outer, outer);
+            both = omega (arith, was.both, taken, here, outer);
+          }
+      | stream::TokenStream::drop-in-Some-take_last-2+else-not-is_empty w ↦
+          let taken = count-taken _ _ w.in-Some-take_last-2.tree w.in-Some-take_last-2.ensures in
+          let here = ap count w.here-is in
+          let outer = ap count w.outer-is in
+          record {
+            here = omega (arith, was.here, taken, here);
+            outer = omega (arith, was.outer, outer);
+            both = omega (arith, was.both, taken, here, outer);
+          }
+      | stream::TokenStream::drop-in_default-take_last-2+in-Some-take_last-3 w ↦
+          let taken = count-taken _ _ w.in-Some-take_last-3.way w.in-Some-take_last-3.ensures in
+          let into = ap count w.into_inside-outer-in_default-take_last-2.ensures in
+          let here = ap count w.here-is in
+          let outer = ap count w.outer-is in
+          record {
+            here = omega (arith, was.outer, taken, here);
+            outer = omega (arith, was.outer, taken, into, outer);
+            both = omega (arith, was.outer, taken, into, here, outer);
+          }
+    ]

@@ -1,0 +1,252 @@
+-- A source has at most one cover. It parses or has a fault, never both, and the fault has one position.
+use Rattle.std.proofs.Common.{◌≡◌, ◌≢◌, ◌⊎◌, inl, inr, ℕ, ◌+◌, ◌<◌, Bool, true, false, List, [], ◌∷◌, ◌++◌, length, refl, sym, ap, ap₂, ◌∙◌, subst, arith, append_assoc, append-nil, suc, zero, Some}
+use Rattle.std.proofs.Common.{None as Nothing}
+use Rattle.lexical.specs.Piece.{Kind, Piece, FrontMark, Gap, Doc, Open, Close, Leaf, IsPiece, HasNoPiece}
+use Rattle.lexical.specs.Cover.{onto, width, StandBefore, IsCover}
+use Rattle.lexical.specs.PieceFinder.{Found, found}
+use Rattle.lexical.proofs.PieceLemmas.{one_piece, piece_from_found, none_from_found}
+use Rattle.lexical.proofs.PieceFacts.{piece_not_empty, piece_shortens}
+use Rattle.pm_token.specs.declared.delimiters.Delimiter.{Delimiter}
+use Rattle.pm_token.specs.declared.delimiters.Delimiter.TheVariants.{Parenthesis, Brace, Bracket, None}
+use Rattle.pm_stream.specs.Delimited.{delimiter_of}
+use Rattle.pm_stream.specs.Events.{Event, Closes, events_onto, expansion, Balanced, CanGoOn}
+use Rattle.pm_stream.specs.Forest.{Forest, nil, leaf, group, flattening, joined}
+use Rattle.pm_stream.specs.Parsing.{ParsesTo, is_first, StopsAt, FaultAt}
+use Rattle.pm_stream.specs.Written.{Opened, written_onto, FitsInnermost}
+use Rattle.pm_stream.proofs.CoverLemmas.{expansion-append}
+use Rattle.pm_stream.proofs.DocLemmas.{doc_trees, doc_trees-events}
+use Rattle.pm_stream.proofs.EventLemmas.{one_stream, flattening_balanced, one_last_opener, balanced_has_none, written-joined}
+use Rattle.pm_stream.proofs.ReadSoFar.{Reads, reads_none, reads_more, reads_all, reads_open, reads_stuck, reads_stray}
+
+-- a piece at the front of a text
+pub record Front (first : Bool) (text : List ℕ) : Type 0 where
+  pub kind : Kind
+  pub piece : List ℕ
+  pub rest : List ℕ
+  pub whole : text ≡ piece ++ rest
+  pub stands : IsPiece first kind piece rest
+
+-- a piece stands at the front of a text, or none does
+front_or_none : (first : Bool) (text : List ℕ) (o : Found) → found first text ≡ o
+    → Front first text ⊎ HasNoPiece first text
+front_or_none first text Nothing e = inr (none_from_found first text e)
+front_or_none first text (Some x) e =
+    let is = piece_from_found first text x.1 x.2 x.0 e in
+    inl (record { kind = x.0; piece = x.1; rest = x.2; whole = is.0; stands = is.1 })
+
+-- ---- two covers of one source
+
+abbrev at_front : Bool → List Piece → Bool
+at_front first [] = first
+at_front first (u ∷ us) = false
+
+at_front-false : (us : List Piece) → at_front false us ≡ false
+at_front-false [] = refl
+at_front-false (u ∷ us) = refl
+
+at_front-true : (us : List Piece) → at_front true us ≡ is_first us
+at_front-true [] = refl
+at_front-true (u ∷ us) = refl
+
+-- the first pieces are a front of the second ones, which go on from r to s
+record GoesOn (first : Bool) (us vs : List Piece) (r s : List ℕ) : Type 0 where
+  next : Piece
+  later : List Piece
+  split : vs ≡ us ++ (next ∷ later)
+  whole : r ≡ next.1 ++ onto later s
+  stands : IsPiece (at_front first us) next.0 next.1 (onto later s)
+
+goes_later : (first : Bool) (u : Piece) (us vs : List Piece) (v : Piece) (r s : List ℕ) → u ≡ v
+    → GoesOn false us vs r s → GoesOn first (u ∷ us) (v ∷ vs) r s
+goes_later first u us vs v r s same h = record {
+  next = h.next;
+  later = h.later;
+  split = ap₂ (λ y ys. y ∷ ys) (sym same) h.split;
+  whole = h.whole;
+  stands = subst (λ b. IsPiece b h.next.0 h.next.1 (onto h.later s)) (at_front-false us) h.stands;
+}
+
+-- of two partial covers one goes on from the other
+compared : (first : Bool) (us vs : List Piece) (r s : List ℕ) → StandBefore first us r
+    → StandBefore first vs s → onto us r ≡ onto vs s
+    → GoesOn first us vs r s ⊎ (GoesOn first vs us s r ⊎ ((us ≡ vs) × (r ≡ s)))
+compared first [] [] r s g h e = inr (inr (refl, e))
+compared first [] (v ∷ vs) r s g h e =
+    inl (record { next = v; later = vs; split = refl; whole = e; stands = h.0 })
+compared first (u ∷ us) [] r s g h e =
+    inr (inl (record { next = u; later = us; split = refl; whole = sym e; stands = g.0 }))
+compared first (u ∷ us) (v ∷ vs) r s g h e =
+    let same = one_piece first u.0 v.0 u.1 v.1 (onto us r) (onto vs s) g.0 h.0 e in
+    let head : u ≡ v = ap₂ (λ k p. (k, p)) same.0 same.1 in
+    elim (compared false us vs r s g.1 h.1 same.2) [
+      | inl more ↦ inl (goes_later first u us vs v r s head more)
+      | inr other ↦ elim other [
+        | inl more ↦ inr (inl (goes_later first v vs us u s r (sym head) more))
+        | inr both ↦ inr (inr (ap₂ (λ y ys. y ∷ ys) head both.0, both.1))
+      ]
+    ]
+
+goes_not_from_end : (first : Bool) (us vs : List Piece) (r s : List ℕ) → GoesOn first us vs r s → r ≢ []
+goes_not_from_end first us vs r s h e =
+    let begin = piece_not_empty (at_front first us) h.next.0 h.next.1 (onto h.later s) h.stands in
+    let clash : begin.0 ∷ (begin.1 ++ onto h.later s) ≡ [] = ap (λ p. p ++ onto h.later s) (sym begin.2) ∙ (sym h.whole ∙ e) in
+    cc
+
+pub one_cover : (source : List ℕ) (us vs : List Piece) → IsCover us source → IsCover vs source → us ≡ vs
+one_cover source us vs g h = elim (compared true us vs [] [] g.stand h.stand (sym g.whole ∙ h.whole)) [
+  | inl more ↦ absurd (goes_not_from_end true us vs [] [] more refl)
+  | inr other ↦ elim other [
+    | inl more ↦ absurd (goes_not_from_end true vs us [] [] more refl)
+    | inr both ↦ both.0
+  ]
+]
+
+-- a source parses to one stream at most
+pub one_parse : (base : ℕ) (source : List ℕ) (s t : Forest) → ParsesTo base source s → ParsesTo base source t
+    → s ≡ t
+one_parse base source s t g h =
+    one_stream s t (g.expands ∙ (ap (expansion base) (one_cover source g.pieces h.pieces g.covers h.covers) ∙ sym h.expands))
+
+-- ---- the fault has one position, and a source with a fault doesn't parse
+
+front_goes_on : (es fs : List Event) → CanGoOn (es ++ fs) → CanGoOn es
+front_goes_on es fs h = (fs ++ h.0, subst Balanced (append_assoc es fs h.0) h.1)
+
+-- pieces that can go on pass no position where reading stops
+passes_none : (base : ℕ) (source : List ℕ) (position : ℕ) (h : StopsAt base source position) (vs : List Piece) (s : List ℕ)
+    → GoesOn true h.pieces vs h.rest s → CanGoOn (expansion base vs) → ⊥
+passes_none base source position h vs s more goes =
+    let x = more.next in
+    let stands = subst (λ b. IsPiece b x.0 x.1 (onto more.later s)) (at_front-true h.pieces) more.stands in
+    elim h.stuck [
+      | inl none ↦ none x.0 x.1 (onto more.later s) more.whole stands
+      | inr closer ↦
+          let same = one_piece (is_first h.pieces) x.0 (Close closer.character) x.1 closer.front (onto more.later s) closer.rest stands closer.stands (sym more.whole ∙ closer.whole) in
+          let later = expansion (base + width h.pieces + length x.1) more.later in
+          let event : expansion (base + width h.pieces) (x ∷ more.later) ≡ Closes (delimiter_of closer.character) (position + length closer.front) ∷ later =
+          ap₂ (λ k p. events_onto (base + width h.pieces) k p later) same.0 same.1
+          ∙ ap (λ n. Closes (delimiter_of closer.character) (n + length closer.front) ∷ later) (sym h.at) in
+          let split : expansion base vs ≡ (expansion base h.pieces ++ (Closes (delimiter_of closer.character) (position + length closer.front) ∷ [])) ++ later =
+          ap (expansion base) more.split
+          ∙ (expansion-append base h.pieces (x ∷ more.later) ∙ (ap (λ es. expansion base h.pieces ++ es) event
+          ∙ sym (append_assoc (expansion base h.pieces) (Closes (delimiter_of closer.character) (position + length closer.front) ∷ []) later))) in
+          closer.stray (front_goes_on _ later (subst CanGoOn split goes))
+    ]
+
+-- a cover of the whole source that can go on leaves no position where reading stops
+stops_not : (base : ℕ) (source : List ℕ) (position : ℕ) → StopsAt base source position → (vs : List Piece)
+    → IsCover vs source → CanGoOn (expansion base vs) → ⊥
+stops_not base source position h vs c goes = elim (compared true h.pieces vs h.rest [] h.covers.stand c.stand (sym h.covers.whole ∙ c.whole)) [
+  | inl more ↦ passes_none base source position h vs [] more goes
+  | inr other ↦ elim other [
+    | inl more ↦ goes_not_from_end true vs h.pieces [] h.rest more refl
+    | inr both ↦ h.more both.1
+  ]
+]
+
+pub one_fault : (base : ℕ) (source : List ℕ) (j k : ℕ) → FaultAt base source j → FaultAt base source k → j ≡ k
+one_fault base source j k (inl g) (inl h) =
+    elim (compared true g.pieces h.pieces g.rest h.rest g.covers.stand h.covers.stand (sym g.covers.whole ∙ h.covers.whole)) [
+      | inl more ↦ absurd (passes_none base source j g h.pieces h.rest more h.goes_on)
+      | inr other ↦ elim other [
+        | inl more ↦ absurd (passes_none base source k h g.pieces g.rest more g.goes_on)
+        | inr both ↦ g.at ∙ (ap (λ us. base + width us) both.0 ∙ sym h.at)
+      ]
+    ]
+one_fault base source j k (inl g) (inr h) = absurd (stops_not base source j g h.pieces h.covers h.goes_on)
+one_fault base source j k (inr g) (inl h) = absurd (stops_not base source k h g.pieces g.covers g.goes_on)
+one_fault base source j k (inr g) (inr h) =
+    let same = ap (expansion base) (one_cover source g.pieces h.pieces g.covers h.covers) in
+    one_last_opener (expansion base g.pieces) g.front g.back h.front h.back g.delimiter h.delimiter j k g.goes_on g.split g.closed (same ∙ h.split) h.closed
+
+pub parses_or_not : (base : ℕ) (source : List ℕ) (stream : Forest) (k : ℕ) → ParsesTo base source stream
+    → FaultAt base source k → ⊥
+parses_or_not base source stream k g (inl h) =
+    stops_not base source k h g.pieces g.covers ([], subst Balanced (g.expands ∙ sym (append-nil _)) (flattening_balanced stream))
+parses_or_not base source stream k g (inr h) =
+    let same = ap (expansion base) (one_cover source g.pieces h.pieces g.covers h.covers) in
+    balanced_has_none (flattening stream) h.front h.back h.delimiter k (flattening_balanced stream) (g.expands ∙ (same ∙ h.split)) h.closed
+
+-- ---- a source parses or has a fault
+
+abbrev pub HasOutcome : ℕ → List ℕ → Type 0
+HasOutcome base source =
+    ((stream : Forest) × ParsesTo base source stream) ⊎ ((position : ℕ) × FaultAt base source position)
+
+-- what is written with one piece more, or that the piece is a stray closer
+abbrev Moved : Kind → List ℕ → ℕ → List Opened → Forest → Type 0
+Moved k p at groups trees =
+    ((new : List Opened) × (more : Forest) × (written_onto new more [] ≡ written_onto groups trees (events_onto at k p [])))
+    ⊎ ((c : ℕ) × (k ≡ Close c) × (FitsInnermost (delimiter_of c) groups → ⊥))
+
+same_or_not : (d e : Delimiter) → (d ≡ e) ⊎ (d ≢ e)
+same_or_not Parenthesis Parenthesis = inl refl
+same_or_not Brace Brace = inl refl
+same_or_not Bracket Bracket = inl refl
+same_or_not None None = inl refl
+same_or_not _ _ = inr (λ e. cc)
+
+closed : (p : List ℕ) (at c : ℕ) (x : Opened) (groups : List Opened) (trees : Forest)
+    → (x.delimiter ≡ delimiter_of c) ⊎ (x.delimiter ≢ delimiter_of c)
+    → Moved (Close c) p at (x ∷ groups) trees
+closed p at c x groups trees (inl same) = inl (
+  groups,
+  joined x.outer (group x.delimiter x.lo (at + length p) trees nil),
+  written-joined groups x.outer (group x.delimiter x.lo (at + length p) trees nil) []
+      ∙ ap (λ d. written_onto (x ∷ groups) trees (Closes d (at + length p) ∷ [])) same,
+)
+closed p at c x groups trees (inr apart) = inr (c, refl, apart)
+
+moved : (k : Kind) (p : List ℕ) (at : ℕ) (groups : List Opened) (trees : Forest) → Moved k p at groups trees
+moved FrontMark p at groups trees = inl (groups, trees, refl)
+moved Gap p at groups trees = inl (groups, trees, refl)
+moved (Doc inner text) p at groups trees =
+    let doc = doc_trees at (at + length p) inner text in
+    inl (
+      groups,
+      joined trees doc,
+      written-joined groups trees doc []
+          ∙ ap (written_onto groups trees) (doc_trees-events at (at + length p) inner text []),
+    )
+moved (Open c) p at groups trees =
+    inl (record { outer = trees; delimiter = delimiter_of c; lo = at } ∷ groups, nil, refl)
+moved (Close c) p at [] trees = inr (c, refl, λ fits. fits)
+moved (Close c) p at (x ∷ groups) trees =
+    closed p at c x groups trees (same_or_not x.delimiter (delimiter_of c))
+moved (Leaf token) p at groups trees =
+    inl (groups, joined trees (leaf token at (at + length p) nil), written-joined groups trees (leaf token at (at + length p) nil) [])
+
+ends : (base : ℕ) (source rest : List ℕ) (at : ℕ) (first : Bool) (groups : List Opened) (trees : Forest)
+    → Reads base source rest at first groups trees → rest ≡ [] → HasOutcome base source
+ends base source rest at first [] trees h done = inl (trees, reads_all base source rest at first trees h done)
+ends base source rest at first (x ∷ groups) trees h done =
+    inr (x.lo, reads_open base source rest at first x groups trees h done)
+
+empty_or_not : (xs : List ℕ) → (xs ≡ []) ⊎ (xs ≢ [])
+empty_or_not [] = inl refl
+empty_or_not (x ∷ xs) = inr (λ e. cc)
+
+goes : (n base : ℕ) (source rest : List ℕ) (at : ℕ) (first : Bool) (groups : List Opened) (trees : Forest)
+    → length rest < n → Reads base source rest at first groups trees → HasOutcome base source
+goes zero base source rest at first groups trees l h = absurd (omega arith)
+goes (suc n) base source rest at first groups trees l h = elim (front_or_none first rest (found first rest) refl) [
+  | inl x ↦
+      let shorter : length x.rest < n = omega (arith, ap length x.whole, piece_shortens first x.kind x.piece x.rest x.stands) in
+      elim (moved x.kind x.piece at groups trees) [
+        | inl new ↦ goes n base source x.rest (at + length x.piece) false new.0 new.1 shorter
+            (reads_more base source rest x.piece x.rest at (at + length x.piece) first groups new.0 trees new.1 x.kind h x.whole x.stands refl new.2)
+        | inr stray ↦ inr (
+          at,
+          reads_stray base source rest x.piece x.rest at first groups trees stray.0 h x.whole
+              (subst (λ k. IsPiece first k x.piece x.rest) stray.1 x.stands) stray.2,
+        )
+      ]
+  | inr none ↦ elim (empty_or_not rest) [
+    | inl done ↦ ends base source rest at first groups trees h done
+    | inr more ↦ inr (at, reads_stuck base source rest at first groups trees h more none)
+  ]
+]
+
+pub has_outcome : (base : ℕ) (source : List ℕ) → HasOutcome base source
+has_outcome base source =
+    goes (suc (length source)) base source source base true [] nil (omega arith) (reads_none base source)

@@ -1,0 +1,136 @@
+-- Lists of trees and the forests that they make.
+use Rattle.std.proofs.Common.{Result, Ok, Err, OnOk, IfErr, Option, Some, None, ◌≡◌, ℕ, ◌+◌, ◌*◌, ◌<◌, ◌≤◌, get_or, arith, false, List, [], ◌∷◌, ◌++◌, length, nat_eq, refl, sym, ap, subst, ◌∙◌, rules}
+use Rattle.pm_stream.specs.Events.{Event, One, Opens, Closes}
+use Rattle.pm_stream.specs.Forest.{Forest, nil, leaf, group, flat_onto, flattening, joined, IsBuilt}
+use Rattle.std.proofs.lemmas.List.{append-nil}
+use Rattle.std.specs.Option.{option_to_list}
+use denote.Param.Weighed.{most, at_most}
+use Rattle.pm_stream.specs.Falls.{deep_le-before}
+use Rattle.pm_stream.specs.Size.{is_nil, count}
+use Rattle.pm_stream.specs.declared.stream.TokenStream.TheDeep.{size-TokenTree}
+use Rattle.pm_stream.specs.Level.{before, forest, alone, inside, TakesLast}
+use Rattle.pm_stream.specs.declared.stream.Group.{Group as Grouped}
+use Rattle.pm_stream.specs.declared.stream.TokenTree.{TokenTree}
+use Rattle.pm_stream.specs.declared.stream.TokenTree.TheVariants.{Group, Ident, Punct, Literal}
+
+is_nil-before : (t : TokenTree) (f : Forest) → is_nil (before t f) ≡ false
+is_nil-before (Group g) f = refl
+is_nil-before (Ident i) f = refl
+is_nil-before (Punct p) f = refl
+is_nil-before (Literal l) f = refl
+
+pub is_nil-forest : (ts : List TokenTree) → is_nil (forest ts) ≡ nat_eq (length ts) 0
+is_nil-forest [] = refl
+is_nil-forest (t ∷ ts) = is_nil-before t (forest ts) ∙ search rules
+
+pub joined-nil : (f : Forest) → joined f nil ≡ f
+joined-nil nil = refl
+joined-nil (leaf t lo hi f) = ap (leaf t lo hi) (joined-nil f)
+joined-nil (group d lo hi f g) = ap (group d lo hi f) (joined-nil g)
+
+pub joined-assoc : (f g h : Forest) → joined (joined f g) h ≡ joined f (joined g h)
+joined-assoc nil g h = refl
+joined-assoc (leaf t lo hi f) g h = ap (leaf t lo hi) (joined-assoc f g h)
+joined-assoc (group d lo hi f k) g h = ap (group d lo hi f) (joined-assoc k g h)
+
+pub joined-before : (t : TokenTree) (f k : Forest) → joined (before t f) k ≡ before t (joined f k)
+joined-before (Group g) f k = refl
+joined-before (Ident i) f k = refl
+joined-before (Punct p) f k = refl
+joined-before (Literal l) f k = refl
+
+-- one tree more
+pub forest-push : (ts : List TokenTree) (t : TokenTree) → forest (ts ++ t ∷ []) ≡ joined (forest ts) (alone t)
+forest-push [] t = refl
+forest-push (u ∷ ts) t = ap (before u) (forest-push ts t) ∙ sym (joined-before u (forest ts) (alone t))
+
+pub IsBuilt-joined : (f k : Forest) → IsBuilt f → IsBuilt k → IsBuilt (joined f k)
+IsBuilt-joined nil k p q = q
+IsBuilt-joined (leaf t lo hi f) k p q = (p.0, p.1, IsBuilt-joined f k p.2 q)
+IsBuilt-joined (group d lo hi f g) k p q = (p.0, p.1, IsBuilt-joined g k p.2 q)
+
+-- one tree more
+pub IsBuilt-push : (ts : List TokenTree) (t : TokenTree) → IsBuilt (forest ts) → IsBuilt (alone t) → IsBuilt (forest (ts ++ t ∷ []))
+IsBuilt-push ts t p q = subst IsBuilt (sym (forest-push ts t)) (IsBuilt-joined (forest ts) (alone t) p q)
+
+-- each of two forests is built if they are together
+pub IsBuilt-front : (f k : Forest) → IsBuilt (joined f k) → IsBuilt f
+IsBuilt-front nil k p = tt
+IsBuilt-front (leaf t lo hi f) k p = (p.0, p.1, IsBuilt-front f k p.2)
+IsBuilt-front (group d lo hi f g) k p = (p.0, p.1, IsBuilt-front g k p.2)
+
+pub IsBuilt-back : (f k : Forest) → IsBuilt (joined f k) → IsBuilt k
+IsBuilt-back nil k p = p
+IsBuilt-back (leaf t lo hi f) k p = IsBuilt-back f k p.2
+IsBuilt-back (group d lo hi f g) k p = IsBuilt-back g k p.2
+
+-- the events of two forests together
+pub flat_onto-joined : (f g : Forest) (es : List Event) → flat_onto (joined f g) es ≡ flat_onto f (flat_onto g es)
+flat_onto-joined nil g es = refl
+flat_onto-joined (leaf t lo hi f) g es = ap (λ e. One t lo hi ∷ e) (flat_onto-joined f g es)
+flat_onto-joined (group d lo hi f k) g es = ap (λ e. Opens d lo ∷ flat_onto f (Closes d hi ∷ e)) (flat_onto-joined k g es)
+
+-- what is flattened onto other events is flattened alone before them
+pub flat_onto-append : (f : Forest) (es more : List Event) → flat_onto f es ++ more ≡ flat_onto f (es ++ more)
+flat_onto-append nil es more = refl
+flat_onto-append (leaf t lo hi f) es more = ap (λ e. One t lo hi ∷ e) (flat_onto-append f es more)
+flat_onto-append (group d lo hi f g) es more =
+    ap (λ e. Opens d lo ∷ e) (flat_onto-append f (Closes d hi ∷ flat_onto g es) more ∙ ap (λ e. flat_onto f (Closes d hi ∷ e)) (flat_onto-append g es more))
+
+pub flattening-joined : (f g : Forest) → flattening (joined f g) ≡ flattening f ++ flattening g
+flattening-joined f g = flat_onto-joined f g [] ∙ sym (flat_onto-append f [] (flattening g))
+
+-- the events of one tree more
+pub flat_onto-push : (ts : List TokenTree) (t : TokenTree) (es : List Event) → flat_onto (forest (ts ++ t ∷ [])) es ≡ flat_onto (forest ts) (flat_onto (alone t) es)
+flat_onto-push ts t es = ap (λ f. flat_onto f es) (forest-push ts t) ∙ flat_onto-joined (forest ts) (alone t) es
+
+-- the measures of the trees of a list are below that of the stream
+most_size_le : (ts : List TokenTree) → most size-TokenTree ts ≤ 3 * count (forest ts) + 2
+most_size_le [] = omega arith
+most_size_le (t ∷ ts) = omega (arith, deep_le-before t (forest ts), most_size_le ts)
+
+pub item_size_le : (ts : List TokenTree) (i : ℕ) (t : TokenTree) (f : Forest) → i < length ts → t ≡ get_or ts i t → forest ts ≡ f → size-TokenTree t ≤ 3 * count f + 2
+item_size_le ts i t f h is e = omega (arith, at_most size-TokenTree ts i t h, most_size_le ts, ap size-TokenTree is, ap count e)
+
+-- the last of a list
+pub takes_last : (own new : List TokenTree) (r : Option TokenTree) → own ≡ new ++ option_to_list r → TakesLast (forest own) r (forest new)
+takes_last own new None p = ap forest (sym (p ∙ append-nil new))
+takes_last own new (Some t) p = ap forest p ∙ forest-push new t
+
+pub count-joined : (f g : Forest) → count (joined f g) ≡ count f + count g
+count-joined nil g = omega arith
+count-joined (leaf t lo hi f) g = omega (arith, count-joined f g)
+count-joined (group d lo hi f k) g = omega (arith, count-joined k g)
+
+pub count-alone : (t : TokenTree) → count (alone t) ≡ 1 + count (inside t)
+count-alone (Group g) = omega arith
+count-alone (Ident i) = omega arith
+count-alone (Punct p) = omega arith
+count-alone (Literal l) = omega arith
+
+-- with the last tree away
+pub count-taken : (old new : Forest) (t : TokenTree) → old ≡ joined new (alone t) → count old ≡ count new + 1 + count (inside t)
+count-taken old new t p = omega (arith, ap count p, count-joined new (alone t), count-alone t)
+
+pub IsBuilt-taken : (old new : Forest) (r : Option TokenTree) → TakesLast old r new → IsBuilt old → IsBuilt new
+IsBuilt-taken old new None p q = subst IsBuilt (sym p) q
+IsBuilt-taken old new (Some t) p q = IsBuilt-front new (alone t) (subst IsBuilt p q)
+
+-- with a tree put behind the others, or not
+pub IsBuilt-put : (old new : Forest) (t : TokenTree) (r : Result (Unit {0}) TokenTree) → OnOk r (new ≡ joined old (alone t)) → IfErr r (λ back. (back ≡ t) × (new ≡ old))
+    → IsBuilt old → IsBuilt (alone t) → IsBuilt new
+IsBuilt-put old new t (Ok u) ok err p q = subst IsBuilt (sym ok) (IsBuilt-joined old (alone t) p q)
+IsBuilt-put old new t (Err back) ok err p q = subst IsBuilt (sym err.1) p
+
+-- what a shared list holds is below the stream
+pub shared_size_le : (ts : List TokenTree) (f : Forest) → forest ts ≡ f → most size-TokenTree ts ≤ 3 * count f + 2
+shared_size_le ts f e = omega (arith, most_size_le ts, ap count e)
+
+-- the way back in the place of a group
+pub count-put : (old new : Forest) (g : Grouped) → new ≡ joined old (alone (Group g)) → count new ≡ count old + 1 + count g.stream
+count-put old new g p = omega (arith, ap count p, count-joined old (alone (Group g)))
+
+pub count-not_nil : (f : Forest) → is_nil f ≡ false → 0 < count f
+count-not_nil nil e = cc
+count-not_nil (leaf t lo hi f) e = omega arith
+count-not_nil (group d lo hi f g) e = omega arith

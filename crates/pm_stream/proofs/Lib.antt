@@ -1,0 +1,12 @@
+pub mod CoverLemmas
+pub mod DocLemmas
+pub mod PieceLemmas
+pub mod Levels
+pub mod PrintLemmas
+pub mod EventLemmas
+pub mod WrittenLemmas
+pub mod ReadSoFar
+pub mod ParseLemmas
+pub mod FaultLemmas
+pub mod LawLemmas
+pub mod RuleLemmas

@@ -1,0 +1,40 @@
+-- What a stream is seen as: its trees, one after another.
+use Rattle.std.specs.Prelude.{ℕ, ◌+◌, ◌≤◌, List, [], ◌∷◌, max}
+use Rattle.lexical.specs.Token.{Token}
+use Rattle.pm_token.specs.declared.delimiters.Delimiter.{Delimiter}
+use Rattle.pm_token.specs.Built.{IsBuiltToken}
+use Rattle.pm_stream.specs.Events.{Event, One, Opens, Closes}
+
+-- a leaf or a group, with the positions where it begins and ends, before the other trees
+pub data Forest : Type 0 where
+  nil : Forest
+  leaf : Token → ℕ → ℕ → Forest → Forest
+  group : Delimiter → ℕ → ℕ → Forest → Forest → Forest
+
+-- the flattening, and then other events
+abbrev pub flat_onto : Forest → List Event → List Event
+flat_onto nil events = events
+flat_onto (leaf token lo hi rest) events = One token lo hi ∷ flat_onto rest events
+flat_onto (group d lo hi inside rest) events = Opens d lo ∷ flat_onto inside (Closes d hi ∷ flat_onto rest events)
+
+-- `flattening`: the trees in reading order
+abbrev pub flattening : Forest → List Event
+flattening forest = flat_onto forest []
+
+-- the trees of one and then those of the other
+abbrev pub joined : Forest → Forest → Forest
+joined nil more = more
+joined (leaf token lo hi rest) more = leaf token lo hi (joined rest more)
+joined (group d lo hi inside rest) more = group d lo hi inside (joined rest more)
+
+-- how deep the groups nest
+abbrev pub depth : Forest → ℕ
+depth nil = 0
+depth (leaf token lo hi rest) = depth rest
+depth (group d lo hi inside rest) = max (depth inside + 1) (depth rest)
+
+-- `built`: what every stream is promised to be
+abbrev pub IsBuilt : Forest → Type 0
+IsBuilt nil = Unit {0}
+IsBuilt (leaf token lo hi rest) = IsBuiltToken token × (lo ≤ hi) × IsBuilt rest
+IsBuilt (group d lo hi inside rest) = (lo ≤ hi) × IsBuilt inside × IsBuilt rest

@@ -1,0 +1,15 @@
+pub mod Delimited
+pub mod Events
+pub mod Forest
+pub mod Size
+pub mod Codec
+pub mod Level
+pub mod Falls
+pub mod Place
+pub mod Printed
+pub mod PrintedTree
+pub mod Rule
+pub mod Parsing
+pub mod Written
+pub mod Progress
+pub mod Outcome

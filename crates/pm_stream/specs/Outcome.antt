@@ -1,0 +1,19 @@
+-- What an attempt to parse a text answers.
+use Rattle.std.specs.Prelude.{Bool, true, false, Result, Ok, Err}
+use Rattle.pm_span.specs.Extent.{Extent}
+use Rattle.pm_token.specs.declared.errors.ParseError.{ParseError}
+use Rattle.pm_token.specs.declared.errors.ParseError.TheVariants.{Lex, MapFull, Memory}
+use Rattle.pm_stream.specs.Forest.{Forest}
+
+-- what holds of the place of the fault, if that is what the error says
+abbrev pub IfLex : ParseError → (Extent → Type 0) → Type 0
+IfLex (Lex fault) holds = holds fault
+IfLex MapFull holds = Unit {0}
+IfLex (Memory error) holds = Unit {0}
+
+-- the text was read, and parsed or found to have a fault
+abbrev pub was_read : Result Forest ParseError → Bool
+was_read (Ok stream) = true
+was_read (Err (Lex fault)) = true
+was_read (Err MapFull) = false
+was_read (Err (Memory error)) = false

@@ -1,0 +1,53 @@
+-- What a source parses to, and where its fault stands. Positions count from base on, where the source begins.
+use Rattle.std.specs.Prelude.{ℕ, Bool, true, false, ◌+◌, ◌≡◌, ◌≢◌, ◌⊎◌, List, [], ◌∷◌, ◌++◌, length}
+use Rattle.lexical.specs.Piece.{Piece, Close, IsPiece, HasNoPiece}
+use Rattle.lexical.specs.Cover.{CoversUpTo, IsCover, width}
+use Rattle.pm_token.specs.declared.delimiters.Delimiter.{Delimiter}
+use Rattle.pm_stream.specs.Delimited.{delimiter_of}
+use Rattle.pm_stream.specs.Events.{Event, Opens, Closes, expansion, Balanced, CanGoOn}
+use Rattle.pm_stream.specs.Forest.{Forest, flattening}
+
+-- `parses-to`: the stream's flattening is the expansion of a cover of the source
+pub record ParsesTo (base : ℕ) (source : List ℕ) (stream : Forest) : Type 0 where
+  pub pieces : List Piece
+  pub covers : IsCover pieces source
+  pub expands : flattening stream ≡ expansion base pieces
+
+-- no piece stands before any other
+abbrev pub is_first : List Piece → Bool
+is_first [] = true
+is_first (piece ∷ pieces) = false
+
+-- a closer stands at the front of the text, after which the events can't go on
+pub record HasStrayCloser (first : Bool) (position : ℕ) (events : List Event) (text : List ℕ) : Type 0 where
+  pub character : ℕ
+  pub front : List ℕ
+  pub rest : List ℕ
+  pub whole : text ≡ front ++ rest
+  pub stands : IsPiece first (Close character) front rest
+  pub stray : CanGoOn (events ++ (Closes (delimiter_of character) (position + length front) ∷ [])) → ⊥
+
+-- pieces cover the source up to the position and can go on, and there stands no piece or a stray closer
+pub record StopsAt (base : ℕ) (source : List ℕ) (position : ℕ) : Type 0 where
+  pub pieces : List Piece
+  pub rest : List ℕ
+  pub covers : CoversUpTo pieces source rest
+  pub at : position ≡ base + width pieces
+  pub goes_on : CanGoOn (expansion base pieces)
+  pub more : rest ≢ []
+  pub stuck : HasNoPiece (is_first pieces) rest ⊎ HasStrayCloser (is_first pieces) position (expansion base pieces) rest
+
+-- the source is covered, its events can go on, and the last opener that no closer matches begins at the position
+pub record StaysOpenAt (base : ℕ) (source : List ℕ) (position : ℕ) : Type 0 where
+  pub pieces : List Piece
+  pub covers : IsCover pieces source
+  pub goes_on : CanGoOn (expansion base pieces)
+  pub delimiter : Delimiter
+  pub front : List Event
+  pub back : List Event
+  pub split : expansion base pieces ≡ front ++ (Opens delimiter position ∷ back)
+  pub closed : Balanced back
+
+-- `fault`: the one position where a source fails to parse
+abbrev pub FaultAt : ℕ → List ℕ → ℕ → Type 0
+FaultAt base source position = StopsAt base source position ⊎ StaysOpenAt base source position

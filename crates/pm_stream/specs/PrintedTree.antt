@@ -1,0 +1,33 @@
+-- What is printed of one tree.
+use Rattle.std.specs.Prelude.{ℕ, Bool, List, ◌++◌}
+use Rattle.lexical.specs.Token.{token_text}
+use Rattle.pm_token.specs.declared.delimiters.Delimiter.{Delimiter}
+use Rattle.pm_token.specs.Leaf.{name_token, mark_token, text_token}
+use Rattle.pm_stream.specs.Delimited.{opening, closing, is_brace}
+use Rattle.pm_stream.specs.Level.{alone}
+use Rattle.pm_stream.specs.Printed.{parts, space, printed}
+use Rattle.pm_stream.specs.declared.stream.Group.{Group as Grouped}
+use Rattle.pm_stream.specs.declared.stream.TokenTree.{TokenTree}
+use Rattle.pm_stream.specs.declared.stream.TokenTree.TheVariants.{Group, Ident, Punct, Literal}
+
+-- a group with its delimiters
+abbrev pub group_text : Grouped → List ℕ
+group_text g = printed (alone (Group g))
+
+-- a token, or what a group begins with
+abbrev pub front_text : TokenTree → List ℕ
+front_text (Group g) = opening g.delimiter
+front_text (Ident i) = token_text (name_token i)
+front_text (Punct p) = token_text (mark_token p)
+front_text (Literal l) = token_text (text_token l)
+
+-- a space goes before what is printed next, within a group or after a token
+abbrev pub gap_within : TokenTree → Bool
+gap_within (Group g) = is_brace g.delimiter
+gap_within (Ident i) = parts (name_token i)
+gap_within (Punct p) = parts (mark_token p)
+gap_within (Literal l) = parts (text_token l)
+
+-- what a group ends with, and in a Brace the space before it
+abbrev pub ending : Delimiter → List ℕ
+ending d = space (is_brace d) ++ closing d

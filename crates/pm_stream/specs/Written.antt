@@ -1,0 +1,26 @@
+-- What a parser has written before it ends: groups that stay open, and the trees of the innermost.
+use Rattle.std.specs.Prelude.{ℕ, ◌≡◌, ◌≤◌, List, [], ◌∷◌}
+use Rattle.pm_token.specs.declared.delimiters.Delimiter.{Delimiter}
+use Rattle.pm_stream.specs.Events.{Event, Opens}
+use Rattle.pm_stream.specs.Forest.{Forest, flat_onto, IsBuilt}
+
+-- a group that isn't closed: the trees before it, how it is delimited, and where it begins
+pub record Opened : Type 0 where
+  pub outer : Forest
+  pub delimiter : Delimiter
+  pub lo : ℕ
+
+-- the events of the open groups, the innermost of them first, and of its trees, and then other events
+abbrev pub written_onto : List Opened → Forest → List Event → List Event
+written_onto [] trees events = flat_onto trees events
+written_onto (group ∷ groups) trees events = written_onto groups group.outer (Opens group.delimiter group.lo ∷ flat_onto trees events)
+
+-- the closer fits the innermost of the open groups
+abbrev pub FitsInnermost : Delimiter → List Opened → Type 0
+FitsInnermost d [] = ⊥
+FitsInnermost d (group ∷ groups) = group.delimiter ≡ d
+
+-- what is written is built, and each group begins at or before the position
+abbrev pub IsBuiltUpTo : ℕ → List Opened → Forest → Type 0
+IsBuiltUpTo at [] trees = IsBuilt trees
+IsBuiltUpTo at (group ∷ groups) trees = IsBuilt trees × (group.lo ≤ at) × IsBuiltUpTo group.lo groups group.outer

@@ -1,0 +1,43 @@
+//! How streams are shown to programmers.
+use crate::stream::{Group, TokenStream, TokenTree};
+use pm_token::parts::show_span;
+use std::fmt;
+use std::fmt::Debug;
+
+/// Shows the list of the trees.
+impl Debug for TokenStream {
+    #[cycle(tree)]
+    fn fmt<W: fmt::Write>(&self, f: &mut fmt::Formatter<W>) -> fmt::Result {
+        f.write_str("TokenStream ")?;
+        let mut list = f.debug_list();
+        for tree in self.trees() {
+            list.entry(tree);
+        }
+        list.finish()
+    }
+}
+
+/// Shows the token or the group.
+impl Debug for TokenTree {
+    #[cycle(tree)]
+    fn fmt<W: fmt::Write>(&self, f: &mut fmt::Formatter<W>) -> fmt::Result {
+        match self {
+            TokenTree::Group(group) => group.fmt(f),
+            TokenTree::Ident(ident) => ident.fmt(f),
+            TokenTree::Punct(punct) => punct.fmt(f),
+            TokenTree::Literal(literal) => literal.fmt(f),
+        }
+    }
+}
+
+/// Shows the delimiter, the stream, and the span unless the group stands in no file.
+impl Debug for Group {
+    #[cycle(tree)]
+    fn fmt<W: fmt::Write>(&self, f: &mut fmt::Formatter<W>) -> fmt::Result {
+        let mut debug = f.debug_struct("Group");
+        debug.field("delimiter", &self.delimiter());
+        debug.field("stream", self.stream_ref());
+        show_span(&mut debug, self.span());
+        debug.finish()
+    }
+}

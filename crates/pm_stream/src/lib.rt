@@ -1,0 +1,14 @@
+//! Streams of token trees: read from text, and printed.
+#![tactic(auto)]
+
+mod debug;
+mod display;
+mod doc;
+pub mod laws;
+mod parse;
+mod stream;
+
+pub use stream::{Group, TokenStream, TokenTree};
+
+#[cfg(test)]
+mod tests;

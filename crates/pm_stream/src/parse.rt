@@ -1,0 +1,345 @@
+//! The parser: from the pieces of a text to its token trees.
+ghost use Rattle.std.specs.Prelude.{◌≡◌, ◌≤◌, ◌+◌, ◌<◌, ◌^◌, ◌↔◌, ℕ, Bool, List, [], ◌∷◌, length, OnOk, IfOk, IfErr, IsTrue, if◌then◌else◌};
+ghost use Rattle.std.specs.Str.{chars};
+ghost use Rattle.lexical.specs.Found.{IsPieceAt, kind_of};
+ghost use Rattle.lexical.specs.Mark.{is_mark};
+ghost use Rattle.lexical.specs.Token as tokens;
+ghost use Rattle.pm_span.specs.Files.{Fits, Holds, next_lo, with_file};
+ghost use Rattle.pm_token.specs.Leaf.{is_joint};
+ghost use Rattle.pm_stream.specs.Delimited.{delimiter_of};
+ghost use Rattle.pm_stream.specs.Events.{Event, One, Opens, Closes, doc_onto, events_onto};
+ghost use Rattle.pm_stream.specs.Forest.{nil, flat_onto, IsBuilt};
+ghost use Rattle.pm_stream.specs.Level.{alone};
+ghost use Rattle.pm_stream.specs.Outcome.{IfLex, was_read};
+ghost use Rattle.pm_stream.specs.Parsing.{ParsesTo, FaultAt};
+ghost use Rattle.pm_stream.specs.Written.{FitsInnermost};
+ghost use Rattle.pm_stream.specs.Progress.{groups, trees, written, IsBuiltTo, IsFaultFor, IsStray, IsOpenFault, IsFault};
+
+use crate::doc::doc_group;
+use crate::stream::{Group, TokenStream, TokenTree};
+use lexical::{Piece, PieceKind, piece_at};
+use pm_span::parts::{add_file, allocator, fits, span_of};
+use pm_span::{SourceMap, Span};
+use pm_token::parts::{fault, ident, punct};
+use pm_token::{Delimiter, ParseError, Spacing};
+use std::alloc::{AllocError, Global};
+use std::mem;
+
+impl TokenStream {
+    /// The token trees of a text, which becomes the next file of the map (`parses-to`).
+    ///
+    /// Spans count characters, from the position on where the file begins. A fault (`fault`) has an
+    /// empty span: where no piece of the grammar stands, before a closer that doesn't close the
+    /// innermost open group, or else before the last opener that no closer matches. The text is a
+    /// file of the map then too, so that the place can be asked. `MapFull` is answered exactly where
+    /// the text would end past the map's limit (`fits`), and `Memory` where a growth was refused;
+    /// both leave the map as it was.
+    ///
+    /// In a new map `a += b` gives four trees, the first the identifier `a` at 1..2. The fault of
+    /// `(]` is 2..2, that of `a ( b` is 3..3.
+    pub fn from_str(text: &str, map: &mut SourceMap) -> Result<TokenStream, ParseError>
+        ensures ok { IfOk result (λ stream. ParsesTo (next_lo map.old) (chars text.now) stream) }
+        ensures within { IsTrue (was_read result) → Fits map.old (length (chars text.now)) }
+
+        // The fault has one place, and the map holds it.
+        ensures lex { IfErr result (λ error. IfLex error (λ fault.
+            (fault.lo ≡ fault.hi) × FaultAt (next_lo map.old) (chars text.now) fault.lo)) }
+        ensures held { IfErr result (λ error. IfLex error (Holds map.new)) }
+        ensures map_full { (result ≡ Err ParseError.MapFull)
+            ↔ (Fits map.old (length (chars text.now)) → ⊥) }
+
+        ensures kept { map.new
+            ≡ (if was_read result then with_file map.old (chars text.now) else map.old) }
+    {
+        let Some(lo) = fits(map, count(text)) else {
+            return Err(ParseError::MapFull);
+        };
+        let parsed = parse(allocator(map), lo, text);
+        if let Err(ParseError::Memory(_)) = &parsed {
+            return parsed;
+        }
+        add_file(map, text)?;
+        parsed
+    }
+}
+
+/// The trees of a text that begins at the position `base`.
+fn parse(alloc: Global, base: u32, text: &str) -> Result<TokenStream, ParseError>
+    requires { base + length (chars text.now) < 2 ^ 32 }
+    ensures ok { IfOk result (λ stream. ParsesTo base (chars text.now) stream) }
+    ensures lex { IfErr result (IsFault base (chars text.now)) }
+{
+    let mut reading = Reading::new(alloc);
+    let mut rest = text;
+    let mut at = base;
+    let mut first = true;
+    while let Some(piece) = piece_at(rest, first) {
+        reading.take(piece, at)?;
+        rest = &rest[piece.bytes..];
+        at += piece.chars as u32;
+        first = false;
+    }
+    if !rest.is_empty() {
+        return Err(fault_at(at));
+    }
+    reading.finish()
+}
+
+/// What was read so far.
+#[derive(Drop)]
+struct Reading {
+    alloc: Global,
+    /// The groups that are open, the innermost last.
+    frames: Vec<Frame>,
+    /// The trees of the innermost.
+    trees: Vec<TokenTree>,
+}
+
+/// A group whose closer is still to come.
+#[derive(Drop)]
+struct Frame {
+    /// The trees before the group.
+    outer: Vec<TokenTree>,
+    /// What stands around its trees.
+    delimiter: Delimiter,
+    /// Where its opener begins.
+    lo: u32,
+}
+
+impl Reading {
+    /// Nothing was read.
+    fn new(alloc: Global) -> Reading
+        ensures groups { groups result ≡ [] }
+        ensures trees { trees result ≡ nil }
+    {
+        Reading {
+            alloc,
+            frames: Vec::new(alloc),
+            trees: Vec::new(alloc),
+        }
+    }
+
+    /// Takes a piece that begins at `lo`. A closer that doesn't close the innermost open group is a
+    /// fault.
+    fn take(&mut self, piece: Piece, lo: u32) -> Result<(), ParseError>
+        requires stands { (first : Bool) × (source : List ℕ) × IsPieceAt first source piece }
+        requires room { lo + piece.chars < 2 ^ 32 }
+        requires built { IsBuiltTo lo self.old }
+        ensures ok { OnOk result ((front : List ℕ) → piece.entry.chars ≡ length front
+            → written self.new []
+            ≡ written self.old (events_onto lo (kind_of piece.entry.kind front) front [])) }
+        ensures built { OnOk result (IsBuiltTo (lo + piece.entry.chars) self.new) }
+        ensures stray { IfErr result (IsFaultFor lo (IsStray piece.entry.kind (groups self.old))) }
+    {
+        let hi = lo + piece.chars as u32;
+        match piece.kind {
+            PieceKind::Opener(c) => self.open(delimiter(c), lo)?,
+            PieceKind::Closer(c) => self.close(delimiter(c), lo, hi)?,
+            PieceKind::Doc { inner, text } => self.push_doc(inner, text, span_of(lo, hi))?,
+            PieceKind::Mark { mark, joint } => self.push_mark(mark, joint, span_of(lo, hi))?,
+            PieceKind::Name { raw, name } => {
+                let name = ident(self.alloc, name, raw, span_of(lo, hi))?;
+                self.push(TokenTree::Ident(name))?;
+            }
+            PieceKind::FrontMark | PieceKind::Gap | PieceKind::Literal => {}
+        }
+        Ok(())
+    }
+
+    /// Takes a tree.
+    fn push(&mut self, tree: TokenTree) -> Result<(), AllocError>
+        ensures ok { OnOk result ((events : List Event)
+            → written self.new events ≡ written self.old (flat_onto (alone tree) events)) }
+        ensures built { OnOk result ((at : ℕ) → IsBuiltTo at self.old → IsBuiltTo at self.new) }
+    {
+        tree.built();
+        self.trees.push(tree)?;
+        Ok(())
+    }
+
+    /// Takes a mark.
+    fn push_mark(&mut self, mark: char, joint: bool, span: Span) -> Result<(), AllocError>
+        requires { IsTrue (is_mark mark) }
+        ensures ok { OnOk result ((events : List Event) → written self.new events
+            ≡ written self.old (One (tokens.Mark mark joint) span.lo span.hi ∷ events)) }
+        ensures built { OnOk result ((at : ℕ) → IsBuiltTo at self.old → IsBuiltTo at self.new) }
+    {
+        self.push(TokenTree::Punct(punct(mark, spacing(joint), span)))
+    }
+
+    /// Takes a doc comment: the mark `#`, the mark `!` if it is inner, and the group of its text.
+    fn push_doc(&mut self, inner: bool, text: &str, span: Span) -> Result<(), AllocError>
+        ensures ok { OnOk result ((events : List Event) → written self.new events
+            ≡ written self.old (doc_onto span.lo span.hi inner (chars text.now) events)) }
+        ensures built { OnOk result ((at : ℕ) → IsBuiltTo at self.old → IsBuiltTo at self.new) }
+    {
+        self.push_mark('#', false, span)?;
+        if inner {
+            self.push_mark('!', false, span)?;
+        }
+        let group = doc_group(self.alloc, text, span)?;
+        self.push(TokenTree::Group(group))
+    }
+
+    /// Takes an opener that begins at `lo`.
+    fn open(&mut self, delimiter: Delimiter, lo: u32) -> Result<(), AllocError>
+        requires { IsBuiltTo lo self.old }
+        ensures ok { OnOk result ((events : List Event)
+            → written self.new events ≡ written self.old (Opens delimiter lo ∷ events)) }
+        ensures built { OnOk result (IsBuiltTo lo self.new) }
+    {
+        let outer = mem::replace(&mut self.trees, Vec::new(self.alloc));
+        self.frames.push(Frame {
+            outer,
+            delimiter,
+            lo,
+        })?;
+        Ok(())
+    }
+
+    /// Takes a closer from `lo` to `hi`. It is a fault unless it closes the innermost open group.
+    fn close(&mut self, delimiter: Delimiter, lo: u32, hi: u32) -> Result<(), ParseError>
+        requires ordered { lo ≤ hi }
+        requires built { IsBuiltTo lo self.old }
+        ensures ok { OnOk result ((events : List Event)
+            → written self.new events ≡ written self.old (Closes delimiter hi ∷ events)) }
+        ensures built { OnOk result (IsBuiltTo hi self.new) }
+        ensures stray { IfErr result
+            (IsFaultFor lo (FitsInnermost delimiter (groups self.old) → ⊥)) }
+    {
+        let Some(frame) = self.frames.pop() else {
+            return Err(fault_at(lo));
+        };
+        if frame.delimiter != delimiter {
+            return Err(fault_at(lo));
+        }
+        let trees = mem::replace(&mut self.trees, frame.outer);
+        let stream = TokenStream::from_trees(self.alloc, trees)?;
+        let group = Group::from_parts(delimiter, stream, span_of(frame.lo, hi));
+        self.trees.push(TokenTree::Group(group))?;
+        Ok(())
+    }
+
+    /// The stream of what was read. A group that is still open is a fault: where the innermost
+    /// begins.
+    fn finish(self) -> Result<TokenStream, ParseError>
+        requires { IsBuilt (trees self) }
+        ensures ok { IfOk result (λ stream. (groups self ≡ []) × (stream ≡ trees self)) }
+        ensures stays_open { IfErr result (IsOpenFault (groups self)) }
+    {
+        let Reading {
+            alloc,
+            mut frames,
+            trees,
+        } = self;
+        if let Some(frame) = frames.pop() {
+            return Err(fault_at(frame.lo));
+        }
+        Ok(TokenStream::from_trees(alloc, trees)?)
+    }
+}
+
+/// How many characters the text has.
+#[tactic(auto, using(std::proofs::lemmas::Str::chars_from_encodes))]
+fn count(text: &str) -> usize
+    ensures { result ≡ length (chars text.now) }
+{
+    text.chars().count()
+}
+
+/// The delimiter of which `c` is the opener or the closer.
+fn delimiter(c: char) -> Delimiter
+    ensures { result ≡ delimiter_of c }
+{
+    match c {
+        '(' | ')' => Delimiter::Parenthesis,
+        '{' | '}' => Delimiter::Brace,
+        _ => Delimiter::Bracket,
+    }
+}
+
+/// The spacing of a mark.
+fn spacing(joint: bool) -> Spacing
+    ensures { is_joint result ≡ joint }
+{
+    if joint {
+        Spacing::Joint
+    } else {
+        Spacing::Alone
+    }
+}
+
+/// The fault at a position.
+fn fault_at(position: u32) -> ParseError
+    ensures { result ≡ ParseError.Lex (record { lo = position; hi = position }) }
+{
+    ParseError::Lex(fault(span_of(position, position)))
+}
+
+#[cfg(test)]
+mod tests {
+    use super::*;
+    use pm_span::parts::bounds;
+    use std::test::Fail;
+
+    #[test]
+    fn tokens_are_printed_with_their_spacing(rt: HostRuntime) -> Result<(), Fail> {
+        for (text, want) in [
+            ("", ""),
+            ("a+b", "a + b"),
+            ("a += b", "a += b"),
+            ("<<=", "<<="),
+            ("fn f(x) { x + y }", "fn f (x) { x + y }"),
+        ] {
+            let mut map = SourceMap::new(rt.alloc());
+            let stream = TokenStream::from_str(text, &mut map)?;
+            let printed = format!(in rt.alloc(); "{stream}")?;
+            assert_eq!(rt; printed.as_str(), want, "of {text:?}");
+        }
+        Ok(())
+    }
+
+    #[test]
+    fn a_fault_stands_before_what_cannot_be_read(rt: HostRuntime) -> Result<(), Fail> {
+        for (text, at) in [
+            ("a\"", 2),
+            ("b\"", 1),
+            ("1", 1),
+            ("( \"", 3),
+            ("(/*ERROR*/)", 1),
+            ("foo\u{FEFF}", 4),
+            ("///\r", 1),
+            ("///\r \n", 1),
+            ("(]", 2),
+            (")", 1),
+            ("a ( [ b", 5),
+            ("( /* x", 3),
+        ] {
+            let mut map = SourceMap::new(rt.alloc());
+            let parsed = TokenStream::from_str(text, &mut map);
+            let found = match &parsed {
+                Err(ParseError::Lex(fault)) => bounds(fault.span()),
+                _ => (0, 0),
+            };
+            assert_eq!(rt; found, (at, at), "of {text:?}");
+        }
+        Ok(())
+    }
+
+    #[test]
+    fn a_file_stays_after_a_fault_and_up_to_the_limit(rt: HostRuntime) -> Result<(), Fail> {
+        for (limit, full) in [(5, true), (6, false)] {
+            let mut map = SourceMap::with_limit(rt.alloc(), limit);
+            assert!(rt; TokenStream::from_str("abc)", &mut map).is_err());
+            assert!(rt; map.holds(span_of(1, 5)), "at the limit {limit}");
+            let last = TokenStream::from_str("", &mut map);
+            assert_eq!(rt;
+                matches!(last, Err(ParseError::MapFull)),
+                full,
+                "at the limit {limit}"
+            );
+            assert_eq!(rt; map.holds(span_of(6, 6)), !full, "at the limit {limit}");
+        }
+        Ok(())
+    }
+}

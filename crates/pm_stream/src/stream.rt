@@ -1,0 +1,310 @@
+//! Streams of token trees.
+ghost use Rattle.std.specs.Prelude.{◌≡◌, ◌+◌, IfOk, IfErr, OnOk};
+ghost use Rattle.pm_stream.specs.Forest.{Forest, nil, joined, IsBuilt};
+ghost use Rattle.pm_stream.specs.Level.{forest, held, alone, inside, TakesLast};
+ghost use Rattle.pm_stream.specs.Size.{is_nil, count};
+ghost use Rattle.pm_stream.specs.Place.{extent_of};
+
+use pm_span::Span;
+use pm_span::parts::bounds;
+use pm_token::parts::{built_ident, built_literal, built_punct};
+use pm_token::{Delimiter, Ident, Literal, Punct};
+use std::alloc::{AllocError, Global};
+use std::marker::Model;
+use std::rc::Rc;
+
+/// Token trees in order, each a token or a group of trees between delimiters.
+#[cycle(tree)]
+pub struct TokenStream {
+    alloc: Global,
+    trees: Option<Rc<Vec<TokenTree>>>,
+}
+
+impl Model for TokenStream {
+    ghost use Rattle.pm_stream.specs.Forest.{Forest};
+    ghost use Rattle.pm_stream.specs.Codec.{coded_forest};
+
+    ghost Value = { Forest };
+
+    ghost coded = { coded_forest };
+
+    ghost use Rattle.pm_stream.specs.Forest.{IsBuilt};
+    ghost use Rattle.pm_stream.specs.Size.{count};
+    ghost use Rattle.pm_stream.specs.Level.{held};
+
+    ghost view = { λ a. held a.trees };
+
+    ghost invariant = { λ a. IsBuilt (held a.trees) };
+
+    ghost size = { count };
+
+    ghost use Rattle.pm_stream.specs.Falls.{deep_le-held};
+
+    ghost size_decreases = { λ a h. deep_le-held a.trees };
+}
+
+/// A token, or a group of trees between delimiters.
+#[cycle(tree)]
+#[derive(Drop)]
+pub enum TokenTree {
+    /// Trees between delimiters.
+    Group(Group),
+    /// An identifier or a keyword.
+    Ident(Ident),
+    /// A punctuation mark.
+    Punct(Punct),
+    /// A literal.
+    Literal(Literal),
+}
+
+/// Trees between delimiters.
+#[cycle(tree)]
+#[derive(Drop)]
+pub struct Group {
+    delimiter: Delimiter,
+    stream: TokenStream,
+    span: Span,
+}
+
+// A walk from the last tree to the first, into each group that has no other owner. The way back is
+// kept in the lists themselves, in the place of the group that the walk went into: so a stream is
+// dropped in little stack and no memory, however deep its groups nest.
+impl Drop for TokenStream {
+    #[cycle(tree)]
+    fn drop(self) {
+        let TokenStream { alloc, trees } = self;
+        let Some(mut shared) = trees else {
+            return;
+        };
+        let Some(last) = take_last(&mut shared) else {
+            return;
+        };
+        let mut here = TokenStream {
+            alloc,
+            trees: Some(shared),
+        };
+        let mut outer = last.into_inside(alloc);
+        for _ in 0..u64::MAX {
+            if let Some(tree) = here.take_last() {
+                let inside = tree.into_inside(alloc);
+                if !inside.is_empty() {
+                    match here.put_way(outer) {
+                        Ok(()) => {
+                            outer = here;
+                            here = inside;
+                        }
+                        Err(back) => outer = back,
+                    }
+                }
+            } else {
+                let Some(way) = outer.take_last() else {
+                    return;
+                };
+                here = outer;
+                outer = way.into_inside(alloc);
+            }
+        }
+    }
+}
+
+// The last tree of a list that has no other owner.
+fn take_last(shared: &mut Rc<Vec<TokenTree>>) -> Option<TokenTree>
+    ensures { TakesLast (forest shared.old.value.items) result (forest shared.new.value.items) }
+{
+    match Rc::get_mut(shared) {
+        Some(own) => own.pop(),
+        None => None,
+    }
+}
+
+// Puts a tree behind the others, in a list that has no other owner.
+fn put_last(shared: &mut Rc<Vec<TokenTree>>, tree: TokenTree) -> Result<(), TokenTree>
+    ensures ok { OnOk result
+        (forest shared.new.value.items ≡ joined (forest shared.old.value.items) (alone tree)) }
+    ensures err { IfErr result (λ back. (back ≡ tree)
+        × (forest shared.new.value.items ≡ forest shared.old.value.items)) }
+{
+    match Rc::get_mut(shared) {
+        Some(own) => match own.push(tree) {
+            Ok(()) => Ok(()),
+            Err(refused) => Err(refused.value),
+        },
+        None => Err(tree),
+    }
+}
+
+impl TokenStream {
+    /// A stream with no trees. It takes no memory.
+    pub fn new(alloc: Global) -> TokenStream
+        ensures { result ≡ nil }
+    {
+        TokenStream { alloc, trees: None }
+    }
+
+    /// The stream of these trees. An empty list takes no memory; any other is moved into memory that
+    /// streams share, and is lost where that is refused.
+    pub(crate) fn from_trees(
+        alloc: Global,
+        trees: Vec<TokenTree>,
+    ) -> Result<TokenStream, AllocError>
+        requires { IsBuilt (forest trees.items) }
+        ensures ok { IfOk result (λ stream. stream ≡ forest trees.items) }
+    {
+        if trees.is_empty() {
+            return Ok(TokenStream::new(alloc));
+        }
+        Ok(TokenStream {
+            alloc,
+            trees: Some(Rc::new(alloc, trees)?),
+        })
+    }
+
+    /// Whether it has no trees.
+    pub fn is_empty(&self) -> bool
+        ensures { result ≡ is_nil self.now }
+    {
+        self.trees().is_empty()
+    }
+
+    /// Its trees, in order.
+    pub fn trees(&self) -> &[TokenTree]
+        ensures { forest result.now ≡ self.now }
+    {
+        listed(&self.trees)
+    }
+
+    // The last tree, where the trees have no other owner.
+    fn take_last(&mut self) -> Option<TokenTree>
+        ensures { TakesLast self.old result self.new }
+    {
+        let Some(shared) = &mut self.trees else {
+            return None;
+        };
+        take_last(shared)
+    }
+
+    // Puts a group of these trees behind the others, or gives them back.
+    fn put_way(&mut self, outer: TokenStream) -> Result<(), TokenStream>
+        ensures ok { OnOk result (count self.new ≡ count self.old + 1 + count outer) }
+        ensures err { IfErr result (λ back. (back ≡ outer) × (self.new ≡ self.old)) }
+    {
+        let alloc = self.alloc;
+        let Some(shared) = &mut self.trees else {
+            return Err(outer);
+        };
+        outer.built();
+        let way = Group {
+            delimiter: Delimiter::None,
+            stream: outer,
+            span: Span::call_site(),
+        };
+        if let Err(back) = put_last(shared, TokenTree::Group(way)) {
+            return Err(back.into_inside(alloc));
+        }
+        Ok(())
+    }
+
+    /// Where its memory comes from.
+    pub(crate) fn alloc(&self) -> Global {
+        self.alloc
+    }
+
+    /// What is true of every stream.
+    pub(crate) fn built(&self)
+        ensures { IsBuilt self.now }
+    {
+        let _ = &self.trees;
+    }
+}
+
+fn listed(trees: &Option<Rc<Vec<TokenTree>>>) -> &[TokenTree]
+    ensures { forest result.now ≡ held trees.now }
+{
+    match trees {
+        Some(trees) => trees.as_slice(),
+        None => &[],
+    }
+}
+
+impl TokenTree {
+    /// Where it stands.
+    pub fn span(&self) -> Span
+        ensures { result ≡ extent_of self.now }
+    {
+        match self {
+            TokenTree::Group(group) => group.span,
+            TokenTree::Ident(ident) => ident.span(),
+            TokenTree::Punct(punct) => punct.span(),
+            TokenTree::Literal(literal) => literal.span(),
+        }
+    }
+
+    // The trees within a group, and none of a token.
+    fn into_inside(self, alloc: Global) -> TokenStream
+        ensures { result ≡ inside self }
+    {
+        match self {
+            TokenTree::Group(group) => group.stream,
+            TokenTree::Ident(_) | TokenTree::Punct(_) | TokenTree::Literal(_) => TokenStream::new(
+                alloc,
+            ),
+        }
+    }
+
+    /// What is true of every tree.
+    pub(crate) fn built(&self)
+        ensures { IsBuilt (alone self.now) }
+    {
+        match self {
+            TokenTree::Group(group) => group.built(),
+            TokenTree::Ident(ident) => built_ident(ident),
+            TokenTree::Punct(punct) => built_punct(punct),
+            TokenTree::Literal(literal) => built_literal(literal),
+        }
+    }
+}
+
+impl Group {
+    ghost use Rattle.pm_stream.specs.Level.{before};
+    ghost use Rattle.pm_stream.specs.declared.stream.TokenTree.TheVariants.{Group as GroupTree};
+
+    /// The group of these parts.
+    pub(crate) fn from_parts(delimiter: Delimiter, stream: TokenStream, span: Span) -> Group
+        ensures { result ≡ record { delimiter = delimiter; stream = stream; span = span } }
+    {
+        Group {
+            delimiter,
+            stream,
+            span,
+        }
+    }
+
+    /// What stands around its trees.
+    pub fn delimiter(&self) -> Delimiter
+        ensures { result ≡ self.now.delimiter }
+    {
+        self.delimiter
+    }
+
+    /// Its trees, without the delimiters.
+    pub fn stream_ref(&self) -> &TokenStream
+        ensures { result.now ≡ self.now.stream }
+    {
+        &self.stream
+    }
+
+    /// Where it stands, delimiters and all.
+    pub fn span(&self) -> Span
+        ensures { result ≡ self.now.span }
+    {
+        self.span
+    }
+
+    /// What is true of every group.
+    fn built(&self)
+        ensures { IsBuilt (alone (GroupTree self.now)) }
+    {
+        self.stream.built();
+        bounds(self.span);
+    }
+}

@@ -1,0 +1,38 @@
+-- Examples of what is written, by computation.
+use Rattle.std.proofs.Common.{◌≡◌, [], ◌∷◌, codes, refl}
+use Rattle.ucd_category.proofs.Computing.{ucd_category}
+use Rattle.pm_token.specs.Escaped.{written_char, written, string_text}
+
+-- a zero is long before the digits 0 to 7 alone
+zeros : string_text (97 ∷ 0 ∷ 48 ∷ 98 ∷ 0 ∷ 55 ∷ 99 ∷ 0 ∷ 56 ∷ 100 ∷ 0 ∷ 101 ∷ 0 ∷ []) ≡ codes "\"a\\x000b\\x007c\\08d\\0e\\0\""
+zeros = refl
+
+-- line ends are escaped
+line_end : string_text (codes "\r\n") ≡ codes "\"\\r\\n\""
+line_end = refl
+
+-- of the two quotes, the literal's own
+quotes : string_text (codes "'\"") ≡ codes "\"'\\\"\""
+quotes = refl
+
+quotes_of_characters : written 39 written_char 39 [] ≡ codes "\\'"
+quotes_of_characters = refl
+
+-- a no-break space
+no_break_space : written_char 0xA0 ≡ codes "\\u{a0}"
+unfolding ucd_category
+no_break_space = refl
+
+-- a letter past ASCII
+letter : written_char 0xE9 ≡ 0xE9 ∷ []
+unfolding ucd_category
+letter = refl
+
+-- a private character, and an accent
+private_character : written_char 0xE000 ≡ codes "\\u{e000}"
+unfolding ucd_category
+private_character = refl
+
+accent : written_char 0x301 ≡ codes "\\u{301}"
+unfolding ucd_category
+accent = refl

@@ -1,0 +1,7 @@
+use Rattle.std.proofs.Common.{sym}
+use Rattle.std.specs.Str.{chars}
+use Rattle.pm_token.proofs.NameLemmas.{built_from}
+use Rattle.pm_token.proofs.identifiers.Ident.checked.Goals as goal
+
+pub from_parts-requires : goal.from_parts-requires
+from_parts-requires c = built_from c.args.raw (chars c.args.name.now) (sym c.in-None.ensures)

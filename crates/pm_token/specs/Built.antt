@@ -1,0 +1,12 @@
+-- What every token of the public types is promised to be.
+use Rattle.std.specs.Prelude.{[], IsTrue}
+use Rattle.lexical.specs.Token.{Token, Name, Mark, Literal}
+use Rattle.lexical.specs.Identifier as identifiers
+use Rattle.lexical.specs.Mark.{is_mark}
+use Rattle.lexical.specs.Literal.{IsWhole}
+
+-- `built`: a name that is allowed, raw or plain; one of the marks; or a whole literal
+abbrev pub IsBuiltToken : Token → Type 0
+IsBuiltToken (Name raw name) = identifiers.Name name [] × IsTrue (identifiers.is_allowed raw name)
+IsBuiltToken (Mark c joint) = IsTrue (is_mark c)
+IsBuiltToken (Literal text) = IsWhole text

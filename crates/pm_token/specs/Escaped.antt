@@ -1,0 +1,57 @@
+-- What the constructors write of a literal between quotes.
+use Rattle.std.specs.Prelude.{ℕ, Bool, true, false, not, ◌&&◌, ◌==◌, List, [], ◌∷◌, ◌++◌, codes, nat_lt, nat_le, if◌then◌else◌}
+use Rattle.std.specs.Char.Escape.{escape_unicode}
+use Rattle.lexical.specs.Text.{first_passes}
+use Rattle.lexical.specs.Quoted.{is_octal_digit}
+use Rattle.ucd_category.specs.GeneralCategory.{general_category}
+use Rattle.ucd_category.specs.declared.GeneralCategory.{GeneralCategory}
+use Rattle.ucd_category.specs.declared.GeneralCategory.TheVariants.{NonspacingMark, EnclosingMark, SpaceSeparator, LineSeparator, ParagraphSeparator, Control, Format, PrivateUse, Unassigned}
+
+-- `hidden`: a character of the category shows on its neighbours or not at all
+abbrev pub is_hidden : GeneralCategory → Bool
+is_hidden NonspacingMark = true
+is_hidden EnclosingMark = true
+is_hidden SpaceSeparator = true
+is_hidden LineSeparator = true
+is_hidden ParagraphSeparator = true
+is_hidden Control = true
+is_hidden Format = true
+is_hidden PrivateUse = true
+is_hidden Unassigned = true
+is_hidden shown = false
+
+-- `bare`: a character that prints, and past ASCII one that isn't hidden
+abbrev pub is_bare : ℕ → Bool
+is_bare c = if nat_lt c 128 then nat_le 32 c && not (c == 127) else not (is_hidden (general_category c))
+
+-- a character that has no short escape, as it is written in strings
+abbrev pub written_char : ℕ → List ℕ
+written_char c =
+    -- what prints stands for itself
+    if is_bare c then c ∷ []
+    -- `\u{`, the value in lower hex without leading zeros, `}`
+    else escape_unicode c
+
+-- `escaped`: c between these quotes, where the rest of the content follows; `plain` writes what has no short escape
+abbrev pub written : ℕ → (ℕ → List ℕ) → ℕ → List ℕ → List ℕ
+written quote plain c rest =
+    -- before an octal digit the short zero would look like the escape that C reads
+    if (c == 0) && first_passes is_octal_digit rest then codes "\\x00"
+    -- the short escapes
+    else if c == 0 then codes "\\0"
+    else if c == 9 then codes "\\t"
+    else if c == 13 then codes "\\r"
+    else if c == 10 then codes "\\n"
+    -- the sign that begins an escape, and the quote that would end the literal
+    else if c == 92 then codes "\\\\"
+    else if c == quote then 92 ∷ quote ∷ []
+    else plain c
+
+-- `content`: the characters one after another
+abbrev pub content : ℕ → (ℕ → List ℕ) → List ℕ → List ℕ
+content quote plain [] = []
+content quote plain (c ∷ rest) = written quote plain c rest ++ content quote plain rest
+
+-- `string-text`: the string literal of a text
+abbrev pub string_text : List ℕ → List ℕ
+string_text text = codes "\"" ++ (content 34 written_char text ++ codes "\"")

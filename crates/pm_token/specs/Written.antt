@@ -1,0 +1,35 @@
+-- Identifiers as they are written, by which they are compared.
+use Rattle.std.specs.Prelude.{ℕ, Bool, List, ◌∷◌, cond, codes, drop, nat_eq, ◌≡◌, IsTrue}
+use Rattle.std.specs.Str.{encode_utf8_all}
+use Rattle.std.specs.Hash as fed
+use Rattle.std.specs.Cmp.Lexicographic.{pointwise, slice_cmp, same_text}
+use Rattle.std.proofs.Common.{ap, sym}
+use Rattle.std.specs.Ordering.{nat_cmp}
+use Rattle.std.specs.declared.cmp.Ordering.{Ordering}
+use Rattle.lexical.specs.Text.{begins_with}
+use Rattle.lexical.specs.Token.{token_text}
+use Rattle.pm_token.specs.Leaf.{Name, name_token}
+
+-- the characters of the identifier as it is written
+abbrev pub name_text : Name → List ℕ
+name_text ident = token_text (name_token ident)
+
+-- its bytes
+abbrev pub written : Name → List ℕ
+written ident = encode_utf8_all (name_text ident)
+
+-- `identifier-equality`: whether two identifiers are written alike
+abbrev pub name_eq : Name → Name → Bool
+name_eq a b = pointwise nat_eq (written a) (written b)
+
+-- `identifier-order`: that of the bytes
+abbrev pub name_cmp : Name → Name → Ordering
+name_cmp a b = slice_cmp nat_cmp (written a) (written b)
+
+-- `identifier-hash`: what a hasher is fed for these bytes, in its calls: as for a text, but `r#` by itself
+abbrev pub fed_for : List ℕ → List (List ℕ)
+fed_for bytes = cond (begins_with (codes "r#") bytes) (codes "r#" ∷ fed.str (drop 2 bytes)) (fed.str bytes)
+
+-- identifiers that are written alike are fed alike
+pub fed_alike : (a b : Name) → IsTrue (name_eq a b) → fed_for (written a) ≡ fed_for (written b)
+fed_alike a b h = ap fed_for (same_text (written a) (written b) (sym h))

@@ -1,0 +1,12 @@
+/// How a group of trees is delimited.
+#[derive(Clone, Copy, Debug, PartialEq, Eq)]
+pub enum Delimiter {
+    /// `( .. )`
+    Parenthesis,
+    /// `{ .. }`
+    Brace,
+    /// `[ .. ]`
+    Bracket,
+    /// Nothing is written: the group only holds its trees together.
+    None,
+}

@@ -1,0 +1,98 @@
+//! Why a text is refused.
+ghost use Rattle.std.specs.Prelude.{◌≡◌};
+ghost use Rattle.pm_token.specs.declared.errors.ParseError.TheVariants.{Memory};
+
+use pm_span::Span;
+use std::alloc::{AllocError, AllocFailed};
+use std::error::Error;
+use std::fmt;
+use std::marker::Model;
+
+/// A text that is no list of token trees: its fault, by the place where it stands.
+#[derive(Debug, Drop)]
+pub struct LexError {
+    span: Span,
+}
+
+impl Model for LexError {
+    ghost use Rattle.pm_span.specs.Extent.{Extent};
+
+    ghost Value = { Extent };
+
+    ghost view = { λ error. error.span };
+}
+
+impl LexError {
+    pub(crate) fn at(span: Span) -> LexError
+        ensures { result ≡ span }
+    {
+        LexError { span }
+    }
+
+    /// Where the fault stands: an empty span before the character that can't be read, or before the
+    /// opener that no closer matches.
+    pub fn span(&self) -> Span
+        ensures { result ≡ self.now }
+    {
+        self.span
+    }
+}
+
+impl fmt::Display for LexError {
+    ghost use Rattle.std.specs.Prelude.{Some, codes};
+
+    ghost output = { λ _. Some (codes "cannot parse string into token stream") };
+
+    fn fmt<W: fmt::Write>(&self, f: &mut fmt::Formatter<W>) -> fmt::Result {
+        f.write_str("cannot parse string into token stream")
+    }
+}
+
+impl Error for LexError {}
+
+/// Why a text was not parsed.
+#[derive(Debug, Drop)]
+pub enum ParseError {
+    /// The text has a fault. Its file stands in the map, so that the fault's place can be asked.
+    Lex(LexError),
+    /// The text would end past the last position of the map, which is as before.
+    MapFull,
+    /// Memory ran out. The map is as before.
+    Memory(AllocError),
+}
+
+impl fmt::Display for ParseError {
+    ghost use Rattle.std.specs.Prelude.{Some};
+    ghost use Rattle.pm_token.specs.Message.{message};
+
+    ghost output = { λ error. Some (message error) };
+
+    fn fmt<W: fmt::Write>(&self, f: &mut fmt::Formatter<W>) -> fmt::Result {
+        match self {
+            ParseError::Lex(error) => error.fmt(f),
+            ParseError::MapFull => f.write_str("map full"),
+            ParseError::Memory(_) => f.write_str("no memory"),
+        }
+    }
+}
+
+impl Error for ParseError {}
+
+impl From<AllocError> for ParseError {
+    ghost from_gives = { λ error result. result ≡ Memory error };
+
+    fn from(error: AllocError) -> ParseError {
+        ParseError::Memory(error)
+    }
+}
+
+impl<T: Drop> From<AllocFailed<T>> for ParseError {
+    ghost use Rattle.std.specs.Prelude.{◌≡◌, alloc_error};
+    ghost use Rattle.pm_token.specs.declared.errors.ParseError.TheVariants.{Memory};
+
+    ghost from_gives = { λ _ result. result ≡ Memory alloc_error };
+
+    fn from(error: AllocFailed<T>) -> ParseError {
+        ParseError::Memory(AllocError::from(error))
+    }
+}

@@ -1,0 +1,155 @@
+//! How literals between quotes are written.
+ghost use Rattle.std.specs.Prelude.{◌≡◌, ◌∷◌, ◌++◌, [], codes, OnOk};
+ghost use Rattle.std.specs.Str.{chars};
+ghost use Rattle.std.specs.Char.Escape.{escape_unicode};
+ghost use Rattle.lexical.specs.Text.{first_passes};
+ghost use Rattle.lexical.specs.Quoted.{is_octal_digit};
+ghost use Rattle.pm_token.specs.Escaped.{is_hidden, is_bare as bare, written_char, written, content};
+
+use crate::symbols::Symbol;
+use std::alloc::{AllocError, Global};
+use std::marker::Model;
+use ucd_category::GeneralCategory;
+
+/// The text of a literal while it is written.
+#[derive(Drop)]
+pub(crate) struct Draft {
+    text: String,
+}
+
+impl Model for Draft {
+    ghost use Rattle.std.specs.Prelude.{ℕ, List, string_bytes};
+    ghost use Rattle.std.specs.Str.{chars};
+
+    ghost Value = { List ℕ };
+
+    ghost view = { λ draft. chars (string_bytes draft.text) };
+}
+
+impl Draft {
+    /// Nothing yet.
+    pub(crate) fn new(alloc: Global) -> Draft
+        ensures { result ≡ [] }
+    {
+        Draft {
+            text: String::new(alloc),
+        }
+    }
+
+    /// What is written, as the text of a token.
+    pub(crate) fn finish(self) -> Symbol
+        ensures { result ≡ self }
+    {
+        Symbol::from_string(self.text)
+    }
+
+    /// Writes the character.
+    pub(crate) fn push(&mut self, c: char) -> Result<(), AllocError>
+        ensures ok { OnOk result (self.new ≡ self.old ++ c ∷ []) }
+    {
+        self.text.push(c)
+    }
+
+    /// Writes a backslash and the letter.
+    fn push_short(&mut self, letter: char) -> Result<(), AllocError>
+        ensures ok { OnOk result (self.new ≡ self.old ++ 92 ∷ letter ∷ []) }
+    {
+        self.push('\\')?;
+        self.push(letter)
+    }
+
+    /// Writes `\x00`.
+    fn push_long_zero(&mut self) -> Result<(), AllocError>
+        ensures ok { OnOk result (self.new ≡ self.old ++ codes "\\x00") }
+    {
+        self.push_short('x')?;
+        self.push('0')?;
+        self.push('0')
+    }
+
+    /// Writes the character by its number, as `\u{1f}`.
+    fn push_unicode(&mut self, c: char) -> Result<(), AllocError>
+        ensures ok { OnOk result (self.new ≡ self.old ++ escape_unicode c) }
+    {
+        for unit in c.escape_unicode() {
+            self.push(unit)?;
+        }
+        Ok(())
+    }
+
+    /// Writes a character of a string that has no short escape.
+    fn push_char(&mut self, c: char) -> Result<(), AllocError>
+        ensures ok { OnOk result (self.new ≡ self.old ++ written_char c) }
+    {
+        if is_bare(c) {
+            self.push(c)
+        } else {
+            self.push_unicode(c)
+        }
+    }
+
+    /// Writes the character between these quotes, where the rest of the content follows.
+    fn push_escaped(&mut self, quote: char, c: char, rest: &str) -> Result<(), AllocError>
+        ensures ok { OnOk result (self.new ≡ self.old ++ written quote written_char c (chars rest.now)) }
+    {
+        match c {
+            '\0' if begins_octal(rest) => self.push_long_zero(),
+            '\0' => self.push_short('0'),
+            '\t' => self.push_short('t'),
+            '\r' => self.push_short('r'),
+            '\n' => self.push_short('n'),
+            '\\' => self.push_short('\\'),
+            _ if c == quote => self.push_short(quote),
+            _ => self.push_char(c),
+        }
+    }
+
+    /// Writes the characters of the text between these quotes.
+    pub(crate) fn push_content(&mut self, quote: char, text: &str) -> Result<(), AllocError>
+        ensures ok { OnOk result (self.new ≡ self.old ++ content quote written_char (chars text.now)) }
+    {
+        let mut rest = text.chars();
+        while let Some(c) = rest.next() {
+            self.push_escaped(quote, c, rest.as_str())?;
+        }
+        Ok(())
+    }
+}
+
+/// Whether the text begins with one of the digits 0 to 7.
+fn begins_octal(text: &str) -> bool
+    ensures { result ≡ first_passes is_octal_digit (chars text.now) }
+{
+    match text.chars().next() {
+        Some(c) => c.is_digit(8),
+        None => false,
+    }
+}
+
+/// Whether the character stands for itself, by the rule `bare`.
+fn is_bare(c: char) -> bool
+    ensures { result ≡ bare c }
+{
+    if c.is_ascii() {
+        return c >= ' ' && c != '\u{7F}';
+    }
+    !hides(GeneralCategory::for_char(c))
+}
+
+/// Whether characters of the category show on their neighbours or not at all, by the rule `hidden`.
+fn hides(category: GeneralCategory) -> bool
+    ensures { result ≡ is_hidden category }
+{
+    matches!(
+        category,
+        GeneralCategory::NonspacingMark
+            | GeneralCategory::EnclosingMark
+            | GeneralCategory::SpaceSeparator
+            | GeneralCategory::LineSeparator
+            | GeneralCategory::ParagraphSeparator
+            | GeneralCategory::Control
+            | GeneralCategory::Format
+            | GeneralCategory::PrivateUse
+            | GeneralCategory::Unassigned
+    )
+}

@@ -1,0 +1,176 @@
+//! Identifiers.
+ghost use Rattle.std.specs.Prelude.{◌≡◌, IfOk};
+
+mod comparisons;
+mod faults;
+
+use crate::parts::show_span;
+use crate::symbols::Symbol;
+pub use faults::IdentError;
+use faults::fault;
+use pm_span::Span;
+use std::alloc::{AllocError, Global};
+use std::fmt;
+use std::marker::Model;
+
+/// An identifier or a keyword, raw or plain.
+#[derive(Drop)]
+pub struct Ident {
+    name: Symbol,
+    raw: bool,
+    span: Span,
+}
+
+impl Model for Ident {
+    ghost use Rattle.pm_token.specs.Leaf.{Name, name_token};
+    ghost use Rattle.pm_token.specs.Built.{IsBuiltToken};
+    ghost use Rattle.lexical.specs.Token as tokens;
+
+    ghost Value = { Name };
+
+    ghost view = { λ ident. record { name = ident.name; raw = ident.raw; span = ident.span } };
+
+    ghost invariant = { λ ident. IsBuiltToken (tokens.Name ident.raw ident.name) };
+}
+
+impl Ident {
+    ghost use Rattle.std.specs.Prelude.{◌↔◌, IsTrue, true, false};
+    ghost use Rattle.std.specs.Str.{chars};
+    ghost use Rattle.pm_token.specs.Built.{IsBuiltToken};
+    ghost use Rattle.pm_token.specs.IdentFault.{Refuses, ident_fault};
+    ghost use Rattle.pm_token.specs.Leaf.{name_token};
+    ghost use Rattle.pm_token.specs.Written.{name_text};
+    ghost use Rattle.lexical.specs.Token as tokens;
+
+    /// The identifier of this name, which has no `r#`.
+    pub(crate) fn from_parts(
+        alloc: Global,
+        name: &str,
+        raw: bool,
+        span: Span,
+    ) -> Result<Ident, AllocError>
+        requires { IsBuiltToken (tokens.Name raw (chars name.now)) }
+        ensures ok { IfOk result (λ ident. ident ≡ record { name = chars name.now; raw = raw; span = span }) }
+    {
+        Ok(Ident {
+            name: Symbol::new(alloc, name)?,
+            raw,
+            span,
+        })
+    }
+
+    /// The identifier of this name, if the name has no fault.
+    fn checked(alloc: Global, name: &str, raw: bool, span: Span) -> Result<Ident, IdentError>
+        ensures ok { IfOk result (λ ident. ident ≡ record { name = chars name.now; raw = raw; span = span }) }
+        ensures refused { Refuses (ident_fault raw (chars name.now)) result }
+    {
+        match fault(name, raw) {
+            Some(error) => Err(error),
+            None => Ok(Ident::from_parts(alloc, name, raw, span)?),
+        }
+    }
+
+    /// The plain identifier of this name, which stands at this span.
+    ///
+    /// Refused, by the rule `identifier-fault`, with the first of these that holds: `Empty` where the
+    /// name has no character; `Number` where it has ASCII digits only; `Invalid` where it isn't a
+    /// character that may begin an identifier and then characters that may go on with one. Only a
+    /// name without a fault is refused for `Memory`. `255` is a `Number`, and `r#a` is `Invalid`.
+    pub fn new(alloc: Global, name: &str, span: Span) -> Result<Ident, IdentError>
+        ensures ok { IfOk result (λ ident. ident ≡ record { name = chars name.now; raw = false; span = span }) }
+
+        ensures empty { (result ≡ Err IdentError.Empty)
+            ↔ (ident_fault false (chars name.now) ≡ Some IdentError.Empty) }
+        ensures number { (result ≡ Err IdentError.Number)
+            ↔ (ident_fault false (chars name.now) ≡ Some IdentError.Number) }
+        ensures invalid { (result ≡ Err IdentError.Invalid)
+            ↔ (ident_fault false (chars name.now) ≡ Some IdentError.Invalid) }
+        ensures reserved { (result ≡ Err IdentError.Reserved)
+            ↔ (ident_fault false (chars name.now) ≡ Some IdentError.Reserved) }
+    {
+        Ident::checked(alloc, name, false, span)
+    }
+
+    /// The raw identifier of this name, given without `r#`, which stands at this span.
+    ///
+    /// Refused as [`new`](Ident::new) does, and then with `Reserved` where the name is `_`, `super`,
+    /// `self`, `Self` or `crate`. `fn` makes `r#fn`.
+    pub fn new_raw(alloc: Global, name: &str, span: Span) -> Result<Ident, IdentError>
+        ensures ok { IfOk result (λ ident. ident ≡ record { name = chars name.now; raw = true; span = span }) }
+
+        ensures empty { (result ≡ Err IdentError.Empty)
+            ↔ (ident_fault true (chars name.now) ≡ Some IdentError.Empty) }
+        ensures number { (result ≡ Err IdentError.Number)
+            ↔ (ident_fault true (chars name.now) ≡ Some IdentError.Number) }
+        ensures invalid { (result ≡ Err IdentError.Invalid)
+            ↔ (ident_fault true (chars name.now) ≡ Some IdentError.Invalid) }
+        ensures reserved { (result ≡ Err IdentError.Reserved)
+            ↔ (ident_fault true (chars name.now) ≡ Some IdentError.Reserved) }
+    {
+        Ident::checked(alloc, name, true, span)
+    }
+
+    /// Whether the identifier is written so: a raw `a` is `r#a`, and isn't `a`.
+    pub fn eq_str(&self, text: &str) -> bool
+        ensures { IsTrue result ↔ (name_text self.now ≡ chars text.now) }
+    {
+        let name = self.name.as_str();
+        if !self.raw {
+            return name == text;
+        }
+        match text.strip_prefix("r#") {
+            Some(rest) => name == rest,
+            None => false,
+        }
+    }
+
+    /// Where it stands.
+    pub fn span(&self) -> Span
+        ensures { result ≡ self.now.span }
+    {
+        self.span
+    }
+
+    /// Says that it stands elsewhere.
+    pub fn set_span(&mut self, span: Span)
+        ensures { self.new ≡ record self.old { span = span } }
+    {
+        self.span = span;
+    }
+
+    /// What is true of every identifier.
+    pub(crate) fn built(&self)
+        ensures { IsBuiltToken (name_token self.now) }
+    {
+        let _ = &self.name;
+    }
+}
+
+impl fmt::Display for Ident {
+    ghost use Rattle.std.specs.Prelude.{Some};
+    ghost use Rattle.std.specs.Str.{encode_utf8_all};
+    ghost use Rattle.lexical.specs.Token.{token_text};
+    ghost use Rattle.pm_token.specs.Leaf.{name_token};
+
+    ghost output = { λ ident. Some (encode_utf8_all (token_text (name_token ident))) };
+
+    fn fmt<W: fmt::Write>(&self, f: &mut fmt::Formatter<W>) -> fmt::Result {
+        if self.raw {
+            f.write_str("r#")?;
+        }
+        self.name.fmt(f)
+    }
+}
+
+/// Shows the identifier as it is written, and its span unless it stands in no file.
+impl fmt::Debug for Ident {
+    fn fmt<W: fmt::Write>(&self, f: &mut fmt::Formatter<W>) -> fmt::Result {
+        let mut debug = f.debug_struct("Ident");
+        debug.field("sym", &format_args!("{self}"));
+        show_span(&mut debug, self.span);
+        debug.finish()
+    }
+}
+
+#[cfg(test)]
+mod tests;

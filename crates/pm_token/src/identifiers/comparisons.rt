@@ -1,0 +1,90 @@
+//! Identifiers are compared, ordered and hashed by the bytes that they are written with.
+ghost use Rattle.std.specs.Prelude.{◌≡◌, ◌↔◌, ◌∷◌, ◌++◌, [], IsTrue, Some, fold, refl};
+ghost use Rattle.std.specs.Cmp.{on_equiv, on_per, on_po, on_total, partial_equiv_from_equiv};
+ghost use Rattle.std.specs.Cmp.Lexicographic.{nat_list_cmp_total, nat_list_eq_equiv, texts_po, texts_ties};
+ghost use Rattle.std.specs.List.{concat};
+ghost use Rattle.pm_token.specs.Written.{fed_alike, fed_for, name_cmp, name_eq, name_text, written};
+
+use super::Ident;
+use std::cmp::Ordering;
+use std::hash::{Hash, Hasher};
+
+impl PartialEq for Ident {
+    ghost eq = { name_eq };
+
+    ghost laws = { on_per written (partial_equiv_from_equiv nat_list_eq_equiv) };
+
+    /// Whether both have the same name, and both are raw or both plain. Their spans don't count.
+    fn eq(&self, other: &Ident) -> bool
+        ensures value { result ≡ name_eq self.now other.now }
+        ensures fields { IsTrue result ↔ ((self.now.name ≡ other.now.name) × (self.now.raw ≡ other.now.raw)) }
+        ensures text { IsTrue result ↔ (name_text self.now ≡ name_text other.now) }
+    {
+        let name = self.name.as_str();
+        let other_name = other.name.as_str();
+        if self.raw == other.raw {
+            return name == other_name;
+        }
+        false
+    }
+}
+
+impl Eq for Ident {
+    ghost laws = { on_equiv written nat_list_eq_equiv };
+}
+
+impl PartialOrd for Ident {
+    ghost partial_cmp = { λ a b. Some (name_cmp a b) };
+
+    ghost laws = { on_po written texts_po };
+
+    fn partial_cmp(&self, other: &Ident) -> Option<Ordering> {
+        Some(self.cmp(other))
+    }
+}
+
+impl Ord for Ident {
+    ghost cmp = { name_cmp };
+
+    ghost total = { on_total written nat_list_cmp_total };
+
+    ghost matches_partial_cmp = { λ a b. refl };
+
+    ghost matches_eq = { λ a b. texts_ties (written a) (written b) };
+
+    /// The order of the bytes that the identifiers are written with: `r`, then raw `a`, then `ra`.
+    fn cmp(&self, other: &Ident) -> Ordering
+        ensures value { result ≡ name_cmp self.now other.now }
+        ensures equal { (result ≡ Ordering.Equal) ↔ (name_text self.now ≡ name_text other.now) }
+    {
+        let name = self.name.as_str();
+        let other_name = other.name.as_str();
+        if self.raw == other.raw {
+            return name.cmp(other_name);
+        }
+        // A plain name has no `#`, so that its first two characters decide.
+        if self.raw {
+            "r#".cmp(other_name)
+        } else {
+            name.cmp("r#")
+        }
+    }
+}
+
+impl Hash for Ident {
+    ghost hash_input = { λ ident. fed_for (written ident) };
+
+    ghost respects_eq = { fed_alike };
+
+    /// Feeds the hasher what the text of the identifier does, but `r#` in a write of its own.
+    fn hash<H: Hasher>(&self, state: &mut H)
+        ensures value { state.new ≡ fold H.write state.old (fed_for (written self.now)) }
+        ensures text { concat (fed_for (written self.now)) ≡ written self.now ++ 255 ∷ [] }
+    {
+        let name = self.name.as_str();
+        if self.raw {
+            state.write(b"r#");
+        }
+        name.hash(state);
+    }
+}

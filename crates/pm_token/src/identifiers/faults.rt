@@ -1,0 +1,117 @@
+//! Which names identifiers refuse.
+ghost use Rattle.std.specs.Prelude.{◌≡◌, ◌==◌, IsTrue, length, nat_eq};
+ghost use Rattle.std.specs.Cmp.Lexicographic.{pointwise};
+ghost use Rattle.std.specs.Str.{chars};
+ghost use Rattle.lexical.specs.Ascii.{all_ascii};
+ghost use Rattle.lexical.specs.Identifier.{is_reserved as reserved};
+ghost use Rattle.pm_token.specs.IdentFault.{ident_fault, is_name as name_only, is_number as digits_only};
+
+use lexical::name_at;
+use std::alloc::AllocError;
+use std::error::Error;
+use std::fmt;
+
+/// Why an identifier was not made: the first of these that holds of its name.
+#[derive(Debug, Drop)]
+pub enum IdentError {
+    /// It has no character.
+    Empty,
+    /// It has ASCII digits only, as `255`.
+    Number,
+    /// It isn't a character that may begin an identifier and then characters that may go on with
+    /// one, as `a#`.
+    Invalid,
+    /// It is `_`, `super`, `self`, `Self` or `crate`, which no raw identifier is called.
+    Reserved,
+    /// Memory ran out, and none of the others holds.
+    Memory(AllocError),
+}
+
+impl fmt::Display for IdentError {
+    ghost use Rattle.std.specs.Prelude.{Some};
+    ghost use Rattle.pm_token.specs.IdentFault.{ident_message};
+
+    ghost output = { λ error. Some (ident_message error) };
+
+    fn fmt<W: fmt::Write>(&self, f: &mut fmt::Formatter<W>) -> fmt::Result {
+        match self {
+            IdentError::Empty => f.write_str("an identifier has at least one character"),
+            IdentError::Number => f.write_str("a number is no identifier"),
+            IdentError::Invalid => f.write_str("not a valid identifier"),
+            IdentError::Reserved => f.write_str("this name is reserved, and can't be raw"),
+            IdentError::Memory(_) => f.write_str("no memory"),
+        }
+    }
+}
+
+impl Error for IdentError {}
+
+impl From<AllocError> for IdentError {
+    ghost use Rattle.std.specs.Prelude.{◌≡◌};
+    ghost use Rattle.pm_token.specs.declared.identifiers.faults.IdentError.TheVariants.{Memory};
+
+    ghost from_gives = { λ error result. result ≡ Memory error };
+
+    fn from(error: AllocError) -> IdentError {
+        IdentError::Memory(error)
+    }
+}
+
+/// Whether the text has no character.
+fn is_empty(text: &str) -> bool
+    ensures { result ≡ (length (chars text.now) == 0) }
+{
+    text.is_empty()
+}
+
+/// Whether the text has ASCII digits only.
+fn is_number(text: &str) -> bool
+    ensures { result ≡ digits_only (chars text.now) }
+{
+    text.chars().all(|c| c.is_ascii_digit())
+}
+
+/// Whether the whole text is a name.
+fn is_name(text: &str) -> bool
+    ensures { result ≡ name_only (chars text.now) }
+{
+    name_at(text) == Some(text.len())
+}
+
+/// Whether the text is this ASCII text.
+fn text_is(text: &str, ascii: &str) -> bool
+    requires { IsTrue (all_ascii ascii.now) }
+    ensures { result ≡ pointwise nat_eq (chars text.now) ascii.now }
+{
+    text == ascii
+}
+
+/// Whether no raw identifier is called so.
+fn is_reserved(name: &str) -> bool
+    ensures { result ≡ reserved (chars name.now) }
+{
+    text_is(name, "_")
+        || text_is(name, "super")
+        || text_is(name, "self")
+        || text_is(name, "Self")
+        || text_is(name, "crate")
+}
+
+/// Why no identifier has the name, by the rule `identifier-fault`.
+pub(crate) fn fault(name: &str, raw: bool) -> Option<IdentError>
+    ensures { result ≡ ident_fault raw (chars name.now) }
+{
+    if is_empty(name) {
+        return Some(IdentError::Empty);
+    }
+    if is_number(name) {
+        return Some(IdentError::Number);
+    }
+    if !is_name(name) {
+        return Some(IdentError::Invalid);
+    }
+    if raw && is_reserved(name) {
+        return Some(IdentError::Reserved);
+    }
+    None
+}

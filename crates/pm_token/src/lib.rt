@@ -1,0 +1,20 @@
+//! Tokens: identifiers, marks and literals, and why a text is refused.
+#![tactic(auto)]
+
+pub mod delimiters;
+pub mod errors;
+mod escapes;
+pub mod identifiers;
+pub mod literals;
+pub mod marks;
+pub mod parts;
+pub mod symbols;
+
+pub use delimiters::Delimiter;
+pub use errors::{LexError, ParseError};
+pub use identifiers::{Ident, IdentError};
+pub use literals::Literal;
+pub use marks::{Punct, Spacing};
+
+#[cfg(test)]
+mod tests;

@@ -1,0 +1,82 @@
+//! What the crates above make tokens of, and users don't.
+ghost use Rattle.std.specs.Prelude.{◌≡◌, ◌≤◌, IfOk, IsTrue};
+ghost use Rattle.std.specs.Str.{chars};
+ghost use Rattle.lexical.specs.Mark.{is_mark};
+ghost use Rattle.lexical.specs.Token as tokens;
+ghost use Rattle.pm_token.specs.Built.{IsBuiltToken};
+ghost use Rattle.pm_token.specs.Escaped.{string_text};
+ghost use Rattle.pm_token.specs.Leaf.{name_token, mark_token, text_token};
+
+use crate::errors::LexError;
+use crate::identifiers::Ident;
+use crate::literals::Literal;
+use crate::marks::{Punct, Spacing};
+use pm_span::Span;
+use pm_span::parts::bounds;
+use std::alloc::{AllocError, Global};
+use std::fmt;
+
+/// The identifier of this name, which has no `r#`.
+pub fn ident(alloc: Global, name: &str, raw: bool, span: Span) -> Result<Ident, AllocError>
+    requires { IsBuiltToken (tokens.Name raw (chars name.now)) }
+    ensures ok { IfOk result (λ ident. ident ≡ record { name = chars name.now; raw = raw; span = span }) }
+{
+    Ident::from_parts(alloc, name, raw, span)
+}
+
+/// The mark of this character.
+pub fn punct(mark: char, spacing: Spacing, span: Span) -> Punct
+    requires { IsTrue (is_mark mark) }
+    ensures { result ≡ record { mark = mark; spacing = spacing; span = span } }
+{
+    Punct::from_parts(mark, spacing, span)
+}
+
+/// The string literal of the text. Fails where memory runs out.
+pub fn string_literal(alloc: Global, text: &str, span: Span) -> Result<Literal, AllocError>
+    ensures ok { IfOk result (λ literal.
+        literal ≡ record { text = string_text (chars text.now); span = span }) }
+{
+    Literal::string_at(alloc, text, span)
+}
+
+/// The fault that stands here.
+pub fn fault(span: Span) -> LexError
+    ensures { result ≡ span }
+{
+    LexError::at(span)
+}
+
+/// What is true of every identifier.
+pub fn built_ident(ident: &Ident)
+    ensures token { IsBuiltToken (name_token ident.now) }
+    ensures ordered { ident.now.span.lo ≤ ident.now.span.hi }
+{
+    ident.built();
+    bounds(ident.span());
+}
+
+/// What is true of every mark.
+pub fn built_punct(punct: &Punct)
+    ensures token { IsBuiltToken (mark_token punct.now) }
+    ensures ordered { punct.now.span.lo ≤ punct.now.span.hi }
+{
+    punct.built();
+    bounds(punct.span());
+}
+
+/// What is true of every literal.
+pub fn built_literal(literal: &Literal)
+    ensures token { IsBuiltToken (text_token literal.now) }
+    ensures ordered { literal.now.span.lo ≤ literal.now.span.hi }
+{
+    literal.built();
+    bounds(literal.span());
+}
+
+/// Shows a token's span, unless it is that of what stands in no file.
+pub fn show_span<W: fmt::Write>(debug: &mut fmt::DebugStruct<'_, W>, span: Span) {
+    if bounds(span) != (0, 0) {
+        debug.field("span", &span);
+    }
+}

@@ -1,0 +1,1 @@
+pub use Rattle.pm_stream.proofs.FaultLemmas

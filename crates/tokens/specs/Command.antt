@@ -1,0 +1,44 @@
+-- What the words ask for, and what is answered.
+use Rattle.std.specs.Prelude.{ℕ, List, [], ◌∷◌, ◌++◌, codes, decimal, nat_eq, if◌then◌else◌, Option, Some, None, Result, Ok, Err}
+use lib.Pointwise.{pointwise}
+use Rattle.proc_macro2.specs.declared.LineColumn.{LineColumn}
+use Rattle.tokens.specs.declared.errors.RunError.{RunError}
+use Rattle.tokens.specs.declared.errors.RunError.TheVariants.{Io, NotUtf8, MapFull, Lex, Memory}
+use Rattle.tokens.specs.declared.mode.OutputMode.{OutputMode}
+use Rattle.tokens.specs.declared.mode.OutputMode.TheVariants.{Print}
+
+-- the mode that a word names
+abbrev pub mode_named : List ℕ → Option OutputMode
+mode_named word = if pointwise nat_eq word (codes "print") then Some Print else None
+
+-- the mode that the words ask for: the one that the only word names
+abbrev pub mode_of : List (List ℕ) → Option OutputMode
+mode_of [] = None
+mode_of (word ∷ []) = mode_named word
+mode_of (word ∷ next ∷ words) = None
+
+-- what is said where the words ask for nothing
+abbrev pub usage : List ℕ
+usage = codes "usage: tokens print|spans\n"
+
+-- what is said of a fault
+abbrev pub fault_line : LineColumn → List ℕ
+fault_line place = codes "fault " ++ (decimal place.line ++ (codes ":" ++ (decimal place.column ++ codes "\n")))
+
+-- what is said of a run
+abbrev pub message : Result Unit RunError → List ℕ
+message (Ok x) = []
+message (Err Io) = codes "input or output failed\n"
+message (Err NotUtf8) = codes "not utf-8\n"
+message (Err MapFull) = codes "map full\n"
+message (Err (Lex place)) = fault_line place
+message (Err (Memory error)) = codes "no memory\n"
+
+-- the status that a run ends with
+abbrev pub status : Result Unit RunError → ℕ
+status (Ok x) = 0
+status (Err Io) = 2
+status (Err NotUtf8) = 2
+status (Err MapFull) = 2
+status (Err (Lex place)) = 1
+status (Err (Memory error)) = 2

@@ -1,0 +1,6 @@
+pub mod Known
+pub mod Refusal
+pub mod Output
+pub mod Answer
+pub mod Run
+pub mod Command

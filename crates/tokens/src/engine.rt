@@ -1,0 +1,70 @@
+//! A run: from the bytes of a source to the bytes of a sink.
+ghost use Rattle.std.specs.Prelude.{◌≡◌, IfOk, IsFalse, string_bytes};
+ghost use Rattle.std.specs.Str.{IsUtf8};
+ghost use Rattle.proc_macro2.specs.declared.LineColumn.{LineColumn};
+ghost use Rattle.tokens.specs.Answer.{is_io};
+ghost use Rattle.tokens.specs.Output.{IsOutput, IsTooLong, HasFaultAt, written};
+ghost use Rattle.tokens.specs.Run.{Runs, seen_by};
+
+use crate::errors::RunError;
+use crate::mode::OutputMode;
+use crate::reading::read_to_end;
+use crate::sinks::ByteSink;
+use crate::sources::ByteSource;
+use crate::writing::write_all;
+use proc_macro2::{ParseError, SourceMap, TokenStream};
+use std::alloc::{AllocError, Global};
+use std::str;
+
+/// Reads source text to its end, and writes its tokens as `mode` says.
+///
+/// The whole output stands before its first byte is written. `Io` is answered where a read failed,
+/// and nothing is written then, or where a write failed or took nothing, and a beginning of the
+/// output is. Each other refusal writes nothing: `NotUtf8`, `MapFull` and `Lex`, which has the
+/// place of the fault, are about the whole input, and `Memory` comes where a growth was refused.
+///
+/// For `Print`, `a+b` gives `a + b` and a line feed, and `(]` is refused with `Lex` at line 1,
+/// column 1.
+pub fn run<R: ByteSource, W: ByteSink>(
+    alloc: Global,
+    mode: OutputMode,
+    reader: &mut R,
+    writer: &mut W,
+) -> Result<(), RunError>
+    ensures { let seen = seen_by R.left R.has_failed W.held W.has_failed in
+        Runs mode (seen reader.old writer.old) result (seen reader.new writer.new) }
+{
+    let input = read_to_end(alloc, reader)?;
+    let output = output_of(alloc, mode, input.as_slice())?;
+    write_all(writer, output.as_bytes())
+}
+
+// What is written for the input.
+fn output_of(alloc: Global, mode: OutputMode, input: &[u8]) -> Result<String, RunError>
+    ensures ok { IfOk result (λ output. IsOutput mode input.now (string_bytes output)) }
+    ensures io { IsFalse (is_io result) }
+    ensures not_utf8 { result ≡ Err RunError.NotUtf8 → ¬ IsUtf8 input.now }
+    ensures map_full { result ≡ Err RunError.MapFull → IsTooLong input.now }
+    ensures lex { (place : LineColumn) → result ≡ Err (RunError.Lex place)
+        → HasFaultAt input.now place }
+{
+    let Ok(text) = str::from_utf8(input) else {
+        return Err(RunError::NotUtf8);
+    };
+    let mut map = SourceMap::new(alloc);
+    match TokenStream::from_str(text, &mut map) {
+        Ok(stream) => Ok(written(alloc, mode, &stream)?),
+        Err(ParseError::Lex(error)) => Err(RunError::Lex(error.span().start(&map))),
+        Err(ParseError::MapFull) => Err(RunError::MapFull),
+        Err(ParseError::Memory(error)) => Err(RunError::Memory(error)),
+    }
+}
+
+// What is written of the stream.
+fn written(alloc: Global, mode: OutputMode, stream: &TokenStream) -> Result<String, AllocError>
+    ensures { IfOk result (λ text. string_bytes text ≡ written mode stream.now) }
+{
+    match mode {
+        OutputMode::Print => format!(in alloc; "{stream}\n"),
+    }
+}

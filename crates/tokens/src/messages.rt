@@ -1,0 +1,58 @@
+//! What the program says, a line at a time. No message takes memory, and one that can't be written
+//! is dropped.
+ghost use Rattle.std.specs.Prelude.{◌≡◌, ◌||◌, decimal, is_err, OnOk};
+ghost use Rattle.std.specs.Io.KnownBytes.{Appends};
+ghost use Rattle.tokens.specs.Command.{fault_line, message, usage};
+ghost use Rattle.tokens.specs.Known.{AppendsFront, Says};
+
+use crate::errors::RunError;
+use crate::sinks::ByteSink;
+use crate::writing::write_all;
+use itoa::Buffer;
+use proc_macro2::LineColumn;
+
+/// Says which words the program knows.
+pub fn say_usage<E: ByteSink>(errors: &mut E)
+    ensures { Says (E.held errors.old) (E.held errors.new) (E.has_failed errors.new) usage }
+{
+    let _ = write_all(errors, b"usage: tokens print|spans\n");
+}
+
+/// Says why a run was refused, and nothing of one that wasn't: `fault 2:0` of a fault at the front
+/// of the second line.
+pub fn say<E: ByteSink>(errors: &mut E, answer: &Result<(), RunError>)
+    ensures { Says (E.held errors.old) (E.held errors.new) (E.has_failed errors.new)
+        (message answer.now) }
+{
+    let _ = match answer {
+        Ok(()) => Ok(()),
+        Err(RunError::Io) => write_all(errors, b"input or output failed\n"),
+        Err(RunError::NotUtf8) => write_all(errors, b"not utf-8\n"),
+        Err(RunError::MapFull) => write_all(errors, b"map full\n"),
+        Err(RunError::Lex(place)) => say_fault(errors, *place),
+        Err(RunError::Memory(_)) => write_all(errors, b"no memory\n"),
+    };
+}
+
+// Says where a fault stands.
+fn say_fault<E: ByteSink>(errors: &mut E, place: LineColumn) -> Result<(), RunError>
+    ensures ok { OnOk result (Appends (E.held errors.old) (E.held errors.new) (fault_line place)) }
+    ensures front { AppendsFront (E.held errors.old) (E.held errors.new) (fault_line place) }
+    ensures flag { E.has_failed errors.new ≡ (E.has_failed errors.old || is_err result) }
+{
+    write_all(errors, b"fault ")?;
+    say_number(errors, place.line)?;
+    write_all(errors, b":")?;
+    say_number(errors, place.column)?;
+    write_all(errors, b"\n")
+}
+
+// Says a number in decimal digits.
+fn say_number<E: ByteSink>(errors: &mut E, number: usize) -> Result<(), RunError>
+    ensures ok { OnOk result (Appends (E.held errors.old) (E.held errors.new) (decimal number)) }
+    ensures front { AppendsFront (E.held errors.old) (E.held errors.new) (decimal number) }
+    ensures flag { E.has_failed errors.new ≡ (E.has_failed errors.old || is_err result) }
+{
+    let mut buffer = Buffer::new();
+    write_all(errors, buffer.format(number).as_bytes())
+}

@@ -1,0 +1,8 @@
+//! What is written of a stream.
+
+/// What is written of a stream.
+#[derive(Clone, Copy, Debug, PartialEq, Eq)]
+pub enum OutputMode {
+    /// The printed stream and a line feed.
+    Print,
+}
