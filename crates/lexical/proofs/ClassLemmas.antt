@@ -1,14 +1,15 @@
 -- Classes of characters: on ASCII, and which are apart.
-use Rattle.std.proofs.Common.{◌≡◌, ℕ, ◌<◌, ◌⊎◌, true, false, ◌||◌, ◌==◌, List, [], ◌∷◌, codes, refl, ◌∙◌, subst, inl, inr, eqb-true, eq-eqb}
+use Rattle.std.proofs.Common.{◌≡◌, ℕ, ◌<◌, ◌≤◌, nat_le, ◌⊎◌, Bool, true, false, cond, ◌||◌, ◌&&◌, ◌==◌, List, [], ◌∷◌, codes, refl, sym, ap, arith, ◌∙◌, subst, inl, inr, eqb-true, eq-eqb}
 use Rattle.std.specs.List.{list_any, AllByRecursion}
-use Rattle.std.specs.Char.{is_ascii_alphabetic, is_ascii_alphanumeric}
-use Rattle.std.proofs.lemmas.Bool.{both_ways, and_parts, or_cases, not-true, agree_below_at, cond-true, cond-false}
+use Rattle.std.specs.Char.{is_ascii_alphabetic, is_ascii_alphanumeric, is_ascii_digit}
+use Rattle.std.proofs.lemmas.Bool.{both_ways, and_parts, or_cases, or_parts, leb-true, not-true, agree_below_at, cond-true, cond-false}
 use Rattle.unicode_ident.proofs.Computing.{unicode_ident}
 use Rattle.unicode_ident.proofs.IdentLemmas.{is_xid_continue-ascii}
 use Rattle.lexical.specs.Class.{is_white, is_ident_start, is_ident_continue}
 use Rattle.lexical.specs.Mark.{is_mark, marks}
 use Rattle.lexical.specs.Delimiter.{is_opener, is_closer}
 use Rattle.lexical.specs.PieceFinder.{start}
+use Rattle.lexical.specs.declared.class.Start.{Start}
 use Rattle.lexical.specs.declared.class.Start.TheVariants as starts
 
 -- ---- ASCII
@@ -41,6 +42,20 @@ letter_is_not_white c letter = not-true _ (and_parts _ _ (and_parts _ _ letter).
 pub start_letter : (c : ℕ) → is_ident_start c ≡ true → start c ≡ starts.Letter
 start_letter c letter = cond-false _ _ _ (letter_is_not_white c letter) ∙ cond-true _ _ _ letter
 
+-- a digit is ASCII
+pub digit_below : (c : ℕ) → is_ascii_digit c ≡ true → c < 128
+digit_below c h = let parts = and_parts (nat_le 48 c) (nat_le c 57) h in let top : c ≤ 57 = leb-true c 57 parts.1 in omega arith
+
+digit_is_other : (c : ℕ) → is_ascii_digit c ≡ true → (is_white c || is_ident_start c) ≡ false
+unfolding unicode_ident
+digit_is_other c digit = sym (ap (λ b. b && (is_white c || is_ident_start c)) digit)
+    ∙ agree_below_at (λ x. is_ascii_digit x && (is_white x || is_ident_start x)) (λ x. false) 128 c refl (digit_below c digit)
+
+pub start_digit : (c : ℕ) → is_ascii_digit c ≡ true → start c ≡ starts.Digit
+start_digit c digit =
+    let parts = or_parts (is_white c) (is_ident_start c) (digit_is_other c digit) in
+    cond-false (is_white c) _ _ parts.0 ∙ (cond-false (is_ident_start c) _ _ parts.1 ∙ cond-true (is_ascii_digit c) _ _ digit)
+
 pub start_opener : (c : ℕ) → is_opener c ≡ true → start c ≡ starts.Opener
 unfolding unicode_ident
 start_opener c h = any_of (λ d. start d ≡ starts.Opener) (codes "([{") c (refl, (refl, (refl, tt))) h
@@ -66,6 +81,10 @@ pub start_quote : start 39 ≡ starts.Quote
 unfolding unicode_ident
 start_quote = refl
 
+pub start_double_quote : start 34 ≡ starts.DoubleQuote
+unfolding unicode_ident
+start_double_quote = refl
+
 -- `r`, with which raw identifiers begin
 pub start_raw : start 114 ≡ starts.Letter
 unfolding unicode_ident
@@ -74,3 +93,32 @@ start_raw = refl
 pub start_front_mark : start 0xFEFF ≡ starts.FrontMark
 unfolding unicode_ident
 start_front_mark = refl
+
+-- ---- what a start tells
+
+-- a choice that gives neither
+past : (b : Bool) {x y z : Start} → (x ≡ z → ⊥) → cond b x y ≡ z → y ≡ z
+past true differs h = absurd (differs h)
+past false differs h = h
+
+chosen : (b : Bool) (x y z : Start) → cond b x y ≡ z → (y ≡ z → ⊥) → b ≡ true
+chosen true x y z h differs = refl
+chosen false x y z h differs = absurd (differs h)
+
+-- past the classes
+past_classes : (c : ℕ) (s : Start) → start c ≡ s → (starts.White ≡ s → ⊥) → (starts.Letter ≡ s → ⊥) → (starts.Digit ≡ s → ⊥) → (starts.Opener ≡ s → ⊥) → (starts.Closer ≡ s → ⊥) → (starts.Slash ≡ s → ⊥)
+    → cond (c == 39) starts.Quote (cond (c == 34) starts.DoubleQuote (cond (c == 0xFEFF) starts.FrontMark starts.Other)) ≡ s
+past_classes c s h white letter digit opener closer slash =
+    past (c == 47) slash (past (is_closer c) closer (past (is_opener c) opener (past (is_ascii_digit c) digit (past (is_ident_start c) letter (past (is_white c) white h)))))
+
+pub quote_is : (c : ℕ) → start c ≡ starts.Quote → c ≡ 39
+quote_is c h =
+    let quote = past_classes c starts.Quote h (λ e. cc) (λ e. cc) (λ e. cc) (λ e. cc) (λ e. cc) (λ e. cc) in
+    eqb-true c 39 (chosen (c == 39) _ _ _ quote (λ rest.
+    let other : starts.Other ≡ starts.Quote = past (c == 0xFEFF) (λ e. cc) (past (c == 34) (λ e. cc) rest) in
+    cc))
+
+pub front_mark_is : (c : ℕ) → start c ≡ starts.FrontMark → c ≡ 0xFEFF
+front_mark_is c h =
+    let mark = past_classes c starts.FrontMark h (λ e. cc) (λ e. cc) (λ e. cc) (λ e. cc) (λ e. cc) (λ e. cc) in
+    eqb-true c 0xFEFF (chosen (c == 0xFEFF) _ _ _ (past (c == 34) (λ e. cc) (past (c == 39) (λ e. cc) mark)) (λ e. cc))

@@ -9,8 +9,20 @@ pub mod CommentFinderLemmas
 pub mod CommentLemmas
 pub mod SkipLemmas
 pub mod NameFinderLemmas
+pub mod WordLemmas
+pub mod ManyLemmas
+pub mod CodeLemmas
+pub mod HashLemmas
+pub mod QuotedFinderLemmas
+pub mod NumberFinderLemmas
+pub mod LiteralFinderLemmas
 pub mod PieceLemmas
 pub mod AnswerLemmas
 pub mod PieceFacts
+pub mod StableLemmas
+pub mod NumberLemmas
+pub mod LiteralLemmas
 pub mod NameLemmas
 mod Examples
+mod LiteralExamples
+mod NumberExamples

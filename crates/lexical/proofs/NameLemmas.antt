@@ -11,7 +11,8 @@ use Rattle.lexical.specs.Identifier.{Named, Identifier, literal_prefixes, is_all
 use Rattle.lexical.specs.Mark as marks
 use Rattle.lexical.specs.Mark.{is_mark, comment_fronts, joint_before, bars_quote, FollowsQuote}
 use Rattle.lexical.specs.Piece.{Kind, Leaf, Stands, IsPiece}
-use Rattle.lexical.specs.PieceFinder.{find_plain, find_raw, raw_kind, name_kind, tagged, found_at_letter, found}
+use Rattle.lexical.specs.QuotedFinder.{find_quoted}
+use Rattle.lexical.specs.PieceFinder.{Found, find_plain, find_raw, raw_kind, name_kind, literal_kind, tagged, or_found, found_identifier, found_quoted, found_at_letter, found}
 use Rattle.lexical.specs.declared.class.Start.TheVariants as starts
 use Rattle.lexical.proofs.TextLemmas.{any_cut}
 use Rattle.lexical.proofs.ClassLemmas.{any_of, start_letter}
@@ -99,9 +100,9 @@ follows_something h = both_ways _ refl (follows_start [] h)
 abbrev pub IsNameOrLiteral : Kind → Type 0
 IsNameOrLiteral kind = ((raw : Bool) × (name : List ℕ) × (kind ≡ Leaf (Name raw name))) ⊎ ((text : List ℕ) × (kind ≡ Leaf (Literal text)))
 
--- what is found where a letter begins
-letter_kind : (text : List ℕ) (k : Kind) (p r : List ℕ) → found_at_letter text ≡ Some (k, p, r) → IsNameOrLiteral k
-letter_kind text k p r = cond_both (begins_with (codes "r#") text) _ _ (λ o. o ≡ Some (k, p, r) → IsNameOrLiteral k) (λ e. raw (find_raw text)) (λ e. plain (find_plain text))
+-- the identifier that is found where a letter begins
+identifier_kind : (text : List ℕ) (k : Kind) (p r : List ℕ) → found_identifier text ≡ Some (k, p, r) → IsNameOrLiteral k
+identifier_kind text k p r = cond_both (begins_with (codes "r#") text) _ _ (λ o. o ≡ Some (k, p, r) → IsNameOrLiteral k) (λ e. raw (find_raw text)) (λ e. plain (find_plain text))
   where
     raw : (o : Option (List ℕ × List ℕ)) → tagged raw_kind o ≡ Some (k, p, r) → IsNameOrLiteral k
     raw None e = absurd (cc)
@@ -110,6 +111,18 @@ letter_kind text k p r = cond_both (begins_with (codes "r#") text) _ _ (λ o. o 
     plain : (o : Option (List ℕ × List ℕ)) → tagged name_kind o ≡ Some (k, p, r) → IsNameOrLiteral k
     plain None e = absurd (cc)
     plain (Some x) e = let same : ◌≡◌ {A = Kind × List ℕ × List ℕ} (k, p, r) (name_kind x.0 x.1, x.0, x.1) = cc in inl (false, x.0, ap (λ y. y.0) same)
+
+-- and what is found there
+letter_kind : (text : List ℕ) (k : Kind) (p r : List ℕ) → found_at_letter text ≡ Some (k, p, r) → IsNameOrLiteral k
+letter_kind text k p r = either (found_identifier text) (identifier_kind text k p r)
+  where
+    literal : (o : Option (List ℕ × List ℕ)) → tagged literal_kind o ≡ Some (k, p, r) → IsNameOrLiteral k
+    literal None e = absurd (cc)
+    literal (Some x) e = let same : ◌≡◌ {A = Kind × List ℕ × List ℕ} (k, p, r) (literal_kind x.0 x.1, x.0, x.1) = cc in inr (x.0, ap (λ y. y.0) same)
+
+    either : (o : Found) → (o ≡ Some (k, p, r) → IsNameOrLiteral k) → or_found o (found_quoted text) ≡ Some (k, p, r) → IsNameOrLiteral k
+    either None one e = literal (find_quoted text) e
+    either (Some x) one e = one e
 
 -- the piece that follows it is one of these
 pub quote_next : (first : Bool) (k : Kind) (p r : List ℕ) → IsPiece first k p r → FollowsQuote (p ++ r) → IsNameOrLiteral k

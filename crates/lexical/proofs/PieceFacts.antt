@@ -17,7 +17,8 @@ use Rattle.lexical.specs.declared.piece.Piece.{Piece}
 use Rattle.lexical.proofs.TextLemmas.{seam_boundary, seam_take, seam_drop}
 use Rattle.lexical.proofs.ClassLemmas.{any_of}
 use Rattle.lexical.proofs.CommentFinderLemmas.{comment_first}
-use Rattle.lexical.proofs.PieceLemmas.{passes_of, no_literal}
+use Rattle.lexical.proofs.PieceLemmas.{passes_of}
+use Rattle.lexical.proofs.LiteralFinderLemmas.{literal_front}
 
 -- ---- a piece isn't empty
 
@@ -36,7 +37,10 @@ piece_not_empty first (Leaf (Name false name)) p r h =
     let first_is = name_not_empty name r h.1.0.0 in
     (first_is.0, first_is.1, h.0 ∙ first_is.2)
 piece_not_empty first (Leaf (Mark c joint)) p r h = (c, [], h.0)
-piece_not_empty first (Leaf (Literal text)) p r h = absurd (no_literal text r h.1)
+piece_not_empty first (Leaf (Literal text)) p r h = elim h.1 [
+  | inl literal ↦ let begins = literal_front text r literal in (begins.0, begins.1, h.0 ∙ begins.2)
+  | inr error ↦ (40, codes "/*ERROR*/)", h.0 ∙ error)
+]
 
 -- what follows a piece is shorter than the text
 pub piece_shortens : (first : Bool) (k : Kind) (p r : List ℕ) → IsPiece first k p r → length r < length (p ++ r)

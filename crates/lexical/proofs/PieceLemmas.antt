@@ -7,20 +7,25 @@ use Rattle.lexical.specs.Form.{Form, Then, NotAt, Exactly, One}
 use Rattle.lexical.specs.Token.{Name, Mark, Literal}
 use Rattle.lexical.specs.Identifier as identifiers
 use Rattle.lexical.specs.Literal as literals
+use Rattle.lexical.specs.Number.{Number}
 use Rattle.lexical.specs.Mark as marks
 use Rattle.lexical.specs.Delimiter.{is_opener, is_closer, error_literal}
 use Rattle.lexical.specs.FrontMark as fronts
 use Rattle.lexical.specs.Comment.{Comment, is_doc, has_bare_return}
 use Rattle.lexical.specs.Piece.{Kind, FrontMark, Gap, Doc, Open, Close, Leaf, IsPiece, HasNoPiece}
 use Rattle.lexical.specs.Finder.{Finds}
-use Rattle.lexical.specs.PieceFinder.{Found, find_front_mark, find_white, find_mark, find_opener, find_closer, first_of, front_mark_kind, gap_kind, name_kind, raw_kind, mark_kind, quote_kind, opener_kind, closer_kind, tagged, with_kind, told, start, found_at_letter, found_from, found}
+use Rattle.lexical.specs.PieceFinder.{Found, find_front_mark, find_white, find_mark, find_opener, find_closer, first_of, front_mark_kind, gap_kind, name_kind, raw_kind, mark_kind, quote_kind, opener_kind, closer_kind, literal_kind, tagged, or_found, with_kind, told, start, found_identifier, found_quoted, found_number, found_error, found_from, found}
 use Rattle.lexical.specs.CommentFinder.{find_comment, comment_kind, doc_text}
 use Rattle.lexical.specs.declared.class.Start.{Start}
 use Rattle.lexical.specs.declared.class.Start.TheVariants as starts
 use Rattle.lexical.proofs.FinderLemmas.{IsSplit, finds_if, finds_not_at, finds_one, finds_text}
 use Rattle.lexical.proofs.NameFinderLemmas.{finds_plain, finds_raw, finds_lone_quote}
+use Rattle.lexical.proofs.WordLemmas.{none_apart, front_whole}
+use Rattle.lexical.proofs.LiteralFinderLemmas.{quoted_starts, quote_apart}
+use Rattle.lexical.proofs.QuotedFinderLemmas.{finds_quoted}
+use Rattle.lexical.proofs.NumberFinderLemmas.{finds_number, number_first}
 use Rattle.lexical.proofs.CommentFinderLemmas.{finds_comment, comment_first, plain_kind, doc_kind, doc_from}
-use Rattle.lexical.proofs.ClassLemmas.{start_white, start_letter, start_opener, start_closer, start_mark, start_slash, start_quote, start_raw, start_front_mark}
+use Rattle.lexical.proofs.ClassLemmas.{start_white, start_letter, start_digit, start_opener, start_closer, start_mark, start_slash, start_quote, start_double_quote, start_raw, start_front_mark}
 
 -- ---- each rule has its finder
 
@@ -85,19 +90,37 @@ told_sound first text (Some x) is = kind_sound first text x is
 mark_sound : (first : Bool) (text : List ℕ) → IfSome (tagged mark_kind (find_mark text)) (IsTagged first text)
 mark_sound first text = tagged_sound first _ mark_kind (mark_piece first) text _ (finds_mark.sound text)
 
-letter_sound : (first : Bool) (text : List ℕ) → IfSome (found_at_letter text) (IsTagged first text)
-letter_sound first text = cond_both (begins_with (codes "r#") text) _ _ (λ o. IfSome o (IsTagged first text))
+identifier_sound : (first : Bool) (text : List ℕ) → IfSome (found_identifier text) (IsTagged first text)
+identifier_sound first text = cond_both (begins_with (codes "r#") text) _ _ (λ o. IfSome o (IsTagged first text))
     (λ e. tagged_sound first _ raw_kind (raw_piece first) text _ (finds_raw.sound text))
     (λ e. tagged_sound first _ name_kind (λ p r h. (refl, h)) text _ (finds_plain.sound text))
 
+-- one thing, or else another
+or_sound : (first : Bool) (text : List ℕ) (o u : Found) → IfSome o (IsTagged first text) → IfSome u (IsTagged first text) → IfSome (or_found o u) (IsTagged first text)
+or_sound first text None u one other = other
+or_sound first text (Some x) u one other = one
+
+quoted_sound : (first : Bool) (text : List ℕ) → IfSome (found_quoted text) (IsTagged first text)
+unfolding literals.Literal
+quoted_sound first text = tagged_sound first literals.QuotedLiteral literal_kind (λ p r h. (refl, inl (inl h))) text _ (finds_quoted.sound text)
+
+number_sound : (first : Bool) (text : List ℕ) → IfSome (found_number text) (IsTagged first text)
+unfolding literals.Literal
+number_sound first text = tagged_sound first Number literal_kind (λ p r h. (refl, inl (inr h))) text _ (finds_number.sound text)
+
+error_sound : (first : Bool) (text : List ℕ) → IfSome (found_error text) (IsTagged first text)
+error_sound first text = tagged_sound first literals.ErrorLiteral literal_kind (λ p r h. (refl, inr h)) text _ ((finds_text error_literal).sound text)
+
 start_sound : (first : Bool) (s : Start) (text : List ℕ) → IfSome (found_from first s text) (IsTagged first text)
 start_sound first starts.White text = tagged_sound first _ gap_kind (λ p r h. inl h) text _ (finds_white.sound text)
-start_sound first starts.Letter text = letter_sound first text
-start_sound first starts.Opener text = tagged_sound first _ opener_kind (λ p r h. ((one_of_kind is_opener p r h.0).1, h.1)) text _ (finds_opener.sound text)
+start_sound first starts.Letter text = or_sound first text _ _ (identifier_sound first text) (quoted_sound first text)
+start_sound first starts.Digit text = number_sound first text
+start_sound first starts.Opener text = or_sound first text _ _ (tagged_sound first _ opener_kind (λ p r h. ((one_of_kind is_opener p r h.0).1, h.1)) text _ (finds_opener.sound text)) (error_sound first text)
 start_sound first starts.Closer text = tagged_sound first _ closer_kind (λ p r h. (one_of_kind is_closer p r h).1) text _ (finds_closer.sound text)
 start_sound first starts.Slash text = cond_both (begins_any marks.comment_fronts text) _ _ (λ o. IfSome o (IsTagged first text))
     (λ e. told_sound first text (find_comment text) (finds_comment.sound text)) (λ e. mark_sound first text)
-start_sound first starts.Quote text = tagged_sound first _ quote_kind (quote_piece first) text _ (finds_lone_quote.sound text)
+start_sound first starts.Quote text = or_sound first text _ _ (tagged_sound first _ quote_kind (quote_piece first) text _ (finds_lone_quote.sound text)) (quoted_sound first text)
+start_sound first starts.DoubleQuote text = quoted_sound first text
 start_sound first starts.FrontMark text = tagged_sound first _ front_mark_kind (λ p r h. h) text _ ((finds_front_mark first).sound text)
 start_sound first starts.Other text = mark_sound first text
 
@@ -144,10 +167,42 @@ passes_of passes c p r (d, e, h) =
     let same = eqb-true d c parts.1 in
     (e ∙ ap (λ x. x ∷ []) same, ap passes (sym same) ∙ parts.0)
 
--- the grammar has no literal yet
-pub no_literal : (p r : List ℕ) → literals.Literal p r → ⊥
+-- where a literal begins with a letter no identifier is found
+no_identifier : (text : List ℕ) → begins_any identifiers.literal_prefixes text ≡ true → found_identifier text ≡ None
+no_identifier text h = cond_both (begins_with (codes "r#") text) _ _ (λ o. o ≡ None) (λ e. ap (tagged raw_kind) (cond-true _ _ _ h)) (λ e. ap (tagged name_kind) (cond-true _ _ _ h))
+
+-- a literal is found
+found_quoted_at : (p r : List ℕ) → literals.QuotedLiteral p r → found_quoted (p ++ r) ≡ Some (Leaf (Literal p), p, r)
+found_quoted_at p r h = ap (tagged literal_kind) (finds_quoted.complete p r h)
+
+quoted_complete : (first : Bool) (p r : List ℕ) → literals.QuotedLiteral p r → found first (p ++ r) ≡ Some (Leaf (Literal p), p, r)
+quoted_complete first p r h = elim (quoted_starts p r h) [
+  | inl text ↦ from_start first (p ++ r) 34 text.0 starts.DoubleQuote text.1 start_double_quote ∙ found_quoted_at p r h
+  | inr more ↦ elim more [
+    | inl character ↦
+        from_start first (p ++ r) 39 (character.back ++ r) starts.Quote (front_whole (codes "'") _ p r character) start_quote
+        ∙ (ap (λ o. or_found (tagged quote_kind o) (found_quoted (p ++ r))) (none_apart _ _ _ finds_lone_quote quote_apart p r character) ∙ found_quoted_at p r h)
+    | inr letter ↦
+        from_start first (p ++ r) letter.first letter.rest starts.Letter letter.whole letter.starts
+        ∙ (ap (λ o. or_found o (found_quoted (p ++ r))) (no_identifier (p ++ r) letter.prefixed) ∙ found_quoted_at p r h)
+  ]
+]
+
+number_complete : (first : Bool) (p r : List ℕ) → Number p r → found first (p ++ r) ≡ Some (Leaf (Literal p), p, r)
+number_complete first p r h =
+    let at = number_first p r h in
+    from_start first (p ++ r) at.0 (at.1 ++ r) starts.Digit (ap (λ q. q ++ r) at.2) (start_digit at.0 at.3) ∙ ap (tagged literal_kind) (finds_number.complete p r h)
+
+literal_complete : (first : Bool) (p r : List ℕ) → literals.Literal p r → found first (p ++ r) ≡ Some (Leaf (Literal p), p, r)
 unfolding literals.Literal
-no_literal p r h = h
+literal_complete first p r h = elim h [ inl quoted ↦ quoted_complete first p r quoted | inr number ↦ number_complete first p r number ]
+
+error_complete : (first : Bool) (p r : List ℕ) → literals.ErrorLiteral p r → found first (p ++ r) ≡ Some (Leaf (Literal p), p, r)
+error_complete first p r h =
+    let text : p ++ r ≡ error_literal ++ r = ap (λ q. q ++ r) h in
+    let none : find_opener (p ++ r) ≡ None = cond-true _ _ _ (ap (begins_any (error_literal ∷ [])) text) in
+    from_start first (p ++ r) 40 (codes "/*ERROR*/)" ++ r) starts.Opener text (start_opener 40 refl)
+    ∙ (ap (λ o. or_found (tagged opener_kind o) (found_error (p ++ r))) none ∙ ap (tagged literal_kind) ((finds_text error_literal).complete p r h))
 
 pub found_complete : (first : Bool) (k : Kind) (p r : List ℕ) → IsPiece first k p r → found first (p ++ r) ≡ Some (k, p, r)
 found_complete first FrontMark p r h =
@@ -160,7 +215,7 @@ found_complete first (Open c) p r h =
     let one = passes_of is_opener c p r h.0 in
     let opens : NotAt (error_literal ∷ []) (One is_opener) p r = ((c, one.0, one.1), h.1) in
     from_start first (p ++ r) c r starts.Opener (one_front c p r one.0) (start_opener c one.1)
-    ∙ (ap (tagged opener_kind) (finds_opener.complete p r opens) ∙ ap (λ d. Some (Open d, p, r)) (ap first_of one.0))
+    ∙ (ap (λ o. or_found (tagged opener_kind o) (found_error (p ++ r))) (finds_opener.complete p r opens) ∙ ap (λ d. Some (Open d, p, r)) (ap first_of one.0))
 found_complete first (Close c) p r h =
     let one = passes_of is_closer c p r h in
     from_start first (p ++ r) c r starts.Closer (one_front c p r one.0) (start_closer c one.1)
@@ -169,15 +224,15 @@ found_complete first (Leaf (Name true name)) p r h =
     let text : Then (Exactly (codes "r#")) identifiers.RawIdentifier p r = record { front = codes "r#"; back = name; whole = h.0; first = refl; second = h.1.0 } in
     let apart : begins_any identifiers.literal_prefixes (p ++ r) ≡ false = ap (λ q. begins_any identifiers.literal_prefixes (q ++ r)) h.0 ∙ h.1.1 in
     from_start first (p ++ r) 114 (35 ∷ (name ++ r)) starts.Letter (ap (λ q. q ++ r) h.0) start_raw
-    ∙ (cond-true _ _ _ (ap (λ q. begins_with (codes "r#") (q ++ r)) h.0)
-    ∙ (ap (tagged raw_kind) (finds_raw.complete p r (text, apart)) ∙ ap (λ q. Some (Leaf (Name true q), p, r)) (ap (drop 2) h.0)))
+    ∙ (ap (λ o. or_found o (found_quoted (p ++ r))) (cond-true _ _ _ (ap (λ q. begins_with (codes "r#") (q ++ r)) h.0)
+    ∙ ap (tagged raw_kind) (finds_raw.complete p r (text, apart))) ∙ (ap (λ q. Some (Leaf (Name true q), p, r)) (ap (drop 2) h.0)))
 found_complete first (Leaf (Name false name)) p r h =
     let plain = h.1.0.0 in
     let whole : p ++ r ≡ plain.first.0 ∷ (plain.back ++ r) =
     ap (λ q. q ++ r) h.0 ∙ (ap (λ q. q ++ r) plain.whole ∙ (append_assoc plain.front plain.back r ∙ ap (λ q. q ++ (plain.back ++ r)) plain.first.1)) in
     from_start first (p ++ r) plain.first.0 (plain.back ++ r) starts.Letter whole (start_letter plain.first.0 plain.first.2)
-    ∙ (cond-false _ _ _ (ap (λ q. begins_with (codes "r#") (q ++ r)) h.0 ∙ (or_parts _ _ h.1.0.1).0)
-    ∙ (ap (tagged name_kind) (finds_plain.complete p r (subst (λ q. identifiers.Identifier false q r) (sym h.0) h.1)) ∙ ap (λ q. Some (Leaf (Name false q), p, r)) h.0))
+    ∙ (ap (λ o. or_found o (found_quoted (p ++ r))) (cond-false _ _ _ (ap (λ q. begins_with (codes "r#") (q ++ r)) h.0 ∙ (or_parts _ _ h.1.0.1).0)
+    ∙ ap (tagged name_kind) (finds_plain.complete p r (subst (λ q. identifiers.Identifier false q r) (sym h.0) h.1))) ∙ (ap (λ q. Some (Leaf (Name false q), p, r)) h.0))
 found_complete first (Leaf (Mark c joint)) p r h = elim h.1 [
   | inl mark ↦
       let one = mark.0.0 in
@@ -191,9 +246,12 @@ found_complete first (Leaf (Mark c joint)) p r h = elim h.1 [
       let is : c ≡ 39 = cc in
       let text : p ≡ codes "'" = h.0 ∙ quote.0.0 in
       from_start first (p ++ r) 39 r starts.Quote (one_front 39 p r text) start_quote
-      ∙ (ap (tagged quote_kind) (finds_lone_quote.complete p r (text, quote.0.1)) ∙ ap₂ (λ d b. Some (Leaf (Mark d b), p, r)) (sym is) (sym quote.1))
+      ∙ (ap (λ o. or_found (tagged quote_kind o) (found_quoted (p ++ r))) (finds_lone_quote.complete p r (text, quote.0.1)) ∙ ap₂ (λ d b. Some (Leaf (Mark d b), p, r)) (sym is) (sym quote.1))
 ]
-found_complete first (Leaf (Literal text)) p r h = absurd (no_literal text r h.1)
+found_complete first (Leaf (Literal text)) p r h = subst (λ q. found first (p ++ r) ≡ Some (Leaf (Literal q), p, r)) h.0 (elim h.1 [
+  | inl literal ↦ literal_complete first p r (subst (λ q. literals.Literal q r) (sym h.0) literal)
+  | inr error ↦ error_complete first p r (h.0 ∙ error)
+])
 
 -- ---- the laws
 

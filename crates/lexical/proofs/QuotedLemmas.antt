@@ -16,13 +16,13 @@ use Rattle.lexical.specs.Quoted.{Simple, is_octal_digit, Hex, LowPair, Code, Uni
 abbrev pub Free : Form → Type 0
 Free A = (p r s : List ℕ) → A p r → A p s
 
-free_one : (passes : ℕ → Bool) → Free (One passes)
+pub free_one : (passes : ℕ → Bool) → Free (One passes)
 free_one passes p r s is = is
 
-free_text : (text : List ℕ) → Free (Exactly text)
+pub free_text : (text : List ℕ) → Free (Exactly text)
 free_text text p r s is = is
 
-free_then : (A B : Form) → Free A → Free B → Free (Then A B)
+pub free_then : (A B : Form) → Free A → Free B → Free (Then A B)
 free_then A B one other p r s is = record {
   front = is.front;
   back = is.back;
@@ -31,7 +31,7 @@ free_then A B one other p r s is = record {
   second = other is.back r s is.second;
 }
 
-free_either : (A B : Form) → Free A → Free B → Free (Either A B)
+pub free_either : (A B : Form) → Free A → Free B → Free (Either A B)
 free_either A B one other p r s is = elim is [ inl x ↦ inl (one p r s x) | inr y ↦ inr (other p r s y) ]
 
 free_each : (A : Form) → Free A → (units : List (List ℕ)) (r s : List ℕ) → Each A units r → Each A units s
@@ -56,13 +56,13 @@ free_braced allowed p r s is =
       second = is.second;
     }
 
-free_unicode : (allowed : ℕ → Bool) → Free (Unicode allowed)
+pub free_unicode : (allowed : ℕ → Bool) → Free (Unicode allowed)
 free_unicode allowed = free_then (Exactly (codes "u{")) (Then (Code allowed) (Exactly (codes "}"))) (free_text (codes "u{")) (free_braced allowed)
 
-free_low_pair : Free LowPair
+pub free_low_pair : Free LowPair
 free_low_pair = free_then (One is_octal_digit) (One is_ascii_hexdigit) (free_one is_octal_digit) (free_one is_ascii_hexdigit)
 
-free_hex : (Pair : Form) → Free Pair → Free (Hex Pair)
+pub free_hex : (Pair : Form) → Free Pair → Free (Hex Pair)
 free_hex Pair free = free_then (Exactly (codes "x")) Pair (free_text (codes "x")) free
 
 free_string_escape : Free StringEscape

@@ -23,6 +23,10 @@ pub record Then (A B : Form) (p r : List ℕ) : Type 0 where
 abbrev pub NotAt : List (List ℕ) → Form → Form
 NotAt fronts A p r = A p r × IsFalse (begins_any fronts (p ++ r))
 
+-- a piece of the form, before no character that passes
+abbrev pub NotBefore : (ℕ → Bool) → Form → Form
+NotBefore passes A p r = A p r × IsFalse (first_passes passes r)
+
 -- a piece of the form, whose text passes
 abbrev pub Where : (List ℕ → Bool) → Form → Form
 Where passes A p r = A p r × IsTrue (passes p)

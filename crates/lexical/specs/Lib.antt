@@ -4,6 +4,9 @@ pub mod Form
 pub mod Token
 pub mod Identifier
 pub mod Quoted
+pub mod RawString
+pub mod SingleQuoted
+pub mod Number
 pub mod Literal
 pub mod Mark
 pub mod Delimiter
@@ -16,5 +19,7 @@ pub mod Found
 pub mod Ascii
 pub mod Finder
 pub mod CommentFinder
+pub mod QuotedFinder
+pub mod NumberFinder
 pub mod PieceFinder
 pub mod Reading

@@ -28,7 +28,7 @@ Piece = Kind × List ℕ
 abbrev pub Stands : Token → List ℕ → Type 0
 Stands (Name raw name) r = identifiers.Identifier raw name r
 Stands (Mark c joint) r = (marks.Mark (c ∷ []) r × (joint ≡ marks.joint_before r)) ⊎ (marks.LoneQuote (c ∷ []) r × IsTrue joint)
-Stands (Literal text) r = literals.Literal text r
+Stands (Literal text) r = literals.AnyLiteral text r
 
 -- the piece stands before r; `first` says that it stands at place 0
 abbrev pub IsPiece : Bool → Kind → Form

@@ -1,8 +1,8 @@
--- Quoted literals.
-use Rattle.std.specs.Prelude.{ℕ, Bool, true, not, ◌&&◌, ◌||◌, ◌==◌, ◌+◌, ◌*◌, List, codes, nat_lt, nat_le, cond, length, filter}
+-- Strings with escapes.
+use Rattle.std.specs.Prelude.{ℕ, Bool, true, false, not, ◌&&◌, ◌||◌, ◌==◌, ◌+◌, ◌*◌, List, [], ◌∷◌, codes, nat_lt, nat_le, cond, length, filter}
 use Rattle.std.specs.List.{list_any, fold}
-use Rattle.std.specs.Char.{is_digit, is_ascii_hexdigit, digit_value}
-use Rattle.lexical.specs.Form.{Form, Then, Where, Either, Perhaps, Many, Exactly, One, Run}
+use Rattle.std.specs.Char.{is_ascii, is_digit, is_ascii_hexdigit, digit_value}
+use Rattle.lexical.specs.Form.{Form, Then, NotAt, Where, Either, Perhaps, Many, Exactly, One, Run}
 use Rattle.lexical.specs.Identifier.{Name}
 
 abbrev pub is_one_of : List ℕ → ℕ → Bool
@@ -20,6 +20,14 @@ is_octal_digit c = is_digit c 8
 -- two hex digits, the first 0 to 7
 abbrev pub LowPair : Form
 LowPair = Then (One is_octal_digit) (One is_ascii_hexdigit)
+
+-- two hex digits
+abbrev pub HexPair : Form
+HexPair = Then (One is_ascii_hexdigit) (One is_ascii_hexdigit)
+
+-- two hex digits, not both zero
+abbrev pub NonzeroPair : Form
+NonzeroPair = NotAt (codes "00" ∷ []) HexPair
 
 -- `hex-escape`: `x` and two digits
 abbrev pub Hex : Form → Form
@@ -45,9 +53,21 @@ Code allowed = Where (is_code allowed) (Then (One is_ascii_hexdigit) (Run (λ c.
 abbrev pub Unicode : (ℕ → Bool) → Form
 Unicode allowed = Then (Exactly (codes "u{")) (Then (Code allowed) (Exactly (codes "}")))
 
+-- one of these letters, `x` and such a pair, or the code of a character that is allowed
+abbrev pub Escape : List ℕ → Form → (ℕ → Bool) → Form
+Escape letters Pair allowed = Either (Simple letters) (Either (Hex Pair) (Unicode allowed))
+
 -- `string-escape`
 abbrev pub StringEscape : Form
-StringEscape = Either (Simple (codes "nrt\\0'\"")) (Either (Hex LowPair) (Unicode (λ n. true)))
+StringEscape = Escape (codes "nrt\\0'\"") LowPair (λ n. true)
+
+-- `byte-escape`: no character's code is allowed
+abbrev pub ByteEscape : Form
+ByteEscape = Escape (codes "nrt\\0'\"") HexPair (λ n. false)
+
+-- `c-string-escape`: none that gives zero
+abbrev pub CEscape : Form
+CEscape = Escape (codes "nrt\\'\"") NonzeroPair (λ n. nat_lt 0 n)
 
 -- ---- the body
 
@@ -67,9 +87,25 @@ BodyUnit plain Escape = Either (One plain) (Either Newline (Then (Exactly (codes
 abbrev pub is_string_plain : ℕ → Bool
 is_string_plain c = not (is_one_of (codes "\"\\\r") c)
 
+-- and in byte strings only ASCII
+abbrev pub is_byte_plain : ℕ → Bool
+is_byte_plain c = is_string_plain c && is_ascii c
+
+-- and in C strings not NUL
+abbrev pub is_c_plain : ℕ → Bool
+is_c_plain c = is_string_plain c && not (c == 0)
+
 -- `string-unit`
 abbrev pub StringUnit : Form
 StringUnit = BodyUnit is_string_plain StringEscape
+
+-- `byte-string-unit`
+abbrev pub ByteUnit : Form
+ByteUnit = BodyUnit is_byte_plain ByteEscape
+
+-- `c-string-unit`
+abbrev pub CUnit : Form
+CUnit = BodyUnit is_c_plain CEscape
 
 -- ---- cooked strings
 
@@ -77,10 +113,22 @@ StringUnit = BodyUnit is_string_plain StringEscape
 abbrev pub Suffix : Form
 Suffix = Perhaps Name
 
--- what opens it, `string-body`: the units up to the first `"` that is in none of them, that quote, and a suffix
+-- `string-body`: units up to what closes the literal, that, and a suffix
+abbrev pub Body : Form → List ℕ → Form
+Body Unit close = Then (Many Unit) (Then (Exactly close) Suffix)
+
+-- what opens it, and the units up to the first `"` that is in none of them
 abbrev pub Cooked : List ℕ → Form → Form
-Cooked front Unit = Then (Exactly front) (Then (Many Unit) (Then (Exactly (codes "\"")) Suffix))
+Cooked front Unit = Then (Exactly front) (Body Unit (codes "\""))
 
 -- `string`: a literal between `"` and `"`
 unfoldable pub Str : Form
 Str = Cooked (codes "\"") StringUnit
+
+-- `byte-string`
+abbrev pub ByteStr : Form
+ByteStr = Cooked (codes "b\"") ByteUnit
+
+-- `c-string`
+abbrev pub CStr : Form
+CStr = Cooked (codes "c\"") CUnit

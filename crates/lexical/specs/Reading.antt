@@ -1,5 +1,7 @@
 -- What the lexer's steps answer, against what the finders find.
-use Rattle.std.specs.Prelude.{ℕ, ◌≡◌, ◌≤◌, ◌+◌, List, ◌++◌, length, Option, Some, None, MatchOption}
+use Rattle.std.specs.Prelude.{ℕ, ◌≡◌, ◌≤◌, ◌+◌, List, ◌++◌, length, Option, Some, None, MatchOption, IsTrue}
+use Rattle.std.specs.Borrow.{Bor}
+use Rattle.lexical.specs.Ascii.{all_ascii}
 use Rattle.std.specs.Str.{chars, encode_utf8_all}
 use Rattle.lexical.specs.Found.{kind_of, LendsText}
 use Rattle.lexical.specs.Piece.{Kind}
@@ -20,6 +22,17 @@ pub record Passes (answer : Option (List ℕ × List ℕ)) (at to : Cursor) : Ty
 -- the step leads past the piece that was found, or fails where none was
 abbrev pub Reads : Option (List ℕ × List ℕ) → Cursor → Option Cursor → Type 0
 Reads answer at result = MatchOption result (answer ≡ None) (Passes answer at)
+
+-- from one place to the other stands the piece that was found, and this is its text, which is ASCII
+pub record PassesText (answer : Option (List ℕ × List ℕ)) (at : Cursor) (x : Bor (List ℕ) × Cursor) : Type 0 where
+  pub found : answer ≡ Some (x.0.now, chars x.1.rest.now)
+  pub whole : chars at.rest.now ≡ x.0.now ++ chars x.1.rest.now
+  pub count : x.1.chars_before ≡ at.chars_before + length x.0.now
+  pub ascii : IsTrue (all_ascii x.0.now)
+
+-- the step leads past the piece that was found, with its text, or fails where none was
+abbrev pub ReadsText : Option (List ℕ × List ℕ) → Cursor → Option (Bor (List ℕ) × Cursor) → Type 0
+ReadsText answer at result = MatchOption result (answer ≡ None) (PassesText answer at)
 
 -- from one place to the other lead signs and characters of block comments, so many open at each
 pub record Leads (at : Cursor) (depth : ℕ) (to : Cursor) (inside : ℕ) : Type 0 where

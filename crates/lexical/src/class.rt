@@ -11,6 +11,8 @@ pub enum Start {
     White,
     /// A character that may begin an identifier.
     Letter,
+    /// A digit from 0 to 9.
+    Digit,
     /// One of `(`, `[`, `{`.
     Opener,
     /// One of `)`, `]`, `}`.
@@ -19,6 +21,8 @@ pub enum Start {
     Slash,
     /// `'`.
     Quote,
+    /// `"`.
+    DoubleQuote,
     /// U+FEFF.
     FrontMark,
     /// Any other.
@@ -65,11 +69,15 @@ pub fn start_of(c: char) -> Start
     if is_white(c) {
         return Start::White;
     }
+    if c.is_ascii_digit() {
+        return Start::Digit;
+    }
     match c {
         '(' | '[' | '{' => Start::Opener,
         ')' | ']' | '}' => Start::Closer,
         '/' => Start::Slash,
         '\'' => Start::Quote,
+        '"' => Start::DoubleQuote,
         '\u{FEFF}' => Start::FrontMark,
         _ => Start::Other,
     }

@@ -5,7 +5,7 @@ ghost use Rattle.std.specs.Str.{chars};
 ghost use Rattle.lexical.specs.Class.{is_ident_continue, is_ident_start};
 ghost use Rattle.lexical.specs.Finder.{find_run};
 ghost use Rattle.lexical.specs.Identifier.{is_reserved as reserved, literal_prefixes};
-ghost use Rattle.lexical.specs.PieceFinder.{find_name, find_raw_name, find_raw_text, found_at_letter, name_kind, raw_kind, tagged};
+ghost use Rattle.lexical.specs.PieceFinder.{find_name, find_raw_name, find_raw_text, found_identifier, name_kind, raw_kind, tagged};
 ghost use Rattle.lexical.specs.Reading.{Answers, IsFound, Passes, Reads};
 ghost use Rattle.lexical.specs.Text.{begins_any};
 
@@ -109,7 +109,7 @@ pub fn identifier<'a>(text: &'a str, first: char, after: Cursor<'a>) -> Option<P
     requires starts { IsTrue (is_ident_start first) }
     requires split { chars text.now ≡ first ∷ chars after.rest.now }
     requires one { after.chars_before ≡ 1 }
-    ensures { Answers (found_at_letter (chars text.now)) result }
+    ensures { Answers (found_identifier (chars text.now)) result }
 {
     if begins_literal(text, first) {
         return None;

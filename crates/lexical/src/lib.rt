@@ -11,12 +11,18 @@ mod comments;
 mod cursor;
 mod delimiters;
 mod docs;
+mod escapes;
 mod gaps;
 mod identifiers;
 pub mod laws;
 mod lexer;
+mod literals;
 mod marks;
+mod numbers;
 pub mod piece;
+mod quoted;
+mod raw_strings;
+mod single_quotes;
 mod skip;
 mod text;
 

@@ -2,8 +2,8 @@
 
 ghost use Rattle.std.specs.Prelude.{◌≡◌, Bool, ℕ};
 ghost use Rattle.std.specs.Str.{chars};
-ghost use Rattle.lexical.specs.Finder.{find_run};
-ghost use Rattle.lexical.specs.Reading.{Passes};
+ghost use Rattle.lexical.specs.Finder.{find_one, find_run};
+ghost use Rattle.lexical.specs.Reading.{Passes, Reads};
 
 use crate::cursor::Cursor;
 
@@ -21,4 +21,14 @@ pub fn skip_while<F: Fn(char) -> bool>(at: Cursor<'_>, passes: F) -> Cursor<'_>
         end = after;
     }
     end
+}
+
+/// The place after the character at the place, if it passes.
+pub fn one<F: Fn(char) -> bool>(at: Cursor<'_>, passes: F) -> Option<Cursor<'_>>
+    requires { F.IsAlwaysCallable passes }
+    ensures { (test : ℕ → Bool) → ((c : ℕ) (b : Bool) → F.post passes c b → b ≡ test c)
+        → Reads (find_one test (chars at.entry.rest.now)) at.entry result }
+{
+    let (c, after) = at.advance()?;
+    if passes(c) { Some(after) } else { None }
 }

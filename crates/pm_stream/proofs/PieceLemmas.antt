@@ -1,15 +1,15 @@
 -- Lemmas on pieces: what stands in a source is built, and what the lexer's answers say.
-use Rattle.std.proofs.Common.{◌≡◌, ℕ, Bool, List, [], ◌∷◌, ap, ◌∙◌, subst}
+use Rattle.std.proofs.Common.{◌≡◌, ℕ, ◌-◌, Bool, List, [], ◌∷◌, ◌++◌, length, take, refl, sym, ap, ap₂, ◌∙◌, subst, arith}
 use Rattle.lexical.specs.Token.{Token, Name, Mark, Literal}
-use Rattle.lexical.specs.Literal as literals
 use Rattle.lexical.specs.Piece.{Stands, IsPiece}
-use Rattle.std.specs.Str.{chars}
+use Rattle.std.specs.Str.{chars, IsUtf8}
 use denote.Bor.{Bor}
 use Rattle.lexical.specs.Found.{IsPieceAt, kind_of}
 use Rattle.lexical.specs.declared.piece.Piece.{Piece as Found}
 use Rattle.lexical.specs.declared.piece.PieceKind.TheVariants as kinds
-use Rattle.lexical.proofs.PieceFacts.{stands_mark}
+use Rattle.lexical.proofs.PieceFacts.{stands_mark, piece_front}
 use Rattle.lexical.proofs.NameLemmas.{identifier_alone}
+use Rattle.lexical.proofs.LiteralLemmas.{literal_whole}
 use Rattle.pm_span.specs.Extent.{Extent}
 use Rattle.pm_token.specs.Built.{IsBuiltToken}
 use Rattle.pm_token.specs.Leaf as leaves
@@ -21,10 +21,9 @@ use Rattle.pm_stream.specs.declared.stream.TokenTree.TheVariants as trees
 
 -- what stands in a source is built
 pub token_built : (token : Token) (r : List ℕ) → Stands token r → IsBuiltToken token
-unfolding literals.Literal
 token_built (Name raw name) r h = identifier_alone raw name r h
 token_built (Mark c joint) r h = stands_mark c joint r h
-token_built (Literal text) r h = absurd h
+token_built (Literal text) r h = literal_whole text r h
 
 -- ---- what the lexer's answers say
 
@@ -35,11 +34,34 @@ name_found first source piece raw name h is =
     let stands = subst (λ kind. IsPiece first (kind_of kind h.front) h.front h.rest) is h.stands in
     token_built (Name raw (chars name.now)) h.rest stands.1
 
-pub no_literal : (first : Bool) (source : List ℕ) (piece : Found) → IsPieceAt first source piece
-    → piece.kind ≡ kinds.Literal → ⊥
-unfolding literals.Literal
-no_literal first source piece h is =
-    (subst (λ kind. IsPiece first (kind_of kind h.front) h.front h.rest) is h.stands).1
+-- the characters of a piece's bytes
+piece_chars : (first : Bool) (text bytes : List ℕ) (piece : Found) → IsUtf8 text → (h : IsPieceAt first (chars text) piece) → bytes ≡ take (piece.bytes - 0) text → chars bytes ≡ h.front
+piece_chars first text bytes piece utf8 h e =
+    let all : piece.bytes - 0 ≡ piece.bytes = omega arith in
+    ap chars (e ∙ ap (λ n. take n text) all) ∙ piece_front first text piece utf8 h
+
+-- the text of a literal is whole
+pub literal_found : (first : Bool) (text bytes : List ℕ) (piece : Found) → IsUtf8 text → IsPieceAt first (chars text) piece → piece.kind ≡ kinds.Literal
+    → bytes ≡ take (piece.bytes - 0) text → IsBuiltToken (Literal (chars bytes))
+literal_found first text bytes piece utf8 h is e =
+    let stands = subst (λ kind. IsPiece first (kind_of kind h.front) h.front h.rest) is h.stands in
+    subst (λ q. IsBuiltToken (Literal q)) (sym (piece_chars first text bytes piece utf8 h e)) (token_built (Literal h.front) h.rest stands.1)
+
+-- two fronts of a text that are as long are the same
+same_fronts : (p q r s : List ℕ) → p ++ r ≡ q ++ s → length p ≡ length q → p ≡ q
+same_fronts [] [] r s e size = refl
+same_fronts [] (d ∷ q) r s e size = absurd (omega (arith, size))
+same_fronts (c ∷ p) [] r s e size = absurd (omega (arith, size))
+same_fronts (c ∷ p) (d ∷ q) r s e size =
+    let head : c ≡ d = cc in
+    let tail : p ++ r ≡ q ++ s = cc in
+    ap₂ (λ x xs. x ∷ xs) head (same_fronts p q r s tail (omega (arith, size)))
+
+-- the characters of the piece's bytes are any front that has as many
+pub front_is : (first : Bool) (text bytes front rest : List ℕ) (piece : Found) → IsUtf8 text → IsPieceAt first (chars text) piece → bytes ≡ take (piece.bytes - 0) text
+    → chars text ≡ front ++ rest → piece.chars ≡ length front → chars bytes ≡ front
+front_is first text bytes front rest piece utf8 h e whole size =
+    piece_chars first text bytes piece utf8 h e ∙ same_fronts h.front front h.rest rest (sym h.whole ∙ whole) (sym h.chars ∙ size)
 
 -- ---- the events of one token
 

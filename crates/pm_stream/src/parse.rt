@@ -1,10 +1,11 @@
 //! The parser: from the pieces of a text to its token trees.
-ghost use Rattle.std.specs.Prelude.{◌≡◌, ◌≤◌, ◌+◌, ◌<◌, ◌^◌, ◌↔◌, ℕ, Bool, List, [], ◌∷◌, length, OnOk, IfOk, IfErr, IsTrue, if◌then◌else◌};
+ghost use Rattle.std.specs.Prelude.{◌≡◌, ◌≤◌, ◌+◌, ◌<◌, ◌^◌, ◌↔◌, ℕ, Bool, List, [], ◌∷◌, ◌++◌, length, OnOk, IfOk, IfErr, IsTrue, if◌then◌else◌};
 ghost use Rattle.std.specs.Str.{chars};
 ghost use Rattle.lexical.specs.Found.{IsPieceAt, kind_of};
 ghost use Rattle.lexical.specs.Mark.{is_mark};
 ghost use Rattle.lexical.specs.Token as tokens;
 ghost use Rattle.pm_span.specs.Files.{Fits, Holds, next_lo, with_file};
+ghost use Rattle.pm_token.specs.Built.{IsBuiltToken};
 ghost use Rattle.pm_token.specs.Leaf.{is_joint};
 ghost use Rattle.pm_stream.specs.Delimited.{delimiter_of};
 ghost use Rattle.pm_stream.specs.Events.{Event, One, Opens, Closes, doc_onto, events_onto};
@@ -20,7 +21,7 @@ use crate::stream::{Group, TokenStream, TokenTree};
 use lexical::{Piece, PieceKind, piece_at};
 use pm_span::parts::{add_file, allocator, fits, span_of};
 use pm_span::{SourceMap, Span};
-use pm_token::parts::{fault, ident, punct};
+use pm_token::parts::{fault, ident, literal, punct};
 use pm_token::{Delimiter, ParseError, Spacing};
 use std::alloc::{AllocError, Global};
 use std::mem;
@@ -74,7 +75,7 @@ fn parse(alloc: Global, base: u32, text: &str) -> Result<TokenStream, ParseError
     let mut at = base;
     let mut first = true;
     while let Some(piece) = piece_at(rest, first) {
-        reading.take(piece, at)?;
+        reading.take(piece, rest, at)?;
         rest = &rest[piece.bytes..];
         at += piece.chars as u32;
         first = false;
@@ -119,14 +120,14 @@ impl Reading {
         }
     }
 
-    /// Takes a piece that begins at `lo`. A closer that doesn't close the innermost open group is a
-    /// fault.
-    fn take(&mut self, piece: Piece, lo: u32) -> Result<(), ParseError>
-        requires stands { (first : Bool) × (source : List ℕ) × IsPieceAt first source piece }
+    /// Takes the piece at the front of the text, which begins at `lo`. A closer that doesn't close
+    /// the innermost open group is a fault.
+    fn take(&mut self, piece: Piece, text: &str, lo: u32) -> Result<(), ParseError>
+        requires stands { (first : Bool) × IsPieceAt first (chars text.now) piece }
         requires room { lo + piece.chars < 2 ^ 32 }
         requires built { IsBuiltTo lo self.old }
-        ensures ok { OnOk result ((front : List ℕ) → piece.entry.chars ≡ length front
-            → written self.new []
+        ensures ok { OnOk result ((front rest : List ℕ) → chars text.now ≡ front ++ rest
+            → piece.entry.chars ≡ length front → written self.new []
             ≡ written self.old (events_onto lo (kind_of piece.entry.kind front) front [])) }
         ensures built { OnOk result (IsBuiltTo (lo + piece.entry.chars) self.new) }
         ensures stray { IfErr result (IsFaultFor lo (IsStray piece.entry.kind (groups self.old))) }
@@ -141,7 +142,8 @@ impl Reading {
                 let name = ident(self.alloc, name, raw, span_of(lo, hi))?;
                 self.push(TokenTree::Ident(name))?;
             }
-            PieceKind::FrontMark | PieceKind::Gap | PieceKind::Literal => {}
+            PieceKind::Literal => self.push_literal(&text[..piece.bytes], span_of(lo, hi))?,
+            PieceKind::FrontMark | PieceKind::Gap => {}
         }
         Ok(())
     }
@@ -165,6 +167,17 @@ impl Reading {
         ensures built { OnOk result ((at : ℕ) → IsBuiltTo at self.old → IsBuiltTo at self.new) }
     {
         self.push(TokenTree::Punct(punct(mark, spacing(joint), span)))
+    }
+
+    /// Takes a literal, which is whole.
+    fn push_literal(&mut self, text: &str, span: Span) -> Result<(), AllocError>
+        requires { IsBuiltToken (tokens.Literal (chars text.now)) }
+        ensures ok { OnOk result ((events : List Event) → written self.new events
+            ≡ written self.old (One (tokens.Literal (chars text.now)) span.lo span.hi ∷ events)) }
+        ensures built { OnOk result ((at : ℕ) → IsBuiltTo at self.old → IsBuiltTo at self.new) }
+    {
+        let literal = literal(self.alloc, text, span)?;
+        self.push(TokenTree::Literal(literal))
     }
 
     /// Takes a doc comment: the mark `#`, the mark `!` if it is inner, and the group of its text.
@@ -290,6 +303,11 @@ mod tests {
             ("a += b", "a += b"),
             ("<<=", "<<="),
             ("fn f(x) { x + y }", "fn f (x) { x + y }"),
+            ("1..2", "1 .. 2"),
+            ("1.f32", "1 . f32"),
+            ("1.", "1."),
+            ("0E--0", "0E -- 0"),
+            ("tuple.0.0", "tuple . 0.0"),
         ] {
             let mut map = SourceMap::new(rt.alloc());
             let stream = TokenStream::from_str(text, &mut map)?;
@@ -304,9 +322,10 @@ mod tests {
         for (text, at) in [
             ("a\"", 2),
             ("b\"", 1),
-            ("1", 1),
+            ("0b12", 1),
+            ("0x_", 1),
+            ("1.5\u{301}", 3),
             ("( \"", 3),
-            ("(/*ERROR*/)", 1),
             ("foo\u{FEFF}", 4),
             ("///\r", 1),
             ("///\r \n", 1),
@@ -327,10 +346,19 @@ mod tests {
     }
 
     #[test]
-    fn a_file_stays_after_a_fault_and_up_to_the_limit(rt: HostRuntime) -> Result<(), Fail> {
-        for (limit, full) in [(5, true), (6, false)] {
+    fn a_file_stays_in_the_map_up_to_the_limit(rt: HostRuntime) -> Result<(), Fail> {
+        for (text, parses, limit, full) in [
+            ("abcd", true, 5, true),
+            ("abcd", true, 6, false),
+            ("abc)", false, 5, true),
+            ("abc)", false, 6, false),
+        ] {
             let mut map = SourceMap::with_limit(rt.alloc(), limit);
-            assert!(rt; TokenStream::from_str("abc)", &mut map).is_err());
+            assert_eq!(rt;
+                TokenStream::from_str(text, &mut map).is_ok(),
+                parses,
+                "of {text:?}"
+            );
             assert!(rt; map.holds(span_of(1, 5)), "at the limit {limit}");
             let last = TokenStream::from_str("", &mut map);
             assert_eq!(rt;

@@ -10,6 +10,7 @@ use Rattle.lexical.specs.Text.{first_passes}
 use Rattle.lexical.specs.Form.{Form, Then, Either, Exactly, One, Many, Each}
 use Rattle.lexical.specs.Quoted.{is_one_of, is_octal_digit, is_scalar, hex_value, is_string_plain, Code, StringEscape, StringUnit, Str}
 use Rattle.lexical.specs.Literal.{IsWhole}
+use Rattle.lexical.specs.Literal as literals
 use Rattle.lexical.specs.Token.{Literal}
 use Rattle.pm_token.specs.Built.{IsBuiltToken}
 use Rattle.lexical.proofs.QuotedLemmas.{EndsSuffix, no_name, stops, stop_ends}
@@ -144,8 +145,8 @@ string_before_stop text r all stop = string_stands text r all (stop_ends r stop)
 
 -- what `string` writes is a whole literal
 pub string_whole : (text : List ℕ) → all_scalars text ≡ true → IsWhole (string_text text)
-unfolding IsWhole
-string_whole text all = string_before_stop text [] all refl
+unfolding IsWhole literals.Literal
+string_whole text all = inl (inl (inl (inl (string_before_stop text [] all refl))))
 
 -- what stands for a doc comment is built
 pub doc_built : (text : List ℕ) → all_scalars text ≡ true → IsBuiltToken (Literal (string_text text))

@@ -33,6 +33,7 @@ impl Literal {
     ghost use Rattle.pm_token.specs.Built.{IsBuiltToken};
     ghost use Rattle.pm_token.specs.Leaf.{text_token};
     ghost use Rattle.pm_token.specs.Escaped.{string_text};
+    ghost use Rattle.lexical.specs.Token as tokens;
     ghost use Rattle.pm_span.specs.Extent.{nowhere};
 
     /// The string literal of the text, written by the rule `string-text`, with the span 0..0. Fails
@@ -55,6 +56,17 @@ impl Literal {
         draft.push('"')?;
         Ok(Literal {
             text: draft.finish(),
+            span,
+        })
+    }
+
+    /// The literal of this text, where it stands. Fails where memory runs out.
+    pub(crate) fn from_parts(alloc: Global, text: &str, span: Span) -> Result<Literal, AllocError>
+        requires { IsBuiltToken (tokens.Literal (chars text.now)) }
+        ensures ok { IfOk result (λ literal. literal ≡ record { text = chars text.now; span = span }) }
+    {
+        Ok(Literal {
+            text: Symbol::new(alloc, text)?,
             span,
         })
     }

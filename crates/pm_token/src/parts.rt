@@ -32,6 +32,14 @@ pub fn punct(mark: char, spacing: Spacing, span: Span) -> Punct
     Punct::from_parts(mark, spacing, span)
 }
 
+/// The literal that is written so, which is whole. Fails where memory runs out.
+pub fn literal(alloc: Global, text: &str, span: Span) -> Result<Literal, AllocError>
+    requires { IsBuiltToken (tokens.Literal (chars text.now)) }
+    ensures ok { IfOk result (λ literal. literal ≡ record { text = chars text.now; span = span }) }
+{
+    Literal::from_parts(alloc, text, span)
+}
+
 /// The string literal of the text. Fails where memory runs out.
 pub fn string_literal(alloc: Global, text: &str, span: Span) -> Result<Literal, AllocError>
     ensures ok { IfOk result (λ literal.

@@ -1,7 +1,8 @@
-use Rattle.std.proofs.Common.{rules, sym, ap, ◌∙◌, subst}
+use Rattle.std.proofs.Common.{rules, ◌∷◌, sym, ap, ◌∙◌, subst}
 use Rattle.std.specs.Str.{chars}
 use Rattle.lexical.specs.Reading.{Answers, IsFound}
 use Rattle.lexical.specs.declared.class.Start.TheVariants as starts
+use Rattle.lexical.proofs.ClassLemmas.{quote_is, front_mark_is}
 use Rattle.lexical.proofs.PieceLemmas.{found_end, from_start}
 use Rattle.lexical.proofs.lexer.find_piece.Goals as goal
 
@@ -18,12 +19,12 @@ returns-in-White c =
 pub returns-in-Letter : goal.returns-in-Letter
 returns-in-Letter c =
     let split = ap chars (sym c.new.ensures.rest) ∙ c.in_ok-first.ensures.0 in
-    subst (λ o. Answers o c.identifier.result) (sym (from_start c.args.at_front _ _ _ starts.Letter split (sym c.in-Letter.ensures))) c.identifier.ensures
+    subst (λ o. Answers o c.letter.result) (sym (from_start c.args.at_front _ _ _ starts.Letter split (sym c.in-Letter.ensures))) c.letter.ensures
 
 pub returns-in-Opener : goal.returns-in-Opener
 returns-in-Opener c =
     let split = ap chars (sym c.new.ensures.rest) ∙ c.in_ok-first.ensures.0 in
-    subst (λ o. Answers o c.opener.result) (sym (from_start c.args.at_front _ _ _ starts.Opener split (sym c.in-Opener.ensures))) c.opener.ensures
+    subst (λ o. Answers o c.opener_or_error.result) (sym (from_start c.args.at_front _ _ _ starts.Opener split (sym c.in-Opener.ensures))) c.opener_or_error.ensures
 
 pub returns-in-Closer : goal.returns-in-Closer
 returns-in-Closer c =
@@ -48,4 +49,24 @@ returns-in-FrontMark c =
 pub returns-in-Quote : goal.returns-in-Quote
 returns-in-Quote c =
     let split = ap chars (sym c.new.ensures.rest) ∙ c.in_ok-first.ensures.0 in
-    subst (λ o. Answers o c.lone_quote.result) (sym (from_start c.args.at_front _ _ _ starts.Quote split (sym c.in-Quote.ensures))) c.lone_quote.ensures
+    subst (λ o. Answers o c.quote.result) (sym (from_start c.args.at_front _ _ _ starts.Quote split (sym c.in-Quote.ensures))) c.quote.ensures
+
+pub returns-in-DoubleQuote : goal.returns-in-DoubleQuote
+returns-in-DoubleQuote c =
+    let split = ap chars (sym c.new.ensures.rest) ∙ c.in_ok-first.ensures.0 in
+    subst (λ o. Answers o c.quoted_piece.result) (sym (from_start c.args.at_front _ _ _ starts.DoubleQuote split (sym c.in-DoubleQuote.ensures))) c.quoted_piece.ensures
+
+pub returns-in-Digit : goal.returns-in-Digit
+returns-in-Digit c =
+    let split = ap chars (sym c.new.ensures.rest) ∙ c.in_ok-first.ensures.0 in
+    subst (λ o. Answers o c.number_piece.result) (sym (from_start c.args.at_front _ _ _ starts.Digit split (sym c.in-Digit.ensures))) c.number_piece.ensures
+
+pub quote-requires-clause-split : goal.quote-requires-clause-split
+quote-requires-clause-split c =
+    let split = ap chars (sym c.new.ensures.rest) ∙ c.in_ok-first.ensures.0 in
+    split ∙ ap (λ d. d ∷ chars c.in_ok-first.after.rest.now) (quote_is c.in_ok-first.first (sym c.in-Quote.ensures))
+
+pub front_mark-requires-clause-split : goal.front_mark-requires-clause-split
+front_mark-requires-clause-split c =
+    let split = ap chars (sym c.new.ensures.rest) ∙ c.in_ok-first.ensures.0 in
+    split ∙ ap (λ d. d ∷ chars c.in_ok-first.after.rest.now) (front_mark_is c.in_ok-first.first (sym c.in-FrontMark.ensures))

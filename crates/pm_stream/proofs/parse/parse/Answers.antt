@@ -39,7 +39,7 @@ loop-piece-preserved c =
       utf8 = c.range_from-rest.utf8;
       left = omega (arith, c.loop-piece.invariant.left, (found_shorter _ _ c.in-Some.piece found).0, ap length (left c));
       built = c.in_ok-take.ensures.built;
-      reads = reads_found c.args.base (chars c.args.text.now) _ _ _ _ _ _ _ _ c.in-Some.piece c.loop-piece.invariant.reads found (left c) (c.in_ok-take.ensures.ok found.front found.chars);
+      reads = reads_found c.args.base (chars c.args.text.now) _ _ _ _ _ _ _ _ c.in-Some.piece c.loop-piece.invariant.reads found (left c) (c.in_ok-take.ensures.ok found.front found.rest found.whole found.chars);
     }
 
 pub returns-then-not-is_empty-clause-lex : goal.returns-then-not-is_empty-clause-lex

@@ -1,20 +1,27 @@
 use Rattle.std.proofs.Common.{◌≡◌, ℕ, ◌+◌, List, [], ◌∷◌, length, sym, ap, ap₂, ◌∙◌, subst, arith, inl, inr}
 use Rattle.std.specs.Str.{chars}
 use Rattle.lexical.specs.Found.{kind_of}
-use Rattle.lexical.specs.Token.{Mark}
+use Rattle.lexical.specs.Token.{Mark, Literal}
 use Rattle.lexical.specs.declared.piece.PieceKind.{PieceKind}
 use Rattle.lexical.specs.declared.piece.PieceKind.TheVariants.{FrontMark, Gap}
 use Rattle.pm_span.specs.Extent.{Extent}
 use Rattle.pm_stream.specs.Events.{Event, One, Opens, Closes, doc_onto, events_onto}
 use Rattle.pm_stream.specs.Progress.{groups, trees, written, IsBuiltTo}
 use Rattle.pm_stream.specs.declared.parse.Reading.{Reading}
-use Rattle.pm_stream.proofs.PieceLemmas.{name_found, no_literal, name_events}
+use Rattle.lexical.proofs.PieceFacts.{piece_boundary}
+use Rattle.pm_stream.proofs.PieceLemmas.{name_found, literal_found, front_is, name_events}
 use Rattle.pm_stream.proofs.WrittenLemmas.{built_later}
 use Rattle.pm_stream.proofs.parse.Reading.take.Goals as goal
-use Rattle.pm_stream.proofs.parse.Reading.take.Goals.{in-Opener+in_ok-open-in-Opener, in-Closer+in_ok-close-in-Closer, in-Doc+in_ok-push_doc-in-Doc, in-Mark+in_ok-push_mark-in-Mark, in-Name+in_ok-name-in-Name+in_ok-push-in-Name, in-FrontMark}
+use Rattle.pm_stream.proofs.parse.Reading.take.Goals.{in-Opener+in_ok-open-in-Opener, in-Closer+in_ok-close-in-Closer, in-Doc+in_ok-push_doc-in-Doc, in-Mark+in_ok-push_mark-in-Mark, in-Name+in_ok-name-in-Name+in_ok-push-in-Name, in-Literal+in_ok-push_literal-in-Literal, in-FrontMark}
 
 pub ident-requires : goal.ident-requires
-ident-requires c = name_found _ _ c.args.piece c.in-Name.raw c.in-Name.name c.requires.stands.2 c.in-Name.is
+ident-requires c = name_found _ _ c.args.piece c.in-Name.raw c.in-Name.name c.requires.stands.1 c.in-Name.is
+
+pub range-requires-clause-end_boundary : goal.range-requires-clause-end_boundary
+range-requires-clause-end_boundary c = piece_boundary _ c.args.text.now c.args.piece c.utf8.text c.requires.stands.1
+
+pub push_literal-requires : goal.push_literal-requires
+push_literal-requires c = literal_found _ c.args.text.now c.range.result.now c.args.piece c.utf8.text c.requires.stands.1 c.in-Literal.is c.range.ensures.value
 
 -- the events of a piece of this kind were written
 written_by : (old made new : Reading) (events : List Event) (kind is : PieceKind) (lo : ℕ) (front : List ℕ)
@@ -26,7 +33,7 @@ written_by old made new events kind is lo front same grown e gives =
     ∙ (grown ∙ ap (written old) (gives ∙ ap (λ k. events_onto lo (kind_of k front) front []) (sym e)))
 
 pub returns-clause-ok : goal.returns-clause-ok
-returns-clause-ok c = λ front e.
+returns-clause-ok c = λ front rest whole e.
     let quiet = λ (k : PieceKind) (h : c.args.piece.kind ≡ k). ap (λ x. written c.args.self.now (events_onto c.args.lo (kind_of x front) front [])) h in
     elim c.match-piece.branch [
       | in-Opener+in_ok-open-in-Opener w ↦ written_by c.args.self.now _ _ _ _ _ c.args.lo front w.self-is (w.in_ok-open-in-Opener.ensures.ok []) w.in-Opener.is
@@ -42,12 +49,13 @@ returns-clause-ok c = λ front e.
       | in-Name+in_ok-name-in-Name+in_ok-push-in-Name w ↦ written_by c.args.self.now _ _ _ _ _ c.args.lo front w.self-is (w.in_ok-push-in-Name.ensures.ok []) w.in-Name.is
           (name_events w.in_ok-name-in-Name.name (chars w.in-Name.name.now) w.in-Name.raw w.span_of-in-Name.result c.args.lo (c.args.lo + length front) w.in_ok-name-in-Name.ensures.ok
           (w.span_of-in-Name.ensures ∙ ap (λ n. record { lo = c.args.lo; hi = c.args.lo + n }) e))
+      | in-Literal+in_ok-push_literal-in-Literal w ↦ written_by c.args.self.now _ _ _ _ _ c.args.lo front w.self-is (w.in_ok-push_literal-in-Literal.ensures.ok []) w.in-Literal.is
+          (ap₂ (λ q (x : Extent). One (Literal q) x.lo x.hi ∷ [])
+          (front_is _ c.args.text.now w.range.result.now front rest c.args.piece c.utf8.text c.requires.stands.1 w.range.ensures.value whole e)
+          (w.span_of-in-Literal.ensures ∙ ap (λ n. record { lo = c.args.lo; hi = c.args.lo + n }) e))
       | in-FrontMark w ↦ ap (λ r. written r []) w.self-is ∙ sym (elim w.in-FrontMark.is [
         | inl mark ↦ quiet FrontMark mark
-        | inr other ↦ elim other [
-          | inl gap ↦ quiet Gap gap
-          | inr literal ↦ absurd (no_literal _ _ c.args.piece c.requires.stands.2 literal)
-        ]
+        | inr gap ↦ quiet Gap gap
       ])
     ]
 
@@ -65,5 +73,7 @@ returns-clause-built c =
           later c.match-piece.self (subst (IsBuiltTo c.args.lo) (sym w.self-is) (w.in_ok-push_mark-in-Mark.ensures.built c.args.lo c.requires.built))
       | in-Name+in_ok-name-in-Name+in_ok-push-in-Name w ↦
           later c.match-piece.self (subst (IsBuiltTo c.args.lo) (sym w.self-is) (w.in_ok-push-in-Name.ensures.built c.args.lo c.requires.built))
+      | in-Literal+in_ok-push_literal-in-Literal w ↦
+          later c.match-piece.self (subst (IsBuiltTo c.args.lo) (sym w.self-is) (w.in_ok-push_literal-in-Literal.ensures.built c.args.lo c.requires.built))
       | in-FrontMark w ↦ later c.match-piece.self (subst (IsBuiltTo c.args.lo) (sym w.self-is) c.requires.built)
     ]

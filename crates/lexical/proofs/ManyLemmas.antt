@@ -1,0 +1,157 @@
+-- Pieces of one form in a row are found.
+use Rattle.std.proofs.Common.{◌≡◌, ℕ, zero, suc, ◌+◌, ◌≤◌, ◌<◌, true, List, [], ◌∷◌, ◌++◌, length, Some, None, is_some, IfSome, refl, sym, ap, ◌∙◌, subst, arith, append_assoc, length-append}
+use Rattle.std.specs.List.{concat}
+use Rattle.std.specs.Str.{chars}
+use Rattle.std.proofs.lemmas.Bool.{both_ways}
+use Rattle.lexical.specs.Form.{Form, HasNone, Then, Each, Many}
+use Rattle.lexical.specs.Finder.{Finder, Finds, behind, find_then}
+use Rattle.lexical.specs.QuotedFinder.{find_some_of, or_stop, find_many}
+use Rattle.lexical.specs.Reading.{Passes}
+use Rattle.lexical.specs.declared.cursor.Cursor.{Cursor}
+use Rattle.lexical.proofs.FinderLemmas.{Answer, IsSplit, none_found, none_is, found_is, finds_then, finds_same}
+use Rattle.lexical.proofs.WordLemmas.{Disjoint, NotEmpty}
+use Rattle.lexical.proofs.BlockLemmas.{behind_nothing, behind_behind}
+
+-- pieces of the form, as long as one stands
+abbrev pub AllOf : Form → Form
+AllOf A p r = Many A p r × HasNone A r
+
+none_at_end : (A : Form) → NotEmpty A → HasNone A []
+none_at_end A some p r e is = let long = some p r is in absurd (omega (arith, length-append p r, ap length e))
+
+module _ (f : Finder) (A : Form) (h : Finds f A) (some : NotEmpty A) where
+  many_more : (text : List ℕ) (x : List ℕ × List ℕ) → IsSplit A text x → (o : Answer) → IfSome o (IsSplit (AllOf A) x.1) → IfSome (behind x.0 o) (IsSplit (AllOf A) text)
+  many_more text x is None more = tt
+  many_more text x is (Some y) more =
+      let rest = more.1.0 in (
+        is.0 ∙ (ap (λ xs. x.0 ++ xs) more.0 ∙ sym (append_assoc x.0 y.0 y.1)),
+        (
+          record {
+            units = x.0 ∷ rest.units;
+            whole = ap (λ xs. x.0 ++ xs) rest.whole;
+            each = (subst (λ xs. A x.0 xs) (more.0 ∙ ap (λ q. q ++ y.1) rest.whole) is.1, rest.each);
+          },
+          more.1.1,
+        ),
+      )
+
+  many_step : (text : List ℕ) (go : List ℕ × List ℕ → Answer) (o : Answer) → IfSome o (IsSplit A text) → (o ≡ None → HasNone A text)
+      → ((x : List ℕ × List ℕ) → IsSplit A text x → IfSome (go x) (IsSplit (AllOf A) x.1)) → IfSome (or_stop text go o) (IsSplit (AllOf A) text)
+  many_step text go None is none more = (refl, (record { units = []; whole = refl; each = tt }, none refl))
+  many_step text go (Some x) is none more = many_more text x is (go x) (more x is)
+
+  many_sound : (n : ℕ) (text : List ℕ) → length text ≤ n → IfSome (find_some_of f n text) (IsSplit (AllOf A) text)
+  many_sound zero [] few = (refl, (record { units = []; whole = refl; each = tt }, none_at_end A some))
+  many_sound zero (c ∷ text) few = absurd (omega arith)
+  many_sound (suc n) text few =
+      many_step text (λ x. find_some_of f n x.1) (f text) (h.sound text) (none_is f A h text)
+      (λ x is. let long = some x.0 x.1 is.1 in many_sound n x.1 (omega (arith, length-append x.0 x.1, ap length is.0)))
+
+  many_complete : (n : ℕ) (units : List (List ℕ)) (r : List ℕ) → Each A units r → HasNone A r → length (concat units ++ r) ≤ n → find_some_of f n (concat units ++ r) ≡ Some (concat units, r)
+  many_complete zero [] r each none few = refl
+  many_complete (suc n) [] r each none few = ap (or_stop r (λ x. find_some_of f n x.1)) (none_found f A h r none)
+  many_complete zero (unit ∷ units) r each none few =
+      let long = some unit (concat units ++ r) each.0 in
+      absurd (omega (arith, length-append (unit ++ concat units) r, length-append unit (concat units)))
+  many_complete (suc n) (unit ∷ units) r each none few =
+      let long = some unit (concat units ++ r) each.0 in
+      let go : List ℕ × List ℕ → Answer = λ x. find_some_of f n x.1 in
+      let whole : concat (unit ∷ units) ++ r ≡ unit ++ (concat units ++ r) = append_assoc unit (concat units) r in
+      ap (λ t. or_stop t go (f t)) whole
+      ∙ (ap (or_stop (unit ++ (concat units ++ r)) go) (h.complete unit (concat units ++ r) each.0)
+      ∙ ap (behind unit) (many_complete n units r each.1 none (omega (arith, ap length whole, length-append unit (concat units ++ r)))))
+
+  pub finds_many : Finds (find_many f) (AllOf A)
+  unfolding find_many
+  finds_many = record {
+    sound = λ text. many_sound (length text) text (omega arith);
+    complete = λ p r is. subst (λ q. find_some_of f (length (q ++ r)) (q ++ r) ≡ Some (q, r)) (sym is.0.whole)
+        (many_complete (length (concat is.0.units ++ r)) is.0.units r is.0.each is.1 (omega arith));
+  }
+
+  -- then something else, of which no piece begins as those do
+  pub finds_many_then : (g : Finder) (B : Form) → Finds g B → Disjoint A B → Finds (find_then (find_many f) g) (Then (Many A) B)
+  finds_many_then g B j apart = finds_same (find_then (find_many f) g) (Then (AllOf A) B) (Then (Many A) B)
+      (finds_then (find_many f) g (AllOf A) B finds_many j)
+      (λ p r is. record { front = is.front; back = is.back; whole = is.whole; first = is.first.0; second = is.second })
+      (λ p r is. record { front = is.front; back = is.back; whole = is.whole; first = (is.first, λ q s e a. apart q is.back s r a is.second (sym e)); second = is.second })
+
+-- ---- one piece more
+
+some_behind : (front : List ℕ) (o : Answer) → is_some o ≡ true → is_some (behind front o) ≡ true
+some_behind front None h = h
+some_behind front (Some x) h = refl
+
+stop_stands : (text : List ℕ) (go : List ℕ × List ℕ → Answer) → ((x : List ℕ × List ℕ) → is_some (go x) ≡ true) → (o : Answer) → is_some (or_stop text go o) ≡ true
+stop_stands text go each None = refl
+stop_stands text go each (Some x) = some_behind x.0 (go x) (each x)
+
+many_stands : (f : Finder) (n : ℕ) (text : List ℕ) → is_some (find_some_of f n text) ≡ true
+many_stands f zero text = refl
+many_stands f (suc n) text = stop_stands text (λ x. find_some_of f n x.1) (λ x. many_stands f n x.1) (f text)
+
+module _ (f : Finder) (A : Form) (h : Finds f A) (some : NotEmpty A) where
+  -- a piece, and then the others
+  more_of : (unit r text : List ℕ) → text ≡ unit ++ r → A unit r → (o : Answer) → IfSome o (IsSplit (AllOf A) r) → find_many f r ≡ o → is_some o ≡ true
+      → find_many f text ≡ behind unit o
+  more_of unit r text e is None sound eq stands = absurd (both_ways _ refl stands)
+  more_of unit r text e is (Some x) sound eq stands =
+      let rest = sound.1.0 in
+      let all : AllOf A (unit ++ x.0) x.1 = (
+        record {
+          units = unit ∷ rest.units;
+          whole = ap (λ xs. unit ++ xs) rest.whole;
+          each = (subst (λ xs. A unit xs) (sound.0 ∙ ap (λ q. q ++ x.1) rest.whole) is, rest.each);
+        },
+        sound.1.1,
+      ) in
+      ap (λ t. find_many f t) (e ∙ (ap (λ xs. unit ++ xs) sound.0 ∙ sym (append_assoc unit x.0 x.1)))
+      ∙ (finds_many f A h some).complete (unit ++ x.0) x.1 all
+
+  many_found : (text unit rest : List ℕ) → f text ≡ Some (unit, rest) → find_many f text ≡ behind unit (find_many f rest)
+  unfolding find_many
+  many_found text unit rest e =
+      let at = found_is f A h text unit rest e in
+      more_of unit rest text at.0 at.1 (find_many f rest) ((finds_many f A h some).sound rest) refl (many_stands f (length rest) rest)
+
+  many_ends : (text : List ℕ) → f text ≡ None → find_many f text ≡ Some ([], text)
+  many_ends text e = (finds_many f A h some).complete [] text (record { units = []; whole = refl; each = tt }, none_is f A h text e)
+
+  -- a unit is not empty
+  pub unit_shortens : (at to : Cursor) → Passes (f (chars at.rest.now)) at to → length (chars to.rest.now) < length (chars at.rest.now)
+  unit_shortens at to pass =
+      let long = some pass.front (chars to.rest.now) (found_is f A h (chars at.rest.now) pass.front (chars to.rest.now) pass.found).1 in
+      omega (arith, length-append pass.front (chars to.rest.now), ap length pass.whole)
+
+-- ---- the loop over units
+
+-- from one place to the other lead units
+pub record LeadsBy (f : Finder) (at to : Cursor) : Type 0 where
+  pub front : List ℕ
+  pub found : find_many f (chars at.rest.now) ≡ behind front (find_many f (chars to.rest.now))
+  pub whole : chars at.rest.now ≡ front ++ chars to.rest.now
+  pub count : to.chars_before ≡ at.chars_before + length front
+
+pub stays : (f : Finder) (at : Cursor) → LeadsBy f at at
+stays f at = record { front = []; found = sym (behind_nothing _); whole = refl; count = omega arith }
+
+module _ (f : Finder) (A : Form) (h : Finds f A) (some : NotEmpty A) where
+  pub goes_on : (at mid to : Cursor) → LeadsBy f at mid → Passes (f (chars mid.rest.now)) mid to → LeadsBy f at to
+  goes_on at mid to lead pass = record {
+    front = lead.front ++ pass.front;
+    found = lead.found ∙ (ap (behind lead.front) (many_found f A h some (chars mid.rest.now) pass.front (chars to.rest.now) pass.found) ∙ behind_behind lead.front pass.front _);
+    whole = lead.whole ∙ (ap (λ x. lead.front ++ x) pass.whole ∙ sym (append_assoc lead.front pass.front (chars to.rest.now)));
+    count = omega (arith, lead.count, pass.count, length-append lead.front pass.front);
+  }
+
+  pub ends : (at to : Cursor) → LeadsBy f at to → f (chars to.rest.now) ≡ None → Passes (find_many f (chars at.rest.now)) at to
+  ends at to lead none = record {
+    front = lead.front;
+    found = lead.found ∙ (ap (behind lead.front) (many_ends f A h some (chars to.rest.now) none) ∙ nothing_behind lead.front (chars to.rest.now));
+    whole = lead.whole;
+    count = lead.count;
+  }
+    where
+      nothing_behind : (front rest : List ℕ) → behind front (Some ([], rest)) ≡ Some (front, rest)
+      nothing_behind [] rest = refl
+      nothing_behind (c ∷ front) rest = ap (behind (c ∷ [])) (nothing_behind front rest)

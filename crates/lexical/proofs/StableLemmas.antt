@@ -1,0 +1,193 @@
+-- Forms that keep their pieces where what follows them becomes something else.
+use Rattle.std.proofs.Common.{◌≡◌, ℕ, ◌+◌, ◌≤◌, Bool, true, false, List, [], ◌∷◌, ◌++◌, length, refl, sym, ap, ap₂, ◌∙◌, subst, arith, inl, inr, append_assoc, length-append}
+use Rattle.std.specs.List.{list_all}
+use Rattle.std.proofs.lemmas.Bool.{both_ways, and_parts, and_from, false_from_ne_true}
+use Rattle.lexical.specs.Text.{first_passes}
+use Rattle.lexical.specs.Form.{Form, HasNone, Then, NotBefore, Either, Perhaps, Exactly, One, Run}
+use Rattle.lexical.specs.Finder.{while_front, while_rest}
+use Rattle.lexical.proofs.FinderLemmas.{finds_run}
+use Rattle.lexical.proofs.WordLemmas.{NotEmpty, Shows}
+
+-- one class of characters is in another
+abbrev pub Sub : (ℕ → Bool) → (ℕ → Bool) → Type 0
+Sub passes class = (c : ℕ) → passes c ≡ true → class c ≡ true
+
+-- the form keeps its pieces where a text that begins with none of the class takes the place of what follows
+abbrev pub Stable : (ℕ → Bool) → Form → Type 0
+Stable class A = (p b r s : List ℕ) → first_passes class s ≡ false → A p (b ++ r) → A p (b ++ s)
+
+-- and where none of the form stands, none does then
+abbrev pub StaysNone : (ℕ → Bool) → Form → Type 0
+StaysNone class A = (b r s : List ℕ) → first_passes class s ≡ false → HasNone A (b ++ r) → HasNone A (b ++ s)
+
+-- the form looks at one character of what follows
+abbrev pub Local : Form → Type 0
+Local A = (p : List ℕ) (c : ℕ) (x y : List ℕ) → A p (c ∷ x) → A p (c ∷ y)
+
+-- where a piece stands, one stands whatever follows its text
+abbrev pub Extends : Form → Type 0
+Extends A = (p r s : List ℕ) → A p r → (q : List ℕ) × (t : List ℕ) × (p ++ s ≡ q ++ t) × A q t
+
+pub stops_within : (passes class : ℕ → Bool) → Sub passes class → (s : List ℕ) → first_passes class s ≡ false → first_passes passes s ≡ false
+stops_within passes class within [] ends = refl
+stops_within passes class within (c ∷ s) ends = false_from_ne_true _ (λ is. both_ways _ ends (within c is))
+
+-- a wider class leaves fewer texts to follow
+pub stable_widen : (narrow wide : ℕ → Bool) (A : Form) → Sub narrow wide → Stable narrow A → Stable wide A
+stable_widen narrow wide A within stable p b r s ends is = stable p b r s (stops_within narrow wide within s ends) is
+
+pub cons_of : (xs : List ℕ) → 1 ≤ length xs → (c : ℕ) × (more : List ℕ) × (xs ≡ c ∷ more)
+cons_of [] h = absurd (omega arith)
+cons_of (c ∷ more) h = (c, more, refl)
+
+pub some_second : (A B : Form) → NotEmpty B → NotEmpty (Then A B)
+some_second A B some p r is = let long = some is.back r is.second in omega (arith, ap length is.whole, length-append is.front is.back)
+
+-- ---- the words on forms
+
+module _ (class : ℕ → Bool) where
+  pub stops_stable : (passes : ℕ → Bool) → Sub passes class → (b r s : List ℕ) → first_passes class s ≡ false → first_passes passes (b ++ r) ≡ false → first_passes passes (b ++ s) ≡ false
+  stops_stable passes within [] r s ends stops = stops_within passes class within s ends
+  stops_stable passes within (c ∷ b) r s ends stops = stops
+
+  pub stable_one : (passes : ℕ → Bool) → Stable class (One passes)
+  stable_one passes p b r s ends is = is
+
+  pub stable_text : (text : List ℕ) → Stable class (Exactly text)
+  stable_text text p b r s ends is = is
+
+  pub stable_run : (passes : ℕ → Bool) → Sub passes class → Stable class (Run passes)
+  stable_run passes within p b r s ends is = record { each = is.each; stops = stops_stable passes within b r s ends is.stops }
+
+  pub stable_not_before : (passes : ℕ → Bool) (A : Form) → Sub passes class → Stable class A → Stable class (NotBefore passes A)
+  stable_not_before passes A within stable p b r s ends is = (stable p b r s ends is.0, stops_stable passes within b r s ends is.1)
+
+  pub stable_then : (A B : Form) → Stable class A → Stable class B → Stable class (Then A B)
+  stable_then A B one other p b r s ends is = record {
+    front = is.front;
+    back = is.back;
+    whole = is.whole;
+    first = subst (A is.front) (append_assoc is.back b s) (one is.front (is.back ++ b) r s ends (subst (A is.front) (sym (append_assoc is.back b r)) is.first));
+    second = other is.back b r s ends is.second;
+  }
+
+  -- where the second form has no empty piece, the first needs no more than its next character
+  pub stable_local : (A B : Form) → Local A → NotEmpty B → Stable class B → Stable class (Then A B)
+  stable_local A B local some stable p b r s ends is =
+      let cell = cons_of is.back (some is.back (b ++ r) is.second) in
+      record {
+        front = is.front;
+        back = is.back;
+        whole = is.whole;
+        first = subst (λ x. A is.front (x ++ (b ++ s))) (sym cell.2) (local is.front cell.0 (cell.1 ++ (b ++ r)) (cell.1 ++ (b ++ s)) (subst (λ x. A is.front (x ++ (b ++ r))) cell.2 is.first));
+        second = stable is.back b r s ends is.second;
+      }
+
+  pub stable_either : (A B : Form) → Stable class A → Stable class B → Stable class (Either A B)
+  stable_either A B one other p b r s ends is = elim is [ inl x ↦ inl (one p b r s ends x) | inr y ↦ inr (other p b r s ends y) ]
+
+  pub stable_perhaps : (A : Form) → Stable class A → StaysNone class A → Stable class (Perhaps A)
+  stable_perhaps A stable none p b r s ends is = elim is [
+    | inl x ↦ inl (stable p b r s ends x)
+    | inr y ↦ inr (subst (HasNone A) (append_assoc p b s) (none (p ++ b) r s ends (subst (HasNone A) (sym (append_assoc p b r)) y.0)), y.1)
+  ]
+
+  -- a form that stands wherever its first character does
+  pub first_none : (A : Form) (passes : ℕ → Bool) → Sub passes class → Shows passes A
+      → ((c : ℕ) (text : List ℕ) → passes c ≡ true → (q : List ℕ) × (t : List ℕ) × (c ∷ text ≡ q ++ t) × A q t) → StaysNone class A
+  first_none A passes within shows stands [] r s ends none q t e is = both_ways _ (stops_within passes class within s ends) (ap (first_passes passes) e ∙ shows q t is)
+  first_none A passes within shows stands (c ∷ b) r s ends none q t e is =
+      let at = stands c (b ++ r) (ap (first_passes passes) e ∙ shows q t is) in
+      none at.0 at.1 at.2 at.3
+
+  -- a piece whose characters are of the class lies before a text that begins with none
+  pub inside : (b s q t : List ℕ) → first_passes class s ≡ false → list_all class q ≡ true → b ++ s ≡ q ++ t → (d : List ℕ) × (b ≡ q ++ d) × (t ≡ d ++ s)
+  inside b s [] t ends on e = (b, refl, sym e)
+  inside [] s (c ∷ q) t ends on e = absurd (both_ways _ ends (ap (first_passes class) e ∙ (and_parts _ _ on).0))
+  inside (x ∷ b) s (c ∷ q) t ends on e =
+      let head : x ≡ c = cc in
+      let tail : b ++ s ≡ q ++ t = cc in
+      let more = inside b s q t ends (and_parts _ _ on).1 tail in
+      (more.0, ap₂ (λ y ys. y ∷ ys) head more.1, more.2)
+
+-- ---- the characters of pieces
+
+-- each character of a piece is of the class
+abbrev pub AllIn : (ℕ → Bool) → Form → Type 0
+AllIn class A = (p r : List ℕ) → A p r → list_all class p ≡ true
+
+module _ (class : ℕ → Bool) where
+  pub all_append : (xs ys : List ℕ) → list_all class xs ≡ true → list_all class ys ≡ true → list_all class (xs ++ ys) ≡ true
+  all_append [] ys h j = j
+  all_append (x ∷ xs) ys h j = let parts = and_parts _ _ h in and_from _ _ parts.0 (all_append xs ys parts.1 j)
+
+  pub all_within : (passes : ℕ → Bool) → Sub passes class → (xs : List ℕ) → list_all passes xs ≡ true → list_all class xs ≡ true
+  all_within passes within [] h = refl
+  all_within passes within (x ∷ xs) h = let parts = and_parts _ _ h in and_from _ _ (within x parts.0) (all_within passes within xs parts.1)
+
+  pub on_one : (passes : ℕ → Bool) → Sub passes class → AllIn class (One passes)
+  on_one passes within p r is = ap (list_all class) is.1 ∙ and_from _ _ (within is.0 is.2) refl
+
+  pub on_text : (text : List ℕ) → list_all class text ≡ true → AllIn class (Exactly text)
+  on_text text h p r is = ap (list_all class) is ∙ h
+
+  pub on_run : (passes : ℕ → Bool) → Sub passes class → AllIn class (Run passes)
+  on_run passes within p r is = all_within passes within p is.each
+
+  pub on_then : (A B : Form) → AllIn class A → AllIn class B → AllIn class (Then A B)
+  on_then A B one other p r is = ap (list_all class) is.whole ∙ all_append is.front is.back (one is.front (is.back ++ r) is.first) (other is.back r is.second)
+
+  pub on_either : (A B : Form) → AllIn class A → AllIn class B → AllIn class (Either A B)
+  on_either A B one other p r is = elim is [ inl x ↦ one p r x | inr y ↦ other p r y ]
+
+  pub on_perhaps : (A : Form) → AllIn class A → AllIn class (Perhaps A)
+  on_perhaps A on p r is = elim is [ inl x ↦ on p r x | inr y ↦ ap (list_all class) y.1 ]
+
+  pub on_not_before : (passes : ℕ → Bool) (A : Form) → AllIn class A → AllIn class (NotBefore passes A)
+  on_not_before passes A on p r is = on p r is.0
+
+-- ---- forms that look at one character, and that stand whatever follows
+
+pub local_run : (passes : ℕ → Bool) → Local (Run passes)
+local_run passes p c x y is = record { each = is.each; stops = is.stops }
+
+pub local_perhaps_one : (passes : ℕ → Bool) → Local (Perhaps (One passes))
+local_perhaps_one passes p c x y is = elim is [
+  | inl one ↦ inl one
+  | inr none ↦ inr (
+    subst (λ q. HasNone (One passes) (q ++ (c ∷ y))) (sym none.1) (λ q t e is_one.
+        let same : ◌≡◌ {A = List ℕ} (c ∷ y) (is_one.0 ∷ t) = e ∙ ap (λ z. z ++ t) is_one.1 in
+        let head : c ≡ is_one.0 = cc in
+        none.0 (c ∷ []) x (ap (λ z. z ++ (c ∷ x)) none.1) (c, refl, ap passes head ∙ is_one.2)),
+    none.1,
+  )
+]
+
+pub extends_run : (passes : ℕ → Bool) → Extends (Run passes)
+extends_run passes p r s is =
+    let run = (finds_run passes).sound s in (
+      p ++ while_front passes s,
+      while_rest passes s,
+      ap (λ x. p ++ x) run.0 ∙ sym (append_assoc p _ _),
+      record { each = all_append passes p (while_front passes s) is.each run.1.each; stops = run.1.stops },
+    )
+
+pub extends_then : (A B : Form) → Local A → NotEmpty B → Extends B → Extends (Then A B)
+extends_then A B local some extends p r s is =
+    let more = extends is.back r s is.second in
+    let cell = cons_of is.back (some is.back r is.second) in
+    let first : A is.front (cell.0 ∷ (cell.1 ++ s)) = local is.front cell.0 (cell.1 ++ r) (cell.1 ++ s) (subst (λ x. A is.front (x ++ r)) cell.2 is.first) in (
+      is.front ++ more.0,
+      more.1,
+      ap (λ x. x ++ s) is.whole ∙ (append_assoc is.front is.back s ∙ (ap (λ x. is.front ++ x) more.2 ∙ sym (append_assoc is.front more.0 more.1))),
+      record { front = is.front; back = more.0; whole = refl; first = subst (A is.front) (sym (ap (λ x. x ++ s) cell.2) ∙ more.2) first; second = more.3 },
+    )
+
+pub extends_one_then : (passes : ℕ → Bool) (B : Form) → Extends B → Extends (Then (One passes) B)
+extends_one_then passes B extends p r s is =
+    let more = extends is.back r s is.second in (
+      is.front ++ more.0,
+      more.1,
+      ap (λ x. x ++ s) is.whole ∙ (append_assoc is.front is.back s ∙ (ap (λ x. is.front ++ x) more.2 ∙ sym (append_assoc is.front more.0 more.1))),
+      record { front = is.front; back = more.0; whole = refl; first = is.first; second = more.3 },
+    )

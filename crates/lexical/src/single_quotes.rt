@@ -1,0 +1,76 @@
+//! Characters and bytes.
+
+ghost use Rattle.std.specs.Prelude.{◌≡◌, codes};
+ghost use Rattle.std.specs.Str.{chars};
+ghost use Rattle.lexical.specs.Finder.{find_else, find_one, find_text, find_then};
+ghost use Rattle.lexical.specs.QuotedFinder.{find_byte, find_character, find_escape, find_suffix};
+ghost use Rattle.lexical.specs.Reading.{Reads};
+ghost use Rattle.lexical.specs.SingleQuoted.{is_byte_char_plain, is_char_plain};
+ghost use Rattle.lexical.specs.declared.quoted.StringKind.TheVariants as kinds;
+
+use crate::cursor::Cursor;
+use crate::escapes::escape;
+use crate::quoted::{StringKind, suffix};
+use crate::skip::one;
+
+/// The place after a backslash and an escape.
+fn escaped(at: Cursor<'_>, kind: StringKind) -> Option<Cursor<'_>>
+    ensures { Reads (find_then (find_text (codes "\\")) (find_escape kind) (chars at.entry.rest.now)) at.entry result }
+{
+    escape(at.past("\\")?, kind)
+}
+
+/// The place after one character, or a backslash and an escape.
+fn character_unit(at: Cursor<'_>) -> Option<Cursor<'_>>
+    ensures { Reads (find_else (find_one is_char_plain) (find_then (find_text (codes "\\")) (find_escape kinds.Plain)) (chars at.entry.rest.now)) at.entry result }
+{
+    match one(at, |c| c != '\\') {
+        Some(end) => Some(end),
+        None => escaped(at, StringKind::Plain),
+    }
+}
+
+/// The place after one character of ASCII, or a backslash and an escape.
+fn byte_unit(at: Cursor<'_>) -> Option<Cursor<'_>>
+    ensures { Reads (find_else (find_one is_byte_char_plain) (find_then (find_text (codes "\\")) (find_escape kinds.Byte)) (chars at.entry.rest.now)) at.entry result }
+{
+    match one(at, |c| c != '\\' && c.is_ascii()) {
+        Some(end) => Some(end),
+        None => escaped(at, StringKind::Byte),
+    }
+}
+
+/// The place after the closing quote and the suffix.
+fn close(at: Cursor<'_>) -> Option<Cursor<'_>>
+    ensures { Reads (find_then (find_text (codes "'")) find_suffix (chars at.entry.rest.now)) at.entry result }
+{
+    Some(suffix(at.past("'")?))
+}
+
+/// The place after the unit of a character, the closing quote and the suffix.
+fn character_body(at: Cursor<'_>) -> Option<Cursor<'_>>
+    ensures { Reads (find_then (find_else (find_one is_char_plain) (find_then (find_text (codes "\\")) (find_escape kinds.Plain))) (find_then (find_text (codes "'")) find_suffix) (chars at.entry.rest.now)) at.entry result }
+{
+    close(character_unit(at)?)
+}
+
+/// The place after the unit of a byte, the closing quote and the suffix.
+fn byte_body(at: Cursor<'_>) -> Option<Cursor<'_>>
+    ensures { Reads (find_then (find_else (find_one is_byte_char_plain) (find_then (find_text (codes "\\")) (find_escape kinds.Byte))) (find_then (find_text (codes "'")) find_suffix) (chars at.entry.rest.now)) at.entry result }
+{
+    close(byte_unit(at)?)
+}
+
+/// The place after the character literal that stands at the place, by the rule `character`.
+pub fn character(at: Cursor<'_>) -> Option<Cursor<'_>>
+    ensures { Reads (find_character (chars at.entry.rest.now)) at.entry result }
+{
+    character_body(at.past("'")?)
+}
+
+/// The place after the byte literal that stands at the place, by the rule `byte`.
+pub fn byte(at: Cursor<'_>) -> Option<Cursor<'_>>
+    ensures { Reads (find_byte (chars at.entry.rest.now)) at.entry result }
+{
+    byte_body(at.past("b'")?)
+}
