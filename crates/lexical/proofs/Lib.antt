@@ -23,6 +23,13 @@ pub mod StableLemmas
 pub mod NumberLemmas
 pub mod LiteralLemmas
 pub mod NameLemmas
+pub mod LiteralFrontLemmas
+pub mod QuotableLemmas
+pub mod NumberCutLemmas
+pub mod QuietLemmas
+pub mod DigitLemmas
+pub mod LiteralCutLemmas
+pub mod LeafLaws
 mod Examples
 mod LiteralExamples
 mod NumberExamples

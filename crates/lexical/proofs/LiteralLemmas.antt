@@ -2,14 +2,16 @@
 use Rattle.std.proofs.Common.{◌≡◌, ℕ, ◌≤◌, Bool, true, false, not, ◌&&◌, ◌||◌, ◌==◌, List, [], ◌∷◌, ◌++◌, codes, length, nat_lt, refl, sym, ap, ◌∙◌, arith, inl, inr, append_assoc, length-append}
 use Rattle.std.specs.List.{concat}
 use Rattle.std.specs.Char.{is_ascii, is_ascii_hexdigit}
+use Rattle.lexical.specs.Class.{is_ident_continue}
 use Rattle.lexical.specs.Text.{begins_with, begins_any, first_passes}
 use Rattle.lexical.specs.Form.{Form, Then, Either, Exactly, One, Many, Each}
 use Rattle.lexical.specs.Quoted.{is_string_plain, is_byte_plain, is_c_plain, Simple, LowPair, HexPair, NonzeroPair, Hex, Unicode, Escape, StringEscape, ByteEscape, CEscape, Newline, BodyUnit, Suffix, Body, Cooked, Str}
 use Rattle.lexical.specs.RawString.{RawUnit, RawQuotes, Raw}
 use Rattle.lexical.specs.SingleQuoted.{is_char_plain, is_byte_char_plain, SingleUnit, SingleQuoted}
 use Rattle.lexical.specs.Literal.{QuotedLiteral, Literal, AnyLiteral, IsWhole}
-use Rattle.lexical.proofs.QuotedLemmas.{Free, free_one, free_text, free_then, free_either, free_many, free_unicode, free_low_pair, free_hex, free_unit, EndsSuffix, suffix_before, stops, stop_ends}
-use Rattle.lexical.proofs.NumberLemmas.{number_before_stop}
+use Rattle.lexical.proofs.QuotedLemmas.{Free, free_one, free_text, free_then, free_either, free_many, free_unicode, free_low_pair, free_hex, free_unit, EndsSuffix, stops, stop_ends}
+use Rattle.lexical.proofs.StableLemmas.{Stable, stable_then}
+use Rattle.lexical.proofs.NumberLemmas.{stable_suffix, number_before_stop}
 
 -- ---- forms that don't look at what follows
 
@@ -38,32 +40,26 @@ free_byte_escape = free_escape (codes "nrt\\0'\"") HexPair (λ n. false) free_he
 free_c_escape : Free CEscape
 free_c_escape = free_escape (codes "nrt\\'\"") NonzeroPair (λ n. nat_lt 0 n) free_nonzero_pair
 
--- ---- before what doesn't go on with a suffix
+-- ---- where a text that goes on with no identifier takes the place of what follows
 
--- a piece of the form stays one
-abbrev pub StaysBefore : Form → Type 0
-StaysBefore A = (p r s : List ℕ) → EndsSuffix s → A p r → A p s
+-- a form that doesn't look at what follows keeps its pieces
+free_stable : (A : Form) → Free A → Stable is_ident_continue A
+free_stable A free p b r s ends is = free p (b ++ r) (b ++ s) is
 
-then_before : (A B : Form) → Free A → StaysBefore B → StaysBefore (Then A B)
-then_before A B free before p r s ends is = record {
-  front = is.front;
-  back = is.back;
-  whole = is.whole;
-  first = free is.front (is.back ++ r) (is.back ++ s) is.first;
-  second = before is.back r s ends is.second;
-}
+then_stable : (A B : Form) → Free A → Stable is_ident_continue B → Stable is_ident_continue (Then A B)
+then_stable A B free stable = stable_then is_ident_continue A B (free_stable A free) stable
 
-close_before : (close : List ℕ) → StaysBefore (Then (Exactly close) Suffix)
-close_before close = then_before (Exactly close) Suffix (free_text close) suffix_before
+close_stable : (close : List ℕ) → Stable is_ident_continue (Then (Exactly close) Suffix)
+close_stable close = then_stable (Exactly close) Suffix (free_text close) stable_suffix
 
-cooked_before : (front : List ℕ) (plain : ℕ → Bool) (Escape : Form) → Free Escape → StaysBefore (Cooked front (BodyUnit plain Escape))
-cooked_before front plain Escape free = then_before (Exactly front) (Body (BodyUnit plain Escape) (codes "\"")) (free_text front)
-    (then_before (Many (BodyUnit plain Escape)) (Then (Exactly (codes "\"")) Suffix) (free_many (BodyUnit plain Escape) (free_unit plain Escape free)) (close_before (codes "\"")))
+cooked_stable : (front : List ℕ) (plain : ℕ → Bool) (Escape : Form) → Free Escape → Stable is_ident_continue (Cooked front (BodyUnit plain Escape))
+cooked_stable front plain Escape free = then_stable (Exactly front) (Body (BodyUnit plain Escape) (codes "\"")) (free_text front)
+    (then_stable (Many (BodyUnit plain Escape)) (Then (Exactly (codes "\"")) Suffix) (free_many (BodyUnit plain Escape) (free_unit plain Escape free)) (close_stable (codes "\"")))
 
-single_before : (front : List ℕ) (plain : ℕ → Bool) (Escape : Form) → Free Escape → StaysBefore (SingleQuoted front plain Escape)
-single_before front plain Escape free = then_before (Exactly front) (Then (SingleUnit plain Escape) (Then (Exactly (codes "'")) Suffix)) (free_text front)
-    (then_before (SingleUnit plain Escape) (Then (Exactly (codes "'")) Suffix)
-    (free_either (One plain) (Then (Exactly (codes "\\")) Escape) (free_one plain) (free_then (Exactly (codes "\\")) Escape (free_text (codes "\\")) free)) (close_before (codes "'")))
+single_stable : (front : List ℕ) (plain : ℕ → Bool) (Escape : Form) → Free Escape → Stable is_ident_continue (SingleQuoted front plain Escape)
+single_stable front plain Escape free = then_stable (Exactly front) (Then (SingleUnit plain Escape) (Then (Exactly (codes "'")) Suffix)) (free_text front)
+    (then_stable (SingleUnit plain Escape) (Then (Exactly (codes "'")) Suffix)
+    (free_either (One plain) (Then (Exactly (codes "\\")) Escape) (free_one plain) (free_then (Exactly (codes "\\")) Escape (free_text (codes "\\")) free)) (close_stable (codes "'")))
 
 -- ---- raw strings
 
@@ -91,25 +87,25 @@ units_before allowed close back r s (unit ∷ units) long each = (
   units_before allowed close back r s units long each.1,
 )
 
-raw_body_before : (allowed : ℕ → Bool) (close : List ℕ) → StaysBefore (Body (RawUnit allowed close) close)
-raw_body_before allowed close p r s ends is =
+raw_body_stable : (allowed : ℕ → Bool) (close : List ℕ) → Stable is_ident_continue (Body (RawUnit allowed close) close)
+raw_body_stable allowed close p b r s ends is =
     let long : length close ≤ length is.back = omega (arith, ap length is.second.whole, ap length is.second.first, length-append is.second.front is.second.back) in
     record {
       front = is.front;
       back = is.back;
       whole = is.whole;
-      first = record { units = is.first.units; whole = is.first.whole; each = units_before allowed close is.back r s is.first.units long is.first.each };
-      second = close_before close is.back r s ends is.second;
+      first = record { units = is.first.units; whole = is.first.whole; each = units_before allowed close is.back (b ++ r) (b ++ s) is.first.units long is.first.each };
+      second = close_stable close is.back b r s ends is.second;
     }
 
-raw_quotes_before : (allowed : ℕ → Bool) (hashes : List ℕ) → StaysBefore (RawQuotes allowed hashes)
-raw_quotes_before allowed hashes = then_before (Exactly (codes "\"")) (Body (RawUnit allowed (34 ∷ hashes)) (34 ∷ hashes)) (free_text (codes "\"")) (raw_body_before allowed (34 ∷ hashes))
+raw_quotes_stable : (allowed : ℕ → Bool) (hashes : List ℕ) → Stable is_ident_continue (RawQuotes allowed hashes)
+raw_quotes_stable allowed hashes = then_stable (Exactly (codes "\"")) (Body (RawUnit allowed (34 ∷ hashes)) (34 ∷ hashes)) (free_text (codes "\"")) (raw_body_stable allowed (34 ∷ hashes))
 
-raw_before : (front : List ℕ) (allowed : ℕ → Bool) → StaysBefore (Raw front allowed)
-raw_before front allowed p r s ends is =
+raw_stable : (front : List ℕ) (allowed : ℕ → Bool) → Stable is_ident_continue (Raw front allowed)
+raw_stable front allowed p b r s ends is =
     let inner = is.second in
     let quotes = inner.second in
-    let stops : first_passes (λ c. c == 35) (inner.back ++ s) ≡ false = ap (λ x. first_passes (λ c. c == 35) (x ++ s)) (quotes.whole ∙ ap (λ x. x ++ quotes.back) quotes.first) in
+    let stops : first_passes (λ c. c == 35) (inner.back ++ (b ++ s)) ≡ false = ap (λ x. first_passes (λ c. c == 35) (x ++ (b ++ s))) (quotes.whole ∙ ap (λ x. x ++ quotes.back) quotes.first) in
     record {
       front = is.front;
       back = is.back;
@@ -120,37 +116,41 @@ raw_before front allowed p r s ends is =
         back = inner.back;
         whole = inner.whole;
         first = (record { each = inner.first.0.each; stops = stops }, inner.first.1);
-        second = raw_quotes_before allowed inner.front inner.back r s ends quotes;
+        second = raw_quotes_stable allowed inner.front inner.back b r s ends quotes;
       };
     }
 
--- ---- literals
+-- ---- literals before another text
 
--- one between quotes stays one before what does not go on with its suffix
-pub quoted_before : StaysBefore QuotedLiteral
+-- one between quotes stays one where a text that goes on with no identifier takes the place of what follows, near or far
+pub quoted_stable : Stable is_ident_continue QuotedLiteral
 unfolding Str
-quoted_before p r s ends is = elim is [
+quoted_stable p b r s ends is = elim is [
   | inl plain ↦ inl (elim plain [
-    | inl text ↦ inl (cooked_before (codes "\"") is_string_plain StringEscape free_string_escape p r s ends text)
-    | inr raw ↦ inr (raw_before (codes "r") (λ c. true) p r s ends raw)
+    | inl text ↦ inl (cooked_stable (codes "\"") is_string_plain StringEscape free_string_escape p b r s ends text)
+    | inr raw ↦ inr (raw_stable (codes "r") (λ c. true) p b r s ends raw)
   ])
   | inr more ↦ inr (elim more [
-    | inl character ↦ inl (single_before (codes "'") is_char_plain StringEscape free_string_escape p r s ends character)
+    | inl character ↦ inl (single_stable (codes "'") is_char_plain StringEscape free_string_escape p b r s ends character)
     | inr bytes ↦ inr (elim bytes [
       | inl strings ↦ inl (elim strings [
-        | inl text ↦ inl (cooked_before (codes "b\"") is_byte_plain ByteEscape free_byte_escape p r s ends text)
-        | inr raw ↦ inr (raw_before (codes "br") is_ascii p r s ends raw)
+        | inl text ↦ inl (cooked_stable (codes "b\"") is_byte_plain ByteEscape free_byte_escape p b r s ends text)
+        | inr raw ↦ inr (raw_stable (codes "br") is_ascii p b r s ends raw)
       ])
       | inr others ↦ inr (elim others [
-        | inl byte ↦ inl (single_before (codes "b'") is_byte_char_plain ByteEscape free_byte_escape p r s ends byte)
+        | inl byte ↦ inl (single_stable (codes "b'") is_byte_char_plain ByteEscape free_byte_escape p b r s ends byte)
         | inr c ↦ inr (elim c [
-          | inl text ↦ inl (cooked_before (codes "c\"") is_c_plain CEscape free_c_escape p r s ends text)
-          | inr raw ↦ inr (raw_before (codes "cr") (λ c. not (c == 0)) p r s ends raw)
+          | inl text ↦ inl (cooked_stable (codes "c\"") is_c_plain CEscape free_c_escape p b r s ends text)
+          | inr raw ↦ inr (raw_stable (codes "cr") (λ c. not (c == 0)) p b r s ends raw)
         ])
       ])
     ])
   ])
 ]
+
+-- and right before it
+pub quoted_before : (p r s : List ℕ) → EndsSuffix s → QuotedLiteral p r → QuotedLiteral p s
+quoted_before p r s ends is = quoted_stable p [] r s ends.continue is
 
 -- any stays one before a stop
 pub literal_before_stop : (p r s : List ℕ) → stops s ≡ true → AnyLiteral p r → AnyLiteral p s

@@ -1,16 +1,16 @@
 -- Numbers are found, and a text begins with one at most.
-use Rattle.std.proofs.Common.{◌≡◌, ℕ, Bool, true, false, not, cond, ◌||◌, ◌==◌, List, [], ◌∷◌, ◌++◌, codes, Option, Some, None, IfSome, IsTrue, IsFalse, refl, sym, ap, ◌∙◌, subst, ◌⊎◌, inl, inr, append_assoc}
+use Rattle.std.proofs.Common.{◌≡◌, ℕ, Bool, true, false, not, List, [], ◌∷◌, ◌++◌, codes, Option, Some, None, IfSome, IsTrue, IsFalse, refl, sym, ap, ◌∙◌, subst, ◌⊎◌, inl, inr, append_assoc}
 use Rattle.std.specs.Char.{is_ascii_digit, is_digit}
-use Rattle.std.proofs.lemmas.Bool.{cond-true, cond-false, cond_both, both_ways, or_cases, or_from, false_from_ne_true, not-true, not_from_false}
-use Rattle.lexical.specs.Text.{begins_with, begins_any, first_passes}
+use Rattle.std.proofs.lemmas.Bool.{cond-true, cond-false, cond_both, both_ways, or_cases, false_from_ne_true, not-true, not_from_false}
+use Rattle.lexical.specs.Text.{begins_any, first_passes}
 use Rattle.lexical.specs.Class.{is_ident_continue}
-use Rattle.lexical.specs.Form.{Form, HasNone, Then, NotAt, NotBefore, Either, Else, Perhaps, Exactly, One, Run}
+use Rattle.lexical.specs.Form.{Form, HasNone, Then, NotBefore, Either, Else}
 use Rattle.lexical.specs.Number.{is_underscore, is_digit_or_underscore, Digits, End, Dot, bars_dot, is_exponent_letter, is_sign, Exponent, Fraction, Float, base_prefixes, is_digit_or_underscore_in, DigitsIn, Based, Integer, Number}
-use Rattle.lexical.specs.Finder.{Finder, Finds, find_then, find_where}
-use Rattle.lexical.specs.NumberFinder.{find_not_before, find_digits, find_end, find_dot, find_exponent, find_perhaps_exponent, find_fraction, find_float_tail, find_tail, find_decimal, find_digits_in, find_based, find_number}
-use Rattle.lexical.proofs.TextLemmas.{begins_front, begins_splits}
+use Rattle.lexical.specs.Finder.{Finder, Finds, find_then}
+use Rattle.lexical.specs.NumberFinder.{find_not_before, find_digits, find_end, find_dot, find_exponent, find_fraction, find_float_tail, find_decimal, find_digits_in, find_based, find_number}
+use Rattle.lexical.proofs.TextLemmas.{begins_splits}
 use Rattle.lexical.proofs.FinderLemmas.{IsSplit, none_is, one_split, finds_same, finds_then, finds_where, finds_one, finds_run, finds_text, then_whole}
-use Rattle.lexical.proofs.WordLemmas.{Disjoint, finds_apart, finds_else, finds_perhaps, apart_either, apart_fronts, apart_char, Shows, shows_one, shows_text, shows_then, front_whole}
+use Rattle.lexical.proofs.WordLemmas.{finds_apart, finds_else, finds_perhaps, apart_either, apart_fronts, apart_char, Shows, shows_one, shows_text, shows_then, front_whole}
 use Rattle.lexical.proofs.QuotedFinderLemmas.{finds_suffix}
 
 -- ---- `NotBefore`

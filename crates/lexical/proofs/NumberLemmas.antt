@@ -1,15 +1,15 @@
 -- A number stays what it is where something follows it that doesn't go on with it.
-use Rattle.std.proofs.Common.{◌≡◌, ℕ, ◌<◌, ◌≤◌, nat_lt, nat_le, Bool, true, false, not, ◌||◌, ◌==◌, List, [], ◌∷◌, ◌++◌, codes, refl, sym, ap, ◌∙◌, subst, arith, inl, inr, append_assoc, append-nil, eqb-true}
-use Rattle.std.specs.List.{list_all, list_any}
+use Rattle.std.proofs.Common.{◌≡◌, ℕ, ◌≤◌, nat_lt, Bool, true, false, not, ◌||◌, ◌==◌, List, [], ◌∷◌, ◌++◌, codes, refl, sym, ap, ◌∙◌, subst, arith, inl, inr, append_assoc, append-nil, eqb-true}
+use Rattle.std.specs.List.{list_all}
 use Rattle.std.specs.Char.{is_ascii_digit, is_digit, digit_value}
-use Rattle.std.proofs.lemmas.Bool.{both_ways, and_parts, and_right, false_from_ne_true, or_left, or_right, or_cases, or_parts, or_from, agree_below_at, cases_lt, le-ltb, lt-ltb, ltb-true, leb-true, cond-false}
+use Rattle.std.proofs.lemmas.Bool.{both_ways, and_parts, and_right, false_from_ne_true, or_left, or_right, or_cases, or_parts, or_from, agree_below_at, cases_lt, le-ltb, lt-ltb, ltb-true, cond-false}
 use Rattle.unicode_ident.proofs.Computing.{unicode_ident}
 use Rattle.lexical.specs.Class.{is_ident_start, is_ident_continue}
 use Rattle.lexical.specs.Text.{begins_with, begins_any, first_passes}
-use Rattle.lexical.specs.Form.{Form, HasNone, Then, NotBefore, Either, Perhaps, Exactly, One, Run}
+use Rattle.lexical.specs.Form.{Form, HasNone, Then, Either, Perhaps, Exactly, One, Run}
 use Rattle.lexical.specs.Identifier.{Name}
 use Rattle.lexical.specs.Quoted.{Suffix}
-use Rattle.lexical.specs.Number.{is_underscore, is_digit_or_underscore, Digits, End, bars_dot, Dot, is_exponent_letter, is_sign, Exponent, Fraction, Dotted, Exponential, Float, base_prefixes, Decimal, is_digit_or_underscore_in, DigitsIn, Based, Integer, Int, Number}
+use Rattle.lexical.specs.Number.{is_underscore, is_digit_or_underscore, Digits, End, bars_dot, Dot, is_exponent_letter, is_sign, Exponent, Fraction, Dotted, Exponential, Float, base_prefixes, Decimal, is_digit_or_underscore_in, DigitsIn, Based, Integer, Number}
 use Rattle.lexical.specs.Finder.{while_front, while_rest}
 use Rattle.lexical.proofs.FinderLemmas.{finds_run}
 use Rattle.lexical.proofs.WordLemmas.{NotEmpty, some_one, some_then, shows_one, shows_then}
@@ -24,21 +24,21 @@ use Rattle.lexical.proofs.StableLemmas.{Sub, Stable, StaysNone, Extends, AllIn, 
 abbrev pub goes_on : ℕ → Bool
 goes_on c = is_ident_continue c || ((c == 46) || is_sign c)
 
-continue_goes_on : Sub is_ident_continue goes_on
+pub continue_goes_on : Sub is_ident_continue goes_on
 continue_goes_on c is = or_left _ _ is
 
 digit_continues : Sub is_ascii_digit is_ident_continue
 unfolding unicode_ident
 digit_continues c is = sym (ap (λ b. not b || is_ident_continue c) is) ∙ agree_below_at (λ x. not (is_ascii_digit x) || is_ident_continue x) (λ x. true) 128 c refl (digit_below c is)
 
-underscore_continues : Sub is_underscore is_ident_continue
+pub underscore_continues : Sub is_underscore is_ident_continue
 unfolding unicode_ident
 underscore_continues c is = subst (λ x. is_ident_continue x ≡ true) (sym (eqb-true c 95 is)) refl
 
-digits_continue : Sub is_digit_or_underscore is_ident_continue
+pub digits_continue : Sub is_digit_or_underscore is_ident_continue
 digits_continue c is = elim (or_cases (is_ascii_digit c) (is_underscore c) is) [ inl d ↦ digit_continues c d | inr u ↦ underscore_continues c u ]
 
-letter_continues : Sub is_exponent_letter is_ident_continue
+pub letter_continues : Sub is_exponent_letter is_ident_continue
 unfolding unicode_ident
 letter_continues c is = elim (or_cases (c == 101) (c == 69) is) [
   | inl low ↦ subst (λ x. is_ident_continue x ≡ true) (sym (eqb-true c 101 low)) refl
@@ -75,7 +75,7 @@ stable_name = stable_then is_ident_continue (One is_ident_start) (Run is_ident_c
 pub stable_suffix : Stable is_ident_continue Suffix
 stable_suffix = stable_perhaps is_ident_continue Name stable_name name_none
 
-stable_end : Stable is_ident_continue End
+pub stable_end : Stable is_ident_continue End
 stable_end = stable_not_before is_ident_continue is_ident_continue Suffix (λ c is. is) stable_suffix
 
 on_suffix : AllIn is_ident_continue Suffix
@@ -87,17 +87,17 @@ on_end p r is = all_within goes_on is_ident_continue continue_goes_on p (on_suff
 
 -- ---- digits and exponents
 
-stable_digits : Stable is_ident_continue Digits
+pub stable_digits : Stable is_ident_continue Digits
 stable_digits = stable_then is_ident_continue (One is_ascii_digit) (Run is_digit_or_underscore) (stable_one is_ident_continue is_ascii_digit) (stable_run is_ident_continue is_digit_or_underscore digits_continue)
 
-on_digits : AllIn is_ident_continue Digits
+pub on_digits : AllIn is_ident_continue Digits
 on_digits = on_then is_ident_continue (One is_ascii_digit) (Run is_digit_or_underscore) (on_one is_ident_continue is_ascii_digit digit_continues) (on_run is_ident_continue is_digit_or_underscore digits_continue)
 
 some_digits : NotEmpty Digits
 some_digits = some_then (One is_ascii_digit) (Run is_digit_or_underscore) (some_one is_ascii_digit)
 
 -- what follows the letter, and what follows the sign
-abbrev Power : Form
+abbrev pub Power : Form
 Power = Then (Run is_underscore) Digits
 
 abbrev SignedPower : Form
@@ -109,7 +109,7 @@ some_power = some_second (Run is_underscore) Digits some_digits
 some_signed : NotEmpty SignedPower
 some_signed = some_second (Perhaps (One is_sign)) Power some_power
 
-stable_exponent : Stable is_ident_continue Exponent
+pub stable_exponent : Stable is_ident_continue Exponent
 stable_exponent = stable_then is_ident_continue (One is_exponent_letter) (Then (Run is_underscore) SignedPower) (stable_one is_ident_continue is_exponent_letter)
     (stable_local is_ident_continue (Run is_underscore) SignedPower (local_run is_underscore) some_signed
     (stable_local is_ident_continue (Perhaps (One is_sign)) Power (local_perhaps_one is_sign) some_power
@@ -152,10 +152,10 @@ stable_fraction = stable_then goes_on Dot AfterDot (stable_not_before goes_on ba
     (stable_then goes_on (Perhaps Exponent) End (stable_perhaps goes_on Exponent (stable_widen is_ident_continue goes_on Exponent continue_goes_on stable_exponent) exponent_none)
     (stable_widen is_ident_continue goes_on End continue_goes_on stable_end)))
 
-stable_exponential : Stable is_ident_continue Exponential
+pub stable_exponential : Stable is_ident_continue Exponential
 stable_exponential = stable_then is_ident_continue Digits (Then Exponent End) stable_digits (stable_then is_ident_continue Exponent End stable_exponent stable_end)
 
-stable_float : Stable goes_on Float
+pub stable_float : Stable goes_on Float
 stable_float = stable_either goes_on Dotted Exponential
     (stable_then goes_on Digits Fraction (stable_widen is_ident_continue goes_on Digits continue_goes_on stable_digits) stable_fraction)
     (stable_widen is_ident_continue goes_on Exponential continue_goes_on stable_exponential)
@@ -164,7 +164,7 @@ dot_is_on : list_all goes_on (codes ".") ≡ true
 unfolding unicode_ident
 dot_is_on = refl
 
-on_float : AllIn goes_on Float
+pub on_float : AllIn goes_on Float
 on_float = on_either goes_on Dotted Exponential
     (on_then goes_on Digits Fraction on_number_digits (on_then goes_on Dot AfterDot (on_not_before goes_on bars_dot (Exactly (codes ".")) (on_text goes_on (codes ".") dot_is_on))
     (on_then goes_on (Run is_digit_or_underscore) (Then (Perhaps Exponent) End) (on_run goes_on is_digit_or_underscore (continues is_digit_or_underscore digits_continue))
@@ -174,10 +174,10 @@ on_float = on_either goes_on Dotted Exponential
 -- ---- no float newly stands
 
 -- nothing that goes on with an identifier follows a float
-float_ends : (p r : List ℕ) → Float p r → first_passes is_ident_continue r ≡ false
+pub float_ends : (p r : List ℕ) → Float p r → first_passes is_ident_continue r ≡ false
 float_ends p r is = elim is [ inl dotted ↦ dotted.second.second.second.second.1 | inr exponential ↦ exponential.second.second.1 ]
 
-all_back : (passes : ℕ → Bool) (xs ys : List ℕ) → list_all passes (xs ++ ys) ≡ true → list_all passes ys ≡ true
+pub all_back : (passes : ℕ → Bool) (xs ys : List ℕ) → list_all passes (xs ++ ys) ≡ true → list_all passes ys ≡ true
 all_back passes [] ys h = h
 all_back passes (x ∷ xs) ys h = all_back passes xs ys (and_parts _ _ h).1
 
@@ -294,10 +294,10 @@ stable_decimal p b r s ends is =
           (or_from _ _ (no_new_prefix 111 d.first.0 (d.back ++ b) r s letters_continue.1 ends o.0) (or_from _ _ (no_new_prefix 98 d.first.0 (d.back ++ b) r s letters_continue.2 ends e.0) refl)),
     )
 
-stable_integer : Stable is_ident_continue (Then Integer End)
+pub stable_integer : Stable is_ident_continue (Then Integer End)
 stable_integer = stable_then is_ident_continue Integer End (stable_either is_ident_continue Decimal Based stable_decimal stable_based) stable_end
 
-on_integer_end : AllIn is_ident_continue (Then Integer End)
+pub on_integer_end : AllIn is_ident_continue (Then Integer End)
 on_integer_end = on_then is_ident_continue Integer End on_integer (λ q t h. on_suffix q t h.0)
 
 -- ---- numbers
@@ -314,7 +314,7 @@ number_before p r s ends is = elim is [
 ]
 
 -- a space, LF, a closer and the end don't go on with one
-stop_is_calm : (r : List ℕ) → stops r ≡ true → first_passes goes_on r ≡ false
+pub stop_is_calm : (r : List ℕ) → stops r ≡ true → first_passes goes_on r ≡ false
 unfolding unicode_ident
 stop_is_calm [] e = refl
 stop_is_calm (c ∷ r) e = any_of (λ d. goes_on d ≡ false) (codes " \n)]}") c (refl, (refl, (refl, (refl, (refl, tt))))) e

@@ -13,7 +13,7 @@ use Rattle.lexical.proofs.TextLemmas.{begins_chars, begins_splits, ends_splits, 
 
 -- ---- the front
 
-is_ascii : (front : List ℕ) → all_ascii front ≡ true → IsAscii front
+pub is_ascii : (front : List ℕ) → all_ascii front ≡ true → IsAscii front
 is_ascii [] h = IsAscii-nil
 is_ascii (c ∷ front) h = let parts = and_parts _ _ h in IsAscii-cons c front (ltb-true c 128 parts.0) (is_ascii front parts.1)
 

@@ -15,6 +15,7 @@ pub mod Comment
 pub mod Gap
 pub mod Piece
 pub mod Cover
+pub mod Quiet
 pub mod Found
 pub mod Ascii
 pub mod Finder

@@ -9,7 +9,7 @@ use Rattle.pm_token.specs.declared.errors.ParseError.{ParseError}
 use Rattle.pm_token.specs.declared.errors.ParseError.TheVariants.{Lex, MapFull, Memory}
 use Rattle.pm_stream.specs.Events.{Event, One, Opens, Closes, events_onto, expansion}
 use Rattle.pm_stream.specs.Forest.{Forest}
-use Rattle.pm_stream.specs.Outcome.{IfLex}
+use Rattle.pm_token.specs.Outcome.{IfLex}
 use Rattle.pm_stream.specs.Progress.{IsFault}
 use Rattle.pm_stream.specs.Parsing.{FaultAt}
 

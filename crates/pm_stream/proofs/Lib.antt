@@ -10,3 +10,4 @@ pub mod ParseLemmas
 pub mod FaultLemmas
 pub mod LawLemmas
 pub mod RuleLemmas
+mod SpacedExamples

@@ -3,6 +3,7 @@ use Rattle.std.specs.Prelude.{◌≡◌, List, [], ◌∷◌, Option, Some, None
 use Rattle.std.specs.declared.alloc.Global.{Global}
 use Rattle.std.specs.declared.rc.Rc.{Rc}
 use Rattle.pm_token.specs.Leaf.{name_token, mark_token, text_token}
+use Rattle.pm_token.specs.Built.{IsBuiltToken}
 use Rattle.pm_stream.specs.Forest.{Forest, nil, leaf, group, joined}
 use Rattle.pm_stream.specs.declared.stream.TokenTree.{TokenTree}
 use Rattle.pm_stream.specs.declared.stream.TokenTree.TheVariants.{Group, Ident, Punct, Literal}
@@ -22,6 +23,13 @@ forest (tree ∷ trees) = before tree (forest trees)
 -- one tree alone
 abbrev pub alone : TokenTree → Forest
 alone tree = before tree nil
+
+-- the tree may be put into a stream: a literal that has no `-` before it, or any other tree
+abbrev pub GoesInside : TokenTree → Type 0
+GoesInside (Group g) = Unit {0}
+GoesInside (Ident i) = Unit {0}
+GoesInside (Punct p) = Unit {0}
+GoesInside (Literal l) = IsBuiltToken (text_token l)
 
 -- the trees within a group, and none of a token
 abbrev pub inside : TokenTree → Forest

@@ -9,7 +9,9 @@ pub mod Place
 pub mod Printed
 pub mod PrintedTree
 pub mod Rule
+pub mod Shown
+pub mod WellSpaced
+pub mod Same
 pub mod Parsing
 pub mod Written
 pub mod Progress
-pub mod Outcome

@@ -10,8 +10,8 @@ ghost use Rattle.pm_token.specs.Leaf.{is_joint};
 ghost use Rattle.pm_stream.specs.Delimited.{delimiter_of};
 ghost use Rattle.pm_stream.specs.Events.{Event, One, Opens, Closes, doc_onto, events_onto};
 ghost use Rattle.pm_stream.specs.Forest.{nil, flat_onto, IsBuilt};
-ghost use Rattle.pm_stream.specs.Level.{alone};
-ghost use Rattle.pm_stream.specs.Outcome.{IfLex, was_read};
+ghost use Rattle.pm_stream.specs.Level.{alone, GoesInside};
+ghost use Rattle.pm_token.specs.Outcome.{IfLex, was_read};
 ghost use Rattle.pm_stream.specs.Parsing.{ParsesTo, FaultAt};
 ghost use Rattle.pm_stream.specs.Written.{FitsInnermost};
 ghost use Rattle.pm_stream.specs.Progress.{groups, trees, written, IsBuiltTo, IsFaultFor, IsStray, IsOpenFault, IsFault};
@@ -148,8 +148,9 @@ impl Reading {
         Ok(())
     }
 
-    /// Takes a tree.
+    /// Takes a tree that may be put into a stream.
     fn push(&mut self, tree: TokenTree) -> Result<(), AllocError>
+        requires { GoesInside tree }
         ensures ok { OnOk result ((events : List Event)
             → written self.new events ≡ written self.old (flat_onto (alone tree) events)) }
         ensures built { OnOk result ((at : ℕ) → IsBuiltTo at self.old → IsBuiltTo at self.new) }

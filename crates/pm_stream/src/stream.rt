@@ -1,7 +1,7 @@
 //! Streams of token trees.
 ghost use Rattle.std.specs.Prelude.{◌≡◌, ◌+◌, IfOk, IfErr, OnOk};
 ghost use Rattle.pm_stream.specs.Forest.{Forest, nil, joined, IsBuilt};
-ghost use Rattle.pm_stream.specs.Level.{forest, held, alone, inside, TakesLast};
+ghost use Rattle.pm_stream.specs.Level.{forest, held, alone, inside, GoesInside, TakesLast};
 ghost use Rattle.pm_stream.specs.Size.{is_nil, count};
 ghost use Rattle.pm_stream.specs.Place.{extent_of};
 
@@ -251,8 +251,9 @@ impl TokenTree {
         }
     }
 
-    /// What is true of every tree.
+    /// What is true of every tree that may be put into a stream.
     pub(crate) fn built(&self)
+        requires { GoesInside self.now }
         ensures { IsBuilt (alone self.now) }
     {
         match self {

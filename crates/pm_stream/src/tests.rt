@@ -1,3 +1,6 @@
+ghost use Rattle.std.specs.Prelude.{IfOk};
+ghost use Rattle.pm_stream.specs.Level.{GoesInside};
+
 use crate::stream::{Group, TokenStream, TokenTree};
 use pm_span::parts::{bounds, span_of};
 use pm_span::{SourceMap, Span};
@@ -7,19 +10,27 @@ use std::alloc::{AllocError, Global};
 use std::mem;
 use std::test::Fail;
 
-fn name(alloc: Global, span: Span) -> Result<TokenTree, AllocError> {
+fn name(alloc: Global, span: Span) -> Result<TokenTree, AllocError>
+    ensures { IfOk result GoesInside }
+{
     Ok(TokenTree::Ident(ident(alloc, "_", false, span)?))
 }
 
-fn plus(spacing: Spacing) -> TokenTree {
+fn plus(spacing: Spacing) -> TokenTree
+    ensures { GoesInside result }
+{
     TokenTree::Punct(punct('+', spacing, Span::call_site()))
 }
 
-fn group(delimiter: Delimiter, stream: TokenStream) -> TokenTree {
+fn group(delimiter: Delimiter, stream: TokenStream) -> TokenTree
+    ensures { GoesInside result }
+{
     TokenTree::Group(Group::from_parts(delimiter, stream, Span::call_site()))
 }
 
-fn one(alloc: Global, tree: TokenTree) -> Result<TokenStream, AllocError> {
+fn one(alloc: Global, tree: TokenTree) -> Result<TokenStream, AllocError>
+    requires { GoesInside tree }
+{
     tree.built();
     let mut trees = Vec::new(alloc);
     trees.push(tree)?;
@@ -31,7 +42,11 @@ fn three(
     first: TokenTree,
     second: TokenTree,
     third: TokenTree,
-) -> Result<TokenStream, AllocError> {
+) -> Result<TokenStream, AllocError>
+    requires first { GoesInside first }
+    requires second { GoesInside second }
+    requires third { GoesInside third }
+{
     first.built();
     second.built();
     third.built();

@@ -1,5 +1,5 @@
 -- What the constructors write is a literal.
-use Rattle.std.proofs.Common.{◌≡◌, ℕ, ◌≤◌, Bool, true, false, not, ◌&&◌, ◌==◌, List, [], ◌∷◌, ◌++◌, codes, length, refl, sym, ap, ne_eqb, ◌∙◌, subst, arith, inl, inr}
+use Rattle.std.proofs.Common.{◌≡◌, ℕ, ◌≤◌, Bool, true, false, not, ◌&&◌, ◌==◌, List, [], ◌∷◌, ◌++◌, codes, length, refl, sym, ap, ne_eqb, ◌∙◌, subst, arith, inl, inr, append-nil}
 use Rattle.std.specs.Prelude.{filter}
 use Rattle.std.specs.List.{concat}
 use Rattle.std.specs.Str.{all_scalars}
@@ -7,14 +7,16 @@ use Rattle.std.specs.Char.{IsScalar, digit_char, is_ascii_hexdigit}
 use Rattle.std.specs.Char.Escape.{escape_unicode}
 use Rattle.std.proofs.lemmas.Bool.{cond_both, and_from, and_parts, or_from, not-true, eqb-false, le-leb}
 use Rattle.lexical.specs.Text.{first_passes}
-use Rattle.lexical.specs.Form.{Form, Then, Either, Exactly, One, Many, Each}
-use Rattle.lexical.specs.Quoted.{is_one_of, is_octal_digit, is_scalar, hex_value, is_string_plain, Code, StringEscape, StringUnit, Str}
+use Rattle.lexical.specs.Form.{Form, Then, Exactly, Many, Each}
+use Rattle.lexical.specs.Quoted.{is_one_of, is_octal_digit, is_scalar, hex_value, is_string_plain, Code, LowPair, Escape, StringEscape, BodyUnit, StringUnit, Suffix, Str}
+use Rattle.lexical.specs.SingleQuoted.{is_char_plain, SingleUnit, Character}
 use Rattle.lexical.specs.Literal.{IsWhole}
 use Rattle.lexical.specs.Literal as literals
 use Rattle.lexical.specs.Token.{Literal}
 use Rattle.pm_token.specs.Built.{IsBuiltToken}
+use Rattle.lexical.proofs.ClassLemmas.{any_of}
 use Rattle.lexical.proofs.QuotedLemmas.{EndsSuffix, no_name, stops, stop_ends}
-use Rattle.pm_token.specs.Escaped.{is_bare, written_char, written, content, string_text}
+use Rattle.pm_token.specs.Escaped.{is_bare, written_char, written, content, string_text, character_text}
 use Rattle.pm_token.proofs.HexLemmas.{digits_of, IsCoded, coded, hex_digit, hex_digits, length_digits, hex_value-digits, is_scalar-IsScalar}
 
 -- ---- one character
@@ -23,30 +25,43 @@ use Rattle.pm_token.proofs.HexLemmas.{digits_of, IsCoded, coded, hex_digit, hex_
 abbrev pub is_plain : ℕ → ℕ → Bool
 is_plain quote c = not (c == 13) && (not (c == 92) && not (c == quote))
 
--- a character that stands for itself between these quotes, or an escape
-abbrev pub Written : ℕ → Form
-Written quote = Either (One (is_plain quote)) (Then (Exactly (codes "\\")) StringEscape)
+-- what a kind of literal allows behind a backslash, and bare, of what is written for c
+pub record Allows (class : ℕ → Bool) (Escape : Form) (plain : ℕ → List ℕ) (quote c : ℕ) : Type 0 where
+  pub letter : (letter : ℕ) (r : List ℕ) → is_one_of (codes "nrt\\'\"") letter ≡ true → Escape (letter ∷ []) r
+  pub zeros : (r : List ℕ) → (c == 0) ≡ true → Escape (codes "0") r × Escape (codes "x00") r
+  pub other : (r : List ℕ) → is_plain quote c ≡ true → SingleUnit class Escape (plain c) r
 
-escape : (quote : ℕ) (back r : List ℕ) → StringEscape back r → Written quote (92 ∷ back) r
-escape quote back r is = inr (record { front = codes "\\"; back = back; whole = refl; first = refl; second = is })
+behind_backslash : (class : ℕ → Bool) (Escape : Form) (back r : List ℕ) → Escape back r → SingleUnit class Escape (92 ∷ back) r
+behind_backslash class Escape back r is = inr (record { front = codes "\\"; back = back; whole = refl; first = refl; second = is })
 
-simple : (quote letter : ℕ) (r : List ℕ) → is_one_of (codes "nrt\\0'\"") letter ≡ true → Written quote (92 ∷ letter ∷ []) r
-simple quote letter r is = escape quote (letter ∷ []) r (inl (letter, refl, is))
+-- what is none of these stands for itself
+bare : (quote c : ℕ) → (c == 13) ≡ false → (c == 92) ≡ false → (c == quote) ≡ false → is_plain quote c ≡ true
+bare quote c cr backslash other = and_from _ _ (ap not cr) (and_from _ _ (ap not backslash) (ap not other))
 
-long_zero : (quote : ℕ) (r : List ℕ) → Written quote (codes "\\x00") r
-long_zero quote r = escape quote (codes "x00") r (inr (inl (record {
-  front = codes "x";
-  back = codes "00";
-  whole = refl;
-  first = refl;
-  second = record { front = codes "0"; back = codes "0"; whole = refl; first = (48, refl, refl); second = (48, refl, refl) };
-})))
+-- whatever is written for a character, before anything
+pub written_stands : (class : ℕ → Bool) (Escape : Form) (plain : ℕ → List ℕ) (quote c : ℕ) (rest r : List ℕ)
+    → Allows class Escape plain quote c → is_one_of (codes "nrt\\'\"") quote ≡ true → SingleUnit class Escape (written quote plain c rest) r
+written_stands class Escape plain quote c rest r allows is =
+    cond_both ((c == 0) && first_passes is_octal_digit rest) _ _ (λ p. SingleUnit class Escape p r)
+    (λ e. behind_backslash class Escape _ r (allows.zeros r (and_parts _ _ e).0).1)
+    (λ e. cond_both (c == 0) _ _ (λ p. SingleUnit class Escape p r) (λ e. behind_backslash class Escape _ r (allows.zeros r e).0)
+    (λ e. cond_both (c == 9) _ _ (λ p. SingleUnit class Escape p r) (λ e. short 116 refl)
+    (λ e. cond_both (c == 13) _ _ (λ p. SingleUnit class Escape p r) (λ e. short 114 refl)
+    (λ cr. cond_both (c == 10) _ _ (λ p. SingleUnit class Escape p r) (λ e. short 110 refl)
+    (λ e. cond_both (c == 92) _ _ (λ p. SingleUnit class Escape p r) (λ e. short 92 refl)
+    (λ backslash. cond_both (c == quote) _ _ (λ p. SingleUnit class Escape p r) (λ e. short quote is)
+    (λ other. allows.other r (bare quote c cr backslash other))))))))
+  where
+    short : (letter : ℕ) → is_one_of (codes "nrt\\'\"") letter ≡ true → SingleUnit class Escape (92 ∷ letter ∷ []) r
+    short letter is = behind_backslash class Escape (letter ∷ []) r (allows.letter letter r is)
 
-code : (c : ℕ) (p r : List ℕ) (is : IsCoded c p) → IsScalar c → Code (λ n. true) (digits_of (is.first ∷ is.others)) (125 ∷ r)
-code c p r is scalar =
+-- ---- characters of strings
+
+code : (allowed : ℕ → Bool) (c : ℕ) (p r : List ℕ) (is : IsCoded c p) → IsScalar c → allowed c ≡ true → Code allowed (digits_of (is.first ∷ is.others)) (125 ∷ r)
+code allowed c p r is scalar fits =
     let digits = is.first ∷ is.others in
     let count : length (filter is_ascii_hexdigit (digits_of digits)) ≤ 6 = omega (arith, length_digits digits is.hex, is.few) in
-    let value : is_scalar (hex_value (digits_of digits)) ≡ true = ap is_scalar (hex_value-digits digits is.hex ∙ is.value) ∙ is_scalar-IsScalar c scalar in (
+    let number : hex_value (digits_of digits) ≡ c = hex_value-digits digits is.hex ∙ is.value in (
       record {
         front = digit_char is.first ∷ [];
         back = digits_of is.others;
@@ -54,74 +69,96 @@ code c p r is scalar =
         first = (digit_char is.first, refl, hex_digit is.first is.hex.0);
         second = record { each = hex_digits is.others is.hex.1; stops = refl };
       },
-      and_from _ _ (le-leb _ _ count) (and_from _ _ value refl),
+      and_from _ _ (le-leb _ _ count) (and_from _ _ (ap is_scalar number ∙ is_scalar-IsScalar c scalar) (ap allowed number ∙ fits)),
     )
 
-unicode : (quote c : ℕ) (p r : List ℕ) (is : IsCoded c p) → IsScalar c → Written quote p r
-unicode quote c p r is scalar =
+-- the escape by a character's number
+pub unicode : (letters : List ℕ) (Pair : Form) (allowed class : ℕ → Bool) (c : ℕ) (r : List ℕ) → IsScalar c → allowed c ≡ true
+    → SingleUnit class (Escape letters Pair allowed) (escape_unicode c) r
+unicode letters Pair allowed class c r scalar fits =
+    let is = coded c scalar in
     let digits = digits_of (is.first ∷ is.others) in
-    subst (λ q. Written quote q r) (sym is.whole) (escape quote (117 ∷ 123 ∷ (digits ++ 125 ∷ [])) r (inr (inr (record {
+    subst (λ q. SingleUnit class (Escape letters Pair allowed) q r) (sym is.whole)
+    (behind_backslash class (Escape letters Pair allowed) (117 ∷ 123 ∷ (digits ++ 125 ∷ [])) r (inr (inr (record {
       front = codes "u{";
       back = digits ++ 125 ∷ [];
       whole = refl;
       first = refl;
-      second = record { front = digits; back = 125 ∷ []; whole = refl; first = code c p r is scalar; second = refl };
+      second = record { front = digits; back = 125 ∷ []; whole = refl; first = code allowed c (escape_unicode c) r is scalar fits; second = refl };
     }))))
 
--- what is none of these stands for itself
-bare : (quote c : ℕ) (r : List ℕ) → (c == 13) ≡ false → (c == 92) ≡ false → (c == quote) ≡ false → Written quote (c ∷ []) r
-bare quote c r cr backslash other = inl (c, refl, and_from _ _ (ap not cr) (and_from _ _ (ap not backslash) (ap not other)))
+-- one of these letters is one of all
+pub letter_of_all : (letter : ℕ) → is_one_of (codes "nrt\\'\"") letter ≡ true → is_one_of (codes "nrt\\0'\"") letter ≡ true
+letter_of_all letter is = any_of (λ d. is_one_of (codes "nrt\\0'\"") d ≡ true) (codes "nrt\\'\"") letter (refl, (refl, (refl, (refl, (refl, (refl, tt)))))) is
 
-char : (quote c : ℕ) (r : List ℕ) → IsScalar c → (c == 13) ≡ false → (c == 92) ≡ false → (c == quote) ≡ false → Written quote (written_char c) r
-char quote c r scalar cr backslash other =
-    cond_both (is_bare c) (c ∷ []) (escape_unicode c) (λ p. Written quote p r) (λ e. bare quote c r cr backslash other) (λ e. unicode quote c (escape_unicode c) r (coded c scalar) scalar)
+zeros_of_string : (r : List ℕ) → StringEscape (codes "0") r × StringEscape (codes "x00") r
+zeros_of_string r = (
+  inl (48, refl, refl),
+  inr (inl (record {
+    front = codes "x";
+    back = codes "00";
+    whole = refl;
+    first = refl;
+    second = record { front = codes "0"; back = codes "0"; whole = refl; first = (48, refl, refl); second = (48, refl, refl) };
+  })),
+)
 
--- whatever is written for a character, before anything
-pub written_stands : (quote c : ℕ) (rest r : List ℕ) → is_one_of (codes "nrt\\0'\"") quote ≡ true → IsScalar c → Written quote (written quote written_char c rest) r
-written_stands quote c rest r is scalar =
-    cond_both ((c == 0) && first_passes is_octal_digit rest) _ _ (λ p. Written quote p r) (λ e. long_zero quote r)
-    (λ e. cond_both (c == 0) _ _ (λ p. Written quote p r) (λ e. simple quote 48 r refl)
-    (λ e. cond_both (c == 9) _ _ (λ p. Written quote p r) (λ e. simple quote 116 r refl)
-    (λ e. cond_both (c == 13) _ _ (λ p. Written quote p r) (λ e. simple quote 114 r refl)
-    (λ cr. cond_both (c == 10) _ _ (λ p. Written quote p r) (λ e. simple quote 110 r refl)
-    (λ e. cond_both (c == 92) _ _ (λ p. Written quote p r) (λ e. simple quote 92 r refl)
-    (λ backslash. cond_both (c == quote) _ _ (λ p. Written quote p r) (λ e. simple quote quote r is)
-    (λ other. char quote c r scalar cr backslash other)))))))
+-- strings and characters allow what is written for a character
+allows_char : (class : ℕ → Bool) (quote c : ℕ) → IsScalar c → ((d : ℕ) → is_plain quote d ≡ true → class d ≡ true) → Allows class StringEscape written_char quote c
+allows_char class quote c scalar within = record {
+  letter = λ letter r is. inl (letter, refl, letter_of_all letter is);
+  zeros = λ r e. zeros_of_string r;
+  other = λ r plain. cond_both (is_bare c) (c ∷ []) (escape_unicode c) (λ p. SingleUnit class StringEscape p r)
+      (λ e. inl (c, refl, within c plain)) (λ e. unicode (codes "nrt\\0'\"") LowPair (λ n. true) class c r scalar refl);
+}
 
--- ---- strings
+-- ---- bodies
 
 flipped : (c d : ℕ) → (c == d) ≡ false → (d == c) ≡ false
 flipped c d e = ne_eqb d c (λ same. eqb-false c d e (sym same))
 
-string_plain : (c : ℕ) → is_plain 34 c ≡ true → is_string_plain c ≡ true
+pub string_plain : (c : ℕ) → is_plain 34 c ≡ true → is_string_plain c ≡ true
 string_plain c is =
     let parts = and_parts _ _ is in
     let others = and_parts _ _ parts.1 in
     ap not (or_from _ _ (flipped c 34 (not-true _ others.1)) (or_from _ _ (flipped c 92 (not-true _ others.0)) (or_from _ _ (flipped c 13 (not-true _ parts.0)) refl)))
 
-string_unit : (p r : List ℕ) → Written 34 p r → StringUnit p r
-string_unit p r is = elim is [
-  | inl one ↦ inl (one.0, one.1, string_plain one.0 one.2)
+pub not_backslash : (quote c : ℕ) → is_plain quote c ≡ true → not (c == 92) ≡ true
+not_backslash quote c is = (and_parts _ _ (and_parts (not (c == 13)) _ is).1).0
+
+-- one character or an escape is a unit of a body
+pub body_unit : (class : ℕ → Bool) (Escape : Form) (p r : List ℕ) → SingleUnit class Escape p r → BodyUnit class Escape p r
+body_unit class Escape p r is = elim is [
+  | inl one ↦ inl one
   | inr escape ↦ inr (inr (record { front = escape.front; back = escape.back; whole = escape.whole; first = escape.first; second = inr escape.second }))
 ]
 
 -- what is written for each character
-abbrev units_of : List ℕ → List (List ℕ)
-units_of [] = []
-units_of (c ∷ rest) = written 34 written_char c rest ∷ units_of rest
+abbrev pub units_of : ℕ → (ℕ → List ℕ) → List ℕ → List (List ℕ)
+units_of quote plain [] = []
+units_of quote plain (c ∷ rest) = written quote plain c rest ∷ units_of quote plain rest
 
-content_units : (text : List ℕ) → content 34 written_char text ≡ concat (units_of text)
-content_units [] = refl
-content_units (c ∷ rest) = ap (λ p. written 34 written_char c rest ++ p) (content_units rest)
+pub content_units : (quote : ℕ) (plain : ℕ → List ℕ) (text : List ℕ) → content quote plain text ≡ concat (units_of quote plain text)
+content_units quote plain [] = refl
+content_units quote plain (c ∷ rest) = ap (λ p. written quote plain c rest ++ p) (content_units quote plain rest)
 
-each_unit : (text r : List ℕ) → all_scalars text ≡ true → Each StringUnit (units_of text) r
+each_unit : (text r : List ℕ) → all_scalars text ≡ true → Each StringUnit (units_of 34 written_char text) r
 each_unit [] r all = tt
 each_unit (c ∷ rest) r all =
-    let parts = and_parts _ _ all in
-    (string_unit _ _ (written_stands 34 c rest (concat (units_of rest) ++ r) refl parts.0), each_unit rest r parts.1)
+    let parts = and_parts _ _ all in (
+      body_unit is_string_plain StringEscape _ _
+          (written_stands is_string_plain StringEscape written_char 34 c rest (concat (units_of 34 written_char rest) ++ r) (allows_char is_string_plain 34 c parts.0 string_plain) refl),
+      each_unit rest r parts.1,
+    )
 
 string_body : (text r : List ℕ) → all_scalars text ≡ true → Many StringUnit (content 34 written_char text) r
-string_body text r all = record { units = units_of text; whole = content_units text; each = each_unit text r all }
+string_body text r all = record { units = units_of 34 written_char text; whole = content_units 34 written_char text; each = each_unit text r all }
+
+-- ---- literals
+
+-- what closes a literal, with no suffix
+pub closed : (close r : List ℕ) → EndsSuffix r → Then (Exactly close) Suffix close r
+closed close r ends = record { front = close; back = []; whole = sym (append-nil close); first = refl; second = inr (no_name r ends.start, refl) }
 
 -- the text stands before whatever doesn't go on with a suffix
 pub string_stands : (text r : List ℕ) → all_scalars text ≡ true → EndsSuffix r → Str (string_text text) r
@@ -136,7 +173,7 @@ string_stands text r all ends = record {
     back = codes "\"";
     whole = refl;
     first = string_body text (34 ∷ r) all;
-    second = record { front = codes "\""; back = []; whole = refl; first = refl; second = inr (no_name r ends.start, refl) };
+    second = closed (codes "\"") r ends;
   };
 }
 
@@ -147,6 +184,26 @@ string_before_stop text r all stop = string_stands text r all (stop_ends r stop)
 pub string_whole : (text : List ℕ) → all_scalars text ≡ true → IsWhole (string_text text)
 unfolding IsWhole literals.Literal
 string_whole text all = inl (inl (inl (inl (string_before_stop text [] all refl))))
+
+-- what `character` writes is one
+character_stands : (c : ℕ) (r : List ℕ) → IsScalar c → EndsSuffix r → Character (character_text c) r
+character_stands c r scalar ends = record {
+  front = codes "'";
+  back = written 39 written_char c [] ++ codes "'";
+  whole = refl;
+  first = refl;
+  second = record {
+    front = written 39 written_char c [];
+    back = codes "'";
+    whole = refl;
+    first = written_stands is_char_plain StringEscape written_char 39 c [] (39 ∷ r) (allows_char is_char_plain 39 c scalar (not_backslash 39)) refl;
+    second = closed (codes "'") r ends;
+  };
+}
+
+pub character_whole : (c : ℕ) → IsScalar c → IsWhole (character_text c)
+unfolding IsWhole literals.Literal
+character_whole c scalar = inl (inl (inr (inl (character_stands c [] scalar (stop_ends [] refl)))))
 
 -- what stands for a doc comment is built
 pub doc_built : (text : List ℕ) → all_scalars text ≡ true → IsBuiltToken (Literal (string_text text))

@@ -1,5 +1,6 @@
 -- What the constructors write of a literal between quotes.
-use Rattle.std.specs.Prelude.{ℕ, Bool, true, false, not, ◌&&◌, ◌==◌, List, [], ◌∷◌, ◌++◌, codes, nat_lt, nat_le, if◌then◌else◌}
+use Rattle.std.specs.Prelude.{ℕ, Bool, true, false, not, ◌&&◌, ◌==◌, List, [], ◌∷◌, ◌++◌, codes, nat_lt, nat_le, ◌/◌, ◌%◌, if◌then◌else◌}
+use Rattle.std.specs.Fmt.{digit_glyph}
 use Rattle.std.specs.Char.Escape.{escape_unicode}
 use Rattle.lexical.specs.Text.{first_passes}
 use Rattle.lexical.specs.Quoted.{is_octal_digit}
@@ -32,6 +33,18 @@ written_char c =
     -- `\u{`, the value in lower hex without leading zeros, `}`
     else escape_unicode c
 
+-- two hex digits, the letters upper case
+abbrev pub hex_pair : ℕ → List ℕ
+hex_pair b = digit_glyph true (b / 16) ∷ digit_glyph true (b % 16) ∷ []
+
+-- `written-byte`: a byte that has no short escape, as it is written in bytes and byte strings
+abbrev pub written_byte : ℕ → List ℕ
+written_byte b =
+    -- what prints in ASCII stands for itself
+    if nat_le 32 b && nat_lt b 127 then b ∷ []
+    -- `\x` and two digits
+    else codes "\\x" ++ hex_pair b
+
 -- `escaped`: c between these quotes, where the rest of the content follows; `plain` writes what has no short escape
 abbrev pub written : ℕ → (ℕ → List ℕ) → ℕ → List ℕ → List ℕ
 written quote plain c rest =
@@ -55,3 +68,15 @@ content quote plain (c ∷ rest) = written quote plain c rest ++ content quote p
 -- `string-text`: the string literal of a text
 abbrev pub string_text : List ℕ → List ℕ
 string_text text = codes "\"" ++ (content 34 written_char text ++ codes "\"")
+
+-- `character-text`: the literal of a character
+abbrev pub character_text : ℕ → List ℕ
+character_text c = codes "'" ++ (written 39 written_char c [] ++ codes "'")
+
+-- `byte-text`: the literal of a byte
+abbrev pub byte_text : ℕ → List ℕ
+byte_text b = codes "b'" ++ (written 39 written_byte b [] ++ codes "'")
+
+-- `byte-string-text`: the literal of some bytes
+abbrev pub byte_string_text : List ℕ → List ℕ
+byte_string_text bytes = codes "b\"" ++ (content 34 written_byte bytes ++ codes "\"")

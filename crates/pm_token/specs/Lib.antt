@@ -1,6 +1,10 @@
 pub mod Built
 pub mod Escaped
+pub mod CString
 pub mod IdentFault
+pub mod Integer
 pub mod Leaf
+pub mod LiteralText
 pub mod Message
+pub mod Outcome
 pub mod Written

@@ -6,6 +6,9 @@ ghost use Rattle.lexical.specs.Text.{first_passes};
 ghost use Rattle.lexical.specs.Quoted.{is_octal_digit};
 ghost use Rattle.pm_token.specs.Escaped.{is_hidden, is_bare as bare, written_char, written, content};
 
+mod bytes;
+mod c_strings;
+
 use crate::symbols::Symbol;
 use std::alloc::{AllocError, Global};
 use std::marker::Model;
@@ -51,7 +54,7 @@ impl Draft {
     }
 
     /// Writes a backslash and the letter.
-    fn push_short(&mut self, letter: char) -> Result<(), AllocError>
+    pub(crate) fn push_short(&mut self, letter: char) -> Result<(), AllocError>
         ensures ok { OnOk result (self.new ≡ self.old ++ 92 ∷ letter ∷ []) }
     {
         self.push('\\')?;
@@ -59,7 +62,7 @@ impl Draft {
     }
 
     /// Writes `\x00`.
-    fn push_long_zero(&mut self) -> Result<(), AllocError>
+    pub(crate) fn push_long_zero(&mut self) -> Result<(), AllocError>
         ensures ok { OnOk result (self.new ≡ self.old ++ codes "\\x00") }
     {
         self.push_short('x')?;
@@ -89,7 +92,12 @@ impl Draft {
     }
 
     /// Writes the character between these quotes, where the rest of the content follows.
-    fn push_escaped(&mut self, quote: char, c: char, rest: &str) -> Result<(), AllocError>
+    pub(crate) fn push_escaped(
+        &mut self,
+        quote: char,
+        c: char,
+        rest: &str,
+    ) -> Result<(), AllocError>
         ensures ok { OnOk result (self.new ≡ self.old ++ written quote written_char c (chars rest.now)) }
     {
         match c {

@@ -2,7 +2,10 @@
 ghost use Rattle.std.specs.Prelude.{◌≡◌, IfOk};
 ghost use Rattle.std.specs.Str.{chars};
 
-use crate::escapes::Draft;
+mod integers;
+mod quoted;
+mod whole;
+
 use crate::parts::show_span;
 use crate::symbols::Symbol;
 use pm_span::Span;
@@ -19,50 +22,21 @@ pub struct Literal {
 
 impl Model for Literal {
     ghost use Rattle.pm_token.specs.Leaf.{Text};
-    ghost use Rattle.pm_token.specs.Built.{IsBuiltToken};
-    ghost use Rattle.lexical.specs.Token as tokens;
+    ghost use Rattle.pm_token.specs.LiteralText.{IsLiteralText};
 
     ghost Value = { Text };
 
     ghost view = { λ literal. record { text = literal.text; span = literal.span } };
 
-    ghost invariant = { λ literal. IsBuiltToken (tokens.Literal literal.text) };
+    ghost invariant = { λ literal. IsLiteralText literal.text };
 }
 
 impl Literal {
-    ghost use Rattle.pm_token.specs.Built.{IsBuiltToken};
-    ghost use Rattle.pm_token.specs.Leaf.{text_token};
-    ghost use Rattle.pm_token.specs.Escaped.{string_text};
-    ghost use Rattle.lexical.specs.Token as tokens;
-    ghost use Rattle.pm_span.specs.Extent.{nowhere};
-
-    /// The string literal of the text, written by the rule `string-text`, with the span 0..0. Fails
-    /// where memory runs out. For CR, a quote and U+0301 it is `"\r\"\u{301}"`.
-    pub fn string(alloc: Global, text: &str) -> Result<Literal, AllocError>
-        ensures ok { IfOk result (λ literal.
-            literal ≡ record { text = string_text (chars text.now); span = nowhere }) }
-    {
-        Literal::string_at(alloc, text, Span::call_site())
-    }
-
-    /// The string literal of the text, where it stands. Fails where memory runs out.
-    pub(crate) fn string_at(alloc: Global, text: &str, span: Span) -> Result<Literal, AllocError>
-        ensures ok { IfOk result (λ literal.
-            literal ≡ record { text = string_text (chars text.now); span = span }) }
-    {
-        let mut draft = Draft::new(alloc);
-        draft.push('"')?;
-        draft.push_content('"', text)?;
-        draft.push('"')?;
-        Ok(Literal {
-            text: draft.finish(),
-            span,
-        })
-    }
+    ghost use Rattle.pm_token.specs.LiteralText.{IsLiteralText};
 
     /// The literal of this text, where it stands. Fails where memory runs out.
     pub(crate) fn from_parts(alloc: Global, text: &str, span: Span) -> Result<Literal, AllocError>
-        requires { IsBuiltToken (tokens.Literal (chars text.now)) }
+        requires { IsLiteralText (chars text.now) }
         ensures ok { IfOk result (λ literal. literal ≡ record { text = chars text.now; span = span }) }
     {
         Ok(Literal {
@@ -87,7 +61,7 @@ impl Literal {
 
     /// What is true of every literal.
     pub(crate) fn built(&self)
-        ensures { IsBuiltToken (text_token self.now) }
+        ensures { IsLiteralText self.now.text }
     {
         let _ = &self.text;
     }
@@ -113,32 +87,5 @@ impl fmt::Debug for Literal {
         debug.field("lit", &format_args!("{self}"));
         show_span(&mut debug, self.span);
         debug.finish()
-    }
-}
-
-#[cfg(test)]
-mod tests {
-    use super::*;
-
-    #[test]
-    fn a_string_is_written_with_escapes(rt: HostRuntime) -> Result<(), AllocError> {
-        let cases = [
-            ("", "\"\""),
-            ("a\0b", "\"a\\0b\""),
-            ("a\00b\07c\08d\0e\0", "\"a\\x000b\\x007c\\08d\\0e\\0\""),
-            ("\r\n\t", "\"\\r\\n\\t\""),
-            ("'\"\\", "\"'\\\"\\\\\""),
-            ("\u{1B} \u{7F}~", "\"\\u{1b} \\u{7f}~\""),
-            (
-                "\u{E9}\u{A0}\u{200B}\u{E000}e\u{301}",
-                "\"\u{E9}\\u{a0}\\u{200b}\\u{e000}e\\u{301}\"",
-            ),
-            ("\u{1F600}\u{10FFFF}", "\"\u{1F600}\\u{10ffff}\""),
-        ];
-        for (text, want) in cases {
-            let literal = Literal::string(rt.alloc(), text)?;
-            assert_eq!(rt; literal.text(), want, "at {text:?}");
-        }
-        Ok(())
     }
 }

@@ -5,7 +5,8 @@ ghost use Rattle.lexical.specs.Mark.{is_mark};
 ghost use Rattle.lexical.specs.Token as tokens;
 ghost use Rattle.pm_token.specs.Built.{IsBuiltToken};
 ghost use Rattle.pm_token.specs.Escaped.{string_text};
-ghost use Rattle.pm_token.specs.Leaf.{name_token, mark_token, text_token};
+ghost use Rattle.pm_token.specs.Leaf.{name_token, mark_token};
+ghost use Rattle.pm_token.specs.LiteralText.{IsLiteralText};
 
 use crate::errors::LexError;
 use crate::identifiers::Ident;
@@ -73,9 +74,9 @@ pub fn built_punct(punct: &Punct)
     bounds(punct.span());
 }
 
-/// What is true of every literal.
+/// What is true of every literal: one with `-` before it may stand outside a stream.
 pub fn built_literal(literal: &Literal)
-    ensures token { IsBuiltToken (text_token literal.now) }
+    ensures text { IsLiteralText literal.now.text }
     ensures ordered { literal.now.span.lo ≤ literal.now.span.hi }
 {
     literal.built();

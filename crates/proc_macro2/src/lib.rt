@@ -1,9 +1,22 @@
 //! Rust source text as token trees: reading it, walking it, printing it.
 #![tactic(auto)]
 
+pub mod laws;
+
+pub use literal_escaper::EscapeError;
 pub use pm_span::{LineColumn, SourceMap, Span};
 pub use pm_stream::{Group, TokenStream, TokenTree};
 pub use pm_token::{Delimiter, Ident, IdentError, LexError, Literal, ParseError, Punct, Spacing};
+
+/// What the contents of literals stand for, item by item.
+pub mod rustc_literal_escaper {
+    pub use literal_escaper::{
+        CheckForErrors, CheckRawByteStr, CheckRawCStr, CheckRawStr, EscapeError, MixedUnit, Mode,
+        NonZeroChar, NonZeroU8, UnescapeByteStr, UnescapeCStr, UnescapeStr, check_for_errors,
+        check_raw_byte_str, check_raw_c_str, check_raw_str, unescape_byte, unescape_byte_str,
+        unescape_c_str, unescape_char, unescape_str,
+    };
+}
 
 /// The stream of trees, under the module that also has its iterator in the Rust crate.
 pub mod token_stream {

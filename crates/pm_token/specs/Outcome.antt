@@ -3,7 +3,6 @@ use Rattle.std.specs.Prelude.{Bool, true, false, Result, Ok, Err}
 use Rattle.pm_span.specs.Extent.{Extent}
 use Rattle.pm_token.specs.declared.errors.ParseError.{ParseError}
 use Rattle.pm_token.specs.declared.errors.ParseError.TheVariants.{Lex, MapFull, Memory}
-use Rattle.pm_stream.specs.Forest.{Forest}
 
 -- what holds of the place of the fault, if that is what the error says
 abbrev pub IfLex : ParseError → (Extent → Type 0) → Type 0
@@ -12,8 +11,8 @@ IfLex MapFull holds = Unit {0}
 IfLex (Memory error) holds = Unit {0}
 
 -- the text was read, and parsed or found to have a fault
-abbrev pub was_read : Result Forest ParseError → Bool
-was_read (Ok stream) = true
+abbrev pub was_read : {T : Type 0} → Result T ParseError → Bool
+was_read (Ok parsed) = true
 was_read (Err (Lex fault)) = true
 was_read (Err MapFull) = false
 was_read (Err (Memory error)) = false

@@ -1,5 +1,5 @@
 use Rattle.pm_stream.proofs.LawLemmas as laws
-use Rattle.pm_stream.proofs.laws.one_parse.Goals as goal
+use Rattle.proc_macro2.proofs.laws.one_cover.Goals as goal
 
 pub returns : goal.returns
 returns c = record {

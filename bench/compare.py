@@ -1,0 +1,98 @@
+#!/usr/bin/env python3
+"""Times `tokens print` against the Rust crate's twin, on 10 MB of real source and on its first half.
+
+Usage: bench/compare.py CRATE IDENT SOURCES [RUNS]
+CRATE and IDENT are the folders of the Rust crates proc-macro2 and unicode-ident (each with src/lib.rs), and SOURCES is
+a folder of Rust files. Builds the program and the twin, runs them in turn, and prints the least user time, the least of
+user and system time, and the most memory of each, with the ratios and the growth from the half to the whole.
+"""
+import os
+import pathlib
+import subprocess
+import sys
+import tempfile
+
+SIZE = 10_000_000
+HERE = pathlib.Path(__file__).resolve().parent
+
+
+def source(folder: pathlib.Path, size: int) -> bytes:
+    """The folder's files one after another, over and over, until there are `size` bytes."""
+    files = [file.read_bytes() + b"\n" for file in sorted(folder.rglob("*.rs"))]
+    files = [text for text in files if parses(text)]
+    if not files:
+        sys.exit(f"no Rust files below {folder}")
+    parts, length = [], 0
+    while length < size:
+        for text in files:
+            if length >= size:
+                break
+            parts.append(text)
+            length += len(text)
+    return b"".join(parts)
+
+
+def parses(text: bytes) -> bool:
+    """Whether the text is UTF-8 without a front mark, which stands only at the front of a source."""
+    try:
+        return not text.decode().startswith("\ufeff")
+    except UnicodeDecodeError:
+        return False
+
+
+def build(crate: str, ident: str, out: pathlib.Path) -> dict[str, str]:
+    """The programs, by name."""
+    tokens = HERE.parent / "crates/tokens"
+    with open(tokens / "stdin", "rb") as text:
+        subprocess.run(["rt", "run", "--", "print"], cwd=tokens, stdin=text, check=True, capture_output=True)
+    subprocess.run([HERE / "twin/build.sh", crate, ident, out], check=True, capture_output=True)
+    return {"tokens": str(tokens / "out/tokens"), "twin": str(out / "twin")}
+
+
+def measured(program: str, text: pathlib.Path, output: pathlib.Path) -> tuple[float, float, int]:
+    """User time and all processor time in milliseconds, and peak memory in KB."""
+    with open(text, "rb") as source, open(output, "wb") as sink:
+        child = subprocess.Popen([program, "print"], stdin=source, stdout=sink)
+        _, status, used = os.wait4(child.pid, 0)
+        child.returncode = os.waitstatus_to_exitcode(status)
+    if child.returncode != 0:
+        sys.exit(f"{program} ended with status {child.returncode}")
+    return used.ru_utime * 1000, (used.ru_utime + used.ru_stime) * 1000, used.ru_maxrss
+
+
+def main() -> None:
+    if len(sys.argv) not in (4, 5):
+        sys.exit(__doc__)
+    runs = int(sys.argv[4]) if len(sys.argv) == 5 else 11
+    with tempfile.TemporaryDirectory() as folder:
+        out = pathlib.Path(folder)
+        programs = build(sys.argv[1], sys.argv[2], out)
+        half, whole = (source(pathlib.Path(sys.argv[3]), size) for size in (SIZE // 2, SIZE))
+        best = {}
+        for name, text in (("half", half), ("whole", whole)):
+            (out / name).write_bytes(text)
+        for _ in range(runs):
+            for text in ("half", "whole"):
+                for program, path in programs.items():
+                    found = measured(path, out / text, out / f"{program}.{text}")
+                    old = best.get((program, text), found)
+                    best[program, text] = (min(found[0], old[0]), min(found[1], old[1]), max(found[2], old[2]))
+        if (out / "tokens.whole").read_bytes() != (out / "twin.whole").read_bytes():
+            sys.exit("the outputs differ")
+        report(best, len(half), len(whole), runs)
+
+
+def report(best: dict, half: int, whole: int, runs: int) -> None:
+    print(f"load {os.getloadavg()[0]:.1f}, {os.cpu_count()} processors, the best of {runs} runs in turn")
+    for name, size in (("half", half), ("whole", whole)):
+        ours, twin = best["tokens", name], best["twin", name]
+        print(f"{name}, {size} bytes")
+        for label, i, unit in (("user time", 0, "ms"), ("user and system", 1, "ms"), ("peak memory", 2, "KB")):
+            print(f"  {label}: tokens {ours[i]:.0f} {unit}, twin {twin[i]:.0f} {unit}, ratio {ours[i] / twin[i]:.2f}")
+    for program in ("tokens", "twin"):
+        growth = best[program, "whole"][0] / best[program, "half"][0]
+        print(f"growth of {program} from half to whole: {growth:.2f} (text {whole / half:.2f})")
+
+
+if __name__ == "__main__":
+    main()

@@ -1,0 +1,110 @@
+//! The Rust crate behind the command line of `tokens`, and a recorder of its answers.
+//!
+//! `twin print` does what `tokens print` does. `twin answers` reads the lines of
+//! crates/conformance/stdin, and writes them with the crate's own answers.
+use proc_macro2::{Literal, LexError, TokenStream};
+use std::io::{self, BufRead, Read, Write};
+use std::process::exit;
+
+/// What the crate says of a text: the kind of the answer, and the answer.
+fn answer(kind: &str, text: &str) -> (String, String) {
+    let fault = |error: LexError| {
+        let place = error.span().start();
+        ("fault".to_string(), format!("{}:{}", place.line, place.column))
+    };
+    match kind {
+        "literal" => match text.parse::<Literal>() {
+            Ok(literal) => (kind.to_string(), literal.to_string()),
+            Err(_) => ("refused".to_string(), String::new()),
+        },
+        _ => match text.parse::<TokenStream>() {
+            Ok(stream) if kind == "tree" => (kind.to_string(), format!("{stream:?}")),
+            Ok(stream) => ("print".to_string(), stream.to_string()),
+            Err(error) => fault(error),
+        },
+    }
+}
+
+/// The text that stands escaped in a column.
+fn unescaped(column: &str) -> Option<String> {
+    let mut text = String::new();
+    let mut rest = column.chars();
+    while let Some(c) = rest.next() {
+        text.push(match (c, if c == '\\' { rest.next()? } else { c }) {
+            ('\\', 'n') => '\n',
+            ('\\', 'r') => '\r',
+            ('\\', 't') => '\t',
+            ('\\', '\\') => '\\',
+            ('\\', 'u') => {
+                let number: String = rest.by_ref().skip(1).take_while(|c| *c != '}').collect();
+                char::from_u32(u32::from_str_radix(&number, 16).ok()?)?
+            }
+            ('\\', _) => return None,
+            _ => c,
+        });
+    }
+    Some(text)
+}
+
+/// The text as it stands in a column: what isn't plain ASCII or a letter is escaped.
+fn escaped(text: &str) -> String {
+    let mut column = String::new();
+    for c in text.chars() {
+        match c {
+            '\n' => column.push_str("\\n"),
+            '\r' => column.push_str("\\r"),
+            '\t' => column.push_str("\\t"),
+            '\\' => column.push_str("\\\\"),
+            ' '..='~' => column.push(c),
+            _ if c.is_alphabetic() => column.push(c),
+            _ => column.push_str(&format!("\\u{{{:x}}}", c as u32)),
+        }
+    }
+    column
+}
+
+fn answers() -> io::Result<()> {
+    let mut out = io::BufWriter::new(io::stdout());
+    for line in io::stdin().lock().lines() {
+        let line = line?;
+        let mut columns = line.split('\t');
+        let kind = columns.next().unwrap_or_default();
+        let Some(text) = columns.next().and_then(unescaped) else {
+            eprintln!("not a line of answers: {line}");
+            exit(2)
+        };
+        proc_macro2::extra::invalidate_current_thread_spans();
+        let (kind, said) = answer(kind, &text);
+        writeln!(out, "{kind}\t{}\t{}", escaped(&text), escaped(&said))?;
+    }
+    out.flush()
+}
+
+fn print() -> io::Result<()> {
+    let mut bytes = Vec::new();
+    io::stdin().read_to_end(&mut bytes)?;
+    let Ok(text) = String::from_utf8(bytes) else {
+        eprintln!("not utf-8");
+        exit(2)
+    };
+    match text.parse::<TokenStream>() {
+        Ok(stream) => io::stdout().write_all(format!("{stream}\n").as_bytes()),
+        Err(error) => {
+            let place = error.span().start();
+            eprintln!("fault {}:{}", place.line, place.column);
+            exit(1)
+        }
+    }
+}
+
+fn main() -> io::Result<()> {
+    let words: Vec<String> = std::env::args().skip(1).collect();
+    match words.iter().map(String::as_str).collect::<Vec<_>>().as_slice() {
+        ["print"] => print(),
+        ["answers"] => answers(),
+        _ => {
+            eprintln!("usage: twin print|answers");
+            exit(2)
+        }
+    }
+}

@@ -1,0 +1,101 @@
+-- How literals begin, and that where one stands nothing else does.
+use Rattle.std.proofs.Common.{◌≡◌, ℕ, Bool, true, false, not, ◌==◌, List, [], ◌∷◌, ◌++◌, codes, refl, sym, ap, ◌∙◌, inl, inr}
+use Rattle.std.specs.List.{list_any, list_all, AllByRecursion}
+use Rattle.std.proofs.lemmas.Bool.{both_ways, and_left, or_from, not-true, and_parts}
+use Rattle.lexical.specs.Class.{is_white}
+use Rattle.lexical.specs.Text.{begins_any}
+use Rattle.lexical.specs.Token as tokens
+use Rattle.lexical.specs.Mark.{is_mark, comment_fronts, FollowsQuote}
+use Rattle.lexical.specs.Delimiter.{is_opener, is_closer, error_literal}
+use Rattle.lexical.specs.Literal.{Literal, AnyLiteral}
+use Rattle.lexical.specs.Piece.{Kind, Leaf, IsPiece}
+use Rattle.lexical.specs.PieceFinder.{find_literal}
+use Rattle.lexical.proofs.FinderLemmas.{one_split}
+use Rattle.lexical.proofs.ClassLemmas.{any_of}
+use Rattle.lexical.proofs.LiteralFinderLemmas.{finds_literal, literal_fronts, literal_front}
+use Rattle.lexical.proofs.PieceLemmas.{one_piece}
+
+-- ---- at most one literal
+
+-- of two literals at the front of one text, both are one
+pub one_literal : (p q r s : List ℕ) → Literal p r → Literal q s → p ++ r ≡ q ++ s → (p ≡ q) × (r ≡ s)
+one_literal p q r s h j e = one_split find_literal Literal finds_literal p q r s h j e
+
+-- where a literal or the error literal stands, no piece but it does
+pub literal_unread : (first : Bool) (k : Kind) (p q r s : List ℕ) → AnyLiteral p r → IsPiece first k q s → p ++ r ≡ q ++ s
+    → (k ≡ Leaf (tokens.Literal p)) × (p ≡ q) × (r ≡ s)
+literal_unread first k p q r s h j e =
+    let one = one_piece first (Leaf (tokens.Literal p)) k p q r s (refl, h) j e in
+    (sym one.0, one.1, one.2)
+
+-- the same as `one_literal`, the error literal among them
+pub one_any_literal : (p q r s : List ℕ) → AnyLiteral p r → AnyLiteral q s → p ++ r ≡ q ++ s → (p ≡ q) × (r ≡ s)
+one_any_literal p q r s h j e = let one = literal_unread false (Leaf (tokens.Literal q)) p q r s h (refl, j) e in (one.1, one.2)
+
+-- where one stands that begins with `'`, that is no lone quote
+pub literal_no_quote : (q r : List ℕ) → AnyLiteral (39 ∷ q) r → FollowsQuote (q ++ r) → ⊥
+literal_no_quote q r h follows =
+    let one = literal_unread false (Leaf (tokens.Mark 39 true)) (39 ∷ q) (39 ∷ []) r (q ++ r) h (refl, inr ((refl, follows), refl)) refl in
+    let clash : Leaf (tokens.Mark 39 true) ≡ Leaf (tokens.Literal (39 ∷ q)) = one.0 in
+    cc
+
+-- ---- how a literal begins
+
+-- what the first character of a literal tells
+pub record BeginsLiteral (p : List ℕ) : Type 0 where
+  pub first : ℕ
+  pub rest : List ℕ
+  pub whole : p ≡ first ∷ rest
+  pub mark : is_mark first ≡ (first == 39)
+  pub slash : (47 == first) ≡ false
+  pub closer : is_closer first ≡ false
+  pub white : is_white first ≡ false
+  pub front_mark : (first == 0xFEFF) ≡ false
+  pub opener : is_opener first ≡ true → p ≡ error_literal
+
+-- what holds of each in a list holds of what is in it
+one_passes : (passes : ℕ → Bool) (ds : List ℕ) (c : ℕ) → list_all passes ds ≡ true → list_any (λ d. d == c) ds ≡ true → passes c ≡ true
+one_passes passes ds c all any = any_of (λ d. passes d ≡ true) ds c (each ds all) any
+  where
+    each : (ds : List ℕ) → list_all passes ds ≡ true → AllByRecursion (λ d. passes d ≡ true) ds
+    each [] all = tt
+    each (d ∷ ds) all = let parts = and_parts _ _ all in (parts.0, each ds parts.1)
+
+-- no character passes with which literals begin
+none_passes : (passes : ℕ → Bool) (c : ℕ) → list_all (λ d. not (passes d)) literal_fronts ≡ true
+    → list_any (λ d. d == c) literal_fronts ≡ true → passes c ≡ false
+none_passes passes c all any = not-true _ (one_passes (λ d. not (passes d)) literal_fronts c all any)
+
+-- of the marks only `'` begins one, of the openers only that of the error literal, and nothing else that starts a piece
+pub literal_first : (p r : List ℕ) → AnyLiteral p r → BeginsLiteral p
+literal_first p r (inr error) = record {
+  first = 40;
+  rest = codes "/*ERROR*/)";
+  whole = error;
+  mark = refl;
+  slash = refl;
+  closer = refl;
+  white = refl;
+  front_mark = refl;
+  opener = λ h. error;
+}
+literal_first p r (inl literal) =
+    let at = literal_front p r literal in
+    record {
+      first = at.0;
+      rest = at.1;
+      whole = at.2;
+      mark = any_of (λ d. is_mark d ≡ (d == 39)) literal_fronts at.0
+          (refl, (refl, (refl, (refl, (refl, (refl, (refl, (refl, (refl, (refl, (refl, (refl, (refl, (refl, (refl, tt))))))))))))))) at.3;
+      slash = none_passes (λ d. 47 == d) at.0 refl at.3;
+      closer = none_passes is_closer at.0 refl at.3;
+      white = none_passes is_white at.0 refl at.3;
+      front_mark = none_passes (λ d. d == 0xFEFF) at.0 refl at.3;
+      opener = λ h. absurd (both_ways _ (none_passes is_opener at.0 refl at.3) h);
+    }
+
+-- no comment begins with it, whatever follows
+pub literal_plain : (p r s : List ℕ) → AnyLiteral p r → begins_any comment_fronts (p ++ s) ≡ false
+literal_plain p r s h =
+    let at = literal_first p r h in
+    ap (λ x. begins_any comment_fronts (x ++ s)) at.whole ∙ or_from _ _ (and_left _ _ at.slash) (or_from _ _ (and_left _ _ at.slash) refl)

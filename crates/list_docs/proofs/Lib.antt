@@ -1,0 +1,2 @@
+mod DocLemmas
+mod InsideLemmas

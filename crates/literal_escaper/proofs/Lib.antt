@@ -1,0 +1,8 @@
+pub mod CodeLemmas
+pub mod FrontLemmas
+pub mod ItemLemmas
+pub mod ErrorLemmas
+pub mod RangeLemmas
+pub mod WithinLemmas
+pub mod ErrorRangeLemmas
+pub mod ValueLemmas

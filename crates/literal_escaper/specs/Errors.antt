@@ -1,0 +1,53 @@
+-- The faults and warnings of a content.
+use Rattle.std.specs.Prelude.{ℕ, List, [], ◌∷◌, Option, Some, None, Result, Ok, Err}
+use Rattle.std.specs.List.{filter_map}
+use Rattle.std.specs.declared.ops.Range.{Range}
+use Rattle.literal_escaper.specs.declared.errors.EscapeError.{EscapeError}
+use Rattle.literal_escaper.specs.declared.mode.Mode.{Mode}
+use Rattle.literal_escaper.specs.declared.mode.Mode.TheVariants.{Char, Byte, Str, RawStr, ByteStr, RawByteStr, CStr, RawCStr}
+use Rattle.literal_escaper.specs.Items.{Item, items, offset, raw_items}
+use Rattle.literal_escaper.specs.Kind.{Kind, any_char, ascii_byte, byte_kind, c_kind, string_kind}
+use Rattle.literal_escaper.specs.Single.{single}
+use Rattle.literal_escaper.specs.Text.{bytes}
+use Rattle.literal_escaper.specs.Units.{raw_c_char}
+
+-- where a fault or a warning stands, and which it is
+abbrev pub Error : Type 0
+Error = Range ℕ × EscapeError
+
+-- the error of a range, if it has one
+abbrev pub error_at : {U : Type 0} → Range ℕ → Result U EscapeError → Option Error
+error_at range (Ok unit) = None
+error_at range (Err e) = Some (range, e)
+
+-- the error of an item, if it is one
+abbrev pub error_of : {U : Type 0} → Item U → Option Error
+error_of item = error_at item.0 item.1
+
+-- the errors among the items
+unfoldable pub errors_among : {U : Type 0} → List (Item U) → List Error
+errors_among items = filter_map error_of items
+
+-- from the front of the content to behind the last character that was read
+abbrev pub read_range : ℕ → List ℕ → Range ℕ
+read_range end rest = record { start = 0; end = offset end rest }
+
+-- the error of a content that is one unit
+abbrev pub single_error : {U : Type 0} → Kind U → List ℕ → Option Error
+single_error kind text = let read = single kind text in error_at (read_range (bytes text) read.rest) read.unit
+
+-- one or none
+abbrev pub at_most_one : Option Error → List Error
+at_most_one None = []
+at_most_one (Some e) = e ∷ []
+
+-- `content-errors`: those of a content of this kind
+abbrev pub errors_in : Mode → List ℕ → List Error
+errors_in Char text = at_most_one (single_error string_kind text)
+errors_in Byte text = at_most_one (single_error byte_kind text)
+errors_in Str text = errors_among (items string_kind text)
+errors_in RawStr text = errors_among (raw_items any_char text)
+errors_in ByteStr text = errors_among (items byte_kind text)
+errors_in RawByteStr text = errors_among (raw_items ascii_byte text)
+errors_in CStr text = errors_among (items c_kind text)
+errors_in RawCStr text = errors_among (raw_items raw_c_char text)

@@ -1,0 +1,52 @@
+-- What each kind of string makes of the characters and numbers that stand in it.
+use Rattle.std.specs.Prelude.{ℕ, ◌&&◌, nat_le, nat_lt, if◌then◌else◌, Result, Ok, Err}
+use Rattle.std.specs.Char.{is_ascii}
+use Rattle.literal_escaper.specs.declared.errors.EscapeError.{EscapeError}
+use Rattle.literal_escaper.specs.declared.errors.EscapeError.TheVariants.{LoneSurrogateUnicodeEscape, NonAsciiCharInByte, OutOfRangeHexEscape, OutOfRangeUnicodeEscape, UnicodeEscapeInByte}
+use Rattle.literal_escaper.specs.declared.mixed_unit.MixedUnit.{MixedUnit}
+use Rattle.literal_escaper.specs.Units.{c_byte, c_char}
+
+-- a kind of string with units of this type
+pub record Kind (U : Type 0) : Type 0 where
+  -- of a character, which stands for itself or is meant by a letter behind a backslash
+  pub of_char : ℕ → Result U EscapeError
+  -- of the number of two hex digits
+  pub of_hex : ℕ → Result U EscapeError
+  -- of the character whose code stands in braces, or of what is wrong with the code
+  pub of_code : Result ℕ EscapeError → Result U EscapeError
+
+-- the character of this code
+abbrev pub character : ℕ → Result ℕ EscapeError
+character code =
+    if nat_lt 0x10_FFFF code then Err OutOfRangeUnicodeEscape
+    else if nat_le 0xD800 code && nat_lt code 0xE000 then Err LoneSurrogateUnicodeEscape
+    else Ok code
+
+-- in a string, any character
+abbrev pub any_char : ℕ → Result ℕ EscapeError
+any_char c = Ok c
+
+-- in a string, a number of two digits is an ASCII character's
+abbrev pub ascii_char : ℕ → Result ℕ EscapeError
+ascii_char n = if is_ascii n then Ok n else Err OutOfRangeHexEscape
+
+-- in a byte string, a character is an ASCII one
+abbrev pub ascii_byte : ℕ → Result ℕ EscapeError
+ascii_byte c = if is_ascii c then Ok c else Err NonAsciiCharInByte
+
+-- in a C string, no character is NUL
+abbrev pub c_code : Result ℕ EscapeError → Result MixedUnit EscapeError
+c_code (Ok c) = c_char c
+c_code (Err e) = Err e
+
+-- `string-kind`: characters
+abbrev pub string_kind : Kind ℕ
+string_kind = record { of_char = any_char; of_hex = ascii_char; of_code = λ code. code }
+
+-- `byte-kind`: bytes
+abbrev pub byte_kind : Kind ℕ
+byte_kind = record { of_char = ascii_byte; of_hex = λ n. Ok n; of_code = λ code. Err UnicodeEscapeInByte }
+
+-- `c-kind`: characters and bytes, none of them zero
+abbrev pub c_kind : Kind MixedUnit
+c_kind = record { of_char = c_char; of_hex = c_byte; of_code = c_code }

@@ -1,0 +1,14 @@
+pub mod Mode
+pub mod Warning
+pub mod Units
+pub mod Character
+pub mod Text
+pub mod Kind
+pub mod Escape
+pub mod Items
+pub mod Single
+pub mod Errors
+pub mod Value
+pub mod Reading
+pub mod Left
+pub mod Within

@@ -1,0 +1,34 @@
+-- The one unit of a character or a byte.
+use Rattle.std.specs.Prelude.{ℕ, ◌||◌, ◌==◌, if◌then◌else◌, List, [], ◌∷◌, Result, Ok, Err}
+use Rattle.literal_escaper.specs.declared.errors.EscapeError.{EscapeError}
+use Rattle.literal_escaper.specs.declared.errors.EscapeError.TheVariants.{BareCarriageReturn, EscapeOnlyChar, MoreThanOneChar, ZeroChars}
+use Rattle.literal_escaper.specs.Character.{backslash, carriage_return, line_feed, quote, tab}
+use Rattle.literal_escaper.specs.Escape.{Read, escape, fault}
+use Rattle.literal_escaper.specs.Kind.{Kind}
+
+-- a character that stands by itself
+abbrev pub single_plain : {U : Type 0} → Kind U → ℕ → Result U EscapeError
+single_plain kind c =
+    if (c == line_feed) || (c == tab) || (c == quote) then Err EscapeOnlyChar
+    else if c == carriage_return then Err BareCarriageReturn
+    else kind.of_char c
+
+-- a character and what follows it: an escape, or a unit by itself
+abbrev pub single_front : {U : Type 0} → Kind U → ℕ → List ℕ → Read U
+single_front kind c text =
+    if c == backslash then escape kind text else record { unit = single_plain kind c; rest = text }
+
+-- a unit that was read, where nothing follows it
+abbrev pub only_unit : {U : Type 0} → U → List ℕ → Read U
+only_unit unit [] = record { unit = Ok unit; rest = [] }
+only_unit unit (c ∷ rest) = fault MoreThanOneChar rest
+
+-- what was read, where a unit has to be all
+abbrev pub only : {U : Type 0} → Result U EscapeError → List ℕ → Read U
+only (Ok unit) rest = only_unit unit rest
+only (Err e) rest = fault e rest
+
+-- `single-item`: the one unit of the content
+unfoldable pub single : {U : Type 0} → Kind U → List ℕ → Read U
+single kind [] = fault ZeroChars []
+single kind (c ∷ text) = let read = single_front kind c text in only read.unit read.rest

@@ -1,0 +1,10 @@
+-- Faults and warnings.
+use Rattle.std.specs.Prelude.{Bool, true, false}
+use Rattle.literal_escaper.specs.declared.errors.EscapeError.{EscapeError}
+use Rattle.literal_escaper.specs.declared.errors.EscapeError.TheVariants.{UnskippedWhitespaceWarning, MultipleSkippedLinesWarning}
+
+-- `fatal`: whether it is a fault, and no warning
+abbrev pub is_fault : EscapeError → Bool
+is_fault UnskippedWhitespaceWarning = false
+is_fault MultipleSkippedLinesWarning = false
+is_fault _ = true

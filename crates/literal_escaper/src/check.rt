@@ -1,0 +1,126 @@
+//! The errors of contents.
+
+ghost use Rattle.std.specs.Prelude.{◌≡◌};
+ghost use Rattle.std.specs.Iterator.{YieldsFirst};
+ghost use Rattle.std.specs.Str.{chars};
+ghost use Rattle.literal_escaper.specs.Errors.{errors_among, errors_in, single_error};
+ghost use Rattle.literal_escaper.specs.Kind.{byte_kind, string_kind};
+ghost use Rattle.literal_escaper.specs.Reading.{cooked_left, raw_left};
+ghost use Rattle.literal_escaper.specs.Within.{AreWithin};
+
+use crate::cooked::{Cooked, next_item};
+use crate::errors::EscapeError;
+use crate::kind::{Bytes, CStr, CheckRaw, Str, Unescape};
+use crate::mode::Mode;
+use crate::place::Place;
+use crate::raw::next_raw_item;
+use crate::single::unescape_single;
+use std::marker::Model;
+use std::ops::Range;
+
+/// The error of a content that is one unit, if it has one.
+fn error_of_single<K: Unescape>(src: &str) -> Option<(Range<usize>, EscapeError)>
+    ensures { result ≡ single_error K.kind (chars src.now) }
+{
+    let (unit, end) = unescape_single::<K>(Place::new(src));
+    match unit {
+        Ok(_) => None,
+        Err(e) => Some((0..end.offset(), e)),
+    }
+}
+
+/// The next error of a content with escapes.
+fn next_error<K: Unescape>(content: &mut Cooked<'_>) -> Option<(Range<usize>, EscapeError)>
+    ensures { YieldsFirst (λ c. errors_among (cooked_left K.kind c)) content.old result content.new }
+{
+    while let Some((range, unit)) = next_item::<K>(content) {
+        if let Err(e) = unit {
+            return Some((range, e));
+        }
+    }
+    None
+}
+
+/// The next error of a raw content.
+fn next_raw_error<K: CheckRaw>(place: &mut Place<'_>) -> Option<(Range<usize>, EscapeError)>
+    ensures { YieldsFirst (λ p. errors_among (raw_left K.raw_unit_of p)) place.old result place.new }
+{
+    while let Some((range, unit)) = next_raw_item::<K>(place) {
+        if let Err(e) = unit {
+            return Some((range, e));
+        }
+    }
+    None
+}
+
+/// The errors of a content that are left.
+#[derive(Drop)]
+pub struct CheckForErrors<'a> {
+    mode: Mode,
+    single: Option<(Range<usize>, EscapeError)>,
+    content: Cooked<'a>,
+}
+
+impl<'a> Model for CheckForErrors<'a> {
+    ghost use Rattle.std.specs.Prelude.{List};
+    ghost use Rattle.literal_escaper.specs.Errors.{Error};
+
+    ghost Value = { List Error };
+
+    ghost use Rattle.literal_escaper.specs.Left.{errors_left};
+
+    ghost view = { λ it. errors_left it.mode it.single it.content };
+}
+
+impl Iterator for CheckForErrors<'_> {
+    ghost use Rattle.std.specs.Iterator.{YieldsFirst, item_count};
+
+    type Item = (Range<usize>, EscapeError);
+
+    ghost next_gives = { YieldsFirst (λ left. left) };
+
+    ghost remaining = { item_count (λ left. left) };
+
+    fn next(&mut self) -> Option<(Range<usize>, EscapeError)> {
+        match self.mode {
+            Mode::Char | Mode::Byte => self.single.take(),
+            Mode::Str => next_error::<Str>(&mut self.content),
+            Mode::RawStr => next_raw_error::<Str>(&mut self.content.place),
+            Mode::ByteStr => next_error::<Bytes>(&mut self.content),
+            Mode::RawByteStr => next_raw_error::<Bytes>(&mut self.content.place),
+            Mode::CStr => next_error::<CStr>(&mut self.content),
+            Mode::RawCStr => next_raw_error::<CStr>(&mut self.content.place),
+        }
+    }
+}
+
+impl<'a> CheckForErrors<'a> {
+    /// The errors of the whole content.
+    fn new(src: &'a str, mode: Mode) -> Self
+        ensures { result ≡ errors_in mode (chars src.now) }
+    {
+        let single = match mode {
+            Mode::Char => error_of_single::<Str>(src),
+            Mode::Byte => error_of_single::<Bytes>(src),
+            _ => None,
+        };
+        CheckForErrors {
+            mode,
+            single,
+            content: Cooked::new(src),
+        }
+    }
+}
+
+/// The errors and warnings of a content of this kind, each with the range of bytes where it stands,
+/// by the rule `content-errors`. For a character or a byte there is one at most, from the front of the
+/// content to behind the last character that was read.
+///
+/// `abc` for a character gives 0..2 `MoreThanOneChar`; `a"` for a string gives 1..2 `EscapeOnlyChar`,
+/// and for a raw string nothing.
+pub fn check_for_errors(src: &str, mode: Mode) -> CheckForErrors<'_>
+    ensures value { result ≡ errors_in mode (chars src.now) }
+    ensures within { AreWithin src.now result }
+{
+    CheckForErrors::new(src, mode)
+}

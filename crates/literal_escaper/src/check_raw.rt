@@ -1,0 +1,148 @@
+//! The items of raw contents.
+
+ghost use Rattle.std.specs.Prelude.{◌≡◌, Ok};
+ghost use Rattle.std.specs.Str.{chars};
+ghost use Rattle.literal_escaper.specs.Items.{raw_items};
+ghost use Rattle.literal_escaper.specs.Kind.{any_char, ascii_byte};
+ghost use Rattle.literal_escaper.specs.Units.{raw_c_char};
+ghost use Rattle.literal_escaper.specs.Within.{AreWithin};
+
+use crate::errors::EscapeError;
+use crate::kind::{Bytes, CStr, Str};
+use crate::num::NonZeroChar;
+use crate::place::Place;
+use crate::raw::next_raw_item;
+use std::marker::Model;
+use std::ops::Range;
+
+/// The items of a raw string's content that are left.
+#[derive(Drop)]
+pub struct CheckRawStr<'a> {
+    place: Place<'a>,
+}
+
+impl<'a> Model for CheckRawStr<'a> {
+    ghost use Rattle.std.specs.Prelude.{ℕ, List};
+    ghost use Rattle.literal_escaper.specs.Items.{Item};
+    ghost use Rattle.literal_escaper.specs.Kind.{any_char};
+    ghost use Rattle.literal_escaper.specs.Reading.{raw_left};
+
+    ghost Value = { List (Item ℕ) };
+
+    ghost view = { λ it. raw_left any_char it.place };
+}
+
+impl Iterator for CheckRawStr<'_> {
+    ghost use Rattle.std.specs.Iterator.{YieldsFirst, item_count};
+
+    type Item = (Range<usize>, Result<char, EscapeError>);
+
+    ghost next_gives = { YieldsFirst (λ left. left) };
+
+    ghost remaining = { item_count (λ left. left) };
+
+    fn next(&mut self) -> Option<(Range<usize>, Result<char, EscapeError>)> {
+        next_raw_item::<Str>(&mut self.place)
+    }
+}
+
+/// The items of a raw string's content, one for each character: the range of bytes where it stands,
+/// and the character or what is wrong there, by the rules `raw-items` and `string-kind`.
+///
+/// `\n` gives 0..1 `\` and 1..2 `n`; a CR gives 0..1 `BareCarriageReturnInRawString`.
+pub fn check_raw_str(src: &str) -> CheckRawStr<'_>
+    ensures value { result ≡ raw_items any_char (chars src.now) }
+    ensures within { AreWithin src.now result }
+{
+    CheckRawStr {
+        place: Place::new(src),
+    }
+}
+
+/// The items of a raw byte string's content that are left.
+#[derive(Drop)]
+pub struct CheckRawByteStr<'a> {
+    place: Place<'a>,
+}
+
+impl<'a> Model for CheckRawByteStr<'a> {
+    ghost use Rattle.std.specs.Prelude.{ℕ, List};
+    ghost use Rattle.literal_escaper.specs.Items.{Item};
+    ghost use Rattle.literal_escaper.specs.Kind.{ascii_byte};
+    ghost use Rattle.literal_escaper.specs.Reading.{raw_left};
+
+    ghost Value = { List (Item ℕ) };
+
+    ghost view = { λ it. raw_left ascii_byte it.place };
+}
+
+impl Iterator for CheckRawByteStr<'_> {
+    ghost use Rattle.std.specs.Iterator.{YieldsFirst, item_count};
+
+    type Item = (Range<usize>, Result<u8, EscapeError>);
+
+    ghost next_gives = { YieldsFirst (λ left. left) };
+
+    ghost remaining = { item_count (λ left. left) };
+
+    fn next(&mut self) -> Option<(Range<usize>, Result<u8, EscapeError>)> {
+        next_raw_item::<Bytes>(&mut self.place)
+    }
+}
+
+/// The items of a raw byte string's content, as [`check_raw_str`] gives those of a raw string's, with
+/// bytes for units, by the rules `raw-items` and `byte-kind`.
+///
+/// `aé` gives 0..1 0x61 and 1..3 `NonAsciiCharInByte`.
+pub fn check_raw_byte_str(src: &str) -> CheckRawByteStr<'_>
+    ensures value { result ≡ raw_items ascii_byte (chars src.now) }
+    ensures within { AreWithin src.now result }
+{
+    CheckRawByteStr {
+        place: Place::new(src),
+    }
+}
+
+/// The items of a raw C string's content that are left.
+#[derive(Drop)]
+pub struct CheckRawCStr<'a> {
+    place: Place<'a>,
+}
+
+impl<'a> Model for CheckRawCStr<'a> {
+    ghost use Rattle.std.specs.Prelude.{ℕ, List};
+    ghost use Rattle.literal_escaper.specs.Items.{Item};
+    ghost use Rattle.literal_escaper.specs.Units.{raw_c_char};
+    ghost use Rattle.literal_escaper.specs.Reading.{raw_left};
+
+    ghost Value = { List (Item ℕ) };
+
+    ghost view = { λ it. raw_left raw_c_char it.place };
+}
+
+impl Iterator for CheckRawCStr<'_> {
+    ghost use Rattle.std.specs.Iterator.{YieldsFirst, item_count};
+
+    type Item = (Range<usize>, Result<NonZeroChar, EscapeError>);
+
+    ghost next_gives = { YieldsFirst (λ left. left) };
+
+    ghost remaining = { item_count (λ left. left) };
+
+    fn next(&mut self) -> Option<(Range<usize>, Result<NonZeroChar, EscapeError>)> {
+        next_raw_item::<CStr>(&mut self.place)
+    }
+}
+
+/// The items of a raw C string's content, as [`check_raw_str`] gives those of a raw string's, with
+/// characters other than NUL for units, by the rules `raw-items` and `c-kind`.
+///
+/// `a` and NUL give 0..1 `a` and 1..2 `NulInCStr`.
+pub fn check_raw_c_str(src: &str) -> CheckRawCStr<'_>
+    ensures value { result ≡ raw_items raw_c_char (chars src.now) }
+    ensures within { AreWithin src.now result }
+{
+    CheckRawCStr {
+        place: Place::new(src),
+    }
+}

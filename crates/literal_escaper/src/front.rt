@@ -1,0 +1,154 @@
+//! The front of a content with escapes.
+
+ghost use Rattle.std.specs.Prelude.{◌≡◌, ◌<◌, [], ◌∷◌, ◌++◌, IfNone, IfSome, IsFalse, MatchOption, length};
+ghost use Rattle.literal_escaper.specs.Character.{is_blank as blank, line_feed as line_end};
+ghost use Rattle.literal_escaper.specs.Items.{front, items_from, line_skip, unit_front, white_range};
+ghost use Rattle.literal_escaper.specs.Reading.{Gives, GivesFront, front_items, skips_line, text_at};
+ghost use Rattle.literal_escaper.specs.Text.{first_is, while_rest};
+
+use crate::errors::EscapeError;
+use crate::escape::escape;
+use crate::kind::Unescape;
+use crate::place::Place;
+use std::ops::Range;
+
+/// An item: the bytes where it stands, and a unit or what is wrong.
+pub type Item<U> = (Range<usize>, Result<U, EscapeError>);
+
+/// What the front of a content gives.
+#[derive(Drop)]
+pub struct Front<'a, U: Copy> {
+    /// The first item, if there is one.
+    pub item: Option<Item<U>>,
+    /// Where the warning about a white character stands that comes behind that item.
+    pub warning: Option<Range<usize>>,
+    /// The place behind the characters that were read for it.
+    pub after: Place<'a>,
+}
+
+/// Whether the character is skipped behind a line end with a backslash before it.
+fn is_blank(c: char) -> bool
+    ensures { result ≡ blank c }
+{
+    matches!(c, ' ' | '\t' | '\n' | '\r')
+}
+
+/// The place behind the blanks, and whether a line end is among them.
+fn skip_blanks(at: Place<'_>) -> (bool, Place<'_>)
+    ensures lines { result.0 ≡ skips_line (text_at at.entry) }
+    ensures rest { text_at result.1 ≡ while_rest blank (text_at at.entry) }
+    ensures end { result.1.end ≡ at.entry.end }
+{
+    let mut lines = false;
+    let mut after = at;
+    while let Some((c, next)) = after.advance() {
+        if !is_blank(c) {
+            break;
+        }
+        lines = lines || c == '\n';
+        after = next;
+    }
+    (lines, after)
+}
+
+/// From the place to behind the white character that stands at the other.
+fn unskipped_white(start: Place<'_>, after: Place<'_>) -> Option<Range<usize>>
+    requires { start.end ≡ after.end }
+    ensures { result ≡ white_range start.entry.end (text_at start.entry) (text_at after.entry) }
+{
+    let (c, past) = after.advance()?;
+    if c.is_whitespace() {
+        Some(start.offset()..past.offset())
+    } else {
+        None
+    }
+}
+
+/// The warnings about a backslash and LF at the place, behind which the line begins: no unit stands
+/// for them and the blanks that follow.
+#[tactic(auto, unfolding(crate::specs::Items::line_skip))]
+fn skip_line<'a, U: Copy>(at: Place<'a>, line: Place<'a>) -> Front<'a, U>
+    requires { at.end ≡ line.end }
+    ensures { GivesFront (line_skip at.entry.end (text_at at.entry) (text_at line.entry)) at.entry result.item result.warning result.after }
+{
+    let (lines, after) = skip_blanks(line);
+    let white = unskipped_white(at, after);
+    if lines {
+        let skipped = at.offset()..after.offset();
+        Front {
+            item: Some((skipped, Err(EscapeError::MultipleSkippedLinesWarning))),
+            warning: white,
+            after,
+        }
+    } else {
+        Front {
+            item: white.map(|range| (range, Err(EscapeError::UnskippedWhitespaceWarning))),
+            warning: None,
+            after,
+        }
+    }
+}
+
+/// The unit of a character and what follows it.
+fn read_unit<K: Unescape>(c: char, after: Place<'_>) -> (Result<K::Unit, EscapeError>, Place<'_>)
+    ensures { Gives (unit_front K.kind c (text_at after.entry)) after.entry result }
+{
+    match c {
+        '\\' => escape::<K>(after),
+        '"' => (Err(EscapeError::EscapeOnlyChar), after),
+        '\r' => (Err(EscapeError::BareCarriageReturn), after),
+        _ => (K::char2unit(c), after),
+    }
+}
+
+/// The place behind an LF.
+fn line_feed(at: Place<'_>) -> Option<Place<'_>>
+    ensures { MatchOption result (IsFalse (first_is line_end (text_at at.entry)))
+        (λ line. (text_at at.entry ≡ line_end ∷ text_at line) × (line.end ≡ at.entry.end)) }
+{
+    match at.advance() {
+        Some(('\n', line)) => Some(line),
+        _ => None,
+    }
+}
+
+/// What stands at the front of the content from the place on, unless nothing is left of it.
+#[tactic(auto, unfolding(crate::specs::Items::front))]
+pub fn read_front<K: Unescape>(at: Place<'_>) -> Option<Front<'_, K::Unit>>
+    ensures value { MatchOption result (text_at at.entry ≡ []) (λ x.
+        GivesFront (front K.kind at.entry.end (text_at at.entry)) at.entry x.item x.warning x.after) }
+    ensures more { IfSome result (λ x. 0 < length (text_at at.entry)) }
+{
+    let (c, after) = at.advance()?;
+    if c == '\\' {
+        if let Some(line) = line_feed(after) {
+            return Some(skip_line(at, line));
+        }
+    }
+    let (unit, rest) = read_unit::<K>(c, after);
+    Some(Front {
+        item: Some((at.offset()..rest.offset(), unit)),
+        warning: None,
+        after: rest,
+    })
+}
+
+/// The first front from the place on that gives an item, or else the end of the content.
+pub fn next_front<K: Unescape>(at: Place<'_>) -> Front<'_, K::Unit>
+    ensures left { items_from K.kind at.entry.end (text_at at.entry)
+        ≡ front_items result.item result.warning ++ items_from K.kind result.after.end (text_at result.after) }
+    ensures none { IfNone result.item ((result.warning ≡ None) × (text_at result.after ≡ [])) }
+{
+    let mut place = at;
+    while let Some(front) = read_front::<K>(place) {
+        if front.item.is_some() {
+            return front;
+        }
+        place = front.after;
+    }
+    Front {
+        item: None,
+        warning: None,
+        after: place,
+    }
+}

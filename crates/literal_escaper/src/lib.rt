@@ -1,0 +1,35 @@
+//! What the contents of literals stand for, item by item, and what is wrong with them.
+//!
+//! The rules are in docs/GRAMMAR.md under "Escaper items" and, exactly, in `specs/`. No call takes
+//! memory, and each one answers, whatever the text.
+#![tactic(auto)]
+
+mod check;
+mod check_raw;
+mod cooked;
+mod errors;
+mod escape;
+mod front;
+mod kind;
+mod mixed_unit;
+mod mode;
+mod num;
+mod place;
+mod raw;
+mod single;
+#[cfg(test)]
+mod tests;
+mod unescape;
+
+pub use crate::check::{CheckForErrors, check_for_errors};
+pub use crate::check_raw::{
+    CheckRawByteStr, CheckRawCStr, CheckRawStr, check_raw_byte_str, check_raw_c_str, check_raw_str,
+};
+pub use crate::errors::EscapeError;
+pub use crate::mixed_unit::MixedUnit;
+pub use crate::mode::Mode;
+pub use crate::num::{NonZeroChar, NonZeroU8};
+pub use crate::unescape::{
+    UnescapeByteStr, UnescapeCStr, UnescapeStr, unescape_byte, unescape_byte_str, unescape_c_str,
+    unescape_char, unescape_str,
+};

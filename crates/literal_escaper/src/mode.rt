@@ -1,0 +1,47 @@
+//! Kinds of literals.
+
+ghost use Rattle.std.specs.Prelude.{◌≡◌};
+ghost use Rattle.literal_escaper.specs.Mode.{is_double_quoted, prefix};
+
+/// A kind of literal whose content can be checked for errors.
+#[derive(Clone, Copy, Debug, PartialEq, Eq)]
+pub enum Mode {
+    /// A character: `'a'`.
+    Char,
+    /// A byte: `b'a'`.
+    Byte,
+    /// A string: `"a"`.
+    Str,
+    /// A raw string: `r"a"`.
+    RawStr,
+    /// A byte string: `b"a"`.
+    ByteStr,
+    /// A raw byte string: `br"a"`.
+    RawByteStr,
+    /// A C string: `c"a"`.
+    CStr,
+    /// A raw C string: `cr"a"`.
+    RawCStr,
+}
+
+impl Mode {
+    /// Whether such a literal stands between double quotes: `false` for a character and a byte, and
+    /// `true` for the rest.
+    pub fn in_double_quotes(self) -> bool
+        ensures { result ≡ is_double_quoted self }
+    {
+        !matches!(self, Mode::Char | Mode::Byte)
+    }
+
+    /// What stands before the literal's first quote or its `r`: `b`, `c` or nothing. `c` for a C
+    /// string, also a raw one.
+    pub fn prefix_noraw(self) -> &'static str
+        ensures { result.now ≡ prefix self }
+    {
+        match self {
+            Mode::Char | Mode::Str | Mode::RawStr => "",
+            Mode::Byte | Mode::ByteStr | Mode::RawByteStr => "b",
+            Mode::CStr | Mode::RawCStr => "c",
+        }
+    }
+}

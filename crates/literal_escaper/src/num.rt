@@ -1,0 +1,77 @@
+//! Values other than zero.
+
+use std::marker::Model;
+
+/// A character other than NUL.
+#[derive(Clone, Copy, Debug, PartialEq, Eq)]
+pub struct NonZeroChar(char);
+
+impl Model for NonZeroChar {
+    ghost use Rattle.std.specs.Prelude.{ℕ, ◌<◌};
+
+    ghost Value = { ℕ };
+
+    ghost view = { λ c. c.0 };
+
+    ghost invariant = { λ c. 0 < c.0 };
+
+    ghost inverse = { λ n. record { 0 = n } };
+}
+
+impl NonZeroChar {
+    ghost use Rattle.std.specs.Prelude.{◌≡◌, ◌<◌, MatchOption};
+
+    /// The character, unless it is NUL: `a` for `a`, and `None` for U+0000.
+    pub fn new(ch: char) -> Option<NonZeroChar>
+        ensures { MatchOption result (ch ≡ 0) (λ c. (c ≡ ch) × (0 < ch)) }
+    {
+        if ch == '\0' {
+            None
+        } else {
+            Some(NonZeroChar(ch))
+        }
+    }
+
+    /// The character itself.
+    pub fn get(self) -> char
+        ensures value { result ≡ self }
+        ensures within { 0 < result }
+    {
+        self.0
+    }
+}
+
+/// A byte other than zero.
+#[derive(Clone, Copy, Debug, PartialEq, Eq)]
+pub struct NonZeroU8(u8);
+
+impl Model for NonZeroU8 {
+    ghost use Rattle.std.specs.Prelude.{ℕ, ◌<◌};
+
+    ghost Value = { ℕ };
+
+    ghost view = { λ b. b.0 };
+
+    ghost invariant = { λ b. 0 < b.0 };
+
+    ghost inverse = { λ n. record { 0 = n } };
+}
+
+impl NonZeroU8 {
+    ghost use Rattle.std.specs.Prelude.{◌≡◌, ◌<◌, MatchOption};
+
+    /// The byte, unless it is zero: 1 for 1, and `None` for 0.
+    pub fn new(n: u8) -> Option<NonZeroU8>
+        ensures { MatchOption result (n ≡ 0) (λ b. (b ≡ n) × (0 < n)) }
+    {
+        if n == 0 { None } else { Some(NonZeroU8(n)) }
+    }
+
+    /// The byte itself.
+    pub fn get(self) -> u8
+        ensures value { result ≡ self }
+        ensures within { 0 < result }
+    {
+        self.0
+    }
+}

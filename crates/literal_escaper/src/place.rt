@@ -1,0 +1,64 @@
+//! Places in a content.
+
+ghost use Rattle.std.specs.Prelude.{◌≡◌, ◌∷◌, [], ◌≤◌, IfSome, MatchOption, length};
+ghost use Rattle.std.specs.Str.{IsUtf8, chars};
+
+/// The first character of a text, and the text after it.
+#[tactic(auto, using(std::proofs::lemmas::Str::chars_past_char))]
+fn split_first(text: &str) -> Option<(char, &str)>
+    ensures split { MatchOption result (chars text.now ≡ []) (λ x. chars text.now ≡ x.0 ∷ chars x.1.now) }
+    ensures utf8 { IfSome result (λ x. IsUtf8 x.1.now) }
+    ensures shorter { IfSome result (λ x. length x.1.now ≤ length text.now) }
+{
+    let mut characters = text.chars();
+    let first = characters.next()?;
+    Some((first, characters.as_str()))
+}
+
+/// A place in a content.
+#[derive(Clone, Copy)]
+pub struct Place<'a> {
+    /// What follows the place.
+    pub rest: &'a str,
+    /// How many bytes the whole content has.
+    pub end: usize,
+    // The rest is a text, and an end of the content.
+    pub ghost text: { ∥ IsUtf8 rest.now ∥₁ },
+    pub ghost within: { length rest.now ≤ end },
+}
+
+impl<'a> Place<'a> {
+    ghost use Rattle.literal_escaper.specs.Items.{offset};
+    ghost use Rattle.literal_escaper.specs.Text.{bytes};
+
+    /// The front of a content.
+    pub fn new(content: &'a str) -> Self
+        ensures rest { chars result.rest.now ≡ chars content.now }
+        ensures end { result.end ≡ bytes (chars content.now) }
+    {
+        Place {
+            rest: content,
+            end: content.len(),
+        }
+    }
+
+    /// How many bytes of the content stand before the place.
+    pub fn offset(self) -> usize
+        ensures { result ≡ offset self.entry.end (chars self.entry.rest.now) }
+    {
+        self.end - self.rest.len()
+    }
+
+    /// The character after the place, and the place after that character.
+    pub fn advance(self) -> Option<(char, Self)>
+        ensures { MatchOption result (chars self.entry.rest.now ≡ []) (λ x.
+            (chars self.entry.rest.now ≡ x.0 ∷ chars x.1.rest.now) × (x.1.end ≡ self.entry.end)) }
+    {
+        let (first, rest) = split_first(self.rest)?;
+        let after = Place {
+            rest,
+            end: self.end,
+        };
+        Some((first, after))
+    }
+}

@@ -1,0 +1,33 @@
+//! Raw contents.
+
+ghost use Rattle.std.specs.Prelude.{◌≡◌};
+ghost use Rattle.std.specs.Iterator.{YieldsFirst};
+ghost use Rattle.literal_escaper.specs.Items.{raw_unit};
+ghost use Rattle.literal_escaper.specs.Reading.{raw_left};
+
+use crate::errors::EscapeError;
+use crate::front::Item;
+use crate::kind::CheckRaw;
+use crate::place::Place;
+
+/// The unit of a character of a raw content.
+fn unit<K: CheckRaw>(c: char) -> Result<K::RawUnit, EscapeError>
+    ensures { result ≡ raw_unit K.raw_unit_of c }
+{
+    if c == '\r' {
+        Err(EscapeError::BareCarriageReturnInRawString)
+    } else {
+        K::char2raw_unit(c)
+    }
+}
+
+/// The next item of a raw content, and the place behind it.
+#[tactic(auto, unfolding(crate::specs::Items::raw_items_from))]
+pub fn next_raw_item<K: CheckRaw>(place: &mut Place<'_>) -> Option<Item<K::RawUnit>>
+    ensures { YieldsFirst (raw_left K.raw_unit_of) place.old result place.new }
+{
+    let (c, after) = place.advance()?;
+    let range = place.offset()..after.offset();
+    *place = after;
+    Some((range, unit::<K>(c)))
+}

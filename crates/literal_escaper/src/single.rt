@@ -1,0 +1,40 @@
+//! Contents that are one unit.
+
+ghost use Rattle.std.specs.Prelude.{◌≡◌, Result};
+ghost use Rattle.literal_escaper.specs.Reading.{Gives, text_at};
+ghost use Rattle.literal_escaper.specs.Single.{only, single, single_front};
+
+use crate::errors::EscapeError;
+use crate::escape::escape;
+use crate::kind::Unescape;
+use crate::place::Place;
+
+/// The unit of a character and what follows it.
+fn first_unit<K: Unescape>(c: char, after: Place<'_>) -> (Result<K::Unit, EscapeError>, Place<'_>)
+    ensures { Gives (single_front K.kind c (text_at after.entry)) after.entry result }
+{
+    match c {
+        '\\' => escape::<K>(after),
+        '\n' | '\t' | '\'' => (Err(EscapeError::EscapeOnlyChar), after),
+        '\r' => (Err(EscapeError::BareCarriageReturn), after),
+        _ => (K::char2unit(c), after),
+    }
+}
+
+/// The one unit of the content, by the rule `single-item`, and the place behind what was read.
+#[tactic(auto, unfolding(crate::specs::Single::single))]
+pub fn unescape_single<K: Unescape>(at: Place<'_>) -> (Result<K::Unit, EscapeError>, Place<'_>)
+    ensures { Gives (single K.kind (text_at at.entry)) at.entry result }
+{
+    let Some((c, after)) = at.advance() else {
+        return (Err(EscapeError::ZeroChars), at);
+    };
+    let (unit, end) = first_unit::<K>(c, after);
+    if unit.is_err() {
+        return (unit, end);
+    }
+    match end.advance() {
+        None => (unit, end),
+        Some((_, past)) => (Err(EscapeError::MoreThanOneChar), past),
+    }
+}

@@ -1,0 +1,11 @@
+-- Which groups one can read in a printed text.
+use Rattle.std.specs.Prelude.{Bool, true, false}
+use Rattle.pm_token.specs.declared.delimiters.Delimiter.{Delimiter}
+use Rattle.pm_token.specs.declared.delimiters.Delimiter.TheVariants.{Parenthesis, Brace, Bracket, None}
+
+-- whether a group with the delimiter shows where it begins and ends
+abbrev pub is_shown : Delimiter → Bool
+is_shown Parenthesis = true
+is_shown Brace = true
+is_shown Bracket = true
+is_shown None = false

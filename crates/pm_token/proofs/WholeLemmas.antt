@@ -1,0 +1,88 @@
+-- Literals by themselves.
+use Rattle.std.proofs.Common.{◌≡◌, ◌≢◌, ◌↔◌, ℕ, Bool, true, false, ◌==◌, List, [], ◌∷◌, ◌++◌, length, Option, Some, None, IfSome, IfNone, MatchOption, Bor, IsTrue, eqb, refl, sym, ap, ◌∙◌, subst, arith, inl, inr, drop, append-nil, length-append, eqb-true}
+use Rattle.std.specs.Option.{option_eq}
+use Rattle.std.specs.Char.{is_ascii_digit}
+use Rattle.std.specs.Str.{chars, IsUtf8, encode_utf8_all}
+use Rattle.std.proofs.lemmas.Bool.{both_ways, false_from_ne_true, eq-eqb}
+use Rattle.std.proofs.lemmas.Str.{encodes-chars, encodes-append, encode_ascii, chars_past_char, length-le-encodes}
+use Rattle.lexical.specs.Form.{HasNone}
+use Rattle.lexical.specs.Found.{IsAt}
+use Rattle.lexical.specs.Literal.{Literal, IsWhole}
+use Rattle.lexical.specs.Quoted.{is_one_of}
+use Rattle.lexical.specs.Text.{first_passes}
+use Rattle.lexical.specs.PieceFinder.{find_literal}
+use Rattle.lexical.proofs.FinderLemmas.{one_split}
+use Rattle.lexical.proofs.LiteralFinderLemmas.{finds_literal, literal_front, literal_fronts}
+use Rattle.pm_token.specs.LiteralText.{IsByItself, IsLiteralText}
+
+-- what stands by itself may be the text of a literal
+pub literal_text : (text : List ℕ) → IsByItself text → IsLiteralText text
+unfolding IsWhole
+literal_text text (inl literal) = inl (inl literal)
+literal_text text (inr negative) = inr negative
+
+-- ---- a literal that is the whole text
+
+no_bytes : (rest : List ℕ) → length (encode_utf8_all rest) ≡ 0 → rest ≡ []
+no_bytes [] e = refl
+no_bytes (c ∷ rest) e = absurd (omega (arith, length-le-encodes (c ∷ rest)))
+
+-- the literal at the front of a text is the whole text, or the text is none
+pub whole_literal : (text : List ℕ) (found : Option ℕ) → IsUtf8 text → IfSome found (IsAt Literal (chars text)) → IfNone found (HasNone Literal (chars text))
+    → IsTrue (option_eq eqb found (Some (length text))) ↔ Literal (chars text) []
+whole_literal text None utf8 some none = (λ h. absurd (both_ways _ refl h), λ is. absurd (none (chars text) [] (sym (append-nil (chars text))) is))
+whole_literal text (Some n) utf8 at none = (from_all, to_all)
+  where
+    bytes : encode_utf8_all at.front ++ encode_utf8_all at.rest ≡ text
+    bytes = sym (encodes-append at.front at.rest) ∙ (ap encode_utf8_all (sym at.whole) ∙ encodes-chars text utf8)
+
+    from_all : IsTrue (n == length text) → Literal (chars text) []
+    from_all h =
+        let all : n ≡ length text = eqb-true n (length text) h in
+        let nothing : at.rest ≡ [] = no_bytes at.rest (omega (arith, all, at.size, ap length bytes, length-append (encode_utf8_all at.front) (encode_utf8_all at.rest))) in
+        let front : chars text ≡ at.front = at.whole ∙ (ap (λ r. at.front ++ r) nothing ∙ append-nil at.front) in
+        subst (λ p. Literal p []) (sym front) (subst (Literal at.front) nothing at.stands)
+
+    to_all : Literal (chars text) [] → IsTrue (n == length text)
+    to_all is =
+        let same = one_split find_literal Literal finds_literal (chars text) at.front [] at.rest is at.stands (append-nil (chars text) ∙ at.whole) in
+        eq-eqb n (length text) (at.size ∙ (ap (λ p. length (encode_utf8_all p)) (sym same.0) ∙ ap length (encodes-chars text utf8)))
+
+-- ---- the sign before a literal
+
+begins_minus : (cs : List ℕ) → first_passes (λ c. c == 45) cs ≡ true → (rest : List ℕ) × (cs ≡ 45 ∷ rest)
+begins_minus [] h = absurd (both_ways _ refl h)
+begins_minus (c ∷ cs) h = (cs, ap (λ d. d ∷ cs) (eqb-true c 45 h))
+
+-- what stands behind the `-`, in bytes and in characters
+pub minus_stripped : (text : List ℕ) (r : Option (Bor (List ℕ))) → IsUtf8 text → MatchOption r ((rest : List ℕ) → text ≢ 45 ∷ rest) (λ x. text ≡ 45 ∷ x.now)
+    → MatchOption r (first_passes (λ c. c == 45) (chars text) ≡ false) (λ x. chars text ≡ 45 ∷ chars x.now)
+minus_stripped text None utf8 none = false_from_ne_true _ (λ h.
+    let at = begins_minus (chars text) h in
+    none (encode_utf8_all at.0) (sym (encodes-chars text utf8) ∙ (ap encode_utf8_all at.1 ∙ ap (λ bytes. bytes ++ encode_utf8_all at.0) (encode_ascii 45 (omega arith)))))
+minus_stripped text (Some x) utf8 e = chars_past_char text x.now 45 utf8 (e ∙ ap (λ bytes. bytes ++ x.now) (sym (encode_ascii 45 (omega arith))))
+
+-- no literal of the grammar begins with `-`
+no_minus : (number : List ℕ) → Literal (45 ∷ number) [] → ⊥
+no_minus number is =
+    let at = literal_front (45 ∷ number) [] is in
+    let head : 45 ≡ at.0 = cc in
+    both_ways (is_one_of literal_fronts 45) refl (ap (is_one_of literal_fronts) head ∙ at.3)
+
+-- with a `-` a literal by itself is a literal behind it
+negative_of : (text number : List ℕ) → text ≡ 45 ∷ number → IsByItself text → Literal number [] × (first_passes is_ascii_digit number ≡ true)
+negative_of text number split (inl other) = absurd (no_minus number (subst (λ p. Literal p []) split other))
+negative_of text number split (inr negative) =
+    let same : negative.number ≡ number = ap (drop 1) (sym negative.whole ∙ split) in
+    (subst (λ p. Literal p []) same negative.literal, ap (first_passes is_ascii_digit) (sym same) ∙ negative.digit)
+
+-- where a digit follows the `-`
+pub minus_digit : (text number : List ℕ) (literal : Bool) → text ≡ 45 ∷ number → first_passes is_ascii_digit number ≡ true → (IsTrue literal ↔ Literal number []) → IsTrue literal ↔ IsByItself text
+minus_digit text number literal split digit is = (
+  λ h. inr (record { number = number; whole = split; literal = is.0 h; digit = digit }),
+  λ by_itself. is.1 (negative_of text number split by_itself).0,
+)
+
+-- where none does
+pub minus_other : (text number : List ℕ) (digit : Bool) → text ≡ 45 ∷ number → first_passes is_ascii_digit number ≡ false → digit ≡ false → IsTrue digit ↔ IsByItself text
+minus_other text number digit split other e = (λ h. absurd (both_ways _ e h), λ by_itself. absurd (both_ways _ other (negative_of text number split by_itself).1))

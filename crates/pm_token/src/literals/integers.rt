@@ -1,0 +1,287 @@
+//! The literals of integers.
+ghost use Rattle.std.specs.Prelude.{◌≡◌, ◌++◌, IfOk, codes};
+ghost use Rattle.std.specs.Fmt.{decimal, signed_decimal};
+ghost use Rattle.pm_span.specs.Extent.{nowhere};
+ghost use Rattle.pm_token.specs.Integer.{suffix_text};
+
+use crate::literals::Literal;
+use crate::symbols::Symbol;
+use pm_span::Span;
+use std::alloc::{AllocError, Global};
+
+/// What stands behind the digits of a number: nothing, or the name of a type.
+#[derive(Clone, Copy)]
+enum Suffix {
+    /// Nothing.
+    Nothing,
+    /// `u8`.
+    U8,
+    /// `u16`.
+    U16,
+    /// `u32`.
+    U32,
+    /// `u64`.
+    U64,
+    /// `u128`.
+    U128,
+    /// `usize`.
+    Usize,
+    /// `i8`.
+    I8,
+    /// `i16`.
+    I16,
+    /// `i32`.
+    I32,
+    /// `i64`.
+    I64,
+    /// `i128`.
+    I128,
+    /// `isize`.
+    Isize,
+}
+
+impl Suffix {
+    /// The suffix as it is written.
+    fn name(self) -> &'static str
+        ensures { result.now ≡ suffix_text self }
+    {
+        match self {
+            Suffix::Nothing => "",
+            Suffix::U8 => "u8",
+            Suffix::U16 => "u16",
+            Suffix::U32 => "u32",
+            Suffix::U64 => "u64",
+            Suffix::U128 => "u128",
+            Suffix::Usize => "usize",
+            Suffix::I8 => "i8",
+            Suffix::I16 => "i16",
+            Suffix::I32 => "i32",
+            Suffix::I64 => "i64",
+            Suffix::I128 => "i128",
+            Suffix::Isize => "isize",
+        }
+    }
+}
+
+/// The literal of a number without a sign.
+fn unsigned(alloc: Global, value: u128, suffix: Suffix) -> Result<Literal, AllocError>
+    ensures ok { IfOk result (λ literal.
+        literal ≡ record { text = decimal value ++ suffix_text suffix; span = nowhere }) }
+{
+    let suffix = suffix.name();
+    Ok(Literal {
+        text: Symbol::from_string(format!(in alloc; "{value}{suffix}")?),
+        span: Span::call_site(),
+    })
+}
+
+/// The literal of a number, with `-` before it where it is negative.
+fn signed(alloc: Global, value: i128, suffix: Suffix) -> Result<Literal, AllocError>
+    ensures ok { IfOk result (λ literal.
+        literal ≡ record { text = signed_decimal value ++ suffix_text suffix; span = nowhere }) }
+{
+    let suffix = suffix.name();
+    Ok(Literal {
+        text: Symbol::from_string(format!(in alloc; "{value}{suffix}")?),
+        span: Span::call_site(),
+    })
+}
+
+// Each has the span 0..0 and fails where memory runs out. Without a suffix the literal is the
+// decimal text of the number, by the rule `integer-text`, and with one the type's name follows it.
+impl Literal {
+    /// The literal of the number, without its type. For 255 it is `255`.
+    pub fn u8_unsuffixed(alloc: Global, value: u8) -> Result<Literal, AllocError>
+        ensures ok { IfOk result (λ literal.
+            literal ≡ record { text = decimal value; span = nowhere }) }
+    {
+        unsigned(alloc, u128::from(value), Suffix::Nothing)
+    }
+
+    /// The literal of the number, without its type. For 65535 it is `65535`.
+    pub fn u16_unsuffixed(alloc: Global, value: u16) -> Result<Literal, AllocError>
+        ensures ok { IfOk result (λ literal.
+            literal ≡ record { text = decimal value; span = nowhere }) }
+    {
+        unsigned(alloc, u128::from(value), Suffix::Nothing)
+    }
+
+    /// The literal of the number, without its type. For 3 it is `3`.
+    pub fn u32_unsuffixed(alloc: Global, value: u32) -> Result<Literal, AllocError>
+        ensures ok { IfOk result (λ literal.
+            literal ≡ record { text = decimal value; span = nowhere }) }
+    {
+        unsigned(alloc, u128::from(value), Suffix::Nothing)
+    }
+
+    /// The literal of the number, without its type. For 10 it is `10`.
+    pub fn u64_unsuffixed(alloc: Global, value: u64) -> Result<Literal, AllocError>
+        ensures ok { IfOk result (λ literal.
+            literal ≡ record { text = decimal value; span = nowhere }) }
+    {
+        unsigned(alloc, u128::from(value), Suffix::Nothing)
+    }
+
+    /// The literal of the number, without its type. For 7 it is `7`.
+    pub fn u128_unsuffixed(alloc: Global, value: u128) -> Result<Literal, AllocError>
+        ensures ok { IfOk result (λ literal.
+            literal ≡ record { text = decimal value; span = nowhere }) }
+    {
+        unsigned(alloc, value, Suffix::Nothing)
+    }
+
+    /// The literal of the number, without its type. For 0 it is `0`.
+    pub fn usize_unsuffixed(alloc: Global, value: usize) -> Result<Literal, AllocError>
+        ensures ok { IfOk result (λ literal.
+            literal ≡ record { text = decimal value; span = nowhere }) }
+    {
+        unsigned(alloc, value as u128, Suffix::Nothing)
+    }
+
+    /// The literal of the number and `u8`. For 255 it is `255u8`.
+    pub fn u8_suffixed(alloc: Global, value: u8) -> Result<Literal, AllocError>
+        ensures ok { IfOk result (λ literal.
+            literal ≡ record { text = decimal value ++ codes "u8"; span = nowhere }) }
+    {
+        unsigned(alloc, u128::from(value), Suffix::U8)
+    }
+
+    /// The literal of the number and `u16`. For 65535 it is `65535u16`.
+    pub fn u16_suffixed(alloc: Global, value: u16) -> Result<Literal, AllocError>
+        ensures ok { IfOk result (λ literal.
+            literal ≡ record { text = decimal value ++ codes "u16"; span = nowhere }) }
+    {
+        unsigned(alloc, u128::from(value), Suffix::U16)
+    }
+
+    /// The literal of the number and `u32`. For 3 it is `3u32`.
+    pub fn u32_suffixed(alloc: Global, value: u32) -> Result<Literal, AllocError>
+        ensures ok { IfOk result (λ literal.
+            literal ≡ record { text = decimal value ++ codes "u32"; span = nowhere }) }
+    {
+        unsigned(alloc, u128::from(value), Suffix::U32)
+    }
+
+    /// The literal of the number and `u64`. For 10 it is `10u64`.
+    pub fn u64_suffixed(alloc: Global, value: u64) -> Result<Literal, AllocError>
+        ensures ok { IfOk result (λ literal.
+            literal ≡ record { text = decimal value ++ codes "u64"; span = nowhere }) }
+    {
+        unsigned(alloc, u128::from(value), Suffix::U64)
+    }
+
+    /// The literal of the number and `u128`. For 7 it is `7u128`.
+    pub fn u128_suffixed(alloc: Global, value: u128) -> Result<Literal, AllocError>
+        ensures ok { IfOk result (λ literal.
+            literal ≡ record { text = decimal value ++ codes "u128"; span = nowhere }) }
+    {
+        unsigned(alloc, value, Suffix::U128)
+    }
+
+    /// The literal of the number and `usize`. For 0 it is `0usize`.
+    pub fn usize_suffixed(alloc: Global, value: usize) -> Result<Literal, AllocError>
+        ensures ok { IfOk result (λ literal.
+            literal ≡ record { text = decimal value ++ codes "usize"; span = nowhere }) }
+    {
+        unsigned(alloc, value as u128, Suffix::Usize)
+    }
+
+    /// The literal of the number, without its type. For -128 it is `-128`.
+    pub fn i8_unsuffixed(alloc: Global, value: i8) -> Result<Literal, AllocError>
+        ensures ok { IfOk result (λ literal.
+            literal ≡ record { text = signed_decimal value; span = nowhere }) }
+    {
+        signed(alloc, i128::from(value), Suffix::Nothing)
+    }
+
+    /// The literal of the number, without its type. For -3 it is `-3`.
+    pub fn i16_unsuffixed(alloc: Global, value: i16) -> Result<Literal, AllocError>
+        ensures ok { IfOk result (λ literal.
+            literal ≡ record { text = signed_decimal value; span = nowhere }) }
+    {
+        signed(alloc, i128::from(value), Suffix::Nothing)
+    }
+
+    /// The literal of the number, without its type. For -3 it is `-3`.
+    pub fn i32_unsuffixed(alloc: Global, value: i32) -> Result<Literal, AllocError>
+        ensures ok { IfOk result (λ literal.
+            literal ≡ record { text = signed_decimal value; span = nowhere }) }
+    {
+        signed(alloc, i128::from(value), Suffix::Nothing)
+    }
+
+    /// The literal of the number, without its type. For 12 it is `12`.
+    pub fn i64_unsuffixed(alloc: Global, value: i64) -> Result<Literal, AllocError>
+        ensures ok { IfOk result (λ literal.
+            literal ≡ record { text = signed_decimal value; span = nowhere }) }
+    {
+        signed(alloc, i128::from(value), Suffix::Nothing)
+    }
+
+    /// The literal of the number, without its type. For -1 it is `-1`.
+    pub fn i128_unsuffixed(alloc: Global, value: i128) -> Result<Literal, AllocError>
+        ensures ok { IfOk result (λ literal.
+            literal ≡ record { text = signed_decimal value; span = nowhere }) }
+    {
+        signed(alloc, value, Suffix::Nothing)
+    }
+
+    /// The literal of the number, without its type. For 0 it is `0`.
+    pub fn isize_unsuffixed(alloc: Global, value: isize) -> Result<Literal, AllocError>
+        ensures ok { IfOk result (λ literal.
+            literal ≡ record { text = signed_decimal value; span = nowhere }) }
+    {
+        signed(alloc, value as i128, Suffix::Nothing)
+    }
+
+    /// The literal of the number and `i8`. For -128 it is `-128i8`.
+    pub fn i8_suffixed(alloc: Global, value: i8) -> Result<Literal, AllocError>
+        ensures ok { IfOk result (λ literal.
+            literal ≡ record { text = signed_decimal value ++ codes "i8"; span = nowhere }) }
+    {
+        signed(alloc, i128::from(value), Suffix::I8)
+    }
+
+    /// The literal of the number and `i16`. For -3 it is `-3i16`.
+    pub fn i16_suffixed(alloc: Global, value: i16) -> Result<Literal, AllocError>
+        ensures ok { IfOk result (λ literal.
+            literal ≡ record { text = signed_decimal value ++ codes "i16"; span = nowhere }) }
+    {
+        signed(alloc, i128::from(value), Suffix::I16)
+    }
+
+    /// The literal of the number and `i32`. For -3 it is `-3i32`.
+    pub fn i32_suffixed(alloc: Global, value: i32) -> Result<Literal, AllocError>
+        ensures ok { IfOk result (λ literal.
+            literal ≡ record { text = signed_decimal value ++ codes "i32"; span = nowhere }) }
+    {
+        signed(alloc, i128::from(value), Suffix::I32)
+    }
+
+    /// The literal of the number and `i64`. For 12 it is `12i64`.
+    pub fn i64_suffixed(alloc: Global, value: i64) -> Result<Literal, AllocError>
+        ensures ok { IfOk result (λ literal.
+            literal ≡ record { text = signed_decimal value ++ codes "i64"; span = nowhere }) }
+    {
+        signed(alloc, i128::from(value), Suffix::I64)
+    }
+
+    /// The literal of the number and `i128`. For -1 it is `-1i128`.
+    pub fn i128_suffixed(alloc: Global, value: i128) -> Result<Literal, AllocError>
+        ensures ok { IfOk result (λ literal.
+            literal ≡ record { text = signed_decimal value ++ codes "i128"; span = nowhere }) }
+    {
+        signed(alloc, value, Suffix::I128)
+    }
+
+    /// The literal of the number and `isize`. For 0 it is `0isize`.
+    pub fn isize_suffixed(alloc: Global, value: isize) -> Result<Literal, AllocError>
+        ensures ok { IfOk result (λ literal.
+            literal ≡ record { text = signed_decimal value ++ codes "isize"; span = nowhere }) }
+    {
+        signed(alloc, value as i128, Suffix::Isize)
+    }
+}
+
+#[cfg(test)]
+mod tests;

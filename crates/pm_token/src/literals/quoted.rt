@@ -1,0 +1,109 @@
+//! The literals of texts, characters and bytes.
+ghost use Rattle.std.specs.Prelude.{◌≡◌, IfOk, IsTrue};
+ghost use Rattle.std.specs.Str.{chars};
+ghost use Rattle.pm_span.specs.Extent.{nowhere};
+ghost use Rattle.pm_token.specs.CString.{IsCStringText, has_no_zero};
+ghost use Rattle.pm_token.specs.Escaped.{byte_string_text, byte_text, character_text, string_text};
+
+use crate::escapes::Draft;
+use crate::literals::Literal;
+use pm_span::Span;
+use std::alloc::{AllocError, Global};
+
+// Each has the span 0..0, unless it is handed one, and fails where memory runs out.
+impl Literal {
+    /// The string literal of the text, by the rule `string-text`. For CR, a quote and U+0301 it is
+    /// `"\r\"\u{301}"`.
+    pub fn string(alloc: Global, text: &str) -> Result<Literal, AllocError>
+        ensures ok { IfOk result (λ literal.
+            literal ≡ record { text = string_text (chars text.now); span = nowhere }) }
+    {
+        Literal::string_at(alloc, text, Span::call_site())
+    }
+
+    /// The string literal of the text, where it stands.
+    pub(crate) fn string_at(alloc: Global, text: &str, span: Span) -> Result<Literal, AllocError>
+        ensures ok { IfOk result (λ literal.
+            literal ≡ record { text = string_text (chars text.now); span = span }) }
+    {
+        let mut draft = Draft::new(alloc);
+        draft.push('"')?;
+        draft.push_content('"', text)?;
+        draft.push('"')?;
+        Ok(Literal {
+            text: draft.finish(),
+            span,
+        })
+    }
+
+    /// The literal of the character, by the rule `character-text`. For `'` it is `'\''`, for `"` it
+    /// is `'"'`.
+    pub fn character(alloc: Global, c: char) -> Result<Literal, AllocError>
+        ensures ok { IfOk result (λ literal.
+            literal ≡ record { text = character_text c; span = nowhere }) }
+    {
+        let mut draft = Draft::new(alloc);
+        draft.push('\'')?;
+        draft.push_escaped('\'', c, "")?;
+        draft.push('\'')?;
+        Ok(Literal {
+            text: draft.finish(),
+            span: Span::call_site(),
+        })
+    }
+
+    /// The literal of the byte, by the rule `byte-text`. For 0x1F it is `b'\x1F'`.
+    pub fn byte_character(alloc: Global, byte: u8) -> Result<Literal, AllocError>
+        ensures ok { IfOk result (λ literal.
+            literal ≡ record { text = byte_text byte; span = nowhere }) }
+    {
+        let mut draft = Draft::new(alloc);
+        draft.push('b')?;
+        draft.push('\'')?;
+        draft.push_byte(b'\'', byte, &[])?;
+        draft.push('\'')?;
+        Ok(Literal {
+            text: draft.finish(),
+            span: Span::call_site(),
+        })
+    }
+
+    /// The byte string literal of the bytes, by the rule `byte-string-text`. For `"`, 0 and `7` it
+    /// is `b"\"\x007"`.
+    pub fn byte_string(alloc: Global, bytes: &[u8]) -> Result<Literal, AllocError>
+        ensures ok { IfOk result (λ literal.
+            literal ≡ record { text = byte_string_text bytes.now; span = nowhere }) }
+    {
+        let mut draft = Draft::new(alloc);
+        draft.push('b')?;
+        draft.push('"')?;
+        draft.push_bytes(b'"', bytes)?;
+        draft.push('"')?;
+        Ok(Literal {
+            text: draft.finish(),
+            span: Span::call_site(),
+        })
+    }
+
+    /// The C string literal of the bytes, none of which is zero, by the rule `c-string-text`: the
+    /// zero that ends a C string is no part of its literal. For 0x7F, 0xFF and the bytes of U+0333
+    /// it is `c"\u{7f}\xFF\u{333}"`.
+    pub fn c_string(alloc: Global, bytes: &[u8]) -> Result<Literal, AllocError>
+        requires { IsTrue (has_no_zero bytes.now) }
+        ensures ok { IfOk result (λ literal.
+            IsCStringText bytes.now literal.text × (literal.span ≡ nowhere)) }
+    {
+        let mut draft = Draft::new(alloc);
+        draft.push('c')?;
+        draft.push('"')?;
+        draft.push_c_string(bytes)?;
+        draft.push('"')?;
+        Ok(Literal {
+            text: draft.finish(),
+            span: Span::call_site(),
+        })
+    }
+}
+
+#[cfg(test)]
+mod tests;

@@ -1,0 +1,117 @@
+//! Literals from their text.
+ghost use Rattle.std.specs.Prelude.{◌≡◌, ◌==◌, ◌+◌, ◌↔◌, ◌∷◌, [], length, IfOk, IfErr, IfSome, IsTrue, MatchOption, false, if◌then◌else◌};
+ghost use Rattle.std.specs.Char.{is_ascii_digit};
+ghost use Rattle.std.specs.Str.{chars, IsUtf8};
+ghost use Rattle.lexical.specs.Literal as literals;
+ghost use Rattle.lexical.specs.Text.{first_passes};
+ghost use Rattle.pm_span.specs.Extent.{nowhere};
+ghost use Rattle.pm_span.specs.Files.{Fits, next_lo, with_file};
+ghost use Rattle.pm_token.specs.LiteralText.{IsByItself};
+ghost use Rattle.pm_token.specs.Outcome.{IfLex, was_read};
+
+use crate::errors::{LexError, ParseError};
+use crate::literals::Literal;
+use lexical::literal_at;
+use pm_span::parts::{add_file, allocator, fits, span_of};
+use pm_span::{SourceMap, Span};
+use std::alloc::{AllocError, Global};
+
+impl Literal {
+    /// The literal that the whole text is (`literal-by-itself`), or `-` and one that begins with a
+    /// digit. The text becomes the next file of the map, and the literal's span is all of it.
+    ///
+    /// Nothing may stand before or behind the literal, not even white space. Any other text is
+    /// refused as `Lex` with the span 0..0, and is a file of the map then too. `MapFull` is answered
+    /// exactly where the text would end past the map's limit (`fits`), and `Memory` where a growth
+    /// was refused; both leave the map as it was.
+    ///
+    /// In a new map `-1u12` gives the literal of this text at 1..6. `- 1` and `-""` are refused.
+    pub fn from_str(text: &str, map: &mut SourceMap) -> Result<Literal, ParseError>
+        ensures ok { IfOk result (λ literal. literal ≡ record {
+          text = chars text.now;
+          span = record { lo = next_lo map.old; hi = next_lo map.old + length (chars text.now) };
+        }) }
+        ensures whole { IfOk result (λ _. IsByItself (chars text.now)) }
+        ensures within { IsTrue (was_read result) → Fits map.old (length (chars text.now)) }
+
+        ensures lex { IfErr result (λ error. IfLex error (λ fault.
+            (fault ≡ nowhere) × (IsByItself (chars text.now) → ⊥))) }
+        ensures map_full { (result ≡ Err ParseError.MapFull)
+            ↔ (Fits map.old (length (chars text.now)) → ⊥) }
+
+        ensures kept { map.new
+            ≡ (if was_read result then with_file map.old (chars text.now) else map.old) }
+    {
+        let count = count(text);
+        let Some(lo) = fits(map, count) else {
+            return Err(ParseError::MapFull);
+        };
+        let literal = if Literal::is_whole(text) {
+            let span = span_of(lo, lo + count as u32);
+            Ok(Literal::from_parts(allocator(map), text, span)?)
+        } else {
+            Err(ParseError::Lex(LexError::at(Span::call_site())))
+        };
+        add_file(map, text)?;
+        literal
+    }
+
+    /// The literal of this text, which is a whole one (`is_whole`), with the span 0..0. Fails where
+    /// memory runs out. For `1.5` it is `1.5`.
+    pub fn from_str_unchecked(alloc: Global, text: &str) -> Result<Literal, AllocError>
+        requires { IsByItself (chars text.now) }
+        ensures ok { IfOk result (λ literal. literal ≡ record { text = chars text.now; span = nowhere }) }
+    {
+        Literal::from_parts(alloc, text, Span::call_site())
+    }
+
+    /// Whether the text is a literal (`literal-by-itself`), or `-` and one that begins with a digit:
+    /// the texts that `from_str` accepts. It is so of `1u8`, `-0.1` and `"a"`, and not of `- 1`,
+    /// `1 ` or `-""`.
+    pub fn is_whole(text: &str) -> bool
+        ensures { IsTrue result ↔ IsByItself (chars text.now) }
+    {
+        match behind_minus(text) {
+            Some(number) => begins_with_digit(number) && is_literal(number),
+            None => is_literal(text),
+        }
+    }
+}
+
+/// What follows the `-` that the text begins with.
+fn behind_minus(text: &str) -> Option<&str>
+    ensures split { MatchOption result (first_passes (λ c. c == 45) (chars text.now) ≡ false)
+        (λ number. chars text.now ≡ 45 ∷ chars number.now) }
+    ensures utf8 { IfSome result (λ number. IsUtf8 number.now) }
+{
+    text.strip_prefix('-')
+}
+
+/// Whether an ASCII digit stands at the front of the text.
+#[tactic(auto, using(std::proofs::lemmas::Str::chars_past_char))]
+fn begins_with_digit(text: &str) -> bool
+    ensures { result ≡ first_passes is_ascii_digit (chars text.now) }
+{
+    match text.chars().next() {
+        Some(c) => c.is_ascii_digit(),
+        None => false,
+    }
+}
+
+/// Whether the whole text is a literal of the grammar.
+fn is_literal(text: &str) -> bool
+    ensures { IsTrue result ↔ literals.Literal (chars text.now) [] }
+{
+    literal_at(text) == Some(text.len())
+}
+
+/// How many characters the text has.
+#[tactic(auto, using(std::proofs::lemmas::Str::chars_from_encodes))]
+fn count(text: &str) -> usize
+    ensures { result ≡ length (chars text.now) }
+{
+    text.chars().count()
+}
+
+#[cfg(test)]
+mod tests;

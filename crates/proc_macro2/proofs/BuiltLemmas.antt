@@ -1,0 +1,94 @@
+-- What parses is built.
+use Rattle.std.proofs.Common.{◌≡◌, ℕ, ◌+◌, ◌≤◌, Bool, true, false, List, [], ◌∷◌, ◌++◌, length, refl, sym, ap, ◌∙◌, subst, arith}
+use Rattle.std.specs.Str.{all_scalars}
+use Rattle.std.proofs.lemmas.Bool.{and_parts, and_from}
+use Rattle.lexical.specs.Token.{Literal}
+use Rattle.lexical.specs.Comment.{Doc, closing}
+use Rattle.lexical.specs.Piece.{Kind, Piece, FrontMark, Gap, Doc as Documents, Open, Close, Leaf, IsPiece}
+use Rattle.lexical.specs.Cover.{onto, StandBefore}
+use Rattle.pm_token.specs.Built.{IsBuiltToken}
+use Rattle.pm_token.specs.Escaped.{string_text}
+use Rattle.pm_token.specs.declared.delimiters.Delimiter.TheVariants.{Bracket}
+use Rattle.pm_token.proofs.EscapedLemmas as escaped
+use Rattle.pm_stream.specs.Events.{Event, One, Opens, Closes, bang, equals, doc_group_onto, doc_onto, events_onto, expansion}
+use Rattle.pm_stream.specs.Forest.{Forest, nil, leaf, group, flat_onto, IsBuilt}
+use Rattle.pm_stream.specs.Parsing.{ParsesTo}
+use Rattle.pm_stream.proofs.DocLemmas.{doc_name_built}
+use Rattle.pm_stream.proofs.PieceLemmas.{token_built}
+
+-- ---- characters
+
+scalars_split : (p r : List ℕ) → all_scalars (p ++ r) ≡ true → (all_scalars p ≡ true) × (all_scalars r ≡ true)
+scalars_split [] r h = (refl, h)
+scalars_split (c ∷ p) r h =
+    let parts = and_parts _ _ h in
+    let more = scalars_split p r parts.1 in
+    (and_from _ _ parts.0 more.0, more.1)
+
+doc_scalars : (inner : Bool) (text p r : List ℕ) → Doc inner text p r → all_scalars p ≡ true → all_scalars text ≡ true
+doc_scalars inner text p r h all =
+    (scalars_split text (closing p r) (scalars_split h.front (text ++ closing p r) (ap all_scalars (sym h.whole) ∙ all)).1).0
+
+-- ---- events
+
+-- each token is built, each span ends at or behind its begin, and no group begins or ends before n
+abbrev Rising : ℕ → List Event → Type 0
+Rising n [] = Unit {0}
+Rising n (One token lo hi ∷ es) = IsBuiltToken token × (lo ≤ hi) × Rising n es
+Rising n (Opens d lo ∷ es) = (n ≤ lo) × Rising lo es
+Rising n (Closes d hi ∷ es) = (n ≤ hi) × Rising n es
+
+rising_from : (m n : ℕ) (es : List Event) → m ≤ n → Rising n es → Rising m es
+rising_from m n [] l h = tt
+rising_from m n (One token lo hi ∷ es) l h = (h.0, h.1, rising_from m n es l h.2)
+rising_from m n (Opens d lo ∷ es) l h = let le = h.0 in (omega arith, h.1)
+rising_from m n (Closes d hi ∷ es) l h = let le = h.0 in (omega arith, rising_from m n es l h.1)
+
+-- the group of a doc comment
+doc_group_rises : (n lo hi : ℕ) (text : List ℕ) (es : List Event) → n ≤ lo → lo ≤ hi → all_scalars text ≡ true → Rising lo es
+    → Rising n (doc_group_onto lo hi text es)
+doc_group_rises n lo hi text es l le all more =
+    let literal : Rising lo (One (Literal (string_text text)) lo hi ∷ Closes Bracket hi ∷ es) =
+    (escaped.doc_built text all, le, (le, more)) in
+    let sign : Rising lo (One equals lo hi ∷ One (Literal (string_text text)) lo hi ∷ Closes Bracket hi ∷ es) = (refl, le, literal) in
+    (l, (doc_name_built, le, sign))
+
+doc_rises : (n lo hi : ℕ) (inner : Bool) (text : List ℕ) (es : List Event) → n ≤ lo → lo ≤ hi → all_scalars text ≡ true → Rising lo es
+    → Rising n (doc_onto lo hi inner text es)
+doc_rises n lo hi true text es l le all more =
+    let sign : Rising n (One bang lo hi ∷ doc_group_onto lo hi text es) = (refl, le, doc_group_rises n lo hi text es l le all more) in
+    (refl, le, sign)
+doc_rises n lo hi false text es l le all more = (refl, le, doc_group_rises n lo hi text es l le all more)
+
+-- what a piece gives before other events
+events_rise : (n at : ℕ) (b : Bool) (k : Kind) (p r : List ℕ) (es : List Event) → n ≤ at → all_scalars p ≡ true → IsPiece b k p r
+    → ((m : ℕ) → m ≤ at + length p → Rising m es) → Rising n (events_onto at k p es)
+events_rise n at b FrontMark p r es l all h more = more n (omega arith)
+events_rise n at b Gap p r es l all h more = more n (omega arith)
+events_rise n at b (Documents inner text) p r es l all h more =
+    let le : at ≤ at + length p = omega arith in
+    doc_rises n at (at + length p) inner text es l le (doc_scalars inner text p r h all) (more at le)
+events_rise n at b (Open c) p r es l all h more = (l, more at (omega arith))
+events_rise n at b (Close c) p r es l all h more = (omega arith, more n (omega arith))
+events_rise n at b (Leaf token) p r es l all h more = (token_built token r h.1, omega arith, more n (omega arith))
+
+expansion_rises : (n at : ℕ) (b : Bool) (ps : List Piece) (r : List ℕ) → n ≤ at → all_scalars (onto ps r) ≡ true
+    → StandBefore b ps r → Rising n (expansion at ps)
+expansion_rises n at b [] r l all h = tt
+expansion_rises n at b (x ∷ ps) r l all h =
+    let parts = scalars_split x.1 (onto ps r) all in
+    events_rise n at b x.0 x.1 (onto ps r) (expansion (at + length x.1) ps) l parts.0 h.0
+    (λ m le. expansion_rises m (at + length x.1) false ps r le parts.1 h.1)
+
+flat_built : (n : ℕ) (f : Forest) (es : List Event) → Rising n (flat_onto f es) → IsBuilt f × Rising n es
+flat_built n nil es h = (tt, h)
+flat_built n (leaf token lo hi f) es h = let more = flat_built n f es h.2 in ((h.0, h.1, more.0), more.1)
+flat_built n (group d lo hi f k) es h =
+    let inside = flat_built lo f (Closes d hi ∷ flat_onto k es) h.1 in
+    let more = flat_built lo k es inside.1.1 in
+    ((inside.1.0, inside.0, more.0), rising_from n lo es h.0 more.1)
+
+pub parsed_built : (base : ℕ) (source : List ℕ) (t : Forest) → all_scalars source ≡ true → ParsesTo base source t → IsBuilt t
+parsed_built base source t all h =
+    (flat_built base t [] (subst (Rising base) (sym h.expands)
+    (expansion_rises base base true h.pieces [] (omega arith) (ap all_scalars (sym h.covers.whole) ∙ all) h.covers.stand))).0

@@ -1,0 +1,79 @@
+-- The laws of covers, parsed streams and printed texts. A source, and every text, is the list of its characters.
+use Rattle.std.specs.Prelude.{ℕ, ◌≡◌, ◌⊎◌, ◌↔◌, List, [], ◌∷◌, ◌++◌, IsTrue, IsFalse, codes}
+use Rattle.std.specs.Str.{all_scalars}
+use Rattle.lexical.specs.Text.{begins_with}
+use Rattle.lexical.specs.Piece.{Piece}
+use Rattle.lexical.specs.Quiet.{ends_quiet}
+use Rattle.lexical.specs.Cover.{onto, IsCover}
+use Rattle.pm_stream.specs.Forest.{Forest, IsBuilt, joined}
+use Rattle.pm_stream.specs.Parsing.{ParsesTo, FaultAt}
+use Rattle.pm_stream.specs.Printed.{printed}
+use Rattle.pm_stream.specs.Same.{Same}
+use Rattle.pm_stream.specs.WellSpaced.{IsWellSpaced}
+
+-- ---- one cover
+
+-- a source has at most one cover
+abbrev pub OneCover : Type 0
+OneCover = (source : List ℕ) (us vs : List Piece) → IsCover us source → IsCover vs source → us ≡ vs
+
+-- it parses to at most one stream
+abbrev pub OneStream : Type 0
+OneStream = (base : ℕ) (source : List ℕ) (s t : Forest) → ParsesTo base source s → ParsesTo base source t → s ≡ t
+
+-- it parses or has a fault
+abbrev pub ParsesOrFails : Type 0
+ParsesOrFails = (base : ℕ) (source : List ℕ)
+    → ((stream : Forest) × ParsesTo base source stream) ⊎ ((place : ℕ) × FaultAt base source place)
+
+-- and never both
+abbrev pub NeverBoth : Type 0
+NeverBoth = (base : ℕ) (source : List ℕ) (stream : Forest) (place : ℕ)
+    → ParsesTo base source stream → FaultAt base source place → ⊥
+
+-- its fault has one place
+abbrev pub OneFault : Type 0
+OneFault = (base : ℕ) (source : List ℕ) (j k : ℕ) → FaultAt base source j → FaultAt base source k → j ≡ k
+
+-- ---- printed streams
+
+-- the text parses to the stream, up to spans
+abbrev pub Gives : ℕ → List ℕ → Forest → Type 0
+Gives base text stream = (t : Forest) × ParsesTo base text t × Same stream t
+
+-- a built stream comes back from its printed text exactly if it is well spaced
+abbrev pub ComesBack : Type 0
+ComesBack = (base : ℕ) (stream : Forest) → IsBuilt stream → Gives base (printed stream) stream ↔ IsWellSpaced stream
+
+-- every parsed stream is well spaced
+abbrev pub ParsedIsWellSpaced : Type 0
+ParsedIsWellSpaced = (base : ℕ) (source : List ℕ) (stream : Forest) → ParsesTo base source stream → IsWellSpaced stream
+
+-- and is built, where the source has Unicode scalars only
+abbrev pub ParsedIsBuilt : Type 0
+ParsedIsBuilt = (base : ℕ) (source : List ℕ) (stream : Forest)
+    → IsTrue (all_scalars source) → ParsesTo base source stream → IsBuilt stream
+
+-- a built stream is well spaced exactly if some source gives it
+abbrev pub WellSpacedIsParsed : Type 0
+WellSpacedIsParsed = (stream : Forest) → IsBuilt stream
+    → ((base : ℕ) × (source : List ℕ) × Gives base source stream) ↔ IsWellSpaced stream
+
+-- well spaced streams are the same exactly if they print the same text
+abbrev pub OneText : Type 0
+OneText = (s t : Forest) → IsBuilt s → IsBuilt t → IsWellSpaced s → IsWellSpaced t → Same s t ↔ (printed s ≡ printed t)
+
+-- ---- joined texts
+
+-- two texts with a line's end between them parse to the two streams joined, up to spans, unless the second begins with U+FEFF
+abbrev pub JoinedTexts : Type 0
+JoinedTexts = (base first second : ℕ) (a b : List ℕ) (s t : Forest) → ParsesTo first a s → ParsesTo second b t
+    → IsFalse (begins_with (0xFEFF ∷ []) b) → Gives base (a ++ (codes "\n" ++ b)) (joined s t)
+
+-- ---- broken lines
+
+-- where a source parses and its cover is some pieces, of which the last is neither a mark nor a number, and then others,
+-- a line's end that is put in between them leaves the stream as it was, up to spans
+abbrev pub BrokenLine : Type 0
+BrokenLine = (base first : ℕ) (source : List ℕ) (stream : Forest) (us vs : List Piece) → ParsesTo first source stream
+    → IsCover (us ++ vs) source → IsTrue (ends_quiet us) → Gives base (onto us (codes "\n" ++ onto vs [])) stream

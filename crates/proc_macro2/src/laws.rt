@@ -1,0 +1,60 @@
+//! What is proved of texts, streams and printed texts together. The functions compute nothing: their
+//! contracts are the laws, which `specs/Laws.antt` states.
+
+ghost use Rattle.proc_macro2.specs.Laws.{
+  BrokenLine,
+  ComesBack,
+  JoinedTexts,
+  NeverBoth,
+  OneCover,
+  OneFault,
+  OneStream,
+  OneText,
+  ParsedIsBuilt,
+  ParsedIsWellSpaced,
+  ParsesOrFails,
+  WellSpacedIsParsed,
+};
+
+/// A source has at most one cover by pieces, and parses to at most one stream. It parses or has a fault,
+/// never both and never neither, and its fault has one place.
+pub fn one_cover()
+    ensures cover { OneCover }
+    ensures stream { OneStream }
+    ensures outcome { ParsesOrFails }
+    ensures apart { NeverBoth }
+    ensures fault { OneFault }
+{}
+
+/// A built stream comes back from its printed text, the same up to spans, exactly if it is well spaced.
+/// Every stream that a source parses to is well spaced, and is built. So the built streams that are well
+/// spaced are, up to spans, exactly those that some source parses to. Two of them are the same exactly if
+/// they print the same text, which so is the one text of these tokens.
+///
+/// `+` Joint before the identifier `a` doesn't come back: it prints `+a`, which parses to `+` Alone and `a`.
+pub fn printed_comes_back()
+    ensures back { ComesBack }
+    ensures parsed { ParsedIsWellSpaced }
+    ensures built { ParsedIsBuilt }
+    ensures exactly { WellSpacedIsParsed }
+    ensures text { OneText }
+{}
+
+/// Two texts with a line's end between them parse to the streams of the two joined, up to spans, unless
+/// the second begins with U+FEFF.
+///
+/// `x // c` and `y` give `x y`.
+pub fn joined_texts()
+    ensures { JoinedTexts }
+{}
+
+/// Where a source parses, a line may be broken behind any piece but a mark and a number: the stream is
+/// the same up to spans.
+///
+/// `a+=b` broken behind the `a` is `a += b`; broken behind the `+` it would be `a + = b`.
+pub fn broken_line()
+    ensures { BrokenLine }
+{}
+
+#[cfg(test)]
+mod tests;
