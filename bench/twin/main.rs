@@ -3,8 +3,27 @@
 //! `twin print` does what `tokens print` does. `twin answers` reads the lines of
 //! crates/conformance/stdin, and writes them with the crate's own answers.
 use proc_macro2::{Literal, LexError, TokenStream};
+use std::ffi::CString;
 use std::io::{self, BufRead, Read, Write};
 use std::process::exit;
+
+/// The kinds of lines that are answered. Any other line is written as it stands.
+const KINDS: [&str; 10] = [
+    "print", "tree", "fault", "literal", "refused", "string", "character", "byte_character", "byte_string", "c_string",
+];
+
+/// The literal that the crate makes of a value by this call, as the crate writes it.
+fn written(call: &str, value: &str) -> Option<String> {
+    let literal = match call {
+        "string" => Literal::string(value),
+        "character" => Literal::character(value.chars().next()?),
+        "byte_character" => Literal::byte_character(*value.as_bytes().first()?),
+        "byte_string" => Literal::byte_string(value.as_bytes()),
+        "c_string" => Literal::c_string(&CString::new(value).ok()?),
+        _ => return None,
+    };
+    Some(literal.to_string())
+}
 
 /// What the crate says of a text: the kind of the answer, and the answer.
 fn answer(kind: &str, text: &str) -> (String, String) {
@@ -13,14 +32,18 @@ fn answer(kind: &str, text: &str) -> (String, String) {
         ("fault".to_string(), format!("{}:{}", place.line, place.column))
     };
     match kind {
-        "literal" => match text.parse::<Literal>() {
-            Ok(literal) => (kind.to_string(), literal.to_string()),
+        "literal" | "refused" => match text.parse::<Literal>() {
+            Ok(literal) => ("literal".to_string(), literal.to_string()),
             Err(_) => ("refused".to_string(), String::new()),
         },
-        _ => match text.parse::<TokenStream>() {
+        "tree" | "print" | "fault" => match text.parse::<TokenStream>() {
             Ok(stream) if kind == "tree" => (kind.to_string(), format!("{stream:?}")),
             Ok(stream) => ("print".to_string(), stream.to_string()),
             Err(error) => fault(error),
+        },
+        _ => match written(kind, text) {
+            Some(said) => (kind.to_string(), said),
+            None => ("refused".to_string(), String::new()),
         },
     }
 }
@@ -74,6 +97,10 @@ fn answers() -> io::Result<()> {
             exit(2)
         };
         proc_macro2::extra::invalidate_current_thread_spans();
+        if !KINDS.contains(&kind) {
+            writeln!(out, "{line}")?;
+            continue;
+        }
         let (kind, said) = answer(kind, &text);
         writeln!(out, "{kind}\t{}\t{}", escaped(&text), escaped(&said))?;
     }

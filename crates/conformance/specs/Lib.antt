@@ -1,2 +1,4 @@
+pub mod Literals
 pub mod Name
 pub mod Said
+pub mod Texts

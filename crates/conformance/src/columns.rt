@@ -1,5 +1,5 @@
 //! The columns of a line of recorded answers, and the escapes in them.
-use crate::kind::Kind;
+use crate::asked::Asked;
 use std::alloc::{AllocError, Global};
 
 /// A recorded answer.
@@ -8,7 +8,7 @@ use std::alloc::{AllocError, Global};
 #[derive(Drop)]
 pub struct Recorded {
     /// What was asked, or that the text was refused.
-    pub kind: Kind,
+    pub asked: Asked,
     /// The text.
     pub text: String,
     /// What was answered.
@@ -23,7 +23,7 @@ pub fn read_line(alloc: Global, line: &str) -> Result<Option<Recorded>, AllocErr
     let Some((name, columns)) = line.split_once('\t') else {
         return Ok(None);
     };
-    let Some(kind) = Kind::named(name) else {
+    let Some(asked) = Asked::named(name) else {
         return Ok(None);
     };
     let Some((text, answer)) = columns.split_once('\t') else {
@@ -35,7 +35,11 @@ pub fn read_line(alloc: Global, line: &str) -> Result<Option<Recorded>, AllocErr
     let Some(answer) = unescaped(alloc, answer)? else {
         return Ok(None);
     };
-    Ok(Some(Recorded { kind, text, answer }))
+    Ok(Some(Recorded {
+        asked,
+        text,
+        answer,
+    }))
 }
 
 /// How far an escape is read.

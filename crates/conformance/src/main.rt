@@ -3,11 +3,17 @@
 #![tactic(auto)]
 
 mod answer;
+mod asked;
 mod columns;
+mod items;
 mod kind;
+#[cfg(test)]
+mod literal_rows;
+mod literals;
 mod replay;
 #[cfg(test)]
 mod rows;
+mod texts;
 
 use replay::replay;
 use std::io;

@@ -1,5 +1,5 @@
 //! Replays recorded answers, a line at a time.
-use crate::answer::answer_to;
+use crate::asked::answer;
 use crate::columns::read_line;
 use proc_macro2::ParseError;
 use std::alloc::Global;
@@ -41,14 +41,13 @@ fn is_same<W: Write>(alloc: Global, line: &str, writer: &mut W) -> io::Result<bo
         writeln!(writer, "no recorded answer: {line}")?;
         return Ok(false);
     };
-    match answer_to(alloc, recorded.kind, recorded.text.as_str()) {
-        Ok(found) => {
-            let kind = found.kind;
-            let said = found.said.as_str();
-            if kind == recorded.kind && said == recorded.answer.as_str() {
+    match answer(alloc, recorded.asked, recorded.text.as_str()) {
+        Ok((asked, said)) => {
+            let said = said.as_str();
+            if asked == recorded.asked && said == recorded.answer.as_str() {
                 return Ok(true);
             }
-            writeln!(writer, "differs: {line}\nhere: {} {said:?}", kind.name())?;
+            writeln!(writer, "differs: {line}\nhere: {} {said:?}", asked.name())?;
         }
         Err(ParseError::Memory(error)) => return Err(error.into()),
         Err(error) => writeln!(writer, "differs: {line}\nhere: {error}")?,

@@ -5,4 +5,3 @@ pub mod ErrorLemmas
 pub mod RangeLemmas
 pub mod WithinLemmas
 pub mod ErrorRangeLemmas
-pub mod ValueLemmas

@@ -57,6 +57,10 @@ impl Span {
 
 /// Shows the positions, in characters, as `bytes(1..2)`.
 impl fmt::Debug for Span {
+    ghost use Rattle.std.specs.Prelude.{◌++◌, Some, codes, decimal};
+
+    ghost debug_output = { λ span. Some (codes "bytes(" ++ decimal span.lo ++ codes ".." ++ decimal span.hi ++ codes ")") };
+
     fn fmt<W: fmt::Write>(&self, f: &mut fmt::Formatter<W>) -> fmt::Result {
         let lo = self.lo;
         let hi = self.hi;

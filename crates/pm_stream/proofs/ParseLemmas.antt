@@ -1,6 +1,6 @@
 -- How the parser's loop goes on and ends.
-use Rattle.std.proofs.Common.{◌≡◌, ℕ, ◌+◌, ◌<◌, Bool, false, List, [], ◌∷◌, ◌++◌, length, refl, sym, ap, ◌∙◌, subst, arith, length-append, Result, Ok, Err, IfOk, IfErr}
-use Rattle.lexical.specs.Piece.{IsPiece}
+use Rattle.std.proofs.Common.{◌≡◌, ◌≢◌, ℕ, ◌+◌, ◌<◌, Bool, false, List, [], ◌∷◌, ◌++◌, length, refl, sym, ap, ◌∙◌, subst, arith, length-append, Result, Ok, Err, IfOk, IfErr}
+use Rattle.lexical.specs.Piece.{IsPiece, HasNoPiece}
 use Rattle.lexical.specs.Found.{IsPieceAt, kind_of}
 use Rattle.lexical.specs.declared.piece.PieceKind.{PieceKind}
 use Rattle.lexical.specs.declared.piece.PieceKind.TheVariants.{FrontMark, Gap, Doc, Opener, Closer, Literal, Mark, Name}
@@ -14,7 +14,7 @@ use Rattle.pm_stream.specs.Forest.{Forest}
 use Rattle.pm_stream.specs.Parsing.{ParsesTo, FaultAt}
 use Rattle.pm_stream.specs.Written.{Opened, written_onto}
 use Rattle.pm_stream.specs.Progress.{IsFaultFor, IsStray, IsOpenFault, IsFault}
-use Rattle.pm_stream.proofs.ReadSoFar.{Reads, reads_more, reads_all, reads_open, reads_stray}
+use Rattle.pm_stream.proofs.ReadSoFar.{Reads, reads_more, reads_all, reads_open, reads_stray, reads_stuck}
 
 pub found_shorter : (first : Bool) (source : List ℕ) (piece : Piece) (h : IsPieceAt first source piece)
     → (piece.chars + length h.rest ≡ length source) × (length h.rest < length source)
@@ -66,12 +66,18 @@ fault_stray base source mid at first groups trees piece error reads h =
 
 -- ---- the end of the text
 
+pub ok_at_end : (rest : List ℕ) (groups : List Opened) (trees : Forest) (result : Result Forest ParseError)
+    → rest ≡ [] → IfOk result (λ stream. (groups ≡ []) × (stream ≡ trees))
+    → IfOk result (λ stream. (rest ≡ []) × (groups ≡ []) × (stream ≡ trees))
+ok_at_end rest groups trees (Ok stream) done h = (done, h.0, h.1)
+ok_at_end rest groups trees (Err error) done h = tt
+
 pub ends_ok : (base : ℕ) (source rest : List ℕ) (at : ℕ) (first : Bool) (groups : List Opened) (trees : Forest) (result : Result Forest ParseError)
-    → Reads base source rest at first groups trees → rest ≡ []
-    → IfOk result (λ stream. (groups ≡ []) × (stream ≡ trees)) → IfOk result (ParsesTo base source)
-ends_ok base source rest at first groups trees (Ok stream) reads done h =
-    subst (ParsesTo base source) (sym h.1) (reads_all base source rest at first trees (subst (λ gs. Reads base source rest at first gs trees) h.0 reads) done)
-ends_ok base source rest at first groups trees (Err error) reads done h = tt
+    → Reads base source rest at first groups trees
+    → IfOk result (λ stream. (rest ≡ []) × (groups ≡ []) × (stream ≡ trees)) → IfOk result (ParsesTo base source)
+ends_ok base source rest at first groups trees (Ok stream) reads h =
+    subst (ParsesTo base source) (sym h.2) (reads_all base source rest at first trees (subst (λ gs. Reads base source rest at first gs trees) h.1 reads) h.0)
+ends_ok base source rest at first groups trees (Err error) reads h = tt
 
 ends_fault : (base : ℕ) (source rest : List ℕ) (at : ℕ) (first : Bool) (groups : List Opened) (trees : Forest) (error : ParseError)
     → Reads base source rest at first groups trees → rest ≡ [] → IsOpenFault groups error
@@ -87,3 +93,15 @@ pub ends_open : (base : ℕ) (source rest : List ℕ) (at : ℕ) (first : Bool) 
 ends_open base source rest at first groups trees (Ok stream) reads done h = tt
 ends_open base source rest at first groups trees (Err error) reads done h =
     ends_fault base source rest at first groups trees error reads done h
+
+-- what is left of the text is a fault, or else a group that is still open
+pub ends_refused : (base : ℕ) (source rest : List ℕ) (at : ℕ) (first : Bool) (groups : List Opened) (trees : Forest) (result : Result Forest ParseError)
+    → Reads base source rest at first groups trees → HasNoPiece first rest
+    → (rest ≢ [] → IfErr result (IsFaultFor at (Unit {0}))) → (rest ≡ [] → IfErr result (IsOpenFault groups))
+    → IfErr result (IsFault base source)
+ends_refused base source rest at first groups trees (Ok stream) reads none stuck stays_open = tt
+ends_refused base source [] at first groups trees (Err error) reads none stuck stays_open =
+    ends_open base source [] at first groups trees (Err error) reads refl (stays_open refl)
+ends_refused base source (c ∷ rest) at first groups trees (Err error) reads none stuck stays_open =
+    let more : c ∷ rest ≢ [] = λ e. let clash : c ∷ rest ≡ [] = e in cc in
+    fault_is base source at (Unit {0}) error (λ u. reads_stuck base source (c ∷ rest) at first groups trees reads more none) (stuck more)

@@ -33,11 +33,11 @@ written reading = written_onto (groups reading) (trees reading)
 abbrev pub IsBuiltTo : ℕ → Reading → Type 0
 IsBuiltTo at reading = IsBuiltUpTo at (groups reading) (trees reading)
 
--- a fault at the position, for this reason, or want of memory
+-- a fault at the position, for this reason, or want of memory where there is no such reason
 abbrev pub IsFaultFor : ℕ → Type 0 → ParseError → Type 0
 IsFaultFor at reason (Lex extent) = (extent ≡ record { lo = at; hi = at }) × reason
 IsFaultFor at reason MapFull = ⊥
-IsFaultFor at reason (Memory error) = Unit {0}
+IsFaultFor at reason (Memory error) = reason → ⊥
 
 -- the piece is a closer that doesn't close the innermost of the groups
 abbrev pub IsStray : PieceKind → List Opened → Type 0
@@ -50,7 +50,7 @@ IsStray Literal groups = ⊥
 IsStray (Mark mark joint) groups = ⊥
 IsStray (Name raw name) groups = ⊥
 
--- a fault where the innermost of the open groups begins, or want of memory
+-- a fault where the innermost of the open groups begins, or want of memory where none is open
 abbrev pub IsOpenFault : List Opened → ParseError → Type 0
 IsOpenFault [] error = IsFaultFor 0 ⊥ error
 IsOpenFault (group ∷ groups) error = IsFaultFor group.lo (Unit {0}) error

@@ -1,5 +1,5 @@
 //! The parser: from the pieces of a text to its token trees.
-ghost use Rattle.std.specs.Prelude.{◌≡◌, ◌≤◌, ◌+◌, ◌<◌, ◌^◌, ◌↔◌, ℕ, Bool, List, [], ◌∷◌, ◌++◌, length, OnOk, IfOk, IfErr, IsTrue, if◌then◌else◌};
+ghost use Rattle.std.specs.Prelude.{◌≡◌, ◌≢◌, ◌≤◌, ◌+◌, ◌<◌, ◌^◌, ◌↔◌, ℕ, Bool, List, [], ◌∷◌, ◌++◌, length, OnOk, IfOk, IfErr, IsTrue, if◌then◌else◌};
 ghost use Rattle.std.specs.Str.{chars};
 ghost use Rattle.lexical.specs.Found.{IsPieceAt, kind_of};
 ghost use Rattle.lexical.specs.Mark.{is_mark};
@@ -80,10 +80,7 @@ fn parse(alloc: Global, base: u32, text: &str) -> Result<TokenStream, ParseError
         at += piece.chars as u32;
         first = false;
     }
-    if !rest.is_empty() {
-        return Err(fault_at(at));
-    }
-    reading.finish()
+    reading.end(rest, at)
 }
 
 /// What was read so far.
@@ -232,6 +229,21 @@ impl Reading {
         let group = Group::from_parts(delimiter, stream, span_of(frame.lo, hi));
         self.trees.push(TokenTree::Group(group))?;
         Ok(())
+    }
+
+    /// The stream of what was read, where nothing is left of the text. What is left at the position
+    /// is a fault there, as no piece stands at its front.
+    fn end(self, rest: &str, at: u32) -> Result<TokenStream, ParseError>
+        requires { IsBuilt (trees self) }
+        ensures ok { IfOk result (λ stream.
+            (chars rest.now ≡ []) × (groups self ≡ []) × (stream ≡ trees self)) }
+        ensures stuck { chars rest.now ≢ [] → IfErr result (IsFaultFor at (Unit {0})) }
+        ensures stays_open { chars rest.now ≡ [] → IfErr result (IsOpenFault (groups self)) }
+    {
+        if !rest.is_empty() {
+            return Err(fault_at(at));
+        }
+        self.finish()
     }
 
     /// The stream of what was read. A group that is still open is a fault: where the innermost

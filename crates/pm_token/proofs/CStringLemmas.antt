@@ -50,12 +50,12 @@ byte_unit b r low some = inr (inr (record {
 }))
 
 -- the first character of bytes that have no zero isn't zero
-char_some : (c : ℕ) (rest : List ℕ) → has_no_zero (encode_utf8 c ++ rest) ≡ true → (c == 0) ≡ false
+pub char_some : (c : ℕ) (rest : List ℕ) → has_no_zero (encode_utf8 c ++ rest) ≡ true → (c == 0) ≡ false
 char_some c rest none = false_from_ne_true _ (λ e.
     let zeros : has_no_zero (0 ∷ rest) ≡ true = ap (λ x. has_no_zero (x ++ rest)) (sym (encode_ascii 0 (omega arith)) ∙ ap encode_utf8 (sym (eqb-true c 0 e))) ∙ none in
     both_ways false refl (and_parts false (has_no_zero rest) zeros).0)
 
-no_zero_behind : (front rest : List ℕ) → has_no_zero (front ++ rest) ≡ true → has_no_zero rest ≡ true
+pub no_zero_behind : (front rest : List ℕ) → has_no_zero (front ++ rest) ≡ true → has_no_zero rest ≡ true
 no_zero_behind [] rest none = none
 no_zero_behind (b ∷ front) rest none = no_zero_behind front rest (and_parts _ _ none).1
 

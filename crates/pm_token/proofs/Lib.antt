@@ -1,11 +1,20 @@
+pub mod CodeReadLemmas
+pub mod ContentLemmas
+pub mod CookedValueLemmas
 pub mod DraftLemmas
 pub mod HexLemmas
 pub mod IntegerLemmas
+pub mod EscapeValueLemmas
 pub mod EscapedLemmas
 pub mod ByteLemmas
 pub mod CStringLemmas
+pub mod CStringValueLemmas
 mod Examples
 pub mod TestTokens
 pub mod CompareLemmas
 pub mod NameLemmas
+pub mod RawValueLemmas
+pub mod ReadLemmas
+pub mod SuffixLemmas
+pub mod ValueLawLemmas
 pub mod WholeLemmas

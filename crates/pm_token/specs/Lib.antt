@@ -1,4 +1,5 @@
 pub mod Built
+pub mod Content
 pub mod Escaped
 pub mod CString
 pub mod IdentFault
@@ -7,4 +8,6 @@ pub mod Leaf
 pub mod LiteralText
 pub mod Message
 pub mod Outcome
+pub mod Value
+pub mod ValueLaws
 pub mod Written

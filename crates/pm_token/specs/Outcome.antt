@@ -1,6 +1,6 @@
 -- What an attempt to parse a text answers.
-use Rattle.std.specs.Prelude.{Bool, true, false, Result, Ok, Err}
-use Rattle.pm_span.specs.Extent.{Extent}
+use Rattle.std.specs.Prelude.{◌≡◌, Bool, true, false, Result, Ok, Err}
+use Rattle.pm_span.specs.Extent.{Extent, nowhere}
 use Rattle.pm_token.specs.declared.errors.ParseError.{ParseError}
 use Rattle.pm_token.specs.declared.errors.ParseError.TheVariants.{Lex, MapFull, Memory}
 
@@ -16,3 +16,9 @@ was_read (Ok parsed) = true
 was_read (Err (Lex fault)) = true
 was_read (Err MapFull) = false
 was_read (Err (Memory error)) = false
+
+-- the text isn't whole, which is a fault that stands nowhere, or memory for a whole one was refused
+abbrev pub IsRefusalOf : Type 0 → ParseError → Type 0
+IsRefusalOf whole (Lex fault) = (fault ≡ nowhere) × (whole → ⊥)
+IsRefusalOf whole MapFull = ⊥
+IsRefusalOf whole (Memory error) = whole

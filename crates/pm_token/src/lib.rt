@@ -5,6 +5,7 @@ pub mod delimiters;
 pub mod errors;
 mod escapes;
 pub mod identifiers;
+pub mod laws;
 pub mod literals;
 pub mod marks;
 pub mod parts;
@@ -13,7 +14,7 @@ pub mod symbols;
 pub use delimiters::Delimiter;
 pub use errors::{LexError, ParseError};
 pub use identifiers::{Ident, IdentError};
-pub use literals::Literal;
+pub use literals::{ConversionErrorKind, Literal};
 pub use marks::{Punct, Spacing};
 
 #[cfg(test)]

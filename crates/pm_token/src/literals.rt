@@ -2,10 +2,13 @@
 ghost use Rattle.std.specs.Prelude.{◌≡◌, IfOk};
 ghost use Rattle.std.specs.Str.{chars};
 
+mod conversion;
 mod integers;
 mod quoted;
+mod values;
 mod whole;
 
+pub use crate::literals::conversion::ConversionErrorKind;
 use crate::parts::show_span;
 use crate::symbols::Symbol;
 use pm_span::Span;

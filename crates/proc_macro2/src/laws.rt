@@ -16,6 +16,8 @@ ghost use Rattle.proc_macro2.specs.Laws.{
   WellSpacedIsParsed,
 };
 
+pub use pm_token::laws::{cooked_values, raw_values, values_come_back};
+
 /// A source has at most one cover by pieces, and parses to at most one stream. It parses or has a fault,
 /// never both and never neither, and its fault has one place.
 pub fn one_cover()

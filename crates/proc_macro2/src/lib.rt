@@ -6,7 +6,10 @@ pub mod laws;
 pub use literal_escaper::EscapeError;
 pub use pm_span::{LineColumn, SourceMap, Span};
 pub use pm_stream::{Group, TokenStream, TokenTree};
-pub use pm_token::{Delimiter, Ident, IdentError, LexError, Literal, ParseError, Punct, Spacing};
+pub use pm_token::{
+    ConversionErrorKind, Delimiter, Ident, IdentError, LexError, Literal, ParseError, Punct,
+    Spacing,
+};
 
 /// What the contents of literals stand for, item by item.
 pub mod rustc_literal_escaper {

@@ -1,5 +1,5 @@
 //! A run: from the bytes of a source to the bytes of a sink.
-ghost use Rattle.std.specs.Prelude.{◌≡◌, IfOk, IsFalse, string_bytes};
+ghost use Rattle.std.specs.Prelude.{◌≡◌, ◌↔◌, IfOk, IsFalse, string_bytes};
 ghost use Rattle.std.specs.Str.{IsUtf8};
 ghost use Rattle.proc_macro2.specs.declared.LineColumn.{LineColumn};
 ghost use Rattle.tokens.specs.Answer.{is_io};
@@ -43,8 +43,8 @@ pub fn run<R: ByteSource, W: ByteSink>(
 fn output_of(alloc: Global, mode: OutputMode, input: &[u8]) -> Result<String, RunError>
     ensures ok { IfOk result (λ output. IsOutput mode input.now (string_bytes output)) }
     ensures io { IsFalse (is_io result) }
-    ensures not_utf8 { result ≡ Err RunError.NotUtf8 → ¬ IsUtf8 input.now }
-    ensures map_full { result ≡ Err RunError.MapFull → IsTooLong input.now }
+    ensures not_utf8 { (result ≡ Err RunError.NotUtf8) ↔ (¬ IsUtf8 input.now) }
+    ensures map_full { (result ≡ Err RunError.MapFull) ↔ IsTooLong input.now }
     ensures lex { (place : LineColumn) → result ≡ Err (RunError.Lex place)
         → HasFaultAt input.now place }
 {

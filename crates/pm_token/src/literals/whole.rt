@@ -7,7 +7,7 @@ ghost use Rattle.lexical.specs.Text.{first_passes};
 ghost use Rattle.pm_span.specs.Extent.{nowhere};
 ghost use Rattle.pm_span.specs.Files.{Fits, next_lo, with_file};
 ghost use Rattle.pm_token.specs.LiteralText.{IsByItself};
-ghost use Rattle.pm_token.specs.Outcome.{IfLex, was_read};
+ghost use Rattle.pm_token.specs.Outcome.{IfLex, IsRefusalOf, was_read};
 
 use crate::errors::{LexError, ParseError};
 use crate::literals::Literal;
@@ -46,14 +46,25 @@ impl Literal {
         let Some(lo) = fits(map, count) else {
             return Err(ParseError::MapFull);
         };
-        let literal = if Literal::is_whole(text) {
-            let span = span_of(lo, lo + count as u32);
-            Ok(Literal::from_parts(allocator(map), text, span)?)
-        } else {
-            Err(ParseError::Lex(LexError::at(Span::call_site())))
-        };
+        let span = span_of(lo, lo + count as u32);
+        let literal = Literal::whole_at(allocator(map), text, span);
+        if let Err(ParseError::Memory(_)) = &literal {
+            return literal;
+        }
         add_file(map, text)?;
         literal
+    }
+
+    /// The literal that the whole text is, which stands at this span. Any other text is a fault.
+    fn whole_at(alloc: Global, text: &str, span: Span) -> Result<Literal, ParseError>
+        ensures ok { IfOk result (λ literal. literal ≡ record { text = chars text.now; span = span }) }
+        ensures whole { IfOk result (λ _. IsByItself (chars text.now)) }
+        ensures refused { IfErr result (IsRefusalOf (IsByItself (chars text.now))) }
+    {
+        if !Literal::is_whole(text) {
+            return Err(ParseError::Lex(LexError::at(Span::call_site())));
+        }
+        Ok(Literal::from_parts(alloc, text, span)?)
     }
 
     /// The literal of this text, which is a whole one (`is_whole`), with the span 0..0. Fails where

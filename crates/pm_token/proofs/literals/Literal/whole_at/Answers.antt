@@ -1,0 +1,6 @@
+use Rattle.std.specs.Str.{chars}
+use Rattle.pm_token.proofs.WholeLemmas.{literal_text}
+use Rattle.pm_token.proofs.literals.Literal.whole_at.Goals as goal
+
+pub from_parts-requires : goal.from_parts-requires
+from_parts-requires c = literal_text (chars c.args.text.now) (c.is_whole.ensures.0 c.if-not-is_whole.false)

@@ -1,0 +1,13 @@
+use Rattle.std.proofs.Common.{◌≡◌, length}
+use denote.Text.{Utf8}
+use denote.Shadow.{shadow}
+use Rattle.std.specs.Str.{chars}
+use Rattle.pm_token.specs.Content.{hashed_content as hashed}
+use Rattle.pm_token.proofs.literals.values.content.hashed_content.Given as goal
+
+-- signs that were left out at both ends change nothing
+abbrev pub invariant-loop-behind : goal.invariant-loop-behind
+invariant-loop-behind l = (hashed (chars l.quoted) ≡ hashed (chars l.initial.quoted)) × shadow (Utf8 l.quoted)
+
+abbrev pub decreases-loop-behind : goal.decreases-loop-behind
+decreases-loop-behind l = length (chars l.quoted)

@@ -1,0 +1,13 @@
+use Rattle.std.proofs.Common.{◌≡◌, ◌++◌}
+use Rattle.std.specs.List.{flat_map}
+use Rattle.literal_escaper.specs.Value.{units_of, last_fault_or}
+use Rattle.pm_token.specs.Value.{bytes_of, unit_bytes}
+use Rattle.pm_token.proofs.literals.values.unescaped.unescaped_c_string.Given as goal
+
+-- what was joined and what is left, and the last fault of both
+abbrev pub invariant-loop-unit : goal.invariant-loop-unit
+invariant-loop-unit l = record {
+  finite : (goal.iterator-loop-unit).can_next l.unit-iterator × (goal.iterator-loop-unit).is_finite l.unit-iterator;
+  joined : bytes_of l.value ++ flat_map unit_bytes (units_of l.unit-iterator) ≡ flat_map unit_bytes (units_of l.initial.unit-iterator);
+  fault : last_fault_or l.fault l.unit-iterator ≡ last_fault_or l.initial.fault l.initial.unit-iterator;
+}

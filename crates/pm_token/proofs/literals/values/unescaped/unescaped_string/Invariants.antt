@@ -1,0 +1,12 @@
+use Rattle.std.proofs.Common.{◌≡◌, ◌++◌}
+use Rattle.literal_escaper.specs.Value.{units_of, last_fault_or}
+use Rattle.pm_token.specs.Value.{text_of}
+use Rattle.pm_token.proofs.literals.values.unescaped.unescaped_string.Given as goal
+
+-- what was joined and what is left, and the last fault of both
+abbrev pub invariant-loop-unit : goal.invariant-loop-unit
+invariant-loop-unit l = record {
+  finite : (goal.iterator-loop-unit).can_next l.unit-iterator × (goal.iterator-loop-unit).is_finite l.unit-iterator;
+  joined : text_of l.value ++ units_of l.unit-iterator ≡ units_of l.initial.unit-iterator;
+  fault : last_fault_or l.fault l.unit-iterator ≡ last_fault_or l.initial.fault l.initial.unit-iterator;
+}

@@ -1,0 +1,72 @@
+-- The values of string literals of every kind.
+use Rattle.std.specs.Prelude.{◌≡◌, ◌↔◌, ℕ, IfOk, String, Vec, string_bytes, List, [], ◌∷◌, ◌++◌, codes, encode_utf8, Option, Some, None, Result, Ok, Err}
+use Rattle.std.specs.List.{flat_map}
+use Rattle.std.specs.Option.{option_map}
+use Rattle.std.specs.Str.{chars, encode_utf8_all}
+use Rattle.literal_escaper.specs.declared.errors.EscapeError.{EscapeError}
+use Rattle.literal_escaper.specs.declared.mixed_unit.MixedUnit.{MixedUnit}
+use Rattle.literal_escaper.specs.declared.mixed_unit.MixedUnit.TheVariants.{Char, HighByte}
+use Rattle.literal_escaper.specs.Items.{items}
+use Rattle.literal_escaper.specs.Kind.{Kind, string_kind, byte_kind, c_kind}
+use Rattle.literal_escaper.specs.Value.{value_of}
+use Rattle.pm_token.specs.declared.literals.conversion.ConversionErrorKind.{ConversionErrorKind}
+use Rattle.pm_token.specs.declared.literals.conversion.ConversionErrorKind.TheVariants.{FailedToUnescape, InvalidLiteralKind}
+use Rattle.pm_token.specs.Content.{cooked_content, raw_content}
+
+-- the units of a content with escapes, or its last fault
+abbrev pub units : {U : Type 0} → Kind U → List ℕ → Result (List U) EscapeError
+units kind content = value_of (items kind content)
+
+-- `literal-value`: the units of a content with escapes, or its last fault; or else a raw content
+abbrev pub value_from : {V : Type 0} → Option (Result V EscapeError) → Option V → Result V ConversionErrorKind
+value_from (Some (Ok value)) raw = Ok value
+value_from (Some (Err fault)) raw = Err (FailedToUnescape fault)
+value_from None (Some value) = Ok value
+value_from None None = Err InvalidLiteralKind
+
+-- a call answers the value, as `seen` sees its answer; a fault only where that is the value; no value exactly where
+-- there is none; and else that memory ran out
+pub record Answers {T V : Type 0} (seen : T → V) (value : Result V ConversionErrorKind)
+    (result : Result T ConversionErrorKind) : Type 0 where
+  pub ok : IfOk result (λ answer. value ≡ Ok (seen answer))
+  pub unescape : (fault : EscapeError) → result ≡ Err (FailedToUnescape fault) → value ≡ Err (FailedToUnescape fault)
+  pub kind : (result ≡ Err InvalidLiteralKind) ↔ (value ≡ Err InvalidLiteralKind)
+
+-- the characters of a string
+abbrev pub text_of : {A : Type 0} → String A → List ℕ
+text_of string = chars (string_bytes string)
+
+-- the bytes of a vector
+abbrev pub bytes_of : {A : Type 0} → Vec ℕ A → List ℕ
+bytes_of vector = vector.items
+
+-- `string-value`: characters
+abbrev pub str_value : List ℕ → Result (List ℕ) ConversionErrorKind
+str_value text =
+    value_from (option_map (units string_kind) (cooked_content (codes "\"") text)) (raw_content (codes "r") text)
+
+-- `byte-string-value`: bytes
+abbrev pub byte_str_value : List ℕ → Result (List ℕ) ConversionErrorKind
+byte_str_value text =
+    value_from (option_map (units byte_kind) (cooked_content (codes "b\"") text))
+    (option_map encode_utf8_all (raw_content (codes "br") text))
+
+-- the bytes of a unit of a C string
+abbrev pub unit_bytes : MixedUnit → List ℕ
+unit_bytes (Char c) = encode_utf8 c
+unit_bytes (HighByte byte) = byte ∷ []
+
+-- the bytes of a C string, and a zero byte that ends it
+abbrev pub ended : List ℕ → List ℕ
+ended bytes = bytes ++ 0 ∷ []
+
+-- those of units
+abbrev pub c_bytes : Result (List MixedUnit) EscapeError → Result (List ℕ) EscapeError
+c_bytes (Ok units) = Ok (ended (flat_map unit_bytes units))
+c_bytes (Err fault) = Err fault
+
+-- `c-string-value`: bytes, the last of them zero
+abbrev pub cstr_value : List ℕ → Result (List ℕ) ConversionErrorKind
+cstr_value text =
+    value_from (option_map (λ content. c_bytes (units c_kind content)) (cooked_content (codes "c\"") text))
+    (option_map (λ content. ended (encode_utf8_all content)) (raw_content (codes "cr") text))

@@ -1,0 +1,76 @@
+-- What holds of the values of literals that were made.
+use Rattle.std.specs.Prelude.{Bool, not, ◌==◌, ◌≡◌, ◌<◌, ℕ, List, [], ◌++◌, codes, IsTrue, Ok}
+use Rattle.std.specs.Char.{IsScalar}
+use Rattle.std.specs.List.{AllByRecursion, list_all}
+use Rattle.std.specs.Str.{all_scalars, encode_utf8_all}
+use Rattle.lexical.specs.Quoted.{ByteStr, CStr, Str}
+use Rattle.literal_escaper.specs.Kind.{byte_kind, string_kind}
+use Rattle.literal_escaper.specs.Single.{single}
+use Rattle.pm_token.specs.CString.{IsCStringText, has_no_zero}
+use Rattle.pm_token.specs.Content.{is_hash}
+use Rattle.pm_token.specs.Escaped.{byte_string_text, byte_text, character_text, string_text}
+use Rattle.pm_token.specs.Value.{byte_str_value, cstr_value, ended, str_value}
+
+-- the value of the string literal of a text is the text
+abbrev pub StringsComeBack : Type 0
+StringsComeBack = (text : List ℕ) → IsTrue (all_scalars text) → str_value (string_text text) ≡ Ok text
+
+-- that of the byte string literal of some bytes the bytes
+abbrev pub ByteStringsComeBack : Type 0
+ByteStringsComeBack = (bytes : List ℕ) → AllByRecursion (λ b. b < 256) bytes → byte_str_value (byte_string_text bytes) ≡ Ok bytes
+
+-- that of the C string literal of some bytes, none of them zero, the bytes and a zero byte
+abbrev pub CStringsComeBack : Type 0
+CStringsComeBack = (bytes text : List ℕ) → AllByRecursion (λ b. b < 256) bytes → IsTrue (has_no_zero bytes)
+    → IsCStringText bytes text → cstr_value text ≡ Ok (ended bytes)
+
+-- what stands between the quotes of the literal of a character is one unit, the character
+abbrev pub CharactersComeBack : Type 0
+CharactersComeBack = (c : ℕ) → IsScalar c
+    → (content : List ℕ) × (character_text c ≡ codes "'" ++ (content ++ codes "'")) × ((single string_kind content).unit ≡ Ok c)
+
+-- that of a byte the byte
+abbrev pub BytesComeBack : Type 0
+BytesComeBack = (b : ℕ) → b < 256
+    → (content : List ℕ) × (byte_text b ≡ codes "b'" ++ (content ++ codes "'")) × ((single byte_kind content).unit ≡ Ok b)
+
+-- a raw literal without a suffix: what it begins with, hash signs, and its body between quotes
+abbrev pub raw_text : List ℕ → List ℕ → List ℕ → List ℕ
+raw_text front signs body = front ++ ((signs ++ codes "\"") ++ (body ++ (codes "\"" ++ signs)))
+
+-- the value of a raw string is its body
+abbrev pub RawStringsHaveBodies : Type 0
+RawStringsHaveBodies = (signs body : List ℕ) → IsTrue (list_all is_hash signs) → str_value (raw_text (codes "r") signs body) ≡ Ok body
+
+-- that of a raw byte string the bytes of its body
+abbrev pub RawByteStringsHaveBodies : Type 0
+RawByteStringsHaveBodies = (signs body : List ℕ) → IsTrue (list_all is_hash signs)
+    → byte_str_value (raw_text (codes "br") signs body) ≡ Ok (encode_utf8_all body)
+
+-- that of a raw C string these and a zero byte
+abbrev pub RawCStringsHaveBodies : Type 0
+RawCStringsHaveBodies = (signs body : List ℕ) → IsTrue (list_all is_hash signs)
+    → cstr_value (raw_text (codes "cr") signs body) ≡ Ok (ended (encode_utf8_all body))
+
+-- no CR stands in the text
+abbrev pub has_no_return : List ℕ → Bool
+has_no_return text = list_all (λ c. not (c == 13)) text
+
+-- a literal with escapes and without a suffix
+abbrev pub cooked_text : List ℕ → List ℕ → List ℕ
+cooked_text front content = front ++ (content ++ codes "\"")
+
+-- a string without CR has a value
+abbrev pub StringsHaveValues : Type 0
+StringsHaveValues = (content : List ℕ) → Str (cooked_text (codes "\"") content) [] → IsTrue (has_no_return content)
+    → (value : List ℕ) × (str_value (cooked_text (codes "\"") content) ≡ Ok value)
+
+-- so has a byte string
+abbrev pub ByteStringsHaveValues : Type 0
+ByteStringsHaveValues = (content : List ℕ) → ByteStr (cooked_text (codes "b\"") content) [] → IsTrue (has_no_return content)
+    → (value : List ℕ) × (byte_str_value (cooked_text (codes "b\"") content) ≡ Ok value)
+
+-- and a C string, which a zero byte ends
+abbrev pub CStringsHaveValues : Type 0
+CStringsHaveValues = (content : List ℕ) → CStr (cooked_text (codes "c\"") content) [] → IsTrue (has_no_return content)
+    → (value : List ℕ) × (cstr_value (cooked_text (codes "c\"") content) ≡ Ok (ended value))

@@ -1,0 +1,43 @@
+//! What is proved of literals and their values together. The functions compute nothing: their contracts
+//! are the laws, which `specs/ValueLaws.antt` states.
+
+ghost use Rattle.pm_token.specs.ValueLaws.{
+  ByteStringsComeBack,
+  ByteStringsHaveValues,
+  BytesComeBack,
+  CStringsComeBack,
+  CStringsHaveValues,
+  CharactersComeBack,
+  RawByteStringsHaveBodies,
+  RawCStringsHaveBodies,
+  RawStringsHaveBodies,
+  StringsComeBack,
+  StringsHaveValues,
+};
+
+/// The value of a literal that was made is what it was made of: that of `Literal::string` the text, that
+/// of `byte_string` the bytes, that of `c_string` the bytes and a zero byte. What stands between the
+/// quotes of a `character` unescapes to the character, and of a `byte_character` to the byte.
+pub fn values_come_back()
+    ensures strings { StringsComeBack }
+    ensures byte_strings { ByteStringsComeBack }
+    ensures c_strings { CStringsComeBack }
+    ensures characters { CharactersComeBack }
+    ensures bytes { BytesComeBack }
+{}
+
+/// A raw literal without a suffix always has its body as its value: a string's is the body, a byte
+/// string's its bytes, and a C string's these and a zero byte.
+pub fn raw_values()
+    ensures strings { RawStringsHaveBodies }
+    ensures byte_strings { RawByteStringsHaveBodies }
+    ensures c_strings { RawCStringsHaveBodies }
+{}
+
+/// A literal with escapes, without a suffix and without CR always has a value: none of its items is a
+/// fault. With CR LF it may have none.
+pub fn cooked_values()
+    ensures strings { StringsHaveValues }
+    ensures byte_strings { ByteStringsHaveValues }
+    ensures c_strings { CStringsHaveValues }
+{}

@@ -1,0 +1,35 @@
+//! The values of raw contents.
+ghost use Rattle.std.specs.Prelude.{◌≡◌, [], IfOk, IsOk};
+ghost use Rattle.std.specs.Str.{chars, encode_utf8_all};
+ghost use Rattle.pm_token.specs.Value.{bytes_of, ended, text_of};
+
+use std::alloc::{AllocError, Global};
+
+/// The content of a raw string.
+pub fn raw_string(alloc: Global, content: &str) -> Result<String, AllocError>
+    ensures ok { IfOk result (λ value. text_of value ≡ chars content.now) }
+    ensures memory { chars content.now ≡ [] → IsOk result }
+{
+    let mut value = String::new(alloc);
+    value.push_str(content)?;
+    Ok(value)
+}
+
+/// The bytes of the content of a raw byte string.
+pub fn raw_bytes(alloc: Global, content: &str) -> Result<Vec<u8>, AllocError>
+    ensures ok { IfOk result (λ value. bytes_of value ≡ encode_utf8_all (chars content.now)) }
+    ensures memory { encode_utf8_all (chars content.now) ≡ [] → IsOk result }
+{
+    let mut value = Vec::new(alloc);
+    value.extend_from_slice(content.as_bytes())?;
+    Ok(value)
+}
+
+/// The bytes of the content of a raw C string, and a zero byte.
+pub fn raw_c_string(alloc: Global, content: &str) -> Result<Vec<u8>, AllocError>
+    ensures { IfOk result (λ value. bytes_of value ≡ ended (encode_utf8_all (chars content.now))) }
+{
+    let mut value = raw_bytes(alloc, content)?;
+    value.push(0)?;
+    Ok(value)
+}
