@@ -2,7 +2,7 @@
 //!
 //! `twin print` does what `tokens print` does. `twin answers` reads the lines of
 //! crates/conformance/stdin, and writes them with the crate's own answers.
-use proc_macro2::{Literal, LexError, TokenStream};
+use proc_macro2::{extra, Literal, LexError, TokenStream};
 use std::ffi::CString;
 use std::io::{self, BufRead, Read, Write};
 use std::process::exit;
@@ -96,7 +96,8 @@ fn answers() -> io::Result<()> {
             eprintln!("not a line of answers: {line}");
             exit(2)
         };
-        proc_macro2::extra::invalidate_current_thread_spans();
+        // each text is the first of a map
+        extra::invalidate_current_thread_spans();
         if !KINDS.contains(&kind) {
             writeln!(out, "{line}")?;
             continue;
