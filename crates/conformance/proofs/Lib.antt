@@ -1,2 +1,6 @@
+mod ColumnLemmas
+mod LineLemmas
 mod PlaceLemmas
+mod ReplayLemmas
 mod ValueLemmas
+mod VerdictLemmas

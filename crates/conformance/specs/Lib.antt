@@ -1,4 +1,9 @@
+pub mod Column
+pub mod Line
 pub mod Literals
 pub mod Name
+pub mod Replay
+pub mod Reply
 pub mod Said
 pub mod Texts
+pub mod Verdict

@@ -2,10 +2,10 @@
 use Rattle.std.specs.Prelude.{◌≡◌, ℕ, List, [], Result, Ok}
 use Rattle.std.specs.Str.{encode_utf8_all}
 use Rattle.hex.specs.Hex.{encode_lower}
-use Rattle.pm_token.specs.declared.literals.conversion.ConversionErrorKind.{ConversionErrorKind}
-use Rattle.pm_token.specs.declared.literals.conversion.ConversionErrorKind.TheVariants.{FailedToUnescape, InvalidLiteralKind, Memory}
-use Rattle.pm_token.specs.LiteralText.{IsByItself}
-use Rattle.pm_token.specs.Value.{str_value, byte_str_value, cstr_value}
+use Rattle.proc_macro2.specs.declared.ConversionErrorKind.{ConversionErrorKind}
+use Rattle.proc_macro2.specs.declared.ConversionErrorKind.TheVariants.{FailedToUnescape, InvalidLiteralKind, Memory}
+use Rattle.proc_macro2.specs.LiteralText.{IsByItself}
+use Rattle.proc_macro2.specs.Value.{str_value, byte_str_value, cstr_value}
 use Rattle.conformance.specs.declared.literals.Question.{Question}
 use Rattle.conformance.specs.declared.literals.Question.TheVariants.{Text, Refused, StrValue, ByteStrValue, CStrValue}
 

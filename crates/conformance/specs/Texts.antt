@@ -1,8 +1,8 @@
 -- What is written for a value.
-use Rattle.std.specs.Prelude.{◌≡◌, ℕ, List, [], ◌∷◌, Option, Some, None}
+use Rattle.std.specs.Prelude.{◌≡◌, ℕ, false, List, [], ◌∷◌, Option, Some, None}
 use Rattle.std.specs.Str.{chars, encode_utf8_all}
-use Rattle.pm_token.specs.CString.{IsCStringText}
-use Rattle.pm_token.specs.Escaped.{byte_string_text, byte_text, character_text, string_text}
+use Rattle.proc_macro2.specs.CString.{IsCStringText, has_no_zero}
+use Rattle.proc_macro2.specs.Escaped.{byte_string_text, byte_text, character_text, string_text}
 use Rattle.conformance.specs.declared.texts.Maker.{Maker}
 use Rattle.conformance.specs.declared.texts.Maker.TheVariants as made
 
@@ -28,3 +28,11 @@ IsWritten made.Character bytes said = IsOfFirst character_text (chars bytes) sai
 IsWritten made.ByteCharacter bytes said = IsOfFirst byte_text bytes said
 IsWritten made.ByteString bytes said = said ≡ encode_utf8_all (byte_string_text bytes)
 IsWritten made.CString bytes said = IsOfCString bytes said
+
+-- there is no literal of a value's bytes: no character of the empty text, and no C string of one with a zero
+abbrev pub HasNoLiteral : Maker → List ℕ → Type 0
+HasNoLiteral made.String bytes = ⊥
+HasNoLiteral made.Character bytes = chars bytes ≡ []
+HasNoLiteral made.ByteCharacter bytes = bytes ≡ []
+HasNoLiteral made.ByteString bytes = ⊥
+HasNoLiteral made.CString bytes = has_no_zero bytes ≡ false

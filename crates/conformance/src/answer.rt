@@ -1,7 +1,8 @@
 //! What the library answers to a text.
-ghost use Rattle.std.specs.Prelude.{◌≡◌, ◌≢◌, ◌↔◌, IfOk, length, string_bytes};
+ghost use Rattle.std.specs.Prelude.{◌≡◌, ◌≢◌, ◌↔◌, IfErr, IfOk, length, string_bytes};
 ghost use Rattle.std.specs.Str.{chars, encode_utf8_all};
 ghost use Rattle.proc_macro2.specs.Files.{Fits};
+ghost use Rattle.proc_macro2.specs.Outcome.{IfLex};
 ghost use Rattle.proc_macro2.specs.Printed.{printed};
 ghost use Rattle.conformance.specs.Said.{IsSaid, new_map, of_stream, place_text};
 
@@ -30,6 +31,7 @@ pub fn answer_to(alloc: Global, asked: Kind, text: &str) -> Result<Answer, Parse
         IsSaid answer.kind (chars text.now) (string_bytes answer.said)) }
     ensures kind { IfOk result (λ answer.
         answer.kind ≢ Kind.Fault → answer.kind ≡ of_stream asked) }
+    ensures lex { IfErr result (λ error. IfLex error (λ _. ⊥)) }
     ensures map_full { (result ≡ Err ParseError.MapFull)
         ↔ (Fits new_map (length (chars text.now)) → ⊥) }
 {

@@ -1,4 +1,12 @@
 //! What a line asks, of whatever kind.
+ghost use Rattle.std.specs.Prelude.{◌≡◌, IfErr, IfOk, length, string_bytes};
+ghost use Rattle.std.specs.Str.{chars};
+ghost use Rattle.proc_macro2.specs.Files.{Fits};
+ghost use Rattle.proc_macro2.specs.Outcome.{IfLex};
+ghost use Rattle.conformance.specs.Name.{Names, asked_name};
+ghost use Rattle.conformance.specs.Reply.{IsReply};
+ghost use Rattle.conformance.specs.Said.{new_map};
+
 use crate::answer::answer_to;
 use crate::items::{Call, items};
 use crate::kind::Kind;
@@ -22,7 +30,9 @@ pub enum Asked {
 
 impl Asked {
     /// What a line's first column names, as `tree`; `None` of any other word.
-    pub fn named(name: &str) -> Option<Asked> {
+    pub fn named(name: &str) -> Option<Asked>
+        ensures { Names asked_name result name.now }
+    {
         if let Some(kind) = Kind::named(name) {
             return Some(Asked::Stream(kind));
         }
@@ -36,7 +46,9 @@ impl Asked {
     }
 
     /// The name that it has on a line.
-    pub fn name(self) -> &'static str {
+    pub fn name(self) -> &'static str
+        ensures { result.now ≡ asked_name self }
+    {
         match self {
             Asked::Stream(kind) => kind.name(),
             Asked::Literal(question) => question.name(),
@@ -50,7 +62,12 @@ impl Asked {
 /// nothing can be written for a value, it is refused.
 ///
 /// For `string`, `a"` gives `string` and `"a\""`.
-pub fn answer(alloc: Global, asked: Asked, text: &str) -> Result<(Asked, String), ParseError> {
+pub fn answer(alloc: Global, asked: Asked, text: &str) -> Result<(Asked, String), ParseError>
+    ensures ok { IfOk result (λ reply. IsReply asked text.now reply.0 (string_bytes reply.1)) }
+    ensures map_full { result ≡ Err ParseError.MapFull
+        → Fits new_map (length (chars text.now)) → ⊥ }
+    ensures lex { IfErr result (λ error. IfLex error (λ _. ⊥)) }
+{
     match asked {
         Asked::Stream(kind) => {
             let found = answer_to(alloc, kind, text)?;

@@ -1,4 +1,10 @@
 //! The columns of a line of recorded answers, and the escapes in them.
+ghost use Rattle.std.specs.Prelude.{◌≡◌, ℕ, List, IfOk, IfSome, MatchOption, string_bytes};
+ghost use Rattle.std.specs.Str.{chars};
+ghost use Rattle.conformance.specs.declared.asked.Asked.{Asked};
+ghost use Rattle.conformance.specs.Column.{IsUnescaped, StandsFor, letter, step};
+ghost use Rattle.conformance.specs.Line.{IsCut, IsLine};
+
 use crate::asked::Asked;
 use std::alloc::{AllocError, Global};
 
@@ -19,14 +25,19 @@ pub struct Recorded {
 /// another has a wrong escape.
 ///
 /// `fault`, a tab, `(]`, a tab and `1:1` are the fault of `(]`.
-pub fn read_line(alloc: Global, line: &str) -> Result<Option<Recorded>, AllocError> {
-    let Some((name, columns)) = line.split_once('\t') else {
+pub fn read_line(alloc: Global, line: &str) -> Result<Option<Recorded>, AllocError>
+    ensures found { IfOk result (λ answer. IfSome answer (λ recorded. IsLine line.now
+        recorded.asked (string_bytes recorded.text) (string_bytes recorded.answer))) }
+    ensures none { result ≡ Ok None → (asked : Asked) (text answer : List ℕ)
+        → IsLine line.now asked text answer → ⊥ }
+{
+    let Some((name, columns)) = cut(line) else {
         return Ok(None);
     };
     let Some(asked) = Asked::named(name) else {
         return Ok(None);
     };
-    let Some((text, answer)) = columns.split_once('\t') else {
+    let Some((text, answer)) = cut(columns) else {
         return Ok(None);
     };
     let Some(text) = unescaped(alloc, text)? else {
@@ -40,6 +51,14 @@ pub fn read_line(alloc: Global, line: &str) -> Result<Option<Recorded>, AllocErr
         text,
         answer,
     }))
+}
+
+// The parts before and behind the first tab.
+fn cut(text: &str) -> Option<(&str, &str)>
+    ensures { MatchOption result ((first rest : List ℕ) → IsCut text.now first rest → ⊥)
+        (λ parts. IsCut text.now parts.0.now parts.1.now) }
+{
+    text.split_once('\t')
 }
 
 /// How far an escape is read.
@@ -59,7 +78,11 @@ enum State {
 /// isn't closed. A tab is none of a column's characters.
 ///
 /// `a\tb\u{e9}` is `a`, a tab, `b` and U+00E9.
-pub fn unescaped(alloc: Global, column: &str) -> Result<Option<String>, AllocError> {
+pub fn unescaped(alloc: Global, column: &str) -> Result<Option<String>, AllocError>
+    ensures found { IfOk result (λ answer. IfSome answer (λ text.
+        IsUnescaped (chars column.now) (string_bytes text))) }
+    ensures none { result ≡ Ok None → (text : List ℕ) → StandsFor (chars column.now) text → ⊥ }
+{
     let mut text = String::new(alloc);
     let mut state = State::Plain;
     for c in column.chars() {
@@ -78,7 +101,9 @@ pub fn unescaped(alloc: Global, column: &str) -> Result<Option<String>, AllocErr
 }
 
 // The state after a character, and the character that is read with it.
-fn step(state: State, c: char) -> Option<(State, Option<char>)> {
+fn step(state: State, c: char) -> Option<(State, Option<char>)>
+    ensures { result ≡ step state c }
+{
     match state {
         State::Plain if c == '\\' => Some((State::Backslash, None)),
         State::Plain if c == '\t' => None,
@@ -96,7 +121,9 @@ fn step(state: State, c: char) -> Option<(State, Option<char>)> {
 }
 
 // What a character behind a backslash stands for.
-fn escape(c: char) -> Option<char> {
+fn escape(c: char) -> Option<char>
+    ensures { result ≡ letter c }
+{
     match c {
         'n' => Some('\n'),
         'r' => Some('\r'),

@@ -1,5 +1,7 @@
 //! What the library finds in the content of a literal.
+ghost use Rattle.std.specs.Prelude.{◌≡◌};
 ghost use Rattle.std.specs.Iterator.{IsFinite};
+ghost use Rattle.conformance.specs.Name.{Names, call_name, mode_name};
 
 use proc_macro2::rustc_literal_escaper::{
     EscapeError, MixedUnit, Mode, NonZeroChar, check_for_errors, check_raw_byte_str,
@@ -34,7 +36,9 @@ pub enum Call {
 
 impl Call {
     /// The call that a line's first column names, as `unescape_str`; `None` of any other word.
-    pub fn named(name: &str) -> Option<Call> {
+    pub fn named(name: &str) -> Option<Call>
+        ensures { Names call_name result name.now }
+    {
         match name {
             "unescape_str" => Some(Call::Str),
             "unescape_byte_str" => Some(Call::ByteStr),
@@ -49,7 +53,9 @@ impl Call {
     }
 
     /// The name that it has on a line.
-    pub fn name(self) -> &'static str {
+    pub fn name(self) -> &'static str
+        ensures { result.now ≡ call_name self }
+    {
         match self {
             Call::Str => "unescape_str",
             Call::ByteStr => "unescape_byte_str",
@@ -65,7 +71,9 @@ impl Call {
 }
 
 // The kind of literal that a word names.
-fn mode_named(name: &str) -> Option<Mode> {
+fn mode_named(name: &str) -> Option<Mode>
+    ensures { Names mode_name result name.now }
+{
     match name {
         "Char" => Some(Mode::Char),
         "Byte" => Some(Mode::Byte),
@@ -80,7 +88,9 @@ fn mode_named(name: &str) -> Option<Mode> {
 }
 
 // The name of the call that looks for errors.
-fn errors_name(mode: Mode) -> &'static str {
+fn errors_name(mode: Mode) -> &'static str
+    ensures { result.now ≡ call_name (Call.Errors mode) }
+{
     match mode {
         Mode::Char => "errors_Char",
         Mode::Byte => "errors_Byte",

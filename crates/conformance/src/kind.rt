@@ -1,6 +1,6 @@
 //! What is asked of a text.
 ghost use Rattle.std.specs.Prelude.{◌≡◌};
-ghost use Rattle.conformance.specs.Name.{kind_named, name_of};
+ghost use Rattle.conformance.specs.Name.{Names, name_of};
 
 /// What was asked of a text, or that it was refused.
 #[derive(Clone, Copy, Debug, PartialEq, Eq)]
@@ -16,7 +16,7 @@ pub enum Kind {
 impl Kind {
     /// The kind that a line's first column names, as `tree`; `None` of any other word.
     pub fn named(name: &str) -> Option<Kind>
-        ensures { result ≡ kind_named name.now }
+        ensures { Names name_of result name.now }
     {
         if name == "print" {
             Some(Kind::Print)

@@ -1,9 +1,11 @@
 //! What the library answers to a literal's text.
-ghost use Rattle.std.specs.Prelude.{◌≡◌, ◌≢◌, ◌↔◌, IfOk, length, string_bytes};
+ghost use Rattle.std.specs.Prelude.{◌≡◌, ◌≢◌, ◌↔◌, IfErr, IfOk, length, string_bytes};
 ghost use Rattle.std.specs.Str.{chars, encode_utf8_all};
 ghost use Rattle.proc_macro2.specs.Files.{Fits};
-ghost use Rattle.pm_token.specs.Value.{byte_str_value, cstr_value, str_value};
+ghost use Rattle.proc_macro2.specs.Outcome.{IfLex};
+ghost use Rattle.proc_macro2.specs.Value.{byte_str_value, cstr_value, str_value};
 ghost use Rattle.conformance.specs.Literals.{HasName, IsAnswer, IsOfLiteral, IsValue};
+ghost use Rattle.conformance.specs.Name.{Names, question_name};
 ghost use Rattle.conformance.specs.Said.{new_map};
 
 use proc_macro2::{ConversionErrorKind, Literal, ParseError, SourceMap};
@@ -26,7 +28,9 @@ pub enum Question {
 
 impl Question {
     /// The question that a line's first column names, as `str_value`; `None` of any other word.
-    pub fn named(name: &str) -> Option<Question> {
+    pub fn named(name: &str) -> Option<Question>
+        ensures { Names question_name result name.now }
+    {
         match name {
             "literal" => Some(Question::Text),
             "refused" => Some(Question::Refused),
@@ -38,7 +42,9 @@ impl Question {
     }
 
     /// The name that it has on a line.
-    pub fn name(self) -> &'static str {
+    pub fn name(self) -> &'static str
+        ensures { result.now ≡ question_name self }
+    {
         match self {
             Question::Text => "literal",
             Question::Refused => "refused",
@@ -75,6 +81,7 @@ pub fn literal_answer(
         IsAnswer answer.question (chars text.now) (string_bytes answer.said)) }
     ensures kind { IfOk result (λ answer. answer.question ≢ Question.Refused
         → asked ≢ Question.Refused → answer.question ≡ asked) }
+    ensures lex { IfErr result (λ error. IfLex error (λ _. ⊥)) }
     ensures map_full { (result ≡ Err ParseError.MapFull)
         ↔ (Fits new_map (length (chars text.now)) → ⊥) }
 {

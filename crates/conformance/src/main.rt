@@ -2,6 +2,11 @@
 //! difference. The status is 1 where there is one.
 #![tactic(auto)]
 
+ghost use Rattle.std.specs.Prelude.{◌≡◌, ◌==◌, if◌then◌else◌, OnOk};
+ghost use Rattle.std.specs.Io.KnownBytes.{Appends};
+ghost use Rattle.std.specs.Process.{exit_status};
+ghost use Rattle.conformance.specs.Replay.{tally_text};
+
 mod answer;
 mod asked;
 mod columns;
@@ -15,7 +20,7 @@ mod replay;
 mod rows;
 mod texts;
 
-use replay::replay;
+use replay::{Tally, replay};
 use std::io;
 use std::io::{BufReader, BufWriter, Write};
 use std::process::ExitCode;
@@ -24,16 +29,30 @@ fn main(rt: HostRuntime) -> io::Result<ExitCode> {
     let reader = BufReader::new(rt.alloc(), rt.stdin())?;
     let mut writer = BufWriter::new(rt.alloc(), rt.stdout())?;
     let tally = replay(rt.alloc(), reader, &mut writer)?;
-    let same = tally.differences == 0;
+    print_tally(tally, &mut writer)?;
+    writer.flush()?;
+    Ok(status(tally))
+}
+
+// Writes how many answers there are, and how many of them differ.
+fn print_tally<W: Write>(tally: Tally, writer: &mut W) -> io::Result<()>
+    ensures { OnOk result (Appends (W.contents writer.old) (W.contents writer.new)
+        (tally_text tally)) }
+{
     writeln!(
         writer,
         "{} answers, {} differences",
         tally.answers, tally.differences
-    )?;
-    writer.flush()?;
-    Ok(if same {
+    )
+}
+
+// The program's status, which says whether an answer differs.
+fn status(tally: Tally) -> ExitCode
+    ensures { exit_status result ≡ (if tally.differences == 0 then 0 else 1) }
+{
+    if tally.differences == 0 {
         ExitCode::SUCCESS
     } else {
         ExitCode::FAILURE
-    })
+    }
 }

@@ -1,9 +1,10 @@
 //! What the library writes for a value.
 ghost use Rattle.std.specs.Prelude.{◌≡◌, IfOk, IfSome, IsTrue, string_bytes};
 ghost use Rattle.std.specs.Str.{chars, encode_utf8_all};
-ghost use Rattle.pm_token.specs.CString.{has_no_zero};
-ghost use Rattle.pm_token.specs.Escaped.{byte_string_text, byte_text, character_text, string_text};
-ghost use Rattle.conformance.specs.Texts.{IsOfCString, IsWritten, first_of};
+ghost use Rattle.proc_macro2.specs.CString.{has_no_zero};
+ghost use Rattle.proc_macro2.specs.Escaped.{byte_string_text, byte_text, character_text, string_text};
+ghost use Rattle.conformance.specs.Name.{Names, maker_name};
+ghost use Rattle.conformance.specs.Texts.{HasNoLiteral, IsOfCString, IsWritten, first_of};
 
 use proc_macro2::Literal;
 use std::alloc::{AllocError, Global};
@@ -25,7 +26,9 @@ pub enum Maker {
 
 impl Maker {
     /// The maker that a line's first column names, as `c_string`; `None` of any other word.
-    pub fn named(name: &str) -> Option<Maker> {
+    pub fn named(name: &str) -> Option<Maker>
+        ensures { Names maker_name result name.now }
+    {
         match name {
             "string" => Some(Maker::String),
             "character" => Some(Maker::Character),
@@ -37,7 +40,9 @@ impl Maker {
     }
 
     /// The name that it has on a line.
-    pub fn name(self) -> &'static str {
+    pub fn name(self) -> &'static str
+        ensures { result.now ≡ maker_name self }
+    {
         match self {
             Maker::String => "string",
             Maker::Character => "character",
@@ -53,8 +58,9 @@ impl Maker {
 ///
 /// For `CString`, `a` and a quote give `c"a\""`.
 pub fn written(alloc: Global, maker: Maker, value: &str) -> Result<Option<String>, AllocError>
-    ensures { IfOk result (λ answer. IfSome answer (λ said.
+    ensures some { IfOk result (λ answer. IfSome answer (λ said.
         IsWritten maker value.now (string_bytes said))) }
+    ensures none { result ≡ Ok None → HasNoLiteral maker value.now }
 {
     match maker {
         Maker::String => Ok(Some(string(alloc, value)?)),

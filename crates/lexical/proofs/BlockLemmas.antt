@@ -4,9 +4,9 @@ use Rattle.std.proofs.lemmas.Bool.{cond-false, cond_both, or_parts, or_from, and
 use Rattle.lexical.specs.Text.{begins_with, begins_any}
 use Rattle.lexical.specs.Form.{Form, Then, Exactly}
 use Rattle.lexical.specs.Comment.{block_signs, BlockBody, Empty, Nested, Single, BlockComment}
-use Rattle.lexical.specs.Finder.{Finds, behind}
+use Rattle.lexical.specs.Finder.{Answer, Finds, behind}
 use Rattle.lexical.specs.CommentFinder.{find_ends, find_block}
-use Rattle.lexical.proofs.FinderLemmas.{Answer, IsSplit, finds_then, finds_text}
+use Rattle.lexical.proofs.FinderLemmas.{IsSplit, finds_then, finds_text}
 
 -- ---- what the finder does at each sign and character
 
@@ -34,7 +34,8 @@ pub at_open : (depth : ℕ) (text : List ℕ) → find_ends (suc depth) (codes "
 unfolding find_ends
 at_open depth text = refl
 
-pub at_other : (depth c : ℕ) (text : List ℕ) → begins_any block_signs (c ∷ text) ≡ false → find_ends (suc depth) (c ∷ text) ≡ behind (c ∷ []) (find_ends (suc depth) text)
+pub at_other : (depth c : ℕ) (text : List ℕ) → begins_any block_signs (c ∷ text) ≡ false
+    → find_ends (suc depth) (c ∷ text) ≡ behind (c ∷ []) (find_ends (suc depth) text)
 unfolding find_ends
 at_other depth c [] h = refl
 at_other depth c (d ∷ text) h =
@@ -49,13 +50,16 @@ at_other depth c (d ∷ text) h =
 -- ---- a body is found
 
 body_found : {body after : List ℕ} (depth : ℕ) → BlockBody body after → find_ends (suc depth) (body ++ after) ≡ behind body (find_ends (suc depth) after)
-body_found {after = after} depth (Empty e) = ap (λ p. find_ends (suc depth) (p ++ after)) e ∙ (sym (behind_nothing _) ∙ ap (λ p. behind p (find_ends (suc depth) after)) (sym e))
+body_found {after = after} depth (Empty e) =
+    ap (λ p. find_ends (suc depth) (p ++ after)) e
+    ∙ (sym (behind_nothing _) ∙ ap (λ p. behind p (find_ends (suc depth) after)) (sym e))
 body_found {after = after} depth (Nested inner more e nested h) =
     let tail = codes "*/" ++ (more ++ after) in
     ap (λ p. find_ends (suc depth) (p ++ after)) e
     ∙ (ap (λ t. find_ends (suc depth) (codes "/*" ++ t)) (append_assoc inner (codes "*/" ++ more) after)
     ∙ (at_open depth (inner ++ tail)
-    ∙ (ap (behind (codes "/*")) (body_found (suc depth) nested ∙ ap (behind inner) (at_close (suc depth) (more ++ after) ∙ ap (behind (codes "*/")) (body_found depth h)))
+    ∙ (ap (behind (codes "/*")) (body_found (suc depth) nested
+    ∙ ap (behind inner) (at_close (suc depth) (more ++ after) ∙ ap (behind (codes "*/")) (body_found depth h)))
     ∙ (ap (λ o. behind (codes "/*") (behind inner o)) (behind_behind (codes "*/") more _)
     ∙ (ap (behind (codes "/*")) (behind_behind inner (codes "*/" ++ more) _)
     ∙ (behind_behind (codes "/*") (inner ++ (codes "*/" ++ more)) _
@@ -106,11 +110,15 @@ other_step depth c p r plain h = record {
   front = c ∷ h.front;
   back = h.back;
   whole = ap (λ x. c ∷ x) h.whole;
-  first = Single c h.front refl (ap (λ x. begins_any block_signs (c ∷ x)) (sym (append_assoc h.front h.back r) ∙ ap (λ x. x ++ r) (sym h.whole)) ∙ plain) h.first;
+  first =
+      Single c h.front refl (ap (λ x. begins_any block_signs (c ∷ x))
+      (sym (append_assoc h.front h.back r) ∙ ap (λ x. x ++ r) (sym h.whole)) ∙ plain) h.first;
   second = h.second;
 }
 
-behind_sound : (A B : Form) (front text : List ℕ) (o : Answer) → ((p r : List ℕ) → text ≡ p ++ r → A p r → B (front ++ p) r) → IfSome o (IsSplit A text) → IfSome (behind front o) (IsSplit B (front ++ text))
+behind_sound : (A B : Form) (front text : List ℕ) (o : Answer)
+    → ((p r : List ℕ) → text ≡ p ++ r → A p r → B (front ++ p) r) → IfSome o (IsSplit A text)
+    → IfSome (behind front o) (IsSplit B (front ++ text))
 behind_sound A B front text None step is = tt
 behind_sound A B front text (Some x) step is = (ap (λ t. front ++ t) is.0 ∙ sym (append_assoc front x.0 x.1), step x.0 x.1 is.0 is.1)
 
@@ -123,7 +131,8 @@ sign_pair a b c d text h =
 
 pair_sound : (depth c d : ℕ) (text : List ℕ) (closed opened passed : Answer)
     → IfSome closed (IsSplit (Ends depth) text) → IfSome opened (IsSplit (Ends (suc (suc depth))) text) → IfSome passed (IsSplit (Ends (suc depth)) (d ∷ text))
-    → IfSome (cond (begins_with (codes "*/") (c ∷ (d ∷ text))) (behind (c ∷ d ∷ []) closed) (cond (begins_with (codes "/*") (c ∷ (d ∷ text))) (behind (c ∷ d ∷ []) opened) (behind (c ∷ []) passed)))
+    → IfSome (cond (begins_with (codes "*/") (c ∷ (d ∷ text))) (behind (c ∷ d ∷ []) closed)
+    (cond (begins_with (codes "/*") (c ∷ (d ∷ text))) (behind (c ∷ d ∷ []) opened) (behind (c ∷ []) passed)))
     (IsSplit (Ends (suc depth)) (c ∷ (d ∷ text)))
 pair_sound depth c d text closed opened passed h j k =
     cond_both (begins_with (codes "*/") (c ∷ (d ∷ text))) _ _ (λ o. IfSome o (IsSplit (Ends (suc depth)) (c ∷ (d ∷ text))))

@@ -64,14 +64,26 @@ pub start_closer : (c : ℕ) → is_closer c ≡ true → start c ≡ starts.Clo
 unfolding unicode_ident
 start_closer c h = any_of (λ d. start d ≡ starts.Closer) (codes ")]}") c (refl, (refl, (refl, tt))) h
 
+-- the class of a mark
+abbrev HasMarkClass : ℕ → Type 0
+HasMarkClass d = (start d ≡ starts.Other) ⊎ ((start d ≡ starts.Slash) ⊎ (d ≡ 39))
+
+last_marks : AllByRecursion HasMarkClass (codes "+|;:,<.>/?'")
+unfolding unicode_ident
+last_marks =
+    (inl refl, (inl refl, (inl refl, (inl refl, (inl refl, (inl refl, (inl refl, (inl refl, (inr (inl refl), (inl refl, (inr (inr refl), tt)))))))))))
+
+all_marks : AllByRecursion HasMarkClass marks
+unfolding unicode_ident
+all_marks =
+    (inl refl, (inl refl, (inl refl, (inl refl, (inl refl, (inl refl, (inl refl, (inl refl, (inl refl, (inl refl, (inl refl, last_marks)))))))))))
+
 -- a mark, but `'`
 pub start_mark : (c : ℕ) → is_mark c ≡ true → (c == 39) ≡ false → (start c ≡ starts.Other) ⊎ (start c ≡ starts.Slash)
-unfolding unicode_ident
-start_mark c h plain = elim (any_of (λ d. (start d ≡ starts.Other) ⊎ ((start d ≡ starts.Slash) ⊎ (d ≡ 39))) marks c
-    (inl refl, (inl refl, (inl refl, (inl refl, (inl refl, (inl refl, (inl refl, (inl refl, (inl refl, (inl refl, (inl refl, (inl refl, (inl refl, (inl refl, (inl refl, (inl refl, (inl refl, (inl refl, (inl refl, (inr (inl refl), (inl refl, (inr (inr refl), tt)))))))))))))))))))))) h) [
-      | inl other ↦ inl other
-      | inr more ↦ elim more [ inl slash ↦ inr slash | inr quote ↦ absurd (both_ways _ plain (eq-eqb c 39 quote)) ]
-    ]
+start_mark c h plain = elim (any_of HasMarkClass marks c all_marks h) [
+  | inl other ↦ inl other
+  | inr more ↦ elim more [ inl slash ↦ inr slash | inr quote ↦ absurd (both_ways _ plain (eq-eqb c 39 quote)) ]
+]
 
 pub start_slash : start 47 ≡ starts.Slash
 unfolding unicode_ident
@@ -106,10 +118,13 @@ chosen true x y z h differs = refl
 chosen false x y z h differs = absurd (differs h)
 
 -- past the classes
-past_classes : (c : ℕ) (s : Start) → start c ≡ s → (starts.White ≡ s → ⊥) → (starts.Letter ≡ s → ⊥) → (starts.Digit ≡ s → ⊥) → (starts.Opener ≡ s → ⊥) → (starts.Closer ≡ s → ⊥) → (starts.Slash ≡ s → ⊥)
+past_classes : (c : ℕ) (s : Start) → start c ≡ s → (starts.White ≡ s → ⊥) → (starts.Letter ≡ s → ⊥)
+    → (starts.Digit ≡ s → ⊥) → (starts.Opener ≡ s → ⊥) → (starts.Closer ≡ s → ⊥) → (starts.Slash ≡ s → ⊥)
     → cond (c == 39) starts.Quote (cond (c == 34) starts.DoubleQuote (cond (c == 0xFEFF) starts.FrontMark starts.Other)) ≡ s
 past_classes c s h white letter digit opener closer slash =
-    past (c == 47) slash (past (is_closer c) closer (past (is_opener c) opener (past (is_ascii_digit c) digit (past (is_ident_start c) letter (past (is_white c) white h)))))
+    past (c == 47) slash (past (is_closer c) closer
+    (past (is_opener c) opener (past (is_ascii_digit c) digit
+    (past (is_ident_start c) letter (past (is_white c) white h)))))
 
 pub quote_is : (c : ℕ) → start c ≡ starts.Quote → c ≡ 39
 quote_is c h =

@@ -6,7 +6,7 @@ use Rattle.std.specs.Int.{is_in_range}
 use Rattle.std.specs.List.{fold, list_all}
 use Rattle.std.proofs.lemmas.Bool.{both_ways, and_parts, or_cases, cond-true, cond-false, cond_both, leb-true, agree_below_at, false_from_ne_true, lt-ltb}
 use Rattle.lexical.specs.Quoted.{hex_value, is_scalar, is_code}
-use Rattle.lexical.specs.QuotedFinder.{is_code_digit}
+use Rattle.lexical.specs.EscapeFinder.{is_code_digit}
 
 -- the value with one digit more
 abbrev pub value_step : ℕ → ℕ → ℕ
@@ -28,7 +28,8 @@ digit_low c h = elim (or_cases (is_ascii_hexdigit c) (c == 95) h) [
   where
     hex_low : (c : ℕ) → is_ascii_hexdigit c ≡ true → c < 128
     hex_low c h = elim (or_cases (is_in_range 48 57 c || is_in_range 65 70 c) (is_in_range 97 102 c) h) [
-      | inl small ↦ elim (or_cases (is_in_range 48 57 c) (is_in_range 65 70 c) small) [ inl digit ↦ up_to 48 57 c digit (omega arith) | inr letter ↦ up_to 65 70 c letter (omega arith) ]
+      | inl small ↦ elim (or_cases (is_in_range 48 57 c) (is_in_range 65 70 c) small)
+          [ inl digit ↦ up_to 48 57 c digit (omega arith) | inr letter ↦ up_to 65 70 c letter (omega arith) ]
       | inr letter ↦ up_to 97 102 c letter (omega arith)
     ]
       where
@@ -49,8 +50,12 @@ pub counts_digit : (value count c : ℕ) (after rest text : List ℕ) → rest �
     → CountsTo value count rest text → CountsTo (16 * value + digit_value c) (count + 1) after text
 counts_digit value count c after rest text e is low counts =
     let hex : is_ascii_hexdigit c ≡ true = hex_is c is ∙ lt-ltb (digit_value c) 16 low in
-    let one : hexes (c ∷ after) ≡ suc (hexes after) = ap length (cond-true (is_ascii_hexdigit c) (c ∷ filter is_ascii_hexdigit after) (filter is_ascii_hexdigit after) hex) in (
-      ap (λ n. fold value_step n after) (sym (cond-false (c == 95) value (16 * value + digit_value c) (hex_no_line c hex))) ∙ (ap (fold value_step value) (sym e) ∙ counts.0),
+    let one : hexes (c ∷ after) ≡ suc (hexes after) =
+    ap length (cond-true (is_ascii_hexdigit c) (c ∷ filter is_ascii_hexdigit after)
+    (filter is_ascii_hexdigit after) hex) in (
+      ap (λ n. fold value_step n after) (sym
+          (cond-false (c == 95) value (16 * value + digit_value c) (hex_no_line c hex)))
+          ∙ (ap (fold value_step value) (sym e) ∙ counts.0),
       omega (arith, counts.1, ap hexes e, one),
     )
 
@@ -60,7 +65,9 @@ pub counts_line : (value count c : ℕ) (after rest text : List ℕ) → rest �
 counts_line value count c after rest text e is high counts =
     let other : is_ascii_hexdigit c ≡ false = hex_is c is ∙ false_from_ne_true _ (λ low. high (ltb-true (digit_value c) 16 low)) in
     let line : (c == 95) ≡ true = sym (ap (λ b. b || (c == 95)) other) ∙ is in
-    let none : hexes (c ∷ after) ≡ hexes after = ap length (cond-false (is_ascii_hexdigit c) (c ∷ filter is_ascii_hexdigit after) (filter is_ascii_hexdigit after) other) in (
+    let none : hexes (c ∷ after) ≡ hexes after =
+    ap length (cond-false (is_ascii_hexdigit c) (c ∷ filter is_ascii_hexdigit after)
+    (filter is_ascii_hexdigit after) other) in (
       ap (λ n. fold value_step n after) (sym (cond-true (c == 95) value (16 * value + digit_value c) line)) ∙ (ap (fold value_step value) (sym e) ∙ counts.0),
       omega (arith, counts.1, ap hexes e, none),
     )
@@ -78,7 +85,8 @@ reads_line value count new many c after rest text e is counts high value_is coun
     let read = counts_line value count c after rest text e is high counts in
     (ap (λ n. fold value_step n after) value_is ∙ read.0, ap (λ n. n + hexes after) count_is ∙ read.1)
 
-pub digits_tail : (c : ℕ) (after rest : List ℕ) → rest ≡ c ∷ after → list_all is_code_digit rest ≡ true → (is_code_digit c ≡ true) × (list_all is_code_digit after ≡ true)
+pub digits_tail : (c : ℕ) (after rest : List ℕ) → rest ≡ c ∷ after → list_all is_code_digit rest ≡ true
+    → (is_code_digit c ≡ true) × (list_all is_code_digit after ≡ true)
 digits_tail c after rest e all = and_parts (is_code_digit c) (list_all is_code_digit after) (ap (list_all is_code_digit) (sym e) ∙ all)
 
 -- ---- no code
@@ -97,12 +105,18 @@ no_code_long allowed value count rest text counts long =
     ap (λ b. b && (is_scalar (hex_value text) && allowed (hex_value text))) few
 
 -- too great a value
-pub no_code_great : (allowed : ℕ → Bool) (value count : ℕ) (rest text : List ℕ) → CountsTo value count rest text → 0x10_FFFF < value → is_code allowed text ≡ false
+pub no_code_great : (allowed : ℕ → Bool) (value count : ℕ) (rest text : List ℕ) → CountsTo value count rest text
+    → 0x10_FFFF < value → is_code allowed text ≡ false
 no_code_great allowed value count rest text counts great =
     let grown = fold_grows value rest in
     false_from_ne_true _ (λ e.
-    let scalar = (and_parts (is_scalar (hex_value text)) (allowed (hex_value text)) (and_parts (nat_le (hexes text) 6) (is_scalar (hex_value text) && allowed (hex_value text)) e).1).0 in
+    let scalar =
+    (and_parts (is_scalar (hex_value text)) (allowed (hex_value text))
+    (and_parts (nat_le (hexes text) 6) (is_scalar (hex_value text) && allowed (hex_value text)) e).1).0 in
     elim (or_cases (nat_lt (hex_value text) 0xD800) (nat_le 0xE000 (hex_value text) && nat_lt (hex_value text) 0x11_0000) scalar) [
       | inl low ↦ let lt = ltb-true (hex_value text) 0xD800 low in absurd (omega (arith, counts.0))
-      | inr high ↦ let lt = ltb-true (hex_value text) 0x11_0000 (and_parts (nat_le 0xE000 (hex_value text)) (nat_lt (hex_value text) 0x11_0000) high).1 in absurd (omega (arith, counts.0))
+      | inr high ↦
+          let below = (and_parts (nat_le 0xE000 (hex_value text)) (nat_lt (hex_value text) 0x11_0000) high).1 in
+          let lt = ltb-true (hex_value text) 0x11_0000 below in
+          absurd (omega (arith, counts.0))
     ])

@@ -49,19 +49,28 @@ pub record DocFront (p : List ℕ) : Type 0 where
 front_of : (a b c : ℕ) (p : List ℕ) → all_ascii (a ∷ b ∷ c ∷ []) ≡ true → (c == 13) ≡ false → begins_with (a ∷ b ∷ c ∷ []) p ≡ true → DocFront p
 front_of a b c p ascii last h =
     let split = begins_splits (a ∷ b ∷ c ∷ []) p h in
-    record { front = a ∷ b ∷ c ∷ []; rest = split.0; whole = split.1; three = refl; bytes = sym (ascii_bytes (a ∷ b ∷ c ∷ []) ascii); last = ends_past 13 c split.0 last }
+    record {
+      front = a ∷ b ∷ c ∷ [];
+      rest = split.0;
+      whole = split.1;
+      three = refl;
+      bytes = sym (ascii_bytes (a ∷ b ∷ c ∷ []) ascii);
+      last = ends_past 13 c split.0 last;
+    }
 
 pub doc_front : (p : List ℕ) → is_doc p ≡ true → DocFront p
 doc_front p h = elim (or_cases (is_inner p) (begins_any outer_fronts p && not (begins_any plain_fronts p)) h) [
   | inl inner ↦ elim (or_cases (begins_with (codes "//!") p) (begins_with (codes "/*!") p || false) inner) [
     | inl line ↦ front_of 47 47 33 p refl refl line
-    | inr block ↦ elim (or_cases (begins_with (codes "/*!") p) false block) [ inl is ↦ front_of 47 42 33 p refl refl is | inr other ↦ absurd (both_ways false refl other) ]
+    | inr block ↦ elim (or_cases (begins_with (codes "/*!") p) false block)
+        [ inl is ↦ front_of 47 42 33 p refl refl is | inr other ↦ absurd (both_ways false refl other) ]
   ]
   | inr outer ↦
       let is = (and_parts _ _ outer).0 in
       elim (or_cases (begins_with (codes "///") p) (begins_with (codes "/**") p || false) is) [
         | inl line ↦ front_of 47 47 47 p refl refl line
-        | inr block ↦ elim (or_cases (begins_with (codes "/**") p) false block) [ inl is ↦ front_of 47 42 42 p refl refl is | inr other ↦ absurd (both_ways false refl other) ]
+        | inr block ↦ elim (or_cases (begins_with (codes "/**") p) false block)
+            [ inl is ↦ front_of 47 42 42 p refl refl is | inr other ↦ absurd (both_ways false refl other) ]
       ]
 ]
 
@@ -116,11 +125,14 @@ pub closing_block : (p r : List ℕ) → begins_with (codes "/*") p ≡ true →
 closing_block p r h = cond-true _ _ _ h
 
 -- before LF a line loses the CR at its end
-pub closing_line : (p r : List ℕ) → is_doc p ≡ true → begins_with (codes "/*") p ≡ false → begins_with (codes "\n") r ≡ true → closing p r ≡ last_return (drop 3 p)
+pub closing_line : (p r : List ℕ) → is_doc p ≡ true → begins_with (codes "/*") p ≡ false
+    → begins_with (codes "\n") r ≡ true → closing p r ≡ last_return (drop 3 p)
 closing_line p r doc line feed =
     let d = doc_front p doc in
     let same : (ends_with 13 p && begins_with (codes "\n") r) ≡ ends_with 13 (drop 3 p) =
-    ap₂ (λ x y. x && y) (ap (ends_with 13) d.whole ∙ d.last) feed ∙ (and_with_true (ends_with 13 d.rest) ∙ ap (ends_with 13) (sym (ap (drop 3) d.whole ∙ drop_at d.front d.rest 3 d.three))) in
+    ap₂ (λ x y. x && y) (ap (ends_with 13) d.whole ∙ d.last) feed
+    ∙ (and_with_true (ends_with 13 d.rest)
+    ∙ ap (ends_with 13) (sym (ap (drop 3) d.whole ∙ drop_at d.front d.rest 3 d.three))) in
     cond-false _ _ _ line ∙ ap (λ b. if b then 13 ∷ [] else []) same
   where
     and_with_true : (b : Bool) → (b && true) ≡ b

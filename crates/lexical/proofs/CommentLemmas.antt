@@ -63,9 +63,14 @@ bare_end (c ∷ (d ∷ text)) e = or_right _ _ (bare_end (d ∷ text) e)
 -- a doc comment at the end does not end with CR
 doc_at_end : (i : Bool) (t p : List ℕ) → LineComment p [] → Doc i t p [] → ends_with 13 p ≡ false
 doc_at_end i t p line h =
-    let none : closing p [] ≡ [] = cond-false _ _ _ (ap (begins_with (codes "/*")) (line_front p [] line)) ∙ cond-false _ _ _ (and_right (ends_with 13 p) _ refl) in
+    let none : closing p [] ≡ [] =
+    cond-false _ _ _ (ap (begins_with (codes "/*")) (line_front p [] line))
+    ∙ cond-false _ _ _ (and_right (ends_with 13 p) _ refl) in
     let d = doc_front p h.comment.1 in
-    let said : d.rest ≡ t = sym (drop_at d.front d.rest 3 d.three) ∙ (ap (drop 3) (sym d.whole ∙ h.whole) ∙ (drop_at h.front (t ++ closing p []) 3 h.three ∙ (ap (λ x. t ++ x) none ∙ append-nil t))) in
+    let said : d.rest ≡ t =
+    sym (drop_at d.front d.rest 3 d.three)
+    ∙ (ap (drop 3) (sym d.whole ∙ h.whole)
+    ∙ (drop_at h.front (t ++ closing p []) 3 h.three ∙ (ap (λ x. t ++ x) none ∙ append-nil t))) in
     false_from_ne_true _ (λ ends.
     both_ways _ h.returns (bare_end t (ap (ends_with 13) (sym said) ∙ (sym d.last ∙ (ap (ends_with 13) (sym d.whole) ∙ ends)))))
 
@@ -94,7 +99,9 @@ block_stays p r s h = record {
     front = h.second.front;
     back = h.second.back;
     whole = h.second.whole;
-    first = subst (λ z. BlockBody h.second.front (z ++ s)) (sym h.second.second) (body_cut 42 (47 ∷ r) (47 ∷ s) h.second.first (ap (λ z. z ++ r) h.second.second));
+    first =
+        subst (λ z. BlockBody h.second.front (z ++ s)) (sym h.second.second)
+        (body_cut 42 (47 ∷ r) (47 ∷ s) h.second.first (ap (λ z. z ++ r) h.second.second));
     second = h.second.second;
   };
 }
@@ -123,7 +130,9 @@ doc_line i t p r w h = elim h.comment.0 [
         let line_at_end = subst (LineComment p) end line in
         let plain = doc_at_end i t p line_at_end at_end in
         let is : begins_with (codes "/*") p ≡ false = ap (begins_with (codes "/*")) (line_front p r line) in
-        let none = λ (s : List ℕ). cond-false (begins_with (codes "/*") p) (codes "*/") _ is ∙ cond-false _ (13 ∷ []) [] (and_left (ends_with 13 p) (begins_with (codes "\n") s) plain) in
+        let none =
+        λ (s : List ℕ). cond-false (begins_with (codes "/*") p) (codes "*/") _ is
+        ∙ cond-false _ (13 ∷ []) [] (and_left (ends_with 13 p) (begins_with (codes "\n") s) plain) in
         doc_stays i t p [] (10 ∷ w) (comment_line p r w h.comment.0) (none [] ∙ sym (none (10 ∷ w))) at_end
     | inr feed ↦ doc_stays i t p (10 ∷ feed.0) (10 ∷ w) (comment_line p r w h.comment.0) refl (subst (Doc i t p) feed.1 h)
   ]

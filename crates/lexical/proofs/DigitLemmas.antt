@@ -1,5 +1,5 @@
 -- Pieces that begin with a digit, and how the pieces end that a float with a dot is cut into.
-use Rattle.std.proofs.Common.{◌≡◌, ℕ, ◌≤◌, Bool, true, false, not, List, [], ◌∷◌, ◌++◌, length, Option, Some, None, refl, sym, ap, ◌∙◌, subst, inl, inr, arith, length-append}
+use Rattle.std.proofs.Common.{◌≡◌, ℕ, ◌≤◌, Bool, true, false, not, List, [], ◌∷◌, ◌++◌, length, Some, None, refl, sym, ap, ◌∙◌, subst, inl, inr, arith, length-append}
 use Rattle.std.specs.List.{list_all}
 use Rattle.std.specs.Char.{is_ascii_digit}
 use Rattle.std.proofs.lemmas.Bool.{both_ways, and_parts}
@@ -13,7 +13,7 @@ use Rattle.lexical.specs.Number.{End, Integer, Number}
 use Rattle.lexical.specs.Piece.{Kind, Piece, Leaf, IsPiece}
 use Rattle.lexical.specs.Cover.{onto, StandBefore}
 use Rattle.lexical.specs.Quiet.{is_quiet, ends_quiet}
-use Rattle.lexical.specs.Finder.{find_run}
+use Rattle.lexical.specs.Finder.{Answer, find_run}
 use Rattle.lexical.specs.NumberFinder.{find_number}
 use Rattle.lexical.specs.PieceFinder.{literal_kind, tagged, found}
 use Rattle.lexical.specs.declared.class.Start.TheVariants as starts
@@ -22,7 +22,8 @@ use Rattle.lexical.proofs.ClassLemmas.{start_digit}
 use Rattle.lexical.proofs.NumberFinderLemmas.{finds_number}
 use Rattle.lexical.proofs.PieceLemmas.{from_start, found_complete, one_piece}
 use Rattle.lexical.proofs.PieceFacts.{piece_shortens}
-use Rattle.lexical.proofs.NumberLemmas.{all_back, on_integer_end}
+use Rattle.lexical.proofs.NumberLemmas.{all_back}
+use Rattle.lexical.proofs.IntegerLemmas.{on_integer_end}
 use Rattle.lexical.proofs.NumberCutLemmas.{number_ends, fronts_compared}
 
 -- ---- digits
@@ -32,7 +33,7 @@ pub digit_piece : (first : Bool) (k : Kind) (p r : List ℕ) → IsPiece first k
     → (k ≡ Leaf (tokens.Literal p)) × Number p r
 digit_piece first k p r h digit = by_text (p ++ r) digit (found_complete first k p r h)
   where
-    by_found : (text : List ℕ) (o : Option (List ℕ × List ℕ)) → find_number text ≡ o → tagged literal_kind o ≡ Some (k, p, r)
+    by_found : (text : List ℕ) (o : Answer) → find_number text ≡ o → tagged literal_kind o ≡ Some (k, p, r)
         → (k ≡ Leaf (tokens.Literal p)) × Number p r
     by_found text None e is = absurd (cc)
     by_found text (Some x) e is =

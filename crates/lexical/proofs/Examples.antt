@@ -6,7 +6,8 @@ use Rattle.lexical.specs.Class.{is_ident_continue}
 use Rattle.lexical.specs.Token.{Name, Mark, Literal}
 use Rattle.lexical.specs.Piece.{FrontMark, Gap, Doc, Open, Close, Leaf, IsPiece, HasNoPiece}
 use Rattle.lexical.specs.CommentFinder.{find_ends}
-use Rattle.lexical.specs.QuotedFinder.{find_quoted, find_many}
+use Rattle.lexical.specs.Finder.{find_many}
+use Rattle.lexical.specs.QuotedFinder.{find_quoted}
 use Rattle.lexical.specs.PieceFinder.{found}
 use Rattle.lexical.proofs.PieceLemmas.{piece_from_found, none_from_found}
 

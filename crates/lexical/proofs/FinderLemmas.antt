@@ -1,14 +1,10 @@
 -- Each word on forms has a finder.
-use Rattle.std.proofs.Common.{◌≡◌, ℕ, Bool, true, false, cond, ◌==◌, List, [], ◌∷◌, ◌++◌, Option, Some, None, IfSome, IsTrue, inl, inr, refl, sym, ap, ap₂, ◌∙◌, subst, append_assoc, eqb-true, eq-eqb}
+use Rattle.std.proofs.Common.{◌≡◌, ℕ, Bool, true, false, cond, ◌==◌, List, [], ◌∷◌, ◌++◌, Some, None, IfSome, IsTrue, inl, inr, refl, sym, ap, ap₂, ◌∙◌, subst, append_assoc, eqb-true, eq-eqb}
 use Rattle.std.specs.List.{list_all}
 use Rattle.std.proofs.lemmas.Bool.{cond-true, cond-false, cond_both, and_parts, and_from}
 use Rattle.lexical.specs.Text.{begins_any, first_passes}
 use Rattle.lexical.specs.Form.{Form, HasNone, Then, Either, NotAt, Exactly, One, Run, Never}
-use Rattle.lexical.specs.Finder.{Finder, Finds, while_front, while_rest, behind, and_find, or_find, if_passes, find_then, find_else, find_if, find_not_at, find_where, find_one, find_run, find_text, find_never}
-
--- a finder's answer
-abbrev pub Answer : Type 0
-Answer = Option (List ℕ × List ℕ)
+use Rattle.lexical.specs.Finder.{Answer, Finder, Finds, while_front, while_rest, behind, and_find, or_find, if_passes, find_then, find_else, find_if, find_not_at, find_where, find_one, find_run, find_text, find_never}
 
 -- what was found is of the form
 abbrev pub IsSplit : Form → List ℕ → List ℕ × List ℕ → Type 0
@@ -51,7 +47,8 @@ finds_same f A B h to from = record {
 
 -- ---- `Then`
 
-then_back : (A B : Form) (text : List ℕ) (x : List ℕ × List ℕ) → IsSplit A text x → (o : Answer) → IfSome o (IsSplit B x.1) → IfSome (behind x.0 o) (IsSplit (Then A B) text)
+then_back : (A B : Form) (text : List ℕ) (x : List ℕ × List ℕ) → IsSplit A text x → (o : Answer)
+    → IfSome o (IsSplit B x.1) → IfSome (behind x.0 o) (IsSplit (Then A B) text)
 then_back A B text x is None more = tt
 then_back A B text x is (Some y) more = (
   is.0 ∙ (ap (λ xs. x.0 ++ xs) more.0 ∙ sym (append_assoc x.0 y.0 y.1)),
@@ -77,19 +74,23 @@ finds_then f g A B h j = record {
 
 -- ---- a form where this holds
 
-if_sound : (holds : Bool) (A : Form) (text : List ℕ) (o : Answer) → holds ≡ true → IfSome o (IsSplit A text) → IfSome o (IsSplit (λ p r. IsTrue holds × A p r) text)
+if_sound : (holds : Bool) (A : Form) (text : List ℕ) (o : Answer) → holds ≡ true → IfSome o (IsSplit A text)
+    → IfSome o (IsSplit (λ p r. IsTrue holds × A p r) text)
 if_sound holds A text None e is = tt
 if_sound holds A text (Some x) e is = (is.0, (e, is.1))
 
 pub finds_if : (holds : Bool) (f : Finder) (A : Form) → Finds f A → Finds (find_if holds f) (λ p r. IsTrue holds × A p r)
 finds_if holds f A h = record {
-  sound = λ text. cond_both holds (f text) None (λ o. IfSome o (IsSplit (λ p r. IsTrue holds × A p r) text)) (λ e. if_sound holds A text (f text) e (h.sound text)) (λ e. tt);
+  sound =
+      λ text. cond_both holds (f text) None (λ o. IfSome o (IsSplit (λ p r. IsTrue holds × A p r) text))
+      (λ e. if_sound holds A text (f text) e (h.sound text)) (λ e. tt);
   complete = λ p r is. cond-true _ _ _ is.0 ∙ h.complete p r is.1;
 }
 
 -- ---- `Either`, where the first finder finds nothing that the second does
 
-either_sound : (A B : Form) (text : List ℕ) (o other : Answer) → IfSome o (IsSplit A text) → IfSome other (IsSplit B text) → IfSome (or_find o other) (IsSplit (Either A B) text)
+either_sound : (A B : Form) (text : List ℕ) (o other : Answer) → IfSome o (IsSplit A text)
+    → IfSome other (IsSplit B text) → IfSome (or_find o other) (IsSplit (Either A B) text)
 either_sound A B text None None h j = tt
 either_sound A B text None (Some x) h j = (j.0, inr j.1)
 either_sound A B text (Some x) other h j = (h.0, inl h.1)
@@ -105,21 +106,27 @@ finds_either f g A B h j none = record {
 
 -- ---- `NotAt`
 
-not_at_sound : (A : Form) (fronts : List (List ℕ)) (text : List ℕ) (o : Answer) → begins_any fronts text ≡ false → IfSome o (IsSplit A text) → IfSome o (IsSplit (NotAt fronts A) text)
+not_at_sound : (A : Form) (fronts : List (List ℕ)) (text : List ℕ) (o : Answer) → begins_any fronts text ≡ false
+    → IfSome o (IsSplit A text) → IfSome o (IsSplit (NotAt fronts A) text)
 not_at_sound A fronts text None e is = tt
 not_at_sound A fronts text (Some x) e is = (is.0, (is.1, ap (begins_any fronts) (sym is.0) ∙ e))
 
 pub finds_not_at : (fronts : List (List ℕ)) (f : Finder) (A : Form) → Finds f A → Finds (find_not_at fronts f) (NotAt fronts A)
 finds_not_at fronts f A h = record {
-  sound = λ text. cond_both (begins_any fronts text) None (f text) (λ o. IfSome o (IsSplit (NotAt fronts A) text)) (λ e. tt) (λ e. not_at_sound A fronts text (f text) e (h.sound text));
+  sound =
+      λ text. cond_both (begins_any fronts text) None (f text) (λ o. IfSome o (IsSplit (NotAt fronts A) text))
+      (λ e. tt) (λ e. not_at_sound A fronts text (f text) e (h.sound text));
   complete = λ p r is. cond-false _ _ _ is.1 ∙ h.complete p r is.0;
 }
 
 -- ---- a form whose pieces pass
 
-where_sound : (test : List ℕ → List ℕ → Bool) (A : Form) (text : List ℕ) (o : Answer) → IfSome o (IsSplit A text) → IfSome (if_passes test o) (IsSplit (λ p r. A p r × IsTrue (test p r)) text)
+where_sound : (test : List ℕ → List ℕ → Bool) (A : Form) (text : List ℕ) (o : Answer) → IfSome o (IsSplit A text)
+    → IfSome (if_passes test o) (IsSplit (λ p r. A p r × IsTrue (test p r)) text)
 where_sound test A text None is = tt
-where_sound test A text (Some x) is = cond_both (test x.0 x.1) (Some x) None (λ o. IfSome o (IsSplit (λ p r. A p r × IsTrue (test p r)) text)) (λ e. (is.0, (is.1, e))) (λ e. tt)
+where_sound test A text (Some x) is =
+    cond_both (test x.0 x.1) (Some x) None (λ o. IfSome o (IsSplit (λ p r. A p r × IsTrue (test p r)) text))
+    (λ e. (is.0, (is.1, e))) (λ e. tt)
 
 pub finds_where : (test : List ℕ → List ℕ → Bool) (f : Finder) (A : Form) → Finds f A → Finds (find_where test f) (λ p r. A p r × IsTrue (test p r))
 finds_where test f A h = record {
@@ -131,24 +138,31 @@ finds_where test f A h = record {
 
 pub while_whole : (passes : ℕ → Bool) (text : List ℕ) → while_front passes text ++ while_rest passes text ≡ text
 while_whole passes [] = refl
-while_whole passes (c ∷ text) = cond_both (passes c) (c ∷ while_front passes text) [] (λ xs. xs ++ cond (passes c) (while_rest passes text) (c ∷ text) ≡ c ∷ text)
+while_whole passes (c ∷ text) =
+    cond_both (passes c) (c ∷ while_front passes text) []
+    (λ xs. xs ++ cond (passes c) (while_rest passes text) (c ∷ text) ≡ c ∷ text)
     (λ e. ap (λ ys. (c ∷ while_front passes text) ++ ys) (cond-true _ _ _ e) ∙ ap (λ ys. c ∷ ys) (while_whole passes text))
     (λ e. cond-false _ _ _ e)
 
 while_passes : (passes : ℕ → Bool) (text : List ℕ) → list_all passes (while_front passes text) ≡ true
 while_passes passes [] = refl
-while_passes passes (c ∷ text) = cond_both (passes c) (c ∷ while_front passes text) [] (λ xs. list_all passes xs ≡ true) (λ e. and_from _ _ e (while_passes passes text)) (λ e. refl)
+while_passes passes (c ∷ text) =
+    cond_both (passes c) (c ∷ while_front passes text) [] (λ xs. list_all passes xs ≡ true)
+    (λ e. and_from _ _ e (while_passes passes text)) (λ e. refl)
 
 while_stops : (passes : ℕ → Bool) (text : List ℕ) → first_passes passes (while_rest passes text) ≡ false
 while_stops passes [] = refl
-while_stops passes (c ∷ text) = cond_both (passes c) (while_rest passes text) (c ∷ text) (λ xs. first_passes passes xs ≡ false) (λ e. while_stops passes text) (λ e. e)
+while_stops passes (c ∷ text) =
+    cond_both (passes c) (while_rest passes text) (c ∷ text) (λ xs. first_passes passes xs ≡ false)
+    (λ e. while_stops passes text) (λ e. e)
 
 pub while_rest_none : (passes : ℕ → Bool) (r : List ℕ) → first_passes passes r ≡ false → (while_front passes r ≡ []) × (while_rest passes r ≡ r)
 while_rest_none passes [] stops = (refl, refl)
 while_rest_none passes (c ∷ r) stops = (cond-false _ _ _ stops, cond-false _ _ _ stops)
 
 -- the front and the rest are the only such split
-while_split : (passes : ℕ → Bool) (q r : List ℕ) → list_all passes q ≡ true → first_passes passes r ≡ false → (while_front passes (q ++ r) ≡ q) × (while_rest passes (q ++ r) ≡ r)
+while_split : (passes : ℕ → Bool) (q r : List ℕ) → list_all passes q ≡ true → first_passes passes r ≡ false
+    → (while_front passes (q ++ r) ≡ q) × (while_rest passes (q ++ r) ≡ r)
 while_split passes [] r all stops = while_rest_none passes r stops
 while_split passes (c ∷ q) r all stops =
     let parts = and_parts _ _ all in
@@ -165,7 +179,9 @@ finds_run passes = record {
 
 one_sound : (passes : ℕ → Bool) (text : List ℕ) → IfSome (find_one passes text) (IsSplit (One passes) text)
 one_sound passes [] = tt
-one_sound passes (c ∷ text) = cond_both (passes c) (Some (c ∷ [], text)) None (λ o. IfSome o (IsSplit (One passes) (c ∷ text))) (λ e. (refl, (c, refl, e))) (λ e. tt)
+one_sound passes (c ∷ text) =
+    cond_both (passes c) (Some (c ∷ [], text)) None (λ o. IfSome o (IsSplit (One passes) (c ∷ text)))
+    (λ e. (refl, (c, refl, e))) (λ e. tt)
 
 pub finds_one : (passes : ℕ → Bool) → Finds (find_one passes) (One passes)
 finds_one passes = record {

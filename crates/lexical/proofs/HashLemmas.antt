@@ -16,10 +16,15 @@ encode_hashes (c ∷ hashes) h =
     let parts = and_parts _ _ h in
     let is = eqb-true c 35 parts.0 in
     let more = encode_hashes hashes parts.1 in
-    subst (λ d. (encode_utf8_all (d ∷ hashes) ≡ d ∷ hashes) × (all_ascii (d ∷ hashes) ≡ true)) (sym is) (ap (λ bytes. bytes ++ encode_utf8_all hashes) (encode_ascii 35 (omega arith)) ∙ ap (λ x. 35 ∷ x) more.0, more.1)
+    subst (λ d. (encode_utf8_all (d ∷ hashes) ≡ d ∷ hashes) × (all_ascii (d ∷ hashes) ≡ true)) (sym is) (
+      ap (λ bytes. bytes ++ encode_utf8_all hashes) (encode_ascii 35 (omega arith))
+          ∙ ap (λ x. 35 ∷ x) more.0,
+      more.1,
+    )
 
 -- the text of the hash signs that were found
-pub hashes_text : (text front rest bytes : List ℕ) → find_run (λ c. c == 35) text ≡ Some (front, rest) → IsUtf8 bytes → chars bytes ≡ front → (bytes ≡ front) × (all_ascii bytes ≡ true)
+pub hashes_text : (text front rest bytes : List ℕ) → find_run (λ c. c == 35) text ≡ Some (front, rest) → IsUtf8 bytes
+    → chars bytes ≡ front → (bytes ≡ front) × (all_ascii bytes ≡ true)
 hashes_text text front rest bytes e utf8 is =
     let each = (found_is _ _ (finds_run (λ c. c == 35)) text front rest e).1.each in
     let same = encode_hashes front each in
@@ -27,7 +32,11 @@ hashes_text text front rest bytes e utf8 is =
     (whole, ap all_ascii whole ∙ same.1)
 
 pub hashes_found : (text front rest : List ℕ) → find_run (λ c. c == 35) text ≡ Some (front, rest) → length front ≤ 255 → find_hashes text ≡ Some (front, rest)
-hashes_found text front rest e few = ap (if_passes (λ hashes r. nat_le (length hashes) 255)) e ∙ cond-true (nat_le (length front) 255) (Some (front, rest)) None (le-leb (length front) 255 few)
+hashes_found text front rest e few =
+    ap (if_passes (λ hashes r. nat_le (length hashes) 255)) e
+    ∙ cond-true (nat_le (length front) 255) (Some (front, rest)) None (le-leb (length front) 255 few)
 
 pub too_many_hashes : (text front rest : List ℕ) → find_run (λ c. c == 35) text ≡ Some (front, rest) → 255 < length front → find_hashes text ≡ None
-too_many_hashes text front rest e many = ap (if_passes (λ hashes r. nat_le (length hashes) 255)) e ∙ cond-false (nat_le (length front) 255) (Some (front, rest)) None (lt-leb (length front) 255 many)
+too_many_hashes text front rest e many =
+    ap (if_passes (λ hashes r. nat_le (length hashes) 255)) e
+    ∙ cond-false (nat_le (length front) 255) (Some (front, rest)) None (lt-leb (length front) 255 many)

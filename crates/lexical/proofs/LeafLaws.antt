@@ -13,7 +13,7 @@ pub use Rattle.lexical.proofs.QuotedLemmas.{stops}
 pub use Rattle.lexical.proofs.LiteralLemmas.{literal_before_stop, literal_whole}
 pub use Rattle.lexical.proofs.NameLemmas.{identifier_alone, named_before_stop, identifier_before_stop, mark_before_stop, stop_alone}
 -- ---- next to a lone quote
-pub use Rattle.lexical.proofs.QuotableLemmas.{quotable_fronts, prefixed_follows, literal_quoted}
+pub use Rattle.lexical.proofs.QuotableLemmas.{prefixed_follows, literal_quoted}
 pub use Rattle.lexical.proofs.NameLemmas.{stop_unbarred, quote_before, quote_before_stop, quote_unbarred, quote_follows, follows_start, follows_something, IsNameOrLiteral, quote_next}
 -- ---- where a line ends that did not, right behind them or behind other pieces
 pub use Rattle.lexical.proofs.CommentLemmas.{comment_line, plain_line, doc_line, comment_cut, doc_cut}

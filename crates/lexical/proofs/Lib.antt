@@ -9,6 +9,7 @@ pub mod CommentFinderLemmas
 pub mod CommentLemmas
 pub mod SkipLemmas
 pub mod NameFinderLemmas
+pub mod WhiteRunLemmas
 pub mod WordLemmas
 pub mod ManyLemmas
 pub mod CodeLemmas
@@ -21,6 +22,7 @@ pub mod AnswerLemmas
 pub mod PieceFacts
 pub mod StableLemmas
 pub mod NumberLemmas
+pub mod IntegerLemmas
 pub mod LiteralLemmas
 pub mod NameLemmas
 pub mod LiteralFrontLemmas

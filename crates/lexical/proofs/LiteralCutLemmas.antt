@@ -14,7 +14,8 @@ use Rattle.lexical.specs.Cover.{onto, StandBefore}
 use Rattle.lexical.specs.Quiet.{ends_quiet}
 use Rattle.lexical.proofs.QuotedLemmas.{stops, stop_ends}
 use Rattle.lexical.proofs.StableLemmas.{Stable, stops_within, inside, all_append, on_run, stable_run}
-use Rattle.lexical.proofs.NumberLemmas.{goes_on, continue_goes_on, digits_continue, letter_continues, stable_end, on_digits, stable_digits, stable_exponent, stable_float, stable_exponential, on_float, all_back, stable_integer, stop_is_calm}
+use Rattle.lexical.proofs.NumberLemmas.{goes_on, continue_goes_on, digits_continue, letter_continues, stable_end, on_digits, stable_digits, stable_exponent, stable_float, stable_exponential, on_float, all_back}
+use Rattle.lexical.proofs.IntegerLemmas.{stable_integer, stop_is_calm}
 use Rattle.lexical.proofs.NumberCutLemmas.{fronts_compared, number_cut, exponent_front}
 use Rattle.lexical.proofs.LiteralLemmas.{quoted_stable}
 use Rattle.lexical.proofs.QuietLemmas.{HasDead, EndsName, onto_split, quiet_end}

@@ -3,7 +3,8 @@ use Rattle.std.proofs.Common.{List, ℕ, false, [], ◌∷◌, ◌++◌, codes, 
 use Rattle.unicode_ident.proofs.Computing.{unicode_ident}
 use Rattle.lexical.specs.Token.{Literal}
 use Rattle.lexical.specs.Piece.{Leaf, IsPiece, HasNoPiece}
-use Rattle.lexical.specs.QuotedFinder.{find_quoted, find_many}
+use Rattle.lexical.specs.Finder.{find_many}
+use Rattle.lexical.specs.QuotedFinder.{find_quoted}
 use Rattle.lexical.specs.PieceFinder.{found}
 use Rattle.lexical.proofs.PieceLemmas.{piece_from_found, none_from_found}
 

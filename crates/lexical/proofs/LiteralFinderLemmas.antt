@@ -50,7 +50,8 @@ pub record StartsLetter (text : List ℕ) : Type 0 where
   pub prefixed : begins_any literal_prefixes text ≡ true
 
 -- two letters and what follows them
-two_letters : (c d : ℕ) (A : Form) (p r : List ℕ) → Then (Exactly (c ∷ d ∷ [])) A p r → start c ≡ starts.Letter → ((tail : List ℕ) → begins_any literal_prefixes (c ∷ d ∷ tail) ≡ true) → StartsLetter (p ++ r)
+two_letters : (c d : ℕ) (A : Form) (p r : List ℕ) → Then (Exactly (c ∷ d ∷ [])) A p r → start c ≡ starts.Letter
+    → ((tail : List ℕ) → begins_any literal_prefixes (c ∷ d ∷ tail) ≡ true) → StartsLetter (p ++ r)
 two_letters c d A p r h letter prefixes = record {
   first = c;
   rest = d ∷ (h.back ++ r);
@@ -67,7 +68,9 @@ raw_whole front allowed p r h =
     let quotes = inner.second in (
       inner.front,
       quotes.back ++ r,
-      front_whole front _ p r h ∙ ap (λ x. front ++ x) (next_whole Hashes (RawQuotes allowed) h.back r inner ∙ ap (λ x. inner.front ++ x) (front_whole (codes "\"") _ inner.back r quotes)),
+      front_whole front _ p r h ∙ ap (λ x. front ++ x)
+          (next_whole Hashes (RawQuotes allowed) h.back r inner
+          ∙ ap (λ x. inner.front ++ x) (front_whole (codes "\"") _ inner.back r quotes)),
       inner.first.0.each,
     )
 
@@ -81,14 +84,19 @@ raw_prefix (d ∷ f ∷ hashes) tail each =
 
 raw_byte_prefix : (hashes tail : List ℕ) → list_all (λ c. c == 35) hashes ≡ true → begins_any literal_prefixes (98 ∷ 114 ∷ (hashes ++ (34 ∷ tail))) ≡ true
 raw_byte_prefix [] tail each = refl
-raw_byte_prefix (d ∷ hashes) tail each = subst (λ x. begins_any literal_prefixes (98 ∷ 114 ∷ x ∷ (hashes ++ (34 ∷ tail))) ≡ true) (sym (eqb-true d 35 (and_parts _ _ each).0)) refl
+raw_byte_prefix (d ∷ hashes) tail each =
+    subst (λ x. begins_any literal_prefixes (98 ∷ 114 ∷ x ∷ (hashes ++ (34 ∷ tail))) ≡ true)
+    (sym (eqb-true d 35 (and_parts _ _ each).0)) refl
 
 raw_c_prefix : (hashes tail : List ℕ) → list_all (λ c. c == 35) hashes ≡ true → begins_any literal_prefixes (99 ∷ 114 ∷ (hashes ++ (34 ∷ tail))) ≡ true
 raw_c_prefix [] tail each = refl
-raw_c_prefix (d ∷ hashes) tail each = subst (λ x. begins_any literal_prefixes (99 ∷ 114 ∷ x ∷ (hashes ++ (34 ∷ tail))) ≡ true) (sym (eqb-true d 35 (and_parts _ _ each).0)) refl
+raw_c_prefix (d ∷ hashes) tail each =
+    subst (λ x. begins_any literal_prefixes (99 ∷ 114 ∷ x ∷ (hashes ++ (34 ∷ tail))) ≡ true)
+    (sym (eqb-true d 35 (and_parts _ _ each).0)) refl
 
 raw_starts : (c : ℕ) (more : List ℕ) (allowed : ℕ → Bool) (p r : List ℕ) → Raw (c ∷ more) allowed p r → start c ≡ starts.Letter
-    → ((hashes tail : List ℕ) → list_all (λ d. d == 35) hashes ≡ true → begins_any literal_prefixes (c ∷ (more ++ (hashes ++ (34 ∷ tail)))) ≡ true) → StartsLetter (p ++ r)
+    → ((hashes tail : List ℕ) → list_all (λ d. d == 35) hashes ≡ true
+    → begins_any literal_prefixes (c ∷ (more ++ (hashes ++ (34 ∷ tail)))) ≡ true) → StartsLetter (p ++ r)
 raw_starts c more allowed p r h letter prefixes =
     let at = raw_whole (c ∷ more) allowed p r h in
     record {
@@ -107,7 +115,8 @@ BeginsWithOne characters p = (c : ℕ) × (q : List ℕ) × (p ≡ c ∷ q) × (
 abbrev pub literal_fronts : List ℕ
 literal_fronts = codes "\"'bcr0123456789"
 
-front_one : (c : ℕ) (more : List ℕ) (A : Form) (p r : List ℕ) → Then (Exactly (c ∷ more)) A p r → is_one_of literal_fronts c ≡ true → BeginsWithOne literal_fronts p
+front_one : (c : ℕ) (more : List ℕ) (A : Form) (p r : List ℕ) → Then (Exactly (c ∷ more)) A p r
+    → is_one_of literal_fronts c ≡ true → BeginsWithOne literal_fronts p
 front_one c more A p r h is = (c, more ++ h.back, h.whole ∙ ap (λ x. x ++ h.back) h.first, is)
 
 quoted_front : (p r : List ℕ) → QuotedLiteral p r → BeginsWithOne literal_fronts p
@@ -127,7 +136,10 @@ quoted_front p r h = elim h [
 ]
 
 digit_front : (c : ℕ) → is_ascii_digit c ≡ true → is_one_of literal_fronts c ≡ true
-digit_front c h = sym (ap (λ b. not b || is_one_of literal_fronts c) h) ∙ agree_below_at (λ x. not (is_ascii_digit x) || is_one_of literal_fronts x) (λ x. true) 128 c refl (digit_below c h)
+digit_front c h =
+    sym (ap (λ b. not b || is_one_of literal_fronts c) h)
+    ∙ agree_below_at (λ x. not (is_ascii_digit x) || is_one_of literal_fronts x)
+    (λ x. true) 128 c refl (digit_below c h)
 
 pub literal_front : (p r : List ℕ) → Literal p r → BeginsWithOne literal_fronts p
 unfolding Literal
@@ -171,15 +183,28 @@ character_text p r h =
     let unit = h.second in
     let close = unit.second in
     elim unit.first [
-      | inl one ↦ inr (one.0, close.back ++ r, whole ∙ ap (λ x. 39 ∷ x) (then_whole _ _ h.back r unit ∙ (ap (λ x. x ++ (unit.back ++ r)) one.1 ∙ ap (λ x. one.0 ∷ x) (front_whole (codes "'") _ unit.back r close))))
-      | inr escape ↦ inl (escape.back ++ (unit.back ++ r), whole ∙ ap (λ x. 39 ∷ x) (then_whole _ _ h.back r unit ∙ front_whole (codes "\\") _ unit.front (unit.back ++ r) escape))
+      | inl one ↦ inr (
+        one.0,
+        close.back ++ r,
+        whole
+            ∙ ap (λ x. 39 ∷ x) (then_whole _ _ h.back r unit
+            ∙ (ap (λ x. x ++ (unit.back ++ r)) one.1
+            ∙ ap (λ x. one.0 ∷ x) (front_whole (codes "'") _ unit.back r close))),
+      )
+      | inr escape ↦ inl (
+        escape.back ++ (unit.back ++ r),
+        whole
+            ∙ ap (λ x. 39 ∷ x) (then_whole _ _ h.back r unit
+            ∙ front_whole (codes "\\") _ unit.front (unit.back ++ r) escape),
+      )
     ]
 
 -- an identifier behind a quote begins with no backslash
 name_no_backslash : (name rest tail : List ℕ) → Name name rest → name ++ rest ≡ 92 ∷ tail → ⊥
 unfolding unicode_ident
 name_no_backslash name rest tail h e =
-    let both : ◌≡◌ {A = List ℕ} (h.first.0 ∷ (h.back ++ rest)) (92 ∷ tail) = sym (then_whole _ _ name rest h ∙ ap (λ x. x ++ (h.back ++ rest)) h.first.1) ∙ e in
+    let both : ◌≡◌ {A = List ℕ} (h.first.0 ∷ (h.back ++ rest)) (92 ∷ tail) =
+    sym (then_whole _ _ name rest h ∙ ap (λ x. x ++ (h.back ++ rest)) h.first.1) ∙ e in
     let head : h.first.0 ≡ 92 = cc in
     both_ways (is_ident_start 92) refl (ap is_ident_start (sym head) ∙ h.first.2)
 
@@ -193,7 +218,8 @@ run_no_quote (d ∷ run) rest tail each e bars =
 -- and no quote follows one character there
 name_no_quote : (name rest tail : List ℕ) (c : ℕ) → Name name rest → first_passes (bars_quote false) rest ≡ false → name ++ rest ≡ c ∷ 39 ∷ tail → ⊥
 name_no_quote name rest tail c h bars e =
-    let both : ◌≡◌ {A = List ℕ} (h.first.0 ∷ (h.back ++ rest)) (c ∷ 39 ∷ tail) = sym (then_whole _ _ name rest h ∙ ap (λ x. x ++ (h.back ++ rest)) h.first.1) ∙ e in
+    let both : ◌≡◌ {A = List ℕ} (h.first.0 ∷ (h.back ++ rest)) (c ∷ 39 ∷ tail) =
+    sym (then_whole _ _ name rest h ∙ ap (λ x. x ++ (h.back ++ rest)) h.first.1) ∙ e in
     let later : h.back ++ rest ≡ 39 ∷ tail = cc in
     run_no_quote h.back rest tail h.second.each later bars
 
@@ -204,7 +230,8 @@ named_no_backslash true name rest text tail whole named e =
     absurd (omega arith)
 named_no_backslash false name rest text tail whole named e = name_no_backslash name rest tail named.0 (sym whole ∙ e)
 
-named_no_quote : (raw : Bool) (name rest text tail : List ℕ) (c : ℕ) → text ≡ raw_front raw ++ (name ++ rest) → Named raw name rest → first_passes (bars_quote raw) rest ≡ false → text ≡ c ∷ 39 ∷ tail → ⊥
+named_no_quote : (raw : Bool) (name rest text tail : List ℕ) (c : ℕ) → text ≡ raw_front raw ++ (name ++ rest)
+    → Named raw name rest → first_passes (bars_quote raw) rest ≡ false → text ≡ c ∷ 39 ∷ tail → ⊥
 named_no_quote true name rest text tail c whole named bars e =
     let clash : ◌≡◌ {A = List ℕ} (114 ∷ 35 ∷ (name ++ rest)) (c ∷ 39 ∷ tail) = sym whole ∙ e in
     let heads : ◌≡◌ {A = ℕ} 35 39 = cc in

@@ -11,7 +11,8 @@ use Rattle.lexical.specs.SingleQuoted.{is_char_plain, is_byte_char_plain, Single
 use Rattle.lexical.specs.Literal.{QuotedLiteral, Literal, AnyLiteral, IsWhole}
 use Rattle.lexical.proofs.QuotedLemmas.{Free, free_one, free_text, free_then, free_either, free_many, free_unicode, free_low_pair, free_hex, free_unit, EndsSuffix, stops, stop_ends}
 use Rattle.lexical.proofs.StableLemmas.{Stable, stable_then}
-use Rattle.lexical.proofs.NumberLemmas.{stable_suffix, number_before_stop}
+use Rattle.lexical.proofs.NumberLemmas.{stable_suffix}
+use Rattle.lexical.proofs.IntegerLemmas.{number_before_stop}
 
 -- ---- forms that don't look at what follows
 
@@ -54,12 +55,14 @@ close_stable close = then_stable (Exactly close) Suffix (free_text close) stable
 
 cooked_stable : (front : List ℕ) (plain : ℕ → Bool) (Escape : Form) → Free Escape → Stable is_ident_continue (Cooked front (BodyUnit plain Escape))
 cooked_stable front plain Escape free = then_stable (Exactly front) (Body (BodyUnit plain Escape) (codes "\"")) (free_text front)
-    (then_stable (Many (BodyUnit plain Escape)) (Then (Exactly (codes "\"")) Suffix) (free_many (BodyUnit plain Escape) (free_unit plain Escape free)) (close_stable (codes "\"")))
+    (then_stable (Many (BodyUnit plain Escape)) (Then (Exactly (codes "\"")) Suffix)
+    (free_many (BodyUnit plain Escape) (free_unit plain Escape free)) (close_stable (codes "\"")))
 
 single_stable : (front : List ℕ) (plain : ℕ → Bool) (Escape : Form) → Free Escape → Stable is_ident_continue (SingleQuoted front plain Escape)
 single_stable front plain Escape free = then_stable (Exactly front) (Then (SingleUnit plain Escape) (Then (Exactly (codes "'")) Suffix)) (free_text front)
     (then_stable (SingleUnit plain Escape) (Then (Exactly (codes "'")) Suffix)
-    (free_either (One plain) (Then (Exactly (codes "\\")) Escape) (free_one plain) (free_then (Exactly (codes "\\")) Escape (free_text (codes "\\")) free)) (close_stable (codes "'")))
+    (free_either (One plain) (Then (Exactly (codes "\\")) Escape) (free_one plain)
+    (free_then (Exactly (codes "\\")) Escape (free_text (codes "\\")) free)) (close_stable (codes "'")))
 
 -- ---- raw strings
 
@@ -70,17 +73,20 @@ begins_decided (c ∷ front) [] x y few = absurd (omega arith)
 begins_decided (c ∷ front) (d ∷ t) x y few = ap (λ b. (c == d) && b) (begins_decided front t x y (omega arith))
 
 -- a unit looks as far as what closes the string is long
-unit_before : (allowed : ℕ → Bool) (close unit more back r s : List ℕ) → length close ≤ length back → RawUnit allowed close unit (more ++ (back ++ r)) → RawUnit allowed close unit (more ++ (back ++ s))
+unit_before : (allowed : ℕ → Bool) (close unit more back r s : List ℕ) → length close ≤ length back
+    → RawUnit allowed close unit (more ++ (back ++ r)) → RawUnit allowed close unit (more ++ (back ++ s))
 unit_before allowed close unit more back r s long is =
     let far : (x : List ℕ) → unit ++ (more ++ (back ++ x)) ≡ (unit ++ (more ++ back)) ++ x =
     λ x. ap (λ y. unit ++ y) (sym (append_assoc more back x)) ∙ sym (append_assoc unit (more ++ back) x) in
     let same : begins_with close ((unit ++ (more ++ back)) ++ s) ≡ begins_with close ((unit ++ (more ++ back)) ++ r) =
     begins_decided close (unit ++ (more ++ back)) s r (omega (arith, length-append unit (more ++ back), length-append more back)) in (
-      free_either (One (λ c. allowed c && not (c == 13))) Newline (free_one _) (free_text (codes "\r\n")) unit (more ++ (back ++ r)) (more ++ (back ++ s)) is.0,
+      free_either (One (λ c. allowed c && not (c == 13))) Newline (free_one _) (free_text (codes "\r\n")) unit
+          (more ++ (back ++ r)) (more ++ (back ++ s)) is.0,
       ap (λ b. b || false) (ap (begins_with close) (far s) ∙ (same ∙ ap (begins_with close) (sym (far r)))) ∙ is.1,
     )
 
-units_before : (allowed : ℕ → Bool) (close back r s : List ℕ) (units : List (List ℕ)) → length close ≤ length back → Each (RawUnit allowed close) units (back ++ r) → Each (RawUnit allowed close) units (back ++ s)
+units_before : (allowed : ℕ → Bool) (close back r s : List ℕ) (units : List (List ℕ)) → length close ≤ length back
+    → Each (RawUnit allowed close) units (back ++ r) → Each (RawUnit allowed close) units (back ++ s)
 units_before allowed close back r s [] long each = tt
 units_before allowed close back r s (unit ∷ units) long each = (
   unit_before allowed close unit (concat units) back r s long each.0,
@@ -89,23 +95,33 @@ units_before allowed close back r s (unit ∷ units) long each = (
 
 raw_body_stable : (allowed : ℕ → Bool) (close : List ℕ) → Stable is_ident_continue (Body (RawUnit allowed close) close)
 raw_body_stable allowed close p b r s ends is =
-    let long : length close ≤ length is.back = omega (arith, ap length is.second.whole, ap length is.second.first, length-append is.second.front is.second.back) in
+    let long : length close ≤ length is.back =
+    omega (arith, ap length is.second.whole, ap length is.second.first, length-append is.second.front is.second.back) in
     record {
       front = is.front;
       back = is.back;
       whole = is.whole;
-      first = record { units = is.first.units; whole = is.first.whole; each = units_before allowed close is.back (b ++ r) (b ++ s) is.first.units long is.first.each };
+      first =
+          record {
+            units = is.first.units;
+            whole = is.first.whole;
+            each = units_before allowed close is.back (b ++ r) (b ++ s) is.first.units long is.first.each;
+          };
       second = close_stable close is.back b r s ends is.second;
     }
 
 raw_quotes_stable : (allowed : ℕ → Bool) (hashes : List ℕ) → Stable is_ident_continue (RawQuotes allowed hashes)
-raw_quotes_stable allowed hashes = then_stable (Exactly (codes "\"")) (Body (RawUnit allowed (34 ∷ hashes)) (34 ∷ hashes)) (free_text (codes "\"")) (raw_body_stable allowed (34 ∷ hashes))
+raw_quotes_stable allowed hashes =
+    then_stable (Exactly (codes "\"")) (Body (RawUnit allowed (34 ∷ hashes)) (34 ∷ hashes)) (free_text (codes "\""))
+    (raw_body_stable allowed (34 ∷ hashes))
 
 raw_stable : (front : List ℕ) (allowed : ℕ → Bool) → Stable is_ident_continue (Raw front allowed)
 raw_stable front allowed p b r s ends is =
     let inner = is.second in
     let quotes = inner.second in
-    let stops : first_passes (λ c. c == 35) (inner.back ++ (b ++ s)) ≡ false = ap (λ x. first_passes (λ c. c == 35) (x ++ (b ++ s))) (quotes.whole ∙ ap (λ x. x ++ quotes.back) quotes.first) in
+    let stops : first_passes (λ c. c == 35) (inner.back ++ (b ++ s)) ≡ false =
+    ap (λ x. first_passes (λ c. c == 35) (x ++ (b ++ s)))
+    (quotes.whole ∙ ap (λ x. x ++ quotes.back) quotes.first) in
     record {
       front = is.front;
       back = is.back;

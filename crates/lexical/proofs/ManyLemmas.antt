@@ -4,11 +4,10 @@ use Rattle.std.specs.List.{concat}
 use Rattle.std.specs.Str.{chars}
 use Rattle.std.proofs.lemmas.Bool.{both_ways}
 use Rattle.lexical.specs.Form.{Form, HasNone, Then, Each, Many}
-use Rattle.lexical.specs.Finder.{Finder, Finds, behind, find_then}
-use Rattle.lexical.specs.QuotedFinder.{find_some_of, or_stop, find_many}
+use Rattle.lexical.specs.Finder.{Answer, Finder, Finds, behind, find_then, find_some_of, or_stop, find_many}
 use Rattle.lexical.specs.Reading.{Passes}
 use Rattle.lexical.specs.declared.cursor.Cursor.{Cursor}
-use Rattle.lexical.proofs.FinderLemmas.{Answer, IsSplit, none_found, none_is, found_is, finds_then, finds_same}
+use Rattle.lexical.proofs.FinderLemmas.{IsSplit, none_found, none_is, found_is, finds_then, finds_same}
 use Rattle.lexical.proofs.WordLemmas.{Disjoint, NotEmpty}
 use Rattle.lexical.proofs.BlockLemmas.{behind_nothing, behind_behind}
 
@@ -20,7 +19,8 @@ none_at_end : (A : Form) → NotEmpty A → HasNone A []
 none_at_end A some p r e is = let long = some p r is in absurd (omega (arith, length-append p r, ap length e))
 
 module _ (f : Finder) (A : Form) (h : Finds f A) (some : NotEmpty A) where
-  many_more : (text : List ℕ) (x : List ℕ × List ℕ) → IsSplit A text x → (o : Answer) → IfSome o (IsSplit (AllOf A) x.1) → IfSome (behind x.0 o) (IsSplit (AllOf A) text)
+  many_more : (text : List ℕ) (x : List ℕ × List ℕ) → IsSplit A text x → (o : Answer)
+      → IfSome o (IsSplit (AllOf A) x.1) → IfSome (behind x.0 o) (IsSplit (AllOf A) text)
   many_more text x is None more = tt
   many_more text x is (Some y) more =
       let rest = more.1.0 in (
@@ -47,7 +47,8 @@ module _ (f : Finder) (A : Form) (h : Finds f A) (some : NotEmpty A) where
       many_step text (λ x. find_some_of f n x.1) (f text) (h.sound text) (none_is f A h text)
       (λ x is. let long = some x.0 x.1 is.1 in many_sound n x.1 (omega (arith, length-append x.0 x.1, ap length is.0)))
 
-  many_complete : (n : ℕ) (units : List (List ℕ)) (r : List ℕ) → Each A units r → HasNone A r → length (concat units ++ r) ≤ n → find_some_of f n (concat units ++ r) ≡ Some (concat units, r)
+  many_complete : (n : ℕ) (units : List (List ℕ)) (r : List ℕ) → Each A units r → HasNone A r
+      → length (concat units ++ r) ≤ n → find_some_of f n (concat units ++ r) ≡ Some (concat units, r)
   many_complete zero [] r each none few = refl
   many_complete (suc n) [] r each none few = ap (or_stop r (λ x. find_some_of f n x.1)) (none_found f A h r none)
   many_complete zero (unit ∷ units) r each none few =
@@ -74,7 +75,13 @@ module _ (f : Finder) (A : Form) (h : Finds f A) (some : NotEmpty A) where
   finds_many_then g B j apart = finds_same (find_then (find_many f) g) (Then (AllOf A) B) (Then (Many A) B)
       (finds_then (find_many f) g (AllOf A) B finds_many j)
       (λ p r is. record { front = is.front; back = is.back; whole = is.whole; first = is.first.0; second = is.second })
-      (λ p r is. record { front = is.front; back = is.back; whole = is.whole; first = (is.first, λ q s e a. apart q is.back s r a is.second (sym e)); second = is.second })
+      (λ p r is. record {
+        front = is.front;
+        back = is.back;
+        whole = is.whole;
+        first = (is.first, λ q s e a. apart q is.back s r a is.second (sym e));
+        second = is.second;
+      })
 
 -- ---- one piece more
 
@@ -82,7 +89,8 @@ some_behind : (front : List ℕ) (o : Answer) → is_some o ≡ true → is_some
 some_behind front None h = h
 some_behind front (Some x) h = refl
 
-stop_stands : (text : List ℕ) (go : List ℕ × List ℕ → Answer) → ((x : List ℕ × List ℕ) → is_some (go x) ≡ true) → (o : Answer) → is_some (or_stop text go o) ≡ true
+stop_stands : (text : List ℕ) (go : List ℕ × List ℕ → Answer) → ((x : List ℕ × List ℕ) → is_some (go x) ≡ true)
+    → (o : Answer) → is_some (or_stop text go o) ≡ true
 stop_stands text go each None = refl
 stop_stands text go each (Some x) = some_behind x.0 (go x) (each x)
 
@@ -139,7 +147,10 @@ module _ (f : Finder) (A : Form) (h : Finds f A) (some : NotEmpty A) where
   pub goes_on : (at mid to : Cursor) → LeadsBy f at mid → Passes (f (chars mid.rest.now)) mid to → LeadsBy f at to
   goes_on at mid to lead pass = record {
     front = lead.front ++ pass.front;
-    found = lead.found ∙ (ap (behind lead.front) (many_found f A h some (chars mid.rest.now) pass.front (chars to.rest.now) pass.found) ∙ behind_behind lead.front pass.front _);
+    found =
+        lead.found ∙ (ap (behind lead.front)
+        (many_found f A h some (chars mid.rest.now) pass.front (chars to.rest.now) pass.found)
+        ∙ behind_behind lead.front pass.front _);
     whole = lead.whole ∙ (ap (λ x. lead.front ++ x) pass.whole ∙ sym (append_assoc lead.front pass.front (chars to.rest.now)));
     count = omega (arith, lead.count, pass.count, length-append lead.front pass.front);
   }

@@ -7,9 +7,10 @@ use Rattle.lexical.specs.Form.{Then, NotAt, Exactly}
 use Rattle.lexical.specs.Identifier.{Name, RawIdentifier, Named, Identifier, literal_prefixes, is_allowed}
 use Rattle.lexical.specs.Mark.{bars_quote, FollowsQuote, LoneQuote}
 use Rattle.lexical.specs.Token.{raw_front}
-use Rattle.lexical.specs.Finder.{Finds, find_text}
-use Rattle.lexical.specs.PieceFinder.{find_name, find_plain, find_raw_name, find_raw_text, find_raw, is_unbarred, follows_quote, find_lone_quote}
-use Rattle.lexical.proofs.FinderLemmas.{Answer, finds_then, finds_not_at, finds_where, finds_same, finds_one, finds_run, finds_text, found_is, then_whole}
+use Rattle.lexical.specs.Finder.{Answer, Finds, find_text}
+use Rattle.lexical.specs.IdentifierFinder.{find_name, find_plain, find_raw_name, find_raw_text, find_raw}
+use Rattle.lexical.specs.MarkFinder.{is_unbarred, follows_quote, find_lone_quote}
+use Rattle.lexical.proofs.FinderLemmas.{finds_then, finds_not_at, finds_where, finds_same, finds_one, finds_run, finds_text, found_is, then_whole}
 
 -- ---- identifiers
 
@@ -62,14 +63,20 @@ follows_plain text plain h =
     }
 
 pub follows_sound : (text : List ℕ) → follows_quote text ≡ true → FollowsQuote text
-follows_sound text = cond_both (begins_with (codes "r#") text) _ _ (λ b. b ≡ true → FollowsQuote text) (λ begins. follows_raw text) (λ plain. follows_plain text plain)
+follows_sound text =
+    cond_both (begins_with (codes "r#") text) _ _ (λ b. b ≡ true → FollowsQuote text) (λ begins. follows_raw text)
+    (λ plain. follows_plain text plain)
 
 -- at an identifier, whatever literal begins there
-pub follows_at : (raw : Bool) (name rest : List ℕ) → Named raw name rest → follows_quote (raw_front raw ++ (name ++ rest)) ≡ not (first_passes (bars_quote raw) rest)
+pub follows_at : (raw : Bool) (name rest : List ℕ) → Named raw name rest
+    → follows_quote (raw_front raw ++ (name ++ rest)) ≡ not (first_passes (bars_quote raw) rest)
 follows_at true name rest h =
-    let text : Then (Exactly (codes "r#")) RawIdentifier (codes "r#" ++ name) rest = record { front = codes "r#"; back = name; whole = refl; first = refl; second = h } in
+    let text : Then (Exactly (codes "r#")) RawIdentifier (codes "r#" ++ name) rest =
+    record { front = codes "r#"; back = name; whole = refl; first = refl; second = h } in
     ap (is_unbarred true) (finds_raw_text.complete (codes "r#" ++ name) rest text)
-follows_at false name rest h = cond-false (begins_with (codes "r#") (name ++ rest)) _ _ (or_parts _ _ h.1).0 ∙ ap (is_unbarred false) (finds_name.complete name rest h.0)
+follows_at false name rest h =
+    cond-false (begins_with (codes "r#") (name ++ rest)) _ _ (or_parts _ _ h.1).0
+    ∙ ap (is_unbarred false) (finds_name.complete name rest h.0)
 
 pub follows_complete : (text : List ℕ) → FollowsQuote text → follows_quote text ≡ true
 follows_complete text h = ap follows_quote h.whole ∙ (follows_at h.raw h.name h.rest h.named ∙ not_from_false _ h.unbarred)

@@ -1,5 +1,5 @@
 -- What identifiers and marks give to the laws of texts.
-use Rattle.std.proofs.Common.{◌≡◌, ℕ, Bool, true, false, not, ◌==◌, ◌⊎◌, List, [], ◌∷◌, ◌++◌, drop, Option, Some, None, IsTrue, inl, inr, codes, refl, sym, ap, ◌∙◌}
+use Rattle.std.proofs.Common.{◌≡◌, ℕ, Bool, true, false, not, ◌==◌, ◌⊎◌, List, [], ◌∷◌, ◌++◌, drop, Some, None, IsTrue, inl, inr, codes, refl, sym, ap, ◌∙◌}
 use Rattle.std.specs.List.{list_any}
 use Rattle.std.proofs.lemmas.Bool.{both_ways, and_left, cond_both, not-true}
 use Rattle.unicode_ident.proofs.Computing.{unicode_ident}
@@ -12,8 +12,10 @@ use Rattle.lexical.specs.Mark as marks
 use Rattle.lexical.specs.Mark.{is_mark, comment_fronts, joint_before, bars_quote, FollowsQuote}
 use Rattle.lexical.specs.Piece.{Kind, Leaf, Stands, IsPiece}
 use Rattle.lexical.specs.QuotedFinder.{find_quoted}
-use Rattle.lexical.specs.PieceFinder.{Found, find_plain, find_raw, raw_kind, name_kind, literal_kind, tagged, or_found, found_identifier, found_quoted, found_at_letter, found}
+use Rattle.lexical.specs.IdentifierFinder.{find_plain, find_raw, raw_kind, name_kind}
+use Rattle.lexical.specs.PieceFinder.{Found, literal_kind, tagged, or_found, found_identifier, found_quoted, found_at_letter, found}
 use Rattle.lexical.specs.declared.class.Start.TheVariants as starts
+use Rattle.lexical.specs.Finder.{Answer}
 use Rattle.lexical.proofs.TextLemmas.{any_cut}
 use Rattle.lexical.proofs.ClassLemmas.{any_of, start_letter}
 use Rattle.lexical.proofs.QuotedLemmas.{stops, stop_ends}
@@ -51,11 +53,17 @@ identifier_alone false name r h = (name_before name r [] refl h.0.0, refl)
 -- an identifier stands before every stop, whatever literal begins there
 pub named_before_stop : (raw : Bool) (name r s : List ℕ) → stops s ≡ true → Named raw name r → Named raw name s
 named_before_stop true name r s e h = (name_before name r s (stop_ends s e).continue h.0, h.1)
-named_before_stop false name r s e h = (name_before name r s (stop_ends s e).continue h.0, any_cut goes_on (codes "r#" ∷ []) name r s refl (stop_first s e) h.1)
+named_before_stop false name r s e h = (
+  name_before name r s (stop_ends s e).continue h.0,
+  any_cut goes_on (codes "r#" ∷ []) name r s refl (stop_first s e) h.1,
+)
 
 -- and where no literal begins
 pub identifier_before_stop : (raw : Bool) (name r s : List ℕ) → stops s ≡ true → Identifier raw name r → Identifier raw name s
-identifier_before_stop true name r s e h = (named_before_stop true name r s e h.0, any_cut goes_on literal_prefixes (codes "r#" ++ name) r s refl (stop_first s e) h.1)
+identifier_before_stop true name r s e h = (
+  named_before_stop true name r s e h.0,
+  any_cut goes_on literal_prefixes (codes "r#" ++ name) r s refl (stop_first s e) h.1,
+)
 identifier_before_stop false name r s e h = (named_before_stop false name r s e h.0, any_cut goes_on literal_prefixes name r s refl (stop_first s e) h.1)
 
 -- it begins with a character that identifiers may begin with
@@ -73,7 +81,8 @@ stop_unbarred true (c ∷ s) e = any_of (λ d. bars_quote true d ≡ false) (cod
 stop_unbarred false (c ∷ s) e = any_of (λ d. bars_quote false d ≡ false) (codes " \n)]}") c (refl, (refl, (refl, (refl, (refl, tt))))) e
 
 -- a lone quote stands before an identifier that no character follows that bars it
-pub quote_before : (raw : Bool) (name s : List ℕ) → Named raw name s → first_passes (bars_quote raw) s ≡ false → Stands (Mark 39 true) (raw_front raw ++ (name ++ s))
+pub quote_before : (raw : Bool) (name s : List ℕ) → Named raw name s → first_passes (bars_quote raw) s ≡ false
+    → Stands (Mark 39 true) (raw_front raw ++ (name ++ s))
 quote_before raw name s h unbarred = inr ((refl, record { raw = raw; name = name; rest = s; whole = refl; named = h; unbarred = unbarred }), refl)
 
 -- so it stands before one that a stop follows
@@ -102,13 +111,15 @@ IsNameOrLiteral kind = ((raw : Bool) × (name : List ℕ) × (kind ≡ Leaf (Nam
 
 -- the identifier that is found where a letter begins
 identifier_kind : (text : List ℕ) (k : Kind) (p r : List ℕ) → found_identifier text ≡ Some (k, p, r) → IsNameOrLiteral k
-identifier_kind text k p r = cond_both (begins_with (codes "r#") text) _ _ (λ o. o ≡ Some (k, p, r) → IsNameOrLiteral k) (λ e. raw (find_raw text)) (λ e. plain (find_plain text))
+identifier_kind text k p r =
+    cond_both (begins_with (codes "r#") text) _ _ (λ o. o ≡ Some (k, p, r) → IsNameOrLiteral k)
+    (λ e. raw (find_raw text)) (λ e. plain (find_plain text))
   where
-    raw : (o : Option (List ℕ × List ℕ)) → tagged raw_kind o ≡ Some (k, p, r) → IsNameOrLiteral k
+    raw : (o : Answer) → tagged raw_kind o ≡ Some (k, p, r) → IsNameOrLiteral k
     raw None e = absurd (cc)
     raw (Some x) e = let same : ◌≡◌ {A = Kind × List ℕ × List ℕ} (k, p, r) (raw_kind x.0 x.1, x.0, x.1) = cc in inl (true, drop 2 x.0, ap (λ y. y.0) same)
 
-    plain : (o : Option (List ℕ × List ℕ)) → tagged name_kind o ≡ Some (k, p, r) → IsNameOrLiteral k
+    plain : (o : Answer) → tagged name_kind o ≡ Some (k, p, r) → IsNameOrLiteral k
     plain None e = absurd (cc)
     plain (Some x) e = let same : ◌≡◌ {A = Kind × List ℕ × List ℕ} (k, p, r) (name_kind x.0 x.1, x.0, x.1) = cc in inl (false, x.0, ap (λ y. y.0) same)
 
@@ -116,7 +127,7 @@ identifier_kind text k p r = cond_both (begins_with (codes "r#") text) _ _ (λ o
 letter_kind : (text : List ℕ) (k : Kind) (p r : List ℕ) → found_at_letter text ≡ Some (k, p, r) → IsNameOrLiteral k
 letter_kind text k p r = either (found_identifier text) (identifier_kind text k p r)
   where
-    literal : (o : Option (List ℕ × List ℕ)) → tagged literal_kind o ≡ Some (k, p, r) → IsNameOrLiteral k
+    literal : (o : Answer) → tagged literal_kind o ≡ Some (k, p, r) → IsNameOrLiteral k
     literal None e = absurd (cc)
     literal (Some x) e = let same : ◌≡◌ {A = Kind × List ℕ × List ℕ} (k, p, r) (literal_kind x.0 x.1, x.0, x.1) = cc in inr (x.0, ap (λ y. y.0) same)
 
@@ -141,4 +152,6 @@ mark_before_stop c r s e h = (h.0, any_cut goes_on comment_fronts (c ∷ []) r s
 -- and is Alone there
 pub stop_alone : (s : List ℕ) → stops s ≡ true → joint_before s ≡ false
 stop_alone [] e = refl
-stop_alone (c ∷ s) e = and_left (is_mark c) (not (begins_any comment_fronts (c ∷ s))) (any_of (λ d. is_mark d ≡ false) (codes " \n)]}") c (refl, (refl, (refl, (refl, (refl, tt))))) e)
+stop_alone (c ∷ s) e =
+    and_left (is_mark c) (not (begins_any comment_fronts (c ∷ s)))
+    (any_of (λ d. is_mark d ≡ false) (codes " \n)]}") c (refl, (refl, (refl, (refl, (refl, tt))))) e)

@@ -7,7 +7,8 @@ use Rattle.lexical.specs.Text.{first_passes}
 use Rattle.lexical.specs.Form.{HasNone, Perhaps, One, Run}
 use Rattle.lexical.specs.Number.{is_underscore, is_exponent_letter, is_sign, Digits, Exponent, Float, Number}
 use Rattle.lexical.proofs.StableLemmas.{AllIn, stops_within, inside, all_append, on_one, on_then, on_run}
-use Rattle.lexical.proofs.NumberLemmas.{goes_on, continue_goes_on, underscore_continues, letter_continues, Power, on_digits, stable_float, on_float, float_ends, all_back, stable_integer}
+use Rattle.lexical.proofs.NumberLemmas.{goes_on, continue_goes_on, underscore_continues, letter_continues, Power, on_digits, stable_float, on_float, float_ends, all_back}
+use Rattle.lexical.proofs.IntegerLemmas.{stable_integer}
 
 -- nothing that goes on with an identifier follows a number
 pub number_ends : (p r : List ℕ) → Number p r → first_passes is_ident_continue r ≡ false

@@ -1,12 +1,12 @@
 -- Numbers are found, and a text begins with one at most.
-use Rattle.std.proofs.Common.{◌≡◌, ℕ, Bool, true, false, not, List, [], ◌∷◌, ◌++◌, codes, Option, Some, None, IfSome, IsTrue, IsFalse, refl, sym, ap, ◌∙◌, subst, ◌⊎◌, inl, inr, append_assoc}
+use Rattle.std.proofs.Common.{◌≡◌, ℕ, Bool, true, false, not, List, [], ◌∷◌, ◌++◌, codes, Some, None, IfSome, IsTrue, IsFalse, refl, sym, ap, ◌∙◌, subst, ◌⊎◌, inl, inr, append_assoc}
 use Rattle.std.specs.Char.{is_ascii_digit, is_digit}
 use Rattle.std.proofs.lemmas.Bool.{cond-true, cond-false, cond_both, both_ways, or_cases, false_from_ne_true, not-true, not_from_false}
 use Rattle.lexical.specs.Text.{begins_any, first_passes}
 use Rattle.lexical.specs.Class.{is_ident_continue}
 use Rattle.lexical.specs.Form.{Form, HasNone, Then, NotBefore, Either, Else}
 use Rattle.lexical.specs.Number.{is_underscore, is_digit_or_underscore, Digits, End, Dot, bars_dot, is_exponent_letter, is_sign, Exponent, Fraction, Float, base_prefixes, is_digit_or_underscore_in, DigitsIn, Based, Integer, Number}
-use Rattle.lexical.specs.Finder.{Finder, Finds, find_then}
+use Rattle.lexical.specs.Finder.{Answer, Finder, Finds, find_then}
 use Rattle.lexical.specs.NumberFinder.{find_not_before, find_digits, find_end, find_dot, find_exponent, find_fraction, find_float_tail, find_decimal, find_digits_in, find_based, find_number}
 use Rattle.lexical.proofs.TextLemmas.{begins_splits}
 use Rattle.lexical.proofs.FinderLemmas.{IsSplit, none_is, one_split, finds_same, finds_then, finds_where, finds_one, finds_run, finds_text, then_whole}
@@ -37,10 +37,14 @@ finds_dot = finds_not_before bars_dot _ _ (finds_text (codes "."))
 
 pub finds_exponent : Finds find_exponent Exponent
 finds_exponent = finds_then _ _ _ _ (finds_one is_exponent_letter)
-    (finds_then _ _ _ _ (finds_run is_underscore) (finds_then _ _ _ _ (finds_perhaps _ _ (finds_one is_sign)) (finds_then _ _ _ _ (finds_run is_underscore) finds_digits)))
+    (finds_then _ _ _ _ (finds_run is_underscore)
+    (finds_then _ _ _ _ (finds_perhaps _ _ (finds_one is_sign))
+    (finds_then _ _ _ _ (finds_run is_underscore) finds_digits)))
 
 finds_fraction : Finds find_fraction Fraction
-finds_fraction = finds_then _ _ _ _ finds_dot (finds_then _ _ _ _ (finds_run is_digit_or_underscore) (finds_then _ _ _ _ (finds_perhaps _ _ finds_exponent) finds_end))
+finds_fraction =
+    finds_then _ _ _ _ finds_dot (finds_then _ _ _ _ (finds_run is_digit_or_underscore)
+    (finds_then _ _ _ _ (finds_perhaps _ _ finds_exponent) finds_end))
 
 -- ---- what follows the first digits
 
@@ -74,7 +78,9 @@ float_of p r is = elim is.second [
 -- ---- bases
 
 finds_digits_in : (base : ℕ) → Finds (find_digits_in base) (DigitsIn base)
-finds_digits_in base = finds_not_before is_ascii_digit _ _ (finds_then _ _ _ _ (finds_run is_underscore) (finds_then _ _ _ _ (finds_one (λ c. is_digit c base)) (finds_run (is_digit_or_underscore_in base))))
+finds_digits_in base =
+    finds_not_before is_ascii_digit _ _ (finds_then _ _ _ _ (finds_run is_underscore)
+    (finds_then _ _ _ _ (finds_one (λ c. is_digit c base)) (finds_run (is_digit_or_underscore_in base))))
 
 finds_based : Finds find_based Based
 finds_based =
@@ -107,19 +113,24 @@ no_tail text h = elim (or_cases _ _ h) [
 ]
 
 pub no_float : (text : List ℕ) → begins_any base_prefixes text ≡ true → HasNone Float text
-no_float text h p r e is = none_is (find_then find_digits find_float_tail) (Then Digits FloatTail) (finds_then _ _ _ _ finds_digits finds_float_tail) text (no_tail text h) p r e (tail_of p r is)
+no_float text h p r e is =
+    none_is (find_then find_digits find_float_tail) (Then Digits FloatTail)
+    (finds_then _ _ _ _ finds_digits finds_float_tail) text (no_tail text h) p r e (tail_of p r is)
 
 -- ---- numbers
 
 -- a number, by how its text begins
 abbrev ByFront : Form
-ByFront p r = (Then Based End p r × IsTrue (begins_any base_prefixes (p ++ r))) ⊎ (Then Digits (Else FloatTail End) p r × IsFalse (begins_any base_prefixes (p ++ r)))
+ByFront p r =
+    (Then Based End p r × IsTrue (begins_any base_prefixes (p ++ r)))
+    ⊎ (Then Digits (Else FloatTail End) p r × IsFalse (begins_any base_prefixes (p ++ r)))
 
-based_sound : (text : List ℕ) (o : Option (List ℕ × List ℕ)) → begins_any base_prefixes text ≡ true → IfSome o (IsSplit (Then Based End) text) → IfSome o (IsSplit ByFront text)
+based_sound : (text : List ℕ) (o : Answer) → begins_any base_prefixes text ≡ true → IfSome o (IsSplit (Then Based End) text) → IfSome o (IsSplit ByFront text)
 based_sound text None h is = tt
 based_sound text (Some x) h is = (is.0, inl (is.1, ap (begins_any base_prefixes) (sym is.0) ∙ h))
 
-decimal_sound : (text : List ℕ) (o : Option (List ℕ × List ℕ)) → begins_any base_prefixes text ≡ false → IfSome o (IsSplit (Then Digits (Else FloatTail End)) text) → IfSome o (IsSplit ByFront text)
+decimal_sound : (text : List ℕ) (o : Answer) → begins_any base_prefixes text ≡ false
+    → IfSome o (IsSplit (Then Digits (Else FloatTail End)) text) → IfSome o (IsSplit ByFront text)
 decimal_sound text None h is = tt
 decimal_sound text (Some x) h is = (is.0, inr (is.1, ap (begins_any base_prefixes) (sym is.0) ∙ h))
 
@@ -156,7 +167,8 @@ to_number p r (inr decimal) =
       | inl tail ↦ inl (float_of p r (record { front = is.front; back = is.back; whole = is.whole; first = is.first; second = tail }))
       | inr end ↦
           let plain : Then Digits End p r = record { front = is.front; back = is.back; whole = is.whole; first = is.first; second = end.1 } in
-          let begins : begins_any base_prefixes (is.front ++ (is.back ++ r)) ≡ false = ap (begins_any base_prefixes) (sym (then_whole Digits End p r plain)) ∙ decimal.1 in
+          let begins : begins_any base_prefixes (is.front ++ (is.back ++ r)) ≡ false =
+          ap (begins_any base_prefixes) (sym (then_whole Digits End p r plain)) ∙ decimal.1 in
           inr (no_float_there p r plain end.0, record { front = is.front; back = is.back; whole = is.whole; first = inl (is.first, begins); second = end.1 })
     ]
 
@@ -167,7 +179,16 @@ int_by_front p r none is = elim is.first [
       let whole : p ++ r ≡ is.front ++ (is.back ++ r) = then_whole Digits End p r plain in
       let no : HasNone FloatTail (is.back ++ r) = λ q s e tail. none (is.front ++ q) s (whole ∙ (ap (λ x. is.front ++ x) e ∙ sym (append_assoc is.front q s)))
       (float_of (is.front ++ q) s (record { front = is.front; back = q; whole = refl; first = subst (Digits is.front) e decimal.0; second = tail })) in
-      inr (record { front = is.front; back = is.back; whole = is.whole; first = decimal.0; second = inr (no, is.second) }, ap (begins_any base_prefixes) whole ∙ decimal.1)
+      inr (
+        record {
+          front = is.front;
+          back = is.back;
+          whole = is.whole;
+          first = decimal.0;
+          second = inr (no, is.second);
+        },
+        ap (begins_any base_prefixes) whole ∙ decimal.1,
+      )
   | inr based ↦
       let all : Then Based End p r = record { front = is.front; back = is.back; whole = is.whole; first = based; second = is.second } in
       inl (all, ap (begins_any base_prefixes) (then_whole Based End p r all) ∙ based_begins is.front (is.back ++ r) based)

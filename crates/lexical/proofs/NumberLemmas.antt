@@ -1,22 +1,22 @@
--- A number stays what it is where something follows it that doesn't go on with it.
-use Rattle.std.proofs.Common.{◌≡◌, ℕ, ◌≤◌, nat_lt, Bool, true, false, not, ◌||◌, ◌==◌, List, [], ◌∷◌, ◌++◌, codes, refl, sym, ap, ◌∙◌, subst, arith, inl, inr, append_assoc, append-nil, eqb-true}
+-- The parts of a number, and floats, stay what they are where something follows that doesn't go on with them.
+use Rattle.std.proofs.Common.{◌≡◌, ℕ, Bool, true, false, not, ◌||◌, ◌==◌, List, [], ◌∷◌, ◌++◌, codes, refl, sym, ap, ◌∙◌, subst, inl, inr, append_assoc, append-nil, eqb-true}
 use Rattle.std.specs.List.{list_all}
-use Rattle.std.specs.Char.{is_ascii_digit, is_digit, digit_value}
-use Rattle.std.proofs.lemmas.Bool.{both_ways, and_parts, and_right, false_from_ne_true, or_left, or_right, or_cases, or_parts, or_from, agree_below_at, cases_lt, le-ltb, lt-ltb, ltb-true, cond-false}
+use Rattle.std.specs.Char.{is_ascii_digit}
+use Rattle.std.proofs.lemmas.Bool.{both_ways, and_parts, or_left, or_right, or_cases, agree_below_at}
 use Rattle.unicode_ident.proofs.Computing.{unicode_ident}
 use Rattle.lexical.specs.Class.{is_ident_start, is_ident_continue}
-use Rattle.lexical.specs.Text.{begins_with, begins_any, first_passes}
-use Rattle.lexical.specs.Form.{Form, HasNone, Then, Either, Perhaps, Exactly, One, Run}
+use Rattle.lexical.specs.Text.{first_passes}
+use Rattle.lexical.specs.Form.{Form, HasNone, Then, Perhaps, Exactly, One, Run}
 use Rattle.lexical.specs.Identifier.{Name}
 use Rattle.lexical.specs.Quoted.{Suffix}
-use Rattle.lexical.specs.Number.{is_underscore, is_digit_or_underscore, Digits, End, bars_dot, Dot, is_exponent_letter, is_sign, Exponent, Fraction, Dotted, Exponential, Float, base_prefixes, Decimal, is_digit_or_underscore_in, DigitsIn, Based, Integer, Number}
+use Rattle.lexical.specs.Number.{is_underscore, is_digit_or_underscore, Digits, End, bars_dot, Dot, is_exponent_letter, is_sign, Exponent, Fraction, Dotted, Exponential, Float}
 use Rattle.lexical.specs.Finder.{while_front, while_rest}
 use Rattle.lexical.proofs.FinderLemmas.{finds_run}
 use Rattle.lexical.proofs.WordLemmas.{NotEmpty, some_one, some_then, shows_one, shows_then}
-use Rattle.lexical.proofs.ClassLemmas.{any_of, digit_below}
+use Rattle.lexical.proofs.ClassLemmas.{digit_below}
 use Rattle.lexical.proofs.PieceFacts.{start_continues}
 use Rattle.lexical.proofs.QuotedLemmas.{stops}
-use Rattle.lexical.proofs.StableLemmas.{Sub, Stable, StaysNone, Extends, AllIn, stops_within, stable_widen, some_second, stable_one, stable_text, stable_run, stable_not_before, stable_then, stable_local, stable_either, stable_perhaps, first_none, inside, all_within, on_one, on_text, on_run, on_then, on_either, on_perhaps, on_not_before, local_run, local_perhaps_one, extends_run, extends_then, extends_one_then}
+use Rattle.lexical.proofs.StableLemmas.{Sub, Stable, StaysNone, Extends, AllIn, stable_widen, some_second, stable_one, stable_text, stable_run, stable_not_before, stable_then, stable_local, stable_either, stable_perhaps, first_none, inside, all_within, on_one, on_text, on_run, on_then, on_either, on_perhaps, on_not_before, local_run, local_perhaps_one, extends_run, extends_then, extends_one_then}
 
 -- ---- classes
 
@@ -27,9 +27,11 @@ goes_on c = is_ident_continue c || ((c == 46) || is_sign c)
 pub continue_goes_on : Sub is_ident_continue goes_on
 continue_goes_on c is = or_left _ _ is
 
-digit_continues : Sub is_ascii_digit is_ident_continue
+pub digit_continues : Sub is_ascii_digit is_ident_continue
 unfolding unicode_ident
-digit_continues c is = sym (ap (λ b. not b || is_ident_continue c) is) ∙ agree_below_at (λ x. not (is_ascii_digit x) || is_ident_continue x) (λ x. true) 128 c refl (digit_below c is)
+digit_continues c is =
+    sym (ap (λ b. not b || is_ident_continue c) is)
+    ∙ agree_below_at (λ x. not (is_ascii_digit x) || is_ident_continue x) (λ x. true) 128 c refl (digit_below c is)
 
 pub underscore_continues : Sub is_underscore is_ident_continue
 unfolding unicode_ident
@@ -67,10 +69,14 @@ name_stands c text is =
     )
 
 name_none : StaysNone is_ident_continue Name
-name_none = first_none is_ident_continue Name is_ident_start start_continues (shows_then is_ident_start (One is_ident_start) (Run is_ident_continue) (shows_one is_ident_start)) name_stands
+name_none =
+    first_none is_ident_continue Name is_ident_start start_continues
+    (shows_then is_ident_start (One is_ident_start) (Run is_ident_continue) (shows_one is_ident_start)) name_stands
 
 stable_name : Stable is_ident_continue Name
-stable_name = stable_then is_ident_continue (One is_ident_start) (Run is_ident_continue) (stable_one is_ident_continue is_ident_start) (stable_run is_ident_continue is_ident_continue (λ c is. is))
+stable_name =
+    stable_then is_ident_continue (One is_ident_start) (Run is_ident_continue)
+    (stable_one is_ident_continue is_ident_start) (stable_run is_ident_continue is_ident_continue (λ c is. is))
 
 pub stable_suffix : Stable is_ident_continue Suffix
 stable_suffix = stable_perhaps is_ident_continue Name stable_name name_none
@@ -78,7 +84,7 @@ stable_suffix = stable_perhaps is_ident_continue Name stable_name name_none
 pub stable_end : Stable is_ident_continue End
 stable_end = stable_not_before is_ident_continue is_ident_continue Suffix (λ c is. is) stable_suffix
 
-on_suffix : AllIn is_ident_continue Suffix
+pub on_suffix : AllIn is_ident_continue Suffix
 on_suffix = on_perhaps is_ident_continue Name (on_then is_ident_continue (One is_ident_start) (Run is_ident_continue)
     (on_one is_ident_continue is_ident_start start_continues) (on_run is_ident_continue is_ident_continue (λ c is. is)))
 
@@ -88,10 +94,16 @@ on_end p r is = all_within goes_on is_ident_continue continue_goes_on p (on_suff
 -- ---- digits and exponents
 
 pub stable_digits : Stable is_ident_continue Digits
-stable_digits = stable_then is_ident_continue (One is_ascii_digit) (Run is_digit_or_underscore) (stable_one is_ident_continue is_ascii_digit) (stable_run is_ident_continue is_digit_or_underscore digits_continue)
+stable_digits =
+    stable_then is_ident_continue (One is_ascii_digit) (Run is_digit_or_underscore)
+    (stable_one is_ident_continue is_ascii_digit)
+    (stable_run is_ident_continue is_digit_or_underscore digits_continue)
 
 pub on_digits : AllIn is_ident_continue Digits
-on_digits = on_then is_ident_continue (One is_ascii_digit) (Run is_digit_or_underscore) (on_one is_ident_continue is_ascii_digit digit_continues) (on_run is_ident_continue is_digit_or_underscore digits_continue)
+on_digits =
+    on_then is_ident_continue (One is_ascii_digit) (Run is_digit_or_underscore)
+    (on_one is_ident_continue is_ascii_digit digit_continues)
+    (on_run is_ident_continue is_digit_or_underscore digits_continue)
 
 some_digits : NotEmpty Digits
 some_digits = some_then (One is_ascii_digit) (Run is_digit_or_underscore) (some_one is_ascii_digit)
@@ -110,7 +122,9 @@ some_signed : NotEmpty SignedPower
 some_signed = some_second (Perhaps (One is_sign)) Power some_power
 
 pub stable_exponent : Stable is_ident_continue Exponent
-stable_exponent = stable_then is_ident_continue (One is_exponent_letter) (Then (Run is_underscore) SignedPower) (stable_one is_ident_continue is_exponent_letter)
+stable_exponent =
+    stable_then is_ident_continue (One is_exponent_letter) (Then (Run is_underscore) SignedPower)
+    (stable_one is_ident_continue is_exponent_letter)
     (stable_local is_ident_continue (Run is_underscore) SignedPower (local_run is_underscore) some_signed
     (stable_local is_ident_continue (Perhaps (One is_sign)) Power (local_perhaps_one is_sign) some_power
     (stable_local is_ident_continue (Run is_underscore) Digits (local_run is_underscore) some_digits stable_digits)))
@@ -130,7 +144,9 @@ on_number_digits : AllIn goes_on Digits
 on_number_digits p r is = all_within goes_on is_ident_continue continue_goes_on p (on_digits p r is)
 
 on_exponent : AllIn goes_on Exponent
-on_exponent = on_then goes_on (One is_exponent_letter) (Then (Run is_underscore) SignedPower) (on_one goes_on is_exponent_letter (continues is_exponent_letter letter_continues))
+on_exponent =
+    on_then goes_on (One is_exponent_letter) (Then (Run is_underscore) SignedPower)
+    (on_one goes_on is_exponent_letter (continues is_exponent_letter letter_continues))
     (on_then goes_on (Run is_underscore) SignedPower (on_run goes_on is_underscore (continues is_underscore underscore_continues))
     (on_then goes_on (Perhaps (One is_sign)) Power (on_perhaps goes_on (One is_sign) (on_one goes_on is_sign sign_goes_on))
     (on_then goes_on (Run is_underscore) Digits (on_run goes_on is_underscore (continues is_underscore underscore_continues)) on_number_digits)))
@@ -148,12 +164,17 @@ AfterDot = Then (Run is_digit_or_underscore) (Then (Perhaps Exponent) End)
 
 stable_fraction : Stable goes_on Fraction
 stable_fraction = stable_then goes_on Dot AfterDot (stable_not_before goes_on bars_dot (Exactly (codes ".")) dot_goes_on (stable_text goes_on (codes ".")))
-    (stable_then goes_on (Run is_digit_or_underscore) (Then (Perhaps Exponent) End) (stable_run goes_on is_digit_or_underscore (continues is_digit_or_underscore digits_continue))
-    (stable_then goes_on (Perhaps Exponent) End (stable_perhaps goes_on Exponent (stable_widen is_ident_continue goes_on Exponent continue_goes_on stable_exponent) exponent_none)
+    (stable_then goes_on (Run is_digit_or_underscore) (Then (Perhaps Exponent) End)
+    (stable_run goes_on is_digit_or_underscore (continues is_digit_or_underscore digits_continue))
+    (stable_then goes_on (Perhaps Exponent) End
+    (stable_perhaps goes_on Exponent
+    (stable_widen is_ident_continue goes_on Exponent continue_goes_on stable_exponent) exponent_none)
     (stable_widen is_ident_continue goes_on End continue_goes_on stable_end)))
 
 pub stable_exponential : Stable is_ident_continue Exponential
-stable_exponential = stable_then is_ident_continue Digits (Then Exponent End) stable_digits (stable_then is_ident_continue Exponent End stable_exponent stable_end)
+stable_exponential =
+    stable_then is_ident_continue Digits (Then Exponent End) stable_digits
+    (stable_then is_ident_continue Exponent End stable_exponent stable_end)
 
 pub stable_float : Stable goes_on Float
 stable_float = stable_either goes_on Dotted Exponential
@@ -166,8 +187,11 @@ dot_is_on = refl
 
 pub on_float : AllIn goes_on Float
 on_float = on_either goes_on Dotted Exponential
-    (on_then goes_on Digits Fraction on_number_digits (on_then goes_on Dot AfterDot (on_not_before goes_on bars_dot (Exactly (codes ".")) (on_text goes_on (codes ".") dot_is_on))
-    (on_then goes_on (Run is_digit_or_underscore) (Then (Perhaps Exponent) End) (on_run goes_on is_digit_or_underscore (continues is_digit_or_underscore digits_continue))
+    (on_then goes_on Digits Fraction on_number_digits
+    (on_then goes_on Dot AfterDot (on_not_before goes_on bars_dot (Exactly (codes "."))
+    (on_text goes_on (codes ".") dot_is_on))
+    (on_then goes_on (Run is_digit_or_underscore) (Then (Perhaps Exponent) End)
+    (on_run goes_on is_digit_or_underscore (continues is_digit_or_underscore digits_continue))
     (on_then goes_on (Perhaps Exponent) End (on_perhaps goes_on Exponent on_exponent) on_end))))
     (on_then goes_on Digits (Then Exponent End) on_number_digits (on_then goes_on Exponent End on_exponent on_end))
 
@@ -187,7 +211,9 @@ unfolding unicode_ident
 no_dotted p s all is =
     let after = is.second in
     let whole : p ≡ is.front ++ (46 ∷ after.back) = is.whole ∙ ap (λ x. is.front ++ x) (after.whole ∙ ap (λ x. x ++ after.back) after.first.0) in
-    both_ways (is_ident_continue 46) refl (and_parts (is_ident_continue 46) (list_all is_ident_continue after.back) (all_back is_ident_continue is.front (46 ∷ after.back) (sym (ap (list_all is_ident_continue) whole) ∙ all))).0
+    both_ways (is_ident_continue 46) refl
+    (and_parts (is_ident_continue 46) (list_all is_ident_continue after.back)
+    (all_back is_ident_continue is.front (46 ∷ after.back) (sym (ap (list_all is_ident_continue) whole) ∙ all))).0
 
 -- of a text that goes on with an identifier a float takes all
 takes_all : (p s q t d : List ℕ) → list_all is_ident_continue p ≡ true → p ≡ q ++ d → t ≡ d ++ s → first_passes is_ident_continue t ≡ false → d ≡ []
@@ -196,7 +222,8 @@ takes_all p s q t (c ∷ d) all e f stops = absurd (both_ways _ (ap (first_passe
     (and_parts _ _ (all_back is_ident_continue q (c ∷ d) (ap (list_all is_ident_continue) (sym e) ∙ all))).0)
 
 -- where one is made of such characters and none follows it, no float newly stands
-no_new_float : (p r s : List ℕ) → list_all is_ident_continue p ≡ true → first_passes is_ident_continue r ≡ false → first_passes goes_on s ≡ false → HasNone Float (p ++ r) → HasNone Float (p ++ s)
+pub no_new_float : (p r s : List ℕ) → list_all is_ident_continue p ≡ true → first_passes is_ident_continue r ≡ false
+    → first_passes goes_on s ≡ false → HasNone Float (p ++ r) → HasNone Float (p ++ s)
 no_new_float p r s all calm ends none q t e is =
     let within = inside goes_on p s q t ends (on_float q t is) e in
     let empty = takes_all p s q t within.0 all within.1 within.2 (float_ends q t is) in
@@ -207,117 +234,3 @@ no_new_float p r s all calm ends none q t e is =
       | inl dotted ↦ no_dotted p s all dotted
       | inr exponential ↦ none p r refl (inr (stable_exponential p [] s r calm exponential))
     ]
-
--- ---- the digits of an integer
-
-digit_value_high : (c : ℕ) → 128 ≤ c → digit_value c ≡ 36
-digit_value_high c high =
-    let le : (n : ℕ) → n ≤ 128 → nat_lt c n ≡ false = λ n h. le-ltb c n (omega arith) in
-    cond-false _ _ _ (le 48 (omega arith)) ∙ (cond-false _ _ _ (le 58 (omega arith)) ∙ (cond-false _ _ _ (le 65 (omega arith))
-    ∙ (cond-false _ _ _ (le 91 (omega arith)) ∙ (cond-false _ _ _ (le 97 (omega arith)) ∙ cond-false _ _ _ (le 123 (omega arith))))))
-
-module _ (base : ℕ) (small : base ≤ 36) where
-  base_digit_continues : Sub (λ c. is_digit c base) is_ident_continue
-  unfolding unicode_ident
-  base_digit_continues c is = elim (cases_lt c 128) [
-    | inl low ↦ sym (ap (λ b. not b || is_ident_continue c) (lt-ltb (digit_value c) 36 (omega (arith, ltb-true (digit_value c) base is))))
-        ∙ agree_below_at (λ x. not (nat_lt (digit_value x) 36) || is_ident_continue x) (λ x. true) 128 c refl low
-    | inr high ↦ absurd (omega (arith, ltb-true (digit_value c) base is, digit_value_high c high))
-  ]
-
-  base_digits_continue : Sub (is_digit_or_underscore_in base) is_ident_continue
-  base_digits_continue c is = elim (or_cases (is_digit c base) (is_underscore c) is) [
-    | inl d ↦ base_digit_continues c d
-    | inr u ↦ underscore_continues c u
-  ]
-
-  on_digits_in : AllIn is_ident_continue (DigitsIn base)
-  on_digits_in = on_not_before is_ident_continue is_ascii_digit (Then (Run is_underscore) (Then (One (λ c. is_digit c base)) (Run (is_digit_or_underscore_in base))))
-      (on_then is_ident_continue (Run is_underscore) (Then (One (λ c. is_digit c base)) (Run (is_digit_or_underscore_in base))) (on_run is_ident_continue is_underscore underscore_continues)
-      (on_then is_ident_continue (One (λ c. is_digit c base)) (Run (is_digit_or_underscore_in base)) (on_one is_ident_continue (λ c. is_digit c base) base_digit_continues) (on_run is_ident_continue (is_digit_or_underscore_in base) base_digits_continue)))
-
-  stable_digits_in : Stable is_ident_continue (DigitsIn base)
-  stable_digits_in = stable_not_before is_ident_continue is_ascii_digit (Then (Run is_underscore) (Then (One (λ c. is_digit c base)) (Run (is_digit_or_underscore_in base)))) digit_continues
-      (stable_then is_ident_continue (Run is_underscore) (Then (One (λ c. is_digit c base)) (Run (is_digit_or_underscore_in base))) (stable_run is_ident_continue is_underscore underscore_continues)
-      (stable_then is_ident_continue (One (λ c. is_digit c base)) (Run (is_digit_or_underscore_in base)) (stable_one is_ident_continue (λ c. is_digit c base)) (stable_run is_ident_continue (is_digit_or_underscore_in base) base_digits_continue)))
-
-  -- and behind a prefix
-  on_prefixed : (front : List ℕ) → list_all is_ident_continue front ≡ true → AllIn is_ident_continue (Then (Exactly front) (DigitsIn base))
-  on_prefixed front all = on_then is_ident_continue (Exactly front) (DigitsIn base) (on_text is_ident_continue front all) on_digits_in
-
-  stable_prefixed : (front : List ℕ) → Stable is_ident_continue (Then (Exactly front) (DigitsIn base))
-  stable_prefixed front = stable_then is_ident_continue (Exactly front) (DigitsIn base) (stable_text is_ident_continue front) stable_digits_in
-
--- ---- integers
-
--- the prefixes, without `0x`
-abbrev BasedLow : Form
-BasedLow = Either (Then (Exactly (codes "0o")) (DigitsIn 8)) (Then (Exactly (codes "0b")) (DigitsIn 2))
-
-prefixes_continue : (list_all is_ident_continue (codes "0x") ≡ true) × (list_all is_ident_continue (codes "0o") ≡ true) × (list_all is_ident_continue (codes "0b") ≡ true)
-unfolding unicode_ident
-prefixes_continue = (refl, refl, refl)
-
-on_integer : AllIn is_ident_continue Integer
-on_integer p r is = elim is [
-  | inl decimal ↦ on_digits p r decimal.0
-  | inr based ↦ on_either is_ident_continue (Then (Exactly (codes "0x")) (DigitsIn 16)) BasedLow (on_prefixed 16 (omega arith) (codes "0x") prefixes_continue.0)
-      (on_either is_ident_continue (Then (Exactly (codes "0o")) (DigitsIn 8)) (Then (Exactly (codes "0b")) (DigitsIn 2)) (on_prefixed 8 (omega arith) (codes "0o") prefixes_continue.1) (on_prefixed 2 (omega arith) (codes "0b") prefixes_continue.2))
-      p r based
-]
-
-stable_based : Stable is_ident_continue Based
-stable_based = stable_either is_ident_continue (Then (Exactly (codes "0x")) (DigitsIn 16)) BasedLow (stable_prefixed 16 (omega arith) (codes "0x"))
-    (stable_either is_ident_continue (Then (Exactly (codes "0o")) (DigitsIn 8)) (Then (Exactly (codes "0b")) (DigitsIn 2)) (stable_prefixed 8 (omega arith) (codes "0o")) (stable_prefixed 2 (omega arith) (codes "0b")))
-
--- no prefix of a base newly stands
-no_new_prefix : (x c : ℕ) (t r s : List ℕ) → is_ident_continue x ≡ true → first_passes is_ident_continue s ≡ false → begins_with (48 ∷ x ∷ []) (c ∷ (t ++ r)) ≡ false → begins_with (48 ∷ x ∷ []) (c ∷ (t ++ s)) ≡ false
-no_new_prefix x c [] r [] on ends h = and_right _ _ refl
-no_new_prefix x c [] r (d ∷ s) on ends h = and_right _ _ (false_from_ne_true _ (λ is. both_ways (is_ident_continue d) ends (ap is_ident_continue (sym (eqb-true x d (and_parts (x == d) true is).0)) ∙ on)))
-no_new_prefix x c (d ∷ t) r s on ends h = h
-
-letters_continue : (is_ident_continue 120 ≡ true) × (is_ident_continue 111 ≡ true) × (is_ident_continue 98 ≡ true)
-unfolding unicode_ident
-letters_continue = (refl, refl, refl)
-
-stable_decimal : Stable is_ident_continue Decimal
-stable_decimal p b r s ends is =
-    let d = is.0 in
-    let text : (u : List ℕ) → p ++ (b ++ u) ≡ d.first.0 ∷ ((d.back ++ b) ++ u) =
-    λ u. ap (λ q. q ++ (b ++ u)) (d.whole ∙ ap (λ x. x ++ d.back) d.first.1) ∙ ap (λ x. d.first.0 ∷ x) (sym (append_assoc d.back b u)) in
-    let old : begins_any base_prefixes (d.first.0 ∷ ((d.back ++ b) ++ r)) ≡ false = ap (begins_any base_prefixes) (sym (text r)) ∙ is.1 in
-    let x = or_parts _ _ old in
-    let o = or_parts _ _ x.1 in
-    let e = or_parts _ _ o.1 in (
-      stable_digits p b r s ends d,
-      ap (begins_any base_prefixes) (text s) ∙ or_from _ _ (no_new_prefix 120 d.first.0 (d.back ++ b) r s letters_continue.0 ends x.0)
-          (or_from _ _ (no_new_prefix 111 d.first.0 (d.back ++ b) r s letters_continue.1 ends o.0) (or_from _ _ (no_new_prefix 98 d.first.0 (d.back ++ b) r s letters_continue.2 ends e.0) refl)),
-    )
-
-pub stable_integer : Stable is_ident_continue (Then Integer End)
-stable_integer = stable_then is_ident_continue Integer End (stable_either is_ident_continue Decimal Based stable_decimal stable_based) stable_end
-
-pub on_integer_end : AllIn is_ident_continue (Then Integer End)
-on_integer_end = on_then is_ident_continue Integer End on_integer (λ q t h. on_suffix q t h.0)
-
--- ---- numbers
-
--- a number is one before any text that doesn't go on with it
-pub number_before : (p r s : List ℕ) → first_passes goes_on s ≡ false → Number p r → Number p s
-unfolding Number
-number_before p r s ends is = elim is [
-  | inl float ↦ inl (stable_float p [] r s ends float)
-  | inr int ↦ inr (
-    no_new_float p r s (on_integer_end p r int.1) int.1.second.1 ends int.0,
-    stable_integer p [] r s (stops_within is_ident_continue goes_on continue_goes_on s ends) int.1,
-  )
-]
-
--- a space, LF, a closer and the end don't go on with one
-pub stop_is_calm : (r : List ℕ) → stops r ≡ true → first_passes goes_on r ≡ false
-unfolding unicode_ident
-stop_is_calm [] e = refl
-stop_is_calm (c ∷ r) e = any_of (λ d. goes_on d ≡ false) (codes " \n)]}") c (refl, (refl, (refl, (refl, (refl, tt))))) e
-
-pub number_before_stop : (p r s : List ℕ) → stops s ≡ true → Number p r → Number p s
-number_before_stop p r s e is = number_before p r s (stop_is_calm s e) is

@@ -53,10 +53,12 @@ piece_shortens first k p r h =
 pub piece_boundary : (first : Bool) (text : List ℕ) (piece : Piece) → IsUtf8 text → IsPieceAt first (chars text) piece → IsCharBoundary text piece.bytes
 piece_boundary first text piece utf8 at = seam_boundary text at.front at.rest piece.bytes utf8 at.whole at.bytes
 
-pub piece_front : (first : Bool) (text : List ℕ) (piece : Piece) → IsUtf8 text → (at : IsPieceAt first (chars text) piece) → chars (take piece.bytes text) ≡ at.front
+pub piece_front : (first : Bool) (text : List ℕ) (piece : Piece) → IsUtf8 text
+    → (at : IsPieceAt first (chars text) piece) → chars (take piece.bytes text) ≡ at.front
 piece_front first text piece utf8 at = seam_take text at.front at.rest piece.bytes utf8 at.whole at.bytes
 
-pub piece_rest : (first : Bool) (text : List ℕ) (piece : Piece) → IsUtf8 text → (at : IsPieceAt first (chars text) piece) → chars (drop piece.bytes text) ≡ at.rest
+pub piece_rest : (first : Bool) (text : List ℕ) (piece : Piece) → IsUtf8 text
+    → (at : IsPieceAt first (chars text) piece) → chars (drop piece.bytes text) ≡ at.rest
 piece_rest first text piece utf8 at = seam_drop text at.front at.rest piece.bytes utf8 at.whole at.bytes
 
 -- ---- delimiters and marks
@@ -112,7 +114,9 @@ all_front passes (c ∷ front) (d ∷ text) is all =
     and_from _ _ (ap passes (eqb-true c d same.0) ∙ parts.0) (all_front passes front text same.1 parts.1)
 
 -- a text that passes begins with none that doesn't
-pub none_begins : (passes : ℕ → Bool) (fronts : List (List ℕ)) (text : List ℕ) → list_all (λ front. not (list_all passes front)) fronts ≡ true → list_all passes text ≡ true → begins_any fronts text ≡ false
+pub none_begins : (passes : ℕ → Bool) (fronts : List (List ℕ)) (text : List ℕ)
+    → list_all (λ front. not (list_all passes front)) fronts ≡ true → list_all passes text ≡ true
+    → begins_any fronts text ≡ false
 none_begins passes [] text fail all = refl
 none_begins passes (front ∷ fronts) text fail all =
     let parts = and_parts _ _ fail in

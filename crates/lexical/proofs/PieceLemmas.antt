@@ -1,7 +1,7 @@
 -- What the lexer finds is the piece that stands there, and no other.
-use Rattle.std.proofs.Common.{◌≡◌, ℕ, Bool, true, false, ◌&&◌, ◌==◌, List, [], ◌∷◌, ◌++◌, drop, Option, Some, None, IfSome, inl, inr, codes, refl, sym, ap, ap₂, ◌∙◌, subst, eqb-true, eq-eqb, append_assoc}
+use Rattle.std.proofs.Common.{◌≡◌, ℕ, Bool, true, false, ◌&&◌, ◌==◌, List, [], ◌∷◌, ◌++◌, drop, Some, None, IfSome, inl, inr, codes, refl, sym, ap, ap₂, ◌∙◌, subst, eqb-true, eq-eqb, append_assoc}
 use Rattle.std.proofs.lemmas.Bool.{and_parts, and_from, or_parts, cond-true, cond-false, cond_both, not-true, not_from_false}
-use Rattle.lexical.specs.Text.{begins_with, begins_any}
+use Rattle.lexical.specs.Text.{begins_with, begins_any, first_of}
 use Rattle.lexical.specs.Class.{is_white}
 use Rattle.lexical.specs.Form.{Form, Then, NotAt, Exactly, One}
 use Rattle.lexical.specs.Token.{Name, Mark, Literal}
@@ -13,8 +13,11 @@ use Rattle.lexical.specs.Delimiter.{is_opener, is_closer, error_literal}
 use Rattle.lexical.specs.FrontMark as fronts
 use Rattle.lexical.specs.Comment.{Comment, is_doc, has_bare_return}
 use Rattle.lexical.specs.Piece.{Kind, FrontMark, Gap, Doc, Open, Close, Leaf, IsPiece, HasNoPiece}
-use Rattle.lexical.specs.Finder.{Finds}
-use Rattle.lexical.specs.PieceFinder.{Found, find_front_mark, find_white, find_mark, find_opener, find_closer, first_of, front_mark_kind, gap_kind, name_kind, raw_kind, mark_kind, quote_kind, opener_kind, closer_kind, literal_kind, tagged, or_found, with_kind, told, start, found_identifier, found_quoted, found_number, found_error, found_from, found}
+use Rattle.lexical.specs.Finder.{Answer, Finds}
+use Rattle.lexical.specs.IdentifierFinder.{name_kind, raw_kind}
+use Rattle.lexical.specs.MarkFinder.{find_mark, mark_kind, quote_kind}
+use Rattle.lexical.specs.DelimiterFinder.{find_opener, find_closer, opener_kind, closer_kind}
+use Rattle.lexical.specs.PieceFinder.{Found, find_front_mark, find_white, front_mark_kind, gap_kind, literal_kind, tagged, or_found, with_kind, told, start, found_identifier, found_quoted, found_number, found_error, found_from, found}
 use Rattle.lexical.specs.CommentFinder.{find_comment, comment_kind, doc_text}
 use Rattle.lexical.specs.declared.class.Start.{Start}
 use Rattle.lexical.specs.declared.class.Start.TheVariants as starts
@@ -50,7 +53,8 @@ finds_closer = finds_one is_closer
 abbrev pub IsTagged : Bool → List ℕ → (Kind × List ℕ × List ℕ) → Type 0
 IsTagged first text x = (text ≡ x.1 ++ x.2) × IsPiece first x.0 x.1 x.2
 
-tagged_sound : (first : Bool) (A : Form) (kind : List ℕ → List ℕ → Kind) → ((p r : List ℕ) → A p r → IsPiece first (kind p r) p r) → (text : List ℕ) (o : Option (List ℕ × List ℕ))
+tagged_sound : (first : Bool) (A : Form) (kind : List ℕ → List ℕ → Kind)
+    → ((p r : List ℕ) → A p r → IsPiece first (kind p r) p r) → (text : List ℕ) (o : Answer)
     → IfSome o (IsSplit A text) → IfSome (tagged kind o) (IsTagged first text)
 tagged_sound first A kind to text None is = tt
 tagged_sound first A kind to text (Some x) is = (is.0, to x.0 x.1 is.1)
@@ -64,7 +68,9 @@ one_of_kind passes p r (c, e, h) =
 mark_piece : (first : Bool) (p r : List ℕ) → marks.Mark p r → IsPiece first (mark_kind p r) p r
 mark_piece first p r h = let one = one_of_kind _ p r h.0 in (one.0, inl (subst (λ q. marks.Mark q r) one.0 h, refl))
 
-raw_piece : (first : Bool) (p r : List ℕ) → NotAt identifiers.literal_prefixes (Then (Exactly (codes "r#")) identifiers.RawIdentifier) p r → IsPiece first (raw_kind p r) p r
+raw_piece : (first : Bool) (p r : List ℕ)
+    → NotAt identifiers.literal_prefixes (Then (Exactly (codes "r#")) identifiers.RawIdentifier) p r
+    → IsPiece first (raw_kind p r) p r
 raw_piece first p r h =
     let whole : p ≡ codes "r#" ++ h.0.back = h.0.whole ∙ ap (λ x. x ++ h.0.back) h.0.first in
     let name : h.0.back ≡ drop 2 p = sym (ap (drop 2) whole) in
@@ -83,7 +89,7 @@ kind_sound first text x is =
     (λ plain. (is.0, doc_from x.0 x.1 is.1 doc plain)))
     (λ plain. (is.0, inr (is.1, not_from_false _ plain)))
 
-told_sound : (first : Bool) (text : List ℕ) (o : Option (List ℕ × List ℕ)) → IfSome o (IsSplit Comment text) → IfSome (told o) (IsTagged first text)
+told_sound : (first : Bool) (text : List ℕ) (o : Answer) → IfSome o (IsSplit Comment text) → IfSome (told o) (IsTagged first text)
 told_sound first text None is = tt
 told_sound first text (Some x) is = kind_sound first text x is
 
@@ -96,7 +102,8 @@ identifier_sound first text = cond_both (begins_with (codes "r#") text) _ _ (λ 
     (λ e. tagged_sound first _ name_kind (λ p r h. (refl, h)) text _ (finds_plain.sound text))
 
 -- one thing, or else another
-or_sound : (first : Bool) (text : List ℕ) (o u : Found) → IfSome o (IsTagged first text) → IfSome u (IsTagged first text) → IfSome (or_found o u) (IsTagged first text)
+or_sound : (first : Bool) (text : List ℕ) (o u : Found) → IfSome o (IsTagged first text)
+    → IfSome u (IsTagged first text) → IfSome (or_found o u) (IsTagged first text)
 or_sound first text None u one other = other
 or_sound first text (Some x) u one other = one
 
@@ -115,11 +122,15 @@ start_sound : (first : Bool) (s : Start) (text : List ℕ) → IfSome (found_fro
 start_sound first starts.White text = tagged_sound first _ gap_kind (λ p r h. inl h) text _ (finds_white.sound text)
 start_sound first starts.Letter text = or_sound first text _ _ (identifier_sound first text) (quoted_sound first text)
 start_sound first starts.Digit text = number_sound first text
-start_sound first starts.Opener text = or_sound first text _ _ (tagged_sound first _ opener_kind (λ p r h. ((one_of_kind is_opener p r h.0).1, h.1)) text _ (finds_opener.sound text)) (error_sound first text)
+start_sound first starts.Opener text =
+    or_sound first text _ _ (tagged_sound first _ opener_kind
+    (λ p r h. ((one_of_kind is_opener p r h.0).1, h.1)) text _ (finds_opener.sound text)) (error_sound first text)
 start_sound first starts.Closer text = tagged_sound first _ closer_kind (λ p r h. (one_of_kind is_closer p r h).1) text _ (finds_closer.sound text)
 start_sound first starts.Slash text = cond_both (begins_any marks.comment_fronts text) _ _ (λ o. IfSome o (IsTagged first text))
     (λ e. told_sound first text (find_comment text) (finds_comment.sound text)) (λ e. mark_sound first text)
-start_sound first starts.Quote text = or_sound first text _ _ (tagged_sound first _ quote_kind (quote_piece first) text _ (finds_lone_quote.sound text)) (quoted_sound first text)
+start_sound first starts.Quote text =
+    or_sound first text _ _ (tagged_sound first _ quote_kind (quote_piece first) text _ (finds_lone_quote.sound text))
+    (quoted_sound first text)
 start_sound first starts.DoubleQuote text = quoted_sound first text
 start_sound first starts.FrontMark text = tagged_sound first _ front_mark_kind (λ p r h. h) text _ ((finds_front_mark first).sound text)
 start_sound first starts.Other text = mark_sound first text
@@ -137,7 +148,8 @@ unfolding found
 found_end first text e = ap (found first) e
 
 -- a text that starts so
-pub from_start : (first : Bool) (text : List ℕ) (c : ℕ) (rest : List ℕ) (s : Start) → text ≡ c ∷ rest → start c ≡ s → found first text ≡ found_from first s text
+pub from_start : (first : Bool) (text : List ℕ) (c : ℕ) (rest : List ℕ) (s : Start) → text ≡ c ∷ rest → start c ≡ s
+    → found first text ≡ found_from first s text
 unfolding found
 from_start first text c rest s e is = ap (found first) e ∙ (ap (λ t. found_from first t (c ∷ rest)) is ∙ ap (found_from first s) (sym e))
 
@@ -149,7 +161,8 @@ found_comment first k p r h kind =
     ∙ (cond-true _ _ _ (begins.2 r) ∙ (ap told (finds_comment.complete p r h) ∙ ap (with_kind (p, r)) kind))
 
 -- a mark is found where no comment begins
-found_mark : (first : Bool) (text : List ℕ) (c : ℕ) (rest : List ℕ) → text ≡ c ∷ rest → marks.is_mark c ≡ true → (c == 39) ≡ false → begins_any marks.comment_fronts text ≡ false
+found_mark : (first : Bool) (text : List ℕ) (c : ℕ) (rest : List ℕ) → text ≡ c ∷ rest → marks.is_mark c ≡ true
+    → (c == 39) ≡ false → begins_any marks.comment_fronts text ≡ false
     → found first text ≡ tagged mark_kind (find_mark text)
 found_mark first text c rest e is other plain = elim (start_mark c is other) [
   | inl other ↦ from_start first text c rest starts.Other e other
@@ -169,7 +182,9 @@ passes_of passes c p r (d, e, h) =
 
 -- where a literal begins with a letter no identifier is found
 no_identifier : (text : List ℕ) → begins_any identifiers.literal_prefixes text ≡ true → found_identifier text ≡ None
-no_identifier text h = cond_both (begins_with (codes "r#") text) _ _ (λ o. o ≡ None) (λ e. ap (tagged raw_kind) (cond-true _ _ _ h)) (λ e. ap (tagged name_kind) (cond-true _ _ _ h))
+no_identifier text h =
+    cond_both (begins_with (codes "r#") text) _ _ (λ o. o ≡ None) (λ e. ap (tagged raw_kind) (cond-true _ _ _ h))
+    (λ e. ap (tagged name_kind) (cond-true _ _ _ h))
 
 -- a literal is found
 found_quoted_at : (p r : List ℕ) → literals.QuotedLiteral p r → found_quoted (p ++ r) ≡ Some (Leaf (Literal p), p, r)
@@ -181,7 +196,8 @@ quoted_complete first p r h = elim (quoted_starts p r h) [
   | inr more ↦ elim more [
     | inl character ↦
         from_start first (p ++ r) 39 (character.back ++ r) starts.Quote (front_whole (codes "'") _ p r character) start_quote
-        ∙ (ap (λ o. or_found (tagged quote_kind o) (found_quoted (p ++ r))) (none_apart _ _ _ finds_lone_quote quote_apart p r character) ∙ found_quoted_at p r h)
+        ∙ (ap (λ o. or_found (tagged quote_kind o) (found_quoted (p ++ r)))
+        (none_apart _ _ _ finds_lone_quote quote_apart p r character) ∙ found_quoted_at p r h)
     | inr letter ↦
         from_start first (p ++ r) letter.first letter.rest starts.Letter letter.whole letter.starts
         ∙ (ap (λ o. or_found o (found_quoted (p ++ r))) (no_identifier (p ++ r) letter.prefixed) ∙ found_quoted_at p r h)
@@ -191,7 +207,8 @@ quoted_complete first p r h = elim (quoted_starts p r h) [
 number_complete : (first : Bool) (p r : List ℕ) → Number p r → found first (p ++ r) ≡ Some (Leaf (Literal p), p, r)
 number_complete first p r h =
     let at = number_first p r h in
-    from_start first (p ++ r) at.0 (at.1 ++ r) starts.Digit (ap (λ q. q ++ r) at.2) (start_digit at.0 at.3) ∙ ap (tagged literal_kind) (finds_number.complete p r h)
+    from_start first (p ++ r) at.0 (at.1 ++ r) starts.Digit (ap (λ q. q ++ r) at.2) (start_digit at.0 at.3)
+    ∙ ap (tagged literal_kind) (finds_number.complete p r h)
 
 literal_complete : (first : Bool) (p r : List ℕ) → literals.Literal p r → found first (p ++ r) ≡ Some (Leaf (Literal p), p, r)
 unfolding literals.Literal
@@ -206,7 +223,8 @@ error_complete first p r h =
 
 pub found_complete : (first : Bool) (k : Kind) (p r : List ℕ) → IsPiece first k p r → found first (p ++ r) ≡ Some (k, p, r)
 found_complete first FrontMark p r h =
-    from_start first (p ++ r) 0xFEFF r starts.FrontMark (one_front 0xFEFF p r h.1) start_front_mark ∙ ap (tagged front_mark_kind) ((finds_front_mark first).complete p r h)
+    from_start first (p ++ r) 0xFEFF r starts.FrontMark (one_front 0xFEFF p r h.1) start_front_mark
+    ∙ ap (tagged front_mark_kind) ((finds_front_mark first).complete p r h)
 found_complete first Gap p r (inl h) =
     from_start first (p ++ r) h.0 r starts.White (one_front h.0 p r h.1) (start_white h.0 h.2) ∙ ap (tagged gap_kind) (finds_white.complete p r h)
 found_complete first Gap p r (inr h) = found_comment first Gap p r h.0 (plain_kind p r h)
@@ -221,7 +239,8 @@ found_complete first (Close c) p r h =
     from_start first (p ++ r) c r starts.Closer (one_front c p r one.0) (start_closer c one.1)
     ∙ (ap (tagged closer_kind) (finds_closer.complete p r (c, one.0, one.1)) ∙ ap (λ d. Some (Close d, p, r)) (ap first_of one.0))
 found_complete first (Leaf (Name true name)) p r h =
-    let text : Then (Exactly (codes "r#")) identifiers.RawIdentifier p r = record { front = codes "r#"; back = name; whole = h.0; first = refl; second = h.1.0 } in
+    let text : Then (Exactly (codes "r#")) identifiers.RawIdentifier p r =
+    record { front = codes "r#"; back = name; whole = h.0; first = refl; second = h.1.0 } in
     let apart : begins_any identifiers.literal_prefixes (p ++ r) ≡ false = ap (λ q. begins_any identifiers.literal_prefixes (q ++ r)) h.0 ∙ h.1.1 in
     from_start first (p ++ r) 114 (35 ∷ (name ++ r)) starts.Letter (ap (λ q. q ++ r) h.0) start_raw
     ∙ (ap (λ o. or_found o (found_quoted (p ++ r))) (cond-true _ _ _ (ap (λ q. begins_with (codes "r#") (q ++ r)) h.0)
@@ -232,7 +251,8 @@ found_complete first (Leaf (Name false name)) p r h =
     ap (λ q. q ++ r) h.0 ∙ (ap (λ q. q ++ r) plain.whole ∙ (append_assoc plain.front plain.back r ∙ ap (λ q. q ++ (plain.back ++ r)) plain.first.1)) in
     from_start first (p ++ r) plain.first.0 (plain.back ++ r) starts.Letter whole (start_letter plain.first.0 plain.first.2)
     ∙ (ap (λ o. or_found o (found_quoted (p ++ r))) (cond-false _ _ _ (ap (λ q. begins_with (codes "r#") (q ++ r)) h.0 ∙ (or_parts _ _ h.1.0.1).0)
-    ∙ ap (tagged name_kind) (finds_plain.complete p r (subst (λ q. identifiers.Identifier false q r) (sym h.0) h.1))) ∙ (ap (λ q. Some (Leaf (Name false q), p, r)) h.0))
+    ∙ ap (tagged name_kind) (finds_plain.complete p r (subst (λ q. identifiers.Identifier false q r) (sym h.0) h.1)))
+    ∙ (ap (λ q. Some (Leaf (Name false q), p, r)) h.0))
 found_complete first (Leaf (Mark c joint)) p r h = elim h.1 [
   | inl mark ↦
       let one = mark.0.0 in
@@ -246,7 +266,9 @@ found_complete first (Leaf (Mark c joint)) p r h = elim h.1 [
       let is : c ≡ 39 = cc in
       let text : p ≡ codes "'" = h.0 ∙ quote.0.0 in
       from_start first (p ++ r) 39 r starts.Quote (one_front 39 p r text) start_quote
-      ∙ (ap (λ o. or_found (tagged quote_kind o) (found_quoted (p ++ r))) (finds_lone_quote.complete p r (text, quote.0.1)) ∙ ap₂ (λ d b. Some (Leaf (Mark d b), p, r)) (sym is) (sym quote.1))
+      ∙ (ap (λ o. or_found (tagged quote_kind o) (found_quoted (p ++ r)))
+      (finds_lone_quote.complete p r (text, quote.0.1))
+      ∙ ap₂ (λ d b. Some (Leaf (Mark d b), p, r)) (sym is) (sym quote.1))
 ]
 found_complete first (Leaf (Literal text)) p r h = subst (λ q. found first (p ++ r) ≡ Some (Leaf (Literal q), p, r)) h.0 (elim h.1 [
   | inl literal ↦ literal_complete first p r (subst (λ q. literals.Literal q r) (sym h.0) literal)

@@ -6,11 +6,11 @@ use Rattle.std.proofs.lemmas.Bool.{both_ways, and_parts, or_cases, false_from_ne
 use Rattle.unicode_ident.proofs.Computing.{unicode_ident}
 use Rattle.lexical.specs.Class.{is_ident_start}
 use Rattle.lexical.specs.Text.{begins_with, begins_any, first_passes}
-use Rattle.lexical.specs.Mark.{FollowsQuote}
+use Rattle.lexical.specs.Mark.{FollowsQuote, quotable_fronts}
 use Rattle.lexical.specs.Quoted.{Str}
 use Rattle.lexical.specs.RawString.{Raw}
 use Rattle.lexical.specs.Literal.{QuotedLiteral, Literal, AnyLiteral}
-use Rattle.lexical.specs.PieceFinder.{follows_quote}
+use Rattle.lexical.specs.MarkFinder.{follows_quote}
 use Rattle.lexical.specs.declared.class.Start.TheVariants as starts
 use Rattle.lexical.proofs.TextLemmas.{begins_splits}
 use Rattle.lexical.proofs.WordLemmas.{front_whole}
@@ -18,10 +18,6 @@ use Rattle.lexical.proofs.NameFinderLemmas.{follows_sound, follows_complete}
 use Rattle.lexical.proofs.NumberFinderLemmas.{number_first}
 use Rattle.lexical.proofs.ClassLemmas.{start_letter, start_digit}
 use Rattle.lexical.proofs.NameLemmas.{follows_start}
-
--- how the literals begin that may come next to the mark `'`
-abbrev pub quotable_fronts : List (List ℕ)
-quotable_fronts = codes "b\"" ∷ codes "c\"" ∷ codes "r\"" ∷ codes "br\"" ∷ codes "cr\"" ∷ []
 
 -- ---- these may
 

@@ -10,7 +10,8 @@ use Rattle.lexical.specs.Literal.{QuotedLiteral}
 use Rattle.lexical.specs.RawString.{Hashes, RawUnit, RawQuotes, Raw}
 use Rattle.lexical.specs.SingleQuoted.{is_char_plain, is_byte_char_plain, SingleQuoted, Character, Byte}
 use Rattle.lexical.specs.Finder.{Finder, Finds}
-use Rattle.lexical.specs.QuotedFinder.{letters_of, allows_code, find_pair, find_hex, is_code_digit, find_digits, find_unicode, find_escape, is_plain, find_newline, find_escaped, find_unit, find_suffix, find_body, string_front, find_cooked, is_raw, raw_front, find_hashes, find_raw_unit, find_raw_quotes, find_raw_string, find_single, find_character, find_byte, find_string, find_quoted}
+use Rattle.lexical.specs.EscapeFinder.{letters_of, allows_code, find_pair, find_hex, is_code_digit, find_digits, find_unicode, find_escape}
+use Rattle.lexical.specs.QuotedFinder.{is_plain, find_newline, find_escaped, find_unit, find_suffix, find_body, string_front, find_cooked, is_raw, raw_front, find_hashes, find_raw_unit, find_raw_quotes, find_raw_string, find_single, find_character, find_byte, find_string, find_quoted}
 use Rattle.lexical.specs.declared.quoted.StringKind.{StringKind}
 use Rattle.lexical.specs.declared.quoted.StringKind.TheVariants as kinds
 use Rattle.lexical.proofs.TextLemmas.{begins_front}
@@ -71,7 +72,9 @@ finds_unicode kind = finds_then _ _ _ _ (finds_text (codes "u{")) (finds_then _ 
     (finds_where (λ p r. is_code (allows_code kind) p) _ _ (finds_then _ _ _ _ (finds_one is_ascii_hexdigit) (finds_run _))) (finds_text (codes "}")))
 
 -- no letter is `x` or `u`, or a line end
-no_letter : (kind : StringKind) → (is_one_of (letters_of kind) 120 ≡ false) × (is_one_of (letters_of kind) 117 ≡ false) × (is_one_of (letters_of kind) 10 ≡ false) × (is_one_of (letters_of kind) 13 ≡ false)
+no_letter : (kind : StringKind) → (is_one_of (letters_of kind) 120 ≡ false)
+    × (is_one_of (letters_of kind) 117 ≡ false) × (is_one_of (letters_of kind) 10 ≡ false)
+    × (is_one_of (letters_of kind) 13 ≡ false)
 no_letter kinds.Plain = (refl, refl, refl, refl)
 no_letter kinds.Byte = (refl, refl, refl, refl)
 no_letter kinds.C = (refl, refl, refl, refl)
@@ -81,7 +84,8 @@ finds_escape kind =
     let out = no_letter kind in
     finds_apart _ _ _ _ (finds_one (is_one_of (letters_of kind)))
     (finds_apart _ _ _ _ (finds_hex kind) (finds_unicode kind) (apart_fronts (codes "x") (codes "u{") _ _ refl))
-    (apart_either _ _ _ (apart_char _ 120 _ _ (shows_one _) (shows_front 120 [] _) out.0) (apart_char _ 117 _ _ (shows_one _) (shows_front 117 (codes "{") _) out.1))
+    (apart_either _ _ _ (apart_char _ 120 _ _ (shows_one _) (shows_front 120 [] _) out.0)
+    (apart_char _ 117 _ _ (shows_one _) (shows_front 117 (codes "{") _) out.1))
 
 -- ---- units
 
@@ -91,7 +95,8 @@ finds_newline = finds_text (codes "\r\n")
 line_apart_escape : (kind : StringKind) → Disjoint Continuation (EscapeOf kind)
 line_apart_escape kind =
     let out = no_letter kind in
-    let other : (n : ℕ) (more : List ℕ) → is_one_of (letters_of kind) n ≡ false → (n == 120) ≡ false → (n == 117) ≡ false → Disjoint (Exactly (n ∷ more)) (EscapeOf kind) =
+    let other : (n : ℕ) (more : List ℕ) → is_one_of (letters_of kind) n ≡ false → (n == 120) ≡ false
+    → (n == 117) ≡ false → Disjoint (Exactly (n ∷ more)) (EscapeOf kind) =
     λ n more letter x u. apart_either _ _ _ (apart_sym _ _ (apart_char _ n _ _ (shows_one _) (shows_text n more) letter))
     (apart_either _ _ _ (apart_sym _ _ (apart_char (λ d. d == 120) n _ _ (shows_front 120 [] _) (shows_text n more) x))
     (apart_sym _ _ (apart_char (λ d. d == 117) n _ _ (shows_front 117 (codes "{") _) (shows_text n more) u))) in
@@ -112,7 +117,8 @@ pub finds_unit : (kind : StringKind) → Finds (find_unit kind) (UnitOf kind)
 finds_unit kind =
     let out = not_plain kind in
     finds_apart _ _ _ _ (finds_one (is_plain kind))
-    (finds_apart _ _ _ _ finds_newline (finds_then _ _ _ _ (finds_text (codes "\\")) (finds_escaped kind)) (apart_char (λ d. d == 13) 92 _ _ (shows_text 13 (codes "\n")) (shows_front 92 [] _) refl))
+    (finds_apart _ _ _ _ finds_newline (finds_then _ _ _ _ (finds_text (codes "\\")) (finds_escaped kind))
+    (apart_char (λ d. d == 13) 92 _ _ (shows_text 13 (codes "\n")) (shows_front 92 [] _) refl))
     (apart_either _ _ _ (apart_char _ 13 _ _ (shows_one _) (shows_text 13 (codes "\n")) out.0) (apart_char _ 92 _ _ (shows_one _) (shows_front 92 [] _) out.1))
 
 pub some_unit : (kind : StringKind) → NotEmpty (UnitOf kind)
@@ -123,7 +129,8 @@ some_unit kind = some_either _ _ (some_one (is_plain kind)) (some_either _ _ (so
 pub finds_suffix : Finds find_suffix Suffix
 finds_suffix = finds_perhaps _ _ finds_name
 
-finds_body : (unit : Finder) (Unit : Form) (close : List ℕ) → Finds unit Unit → NotEmpty Unit → Disjoint Unit (Then (Exactly close) Suffix) → Finds (find_body unit close) (Body Unit close)
+finds_body : (unit : Finder) (Unit : Form) (close : List ℕ) → Finds unit Unit → NotEmpty Unit
+    → Disjoint Unit (Then (Exactly close) Suffix) → Finds (find_body unit close) (Body Unit close)
 finds_body unit Unit close h some apart = finds_many_then unit Unit h some _ _ (finds_then _ _ _ _ (finds_text close) finds_suffix) apart
 
 -- no unit begins with a quote
@@ -133,7 +140,9 @@ unit_apart_quote kind = either_apart _ _ _ (apart_char _ 34 _ _ (shows_one _) (s
     (apart_fronts (codes "\\") (codes "\"") _ _ refl))
 
 pub finds_cooked : (kind : StringKind) → Finds (find_cooked kind) (CookedOf kind)
-finds_cooked kind = finds_then _ _ _ _ (finds_text (string_front kind)) (finds_body _ _ (codes "\"") (finds_unit kind) (some_unit kind) (unit_apart_quote kind))
+finds_cooked kind =
+    finds_then _ _ _ _ (finds_text (string_front kind))
+    (finds_body _ _ (codes "\"") (finds_unit kind) (some_unit kind) (unit_apart_quote kind))
 
 -- ---- raw strings
 
@@ -153,7 +162,8 @@ some_raw_unit kind close p r is = some_either _ _ (some_one _) (some_text 13 (co
 raw_apart_close : (kind : StringKind) (close : List ℕ) → Disjoint (RawUnit (is_raw kind) close) (Then (Exactly close) Suffix)
 raw_apart_close kind close p q r s a b e =
     let closes : begins_any (close ∷ []) (p ++ r) ≡ true =
-    ap (begins_any (close ∷ [])) (e ∙ (then_whole (Exactly close) Suffix q s b ∙ ap (λ x. x ++ (b.back ++ s)) b.first)) ∙ ap (λ o. o || false) (begins_front close (b.back ++ s)) in
+    ap (begins_any (close ∷ [])) (e ∙ (then_whole (Exactly close) Suffix q s b
+    ∙ ap (λ x. x ++ (b.back ++ s)) b.first)) ∙ ap (λ o. o || false) (begins_front close (b.back ++ s)) in
     both_ways _ a.1 closes
 
 finds_raw_quotes : (kind : StringKind) (hashes : List ℕ) → Finds (find_raw_quotes kind hashes) (RawQuotes (is_raw kind) hashes)
@@ -168,9 +178,12 @@ finds_raw_string kind = finds_then _ _ _ _ (finds_text (raw_front kind)) (finds_
 
 -- ---- single quotes
 
-finds_single : (front : List ℕ) (plain : ℕ → Bool) (kind : StringKind) → plain 92 ≡ false → Finds (find_single front plain kind) (SingleQuoted front plain (EscapeOf kind))
+finds_single : (front : List ℕ) (plain : ℕ → Bool) (kind : StringKind) → plain 92 ≡ false
+    → Finds (find_single front plain kind) (SingleQuoted front plain (EscapeOf kind))
 finds_single front plain kind out = finds_then _ _ _ _ (finds_text front)
-    (finds_then _ _ _ _ (finds_apart _ _ _ _ (finds_one plain) (finds_then _ _ _ _ (finds_text (codes "\\")) (finds_escape kind)) (apart_char plain 92 _ _ (shows_one plain) (shows_front 92 [] _) out))
+    (finds_then _ _ _ _ (finds_apart _ _ _ _ (finds_one plain)
+    (finds_then _ _ _ _ (finds_text (codes "\\")) (finds_escape kind))
+    (apart_char plain 92 _ _ (shows_one plain) (shows_front 92 [] _) out))
     (finds_then _ _ _ _ (finds_text (codes "'")) finds_suffix))
 
 pub finds_character : Finds find_character Character
@@ -192,16 +205,22 @@ finds_string kind = finds_apart _ _ _ _ (finds_cooked kind) (finds_raw_string ki
 -- a form with this front, and the strings of a kind
 front_apart_string : (front : List ℕ) (A : Form) (kind : StringKind) → differ front (string_front kind) ≡ true → differ front (raw_front kind) ≡ true
     → Disjoint (Then (Exactly front) A) (Either (CookedOf kind) (RawOf kind))
-front_apart_string front A kind cooked raw = apart_either _ _ _ (apart_fronts front (string_front kind) _ _ cooked) (apart_fronts front (raw_front kind) _ _ raw)
+front_apart_string front A kind cooked raw =
+    apart_either _ _ _ (apart_fronts front (string_front kind) _ _ cooked)
+    (apart_fronts front (raw_front kind) _ _ raw)
 
 string_apart_string : (k l : StringKind) → differ (string_front k) (string_front l) ≡ true → differ (string_front k) (raw_front l) ≡ true
     → differ (raw_front k) (string_front l) ≡ true → differ (raw_front k) (raw_front l) ≡ true
     → Disjoint (Either (CookedOf k) (RawOf k)) (Either (CookedOf l) (RawOf l))
-string_apart_string k l one two three four = either_apart _ _ _ (front_apart_string (string_front k) _ l one two) (front_apart_string (raw_front k) _ l three four)
+string_apart_string k l one two three four =
+    either_apart _ _ _ (front_apart_string (string_front k) _ l one two)
+    (front_apart_string (raw_front k) _ l three four)
 
 string_apart_front : (kind : StringKind) (front : List ℕ) (A : Form) → differ (string_front kind) front ≡ true → differ (raw_front kind) front ≡ true
     → Disjoint (Either (CookedOf kind) (RawOf kind)) (Then (Exactly front) A)
-string_apart_front kind front A cooked raw = either_apart _ _ _ (apart_fronts (string_front kind) front _ _ cooked) (apart_fronts (raw_front kind) front _ _ raw)
+string_apart_front kind front A cooked raw =
+    either_apart _ _ _ (apart_fronts (string_front kind) front _ _ cooked)
+    (apart_fronts (raw_front kind) front _ _ raw)
 
 pub finds_quoted : Finds find_quoted QuotedLiteral
 unfolding find_quoted Str
@@ -214,6 +233,10 @@ finds_quoted =
     (finds_apart _ _ _ _ (finds_string byte)
     (finds_apart _ _ _ _ finds_byte (finds_string c) (front_apart_string (codes "b'") _ c refl refl))
     (apart_either _ _ _ (string_apart_front byte (codes "b'") _ refl refl) (string_apart_string byte c refl refl refl refl)))
-    (apart_either _ _ _ (front_apart_string (codes "'") _ byte refl refl) (apart_either _ _ _ (apart_fronts (codes "'") (codes "b'") _ _ refl) (front_apart_string (codes "'") _ c refl refl))))
+    (apart_either _ _ _ (front_apart_string (codes "'") _ byte refl refl)
+    (apart_either _ _ _ (apart_fronts (codes "'") (codes "b'") _ _ refl)
+    (front_apart_string (codes "'") _ c refl refl))))
     (apart_either _ _ _ (string_apart_front plain (codes "'") _ refl refl)
-    (apart_either _ _ _ (string_apart_string plain byte refl refl refl refl) (apart_either _ _ _ (string_apart_front plain (codes "b'") _ refl refl) (string_apart_string plain c refl refl refl refl))))
+    (apart_either _ _ _ (string_apart_string plain byte refl refl refl refl)
+    (apart_either _ _ _ (string_apart_front plain (codes "b'") _ refl refl)
+    (string_apart_string plain c refl refl refl refl))))

@@ -47,12 +47,22 @@ free_many A free p r s is = record { units = is.units; whole = is.whole; each = 
 free_braced : (allowed : ℕ → Bool) → Free (Then (Code allowed) (Exactly (codes "}")))
 free_braced allowed p r s is =
     let digits = is.first.0 in
-    let stops : first_passes (λ c. is_ascii_hexdigit c || (c == 95)) (is.back ++ s) ≡ false = ap (λ back. first_passes (λ c. is_ascii_hexdigit c || (c == 95)) (back ++ s)) is.second in
+    let stops : first_passes (λ c. is_ascii_hexdigit c || (c == 95)) (is.back ++ s) ≡ false =
+    ap (λ back. first_passes (λ c. is_ascii_hexdigit c || (c == 95)) (back ++ s)) is.second in
     record {
       front = is.front;
       back = is.back;
       whole = is.whole;
-      first = (record { front = digits.front; back = digits.back; whole = digits.whole; first = digits.first; second = record { each = digits.second.each; stops = stops } }, is.first.1);
+      first = (
+        record {
+          front = digits.front;
+          back = digits.back;
+          whole = digits.whole;
+          first = digits.first;
+          second = record { each = digits.second.each; stops = stops };
+        },
+        is.first.1,
+      );
       second = is.second;
     }
 
@@ -92,7 +102,13 @@ pub record EndsSuffix (r : List ℕ) : Type 0 where
 
 pub suffix_before : (p r s : List ℕ) → EndsSuffix s → Suffix p r → Suffix p s
 suffix_before p r s ends is = elim is [
-  | inl name ↦ inl (record { front = name.front; back = name.back; whole = name.whole; first = name.first; second = record { each = name.second.each; stops = ends.continue } })
+  | inl name ↦ inl (record {
+    front = name.front;
+    back = name.back;
+    whole = name.whole;
+    first = name.first;
+    second = record { each = name.second.each; stops = ends.continue };
+  })
   | inr none ↦ inr (subst (λ q. HasNone Name (q ++ s)) (sym none.1) (no_name s ends.start), none.1)
 ]
 
@@ -113,7 +129,14 @@ str_before p r s ends is =
         back = body.back;
         whole = body.whole;
         first = free_many StringUnit free_string_unit body.front (body.back ++ r) (body.back ++ s) body.first;
-        second = record { front = close.front; back = close.back; whole = close.whole; first = close.first; second = suffix_before close.back r s ends close.second };
+        second =
+            record {
+              front = close.front;
+              back = close.back;
+              whole = close.whole;
+              first = close.first;
+              second = suffix_before close.back r s ends close.second;
+            };
       };
     }
 

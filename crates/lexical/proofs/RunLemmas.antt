@@ -20,14 +20,17 @@ rest_step : (test : ℕ → Bool) {text rest : List ℕ} {c : ℕ} → text ≡ 
 rest_step test e h = ap (while_rest test) e ∙ cond-true _ _ _ h
 
 -- past a character that passes
-pub run_step : (test : ℕ → Bool) (at end after : Cursor) (c : ℕ) → GoesOn test at end → chars end.rest.now ≡ c ∷ chars after.rest.now → after.chars_before ≡ end.chars_before + 1 → test c ≡ true → GoesOn test at after
+pub run_step : (test : ℕ → Bool) (at end after : Cursor) (c : ℕ) → GoesOn test at end
+    → chars end.rest.now ≡ c ∷ chars after.rest.now → after.chars_before ≡ end.chars_before + 1
+    → test c ≡ true → GoesOn test at after
 run_step test at end after c goes e one h = (
   sym (rest_step test e h) ∙ goes.0,
   omega (arith, goes.1, one, ap length (front_step test e h)),
 )
 
 -- at a character that doesn't, or the end
-pub run_stop : (test : ℕ → Bool) (at end : Cursor) → GoesOn test at end → first_passes test (chars end.rest.now) ≡ false → Passes (find_run test (chars at.rest.now)) at end
+pub run_stop : (test : ℕ → Bool) (at end : Cursor) → GoesOn test at end
+    → first_passes test (chars end.rest.now) ≡ false → Passes (find_run test (chars at.rest.now)) at end
 run_stop test at end goes stops =
     let none = while_rest_none test (chars end.rest.now) stops in
     let rest : while_rest test (chars at.rest.now) ≡ chars end.rest.now = sym goes.0 ∙ none.1 in

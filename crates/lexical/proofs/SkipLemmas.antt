@@ -5,11 +5,11 @@ use Rattle.std.proofs.lemmas.Bool.{and_parts, or_from, both_ways, false_from_ne_
 use Rattle.lexical.specs.Text.{begins_with, begins_any}
 use Rattle.lexical.specs.Form.{Exactly}
 use Rattle.lexical.specs.Comment.{block_signs}
-use Rattle.lexical.specs.Finder.{Finder, behind, and_find, find_then, find_text}
+use Rattle.lexical.specs.Finder.{Answer, Finder, behind, and_find, find_then, find_text}
 use Rattle.lexical.specs.CommentFinder.{find_ends}
 use Rattle.lexical.specs.Reading.{Passes, Leads}
 use Rattle.lexical.specs.declared.cursor.Cursor.{Cursor}
-use Rattle.lexical.proofs.FinderLemmas.{Answer, finds_text, found_is, none_found}
+use Rattle.lexical.proofs.FinderLemmas.{finds_text, found_is, none_found}
 use Rattle.lexical.proofs.TextLemmas.{begins_splits, begins_front}
 use Rattle.lexical.proofs.BlockLemmas.{behind_nothing, behind_behind, at_none, at_nothing, at_close, at_open, at_other}
 
@@ -21,7 +21,8 @@ text_found front text rest e = ap (find_text front) e ∙ (finds_text front).com
 
 pub text_not_found : (front text : List ℕ) → begins_with front text ≡ false → find_text front text ≡ None
 text_not_found front text h =
-    none_found (find_text front) (Exactly front) (finds_text front) text (λ p r e is. both_ways _ h (ap (begins_with front) (e ∙ ap (λ x. x ++ r) is) ∙ begins_front front r))
+    none_found (find_text front) (Exactly front) (finds_text front) text
+    (λ p r e is. both_ways _ h (ap (begins_with front) (e ∙ ap (λ x. x ++ r) is) ∙ begins_front front r))
 
 -- and the other way
 not_found_text : (front text : List ℕ) → find_text front text ≡ None → begins_with front text ≡ false
@@ -41,7 +42,8 @@ past_text front at to h = h.whole ∙ ap (λ x. x ++ chars to.rest.now) (text_pa
 
 -- ---- `Then`
 
-pub then_passes : (f g : Finder) (at mid to : Cursor) → Passes (f (chars at.rest.now)) at mid → Passes (g (chars mid.rest.now)) mid to → Passes (find_then f g (chars at.rest.now)) at to
+pub then_passes : (f g : Finder) (at mid to : Cursor) → Passes (f (chars at.rest.now)) at mid
+    → Passes (g (chars mid.rest.now)) mid to → Passes (find_then f g (chars at.rest.now)) at to
 then_passes f g at mid to h j = record {
   front = h.front ++ j.front;
   found = ap (and_find g) h.found ∙ ap (behind h.front) j.found;
@@ -52,7 +54,8 @@ then_passes f g at mid to h j = record {
 pub then_fails : (f g : Finder) (text : List ℕ) → f text ≡ None → find_then f g text ≡ None
 then_fails f g text e = ap (and_find g) e
 
-pub then_fails_on : (f g : Finder) (at mid : Cursor) → Passes (f (chars at.rest.now)) at mid → g (chars mid.rest.now) ≡ None → find_then f g (chars at.rest.now) ≡ None
+pub then_fails_on : (f g : Finder) (at mid : Cursor) → Passes (f (chars at.rest.now)) at mid
+    → g (chars mid.rest.now) ≡ None → find_then f g (chars at.rest.now) ≡ None
 then_fails_on f g at mid h e = ap (and_find g) h.found ∙ ap (behind h.front) e
 
 -- ---- within block comments
@@ -78,22 +81,27 @@ leads_out at to depth inside h out =
     let none : inside ≡ 0 = omega arith in
     record {
       front = h.front;
-      found = h.found ∙ (ap (behind h.front) (ap (λ n. find_ends n (chars to.rest.now)) none ∙ at_none (chars to.rest.now)) ∙ ap (λ x. Some (x, chars to.rest.now)) (append-nil h.front));
+      found =
+          h.found ∙ (ap (behind h.front) (ap (λ n. find_ends n (chars to.rest.now)) none
+          ∙ at_none (chars to.rest.now)) ∙ ap (λ x. Some (x, chars to.rest.now)) (append-nil h.front));
       whole = h.whole;
       count = h.count;
     }
 
 -- where the text ends
-pub leads_to_end : (at to : Cursor) (depth inside : ℕ) → Leads at depth to inside → 0 < inside → chars to.rest.now ≡ [] → find_ends depth (chars at.rest.now) ≡ None
+pub leads_to_end : (at to : Cursor) (depth inside : ℕ) → Leads at depth to inside → 0 < inside
+    → chars to.rest.now ≡ [] → find_ends depth (chars at.rest.now) ≡ None
 leads_to_end at to depth inside h some end =
     let cell = suc_of inside some in
     h.found ∙ ap (behind h.front) (ap₂ find_ends cell.1 end ∙ at_nothing cell.0)
 
 -- two characters of a sign
-sign_whole : (c d : ℕ) (at mid to : Cursor) → chars at.rest.now ≡ c ∷ chars mid.rest.now → Passes (find_text (d ∷ []) (chars mid.rest.now)) mid to → chars at.rest.now ≡ c ∷ d ∷ chars to.rest.now
+sign_whole : (c d : ℕ) (at mid to : Cursor) → chars at.rest.now ≡ c ∷ chars mid.rest.now
+    → Passes (find_text (d ∷ []) (chars mid.rest.now)) mid to → chars at.rest.now ≡ c ∷ d ∷ chars to.rest.now
 sign_whole c d at mid to e h = e ∙ ap (λ x. c ∷ x) (h.whole ∙ ap (λ x. x ++ chars to.rest.now) (text_passed (d ∷ []) mid to h))
 
-sign_count : (c d : ℕ) (at mid to : Cursor) → mid.chars_before ≡ at.chars_before + 1 → Passes (find_text (d ∷ []) (chars mid.rest.now)) mid to → to.chars_before ≡ at.chars_before + 2
+sign_count : (c d : ℕ) (at mid to : Cursor) → mid.chars_before ≡ at.chars_before + 1
+    → Passes (find_text (d ∷ []) (chars mid.rest.now)) mid to → to.chars_before ≡ at.chars_before + 2
 sign_count c d at mid to one h = omega (arith, h.count, one, ap length (text_passed (d ∷ []) mid to h))
 
 pub leads_close : (at mid to : Cursor) (depth : ℕ) → chars at.rest.now ≡ 42 ∷ chars mid.rest.now → mid.chars_before ≡ at.chars_before + 1
@@ -105,7 +113,11 @@ leads_close at mid to depth e one h inside fits =
     let less : cell.0 ≡ depth - 1 = omega (arith, cell.1) in
     record {
       front = codes "*/";
-      found = ap (λ n. find_ends n (chars at.rest.now)) cell.1 ∙ (ap (find_ends (suc cell.0)) whole ∙ (at_close cell.0 (chars to.rest.now) ∙ ap (λ n. behind (codes "*/") (find_ends n (chars to.rest.now))) less));
+      found =
+          ap (λ n. find_ends n (chars at.rest.now)) cell.1
+          ∙ (ap (find_ends (suc cell.0)) whole
+          ∙ (at_close cell.0 (chars to.rest.now)
+          ∙ ap (λ n. behind (codes "*/") (find_ends n (chars to.rest.now))) less));
       whole = whole;
       count = size;
       fits = omega (arith, size);
@@ -121,7 +133,9 @@ leads_open at mid to depth e one h inside fits =
     record {
       front = codes "/*";
       found = ap (λ n. find_ends n (chars at.rest.now)) cell.1
-          ∙ (ap (find_ends (suc cell.0)) whole ∙ (at_open cell.0 (chars to.rest.now) ∙ ap (λ n. behind (codes "/*") (find_ends n (chars to.rest.now))) deeper));
+          ∙ (ap (find_ends (suc cell.0)) whole
+          ∙ (at_open cell.0 (chars to.rest.now)
+          ∙ ap (λ n. behind (codes "/*") (find_ends n (chars to.rest.now))) deeper));
       whole = whole;
       count = size;
       fits = omega (arith, size);
@@ -144,7 +158,9 @@ leads_past at mid depth c e one closes opens inside fits =
     record {
       front = c ∷ [];
       found = ap (λ n. find_ends n (chars at.rest.now)) cell.1
-          ∙ (ap (find_ends (suc cell.0)) e ∙ (at_other cell.0 c (chars mid.rest.now) plain ∙ ap (λ n. behind (c ∷ []) (find_ends n (chars mid.rest.now))) (sym cell.1)));
+          ∙ (ap (find_ends (suc cell.0)) e
+          ∙ (at_other cell.0 c (chars mid.rest.now) plain
+          ∙ ap (λ n. behind (c ∷ []) (find_ends n (chars mid.rest.now))) (sym cell.1)));
       whole = e;
       count = one;
       fits = omega arith;

@@ -46,7 +46,8 @@ some_second A B some p r is = let long = some is.back r is.second in omega (arit
 -- ---- the words on forms
 
 module _ (class : ℕ → Bool) where
-  pub stops_stable : (passes : ℕ → Bool) → Sub passes class → (b r s : List ℕ) → first_passes class s ≡ false → first_passes passes (b ++ r) ≡ false → first_passes passes (b ++ s) ≡ false
+  pub stops_stable : (passes : ℕ → Bool) → Sub passes class → (b r s : List ℕ) → first_passes class s ≡ false
+      → first_passes passes (b ++ r) ≡ false → first_passes passes (b ++ s) ≡ false
   stops_stable passes within [] r s ends stops = stops_within passes class within s ends
   stops_stable passes within (c ∷ b) r s ends stops = stops
 
@@ -67,7 +68,9 @@ module _ (class : ℕ → Bool) where
     front = is.front;
     back = is.back;
     whole = is.whole;
-    first = subst (A is.front) (append_assoc is.back b s) (one is.front (is.back ++ b) r s ends (subst (A is.front) (sym (append_assoc is.back b r)) is.first));
+    first =
+        subst (A is.front) (append_assoc is.back b s)
+        (one is.front (is.back ++ b) r s ends (subst (A is.front) (sym (append_assoc is.back b r)) is.first));
     second = other is.back b r s ends is.second;
   }
 
@@ -79,7 +82,10 @@ module _ (class : ℕ → Bool) where
         front = is.front;
         back = is.back;
         whole = is.whole;
-        first = subst (λ x. A is.front (x ++ (b ++ s))) (sym cell.2) (local is.front cell.0 (cell.1 ++ (b ++ r)) (cell.1 ++ (b ++ s)) (subst (λ x. A is.front (x ++ (b ++ r))) cell.2 is.first));
+        first =
+            subst (λ x. A is.front (x ++ (b ++ s))) (sym cell.2)
+            (local is.front cell.0 (cell.1 ++ (b ++ r)) (cell.1 ++ (b ++ s))
+            (subst (λ x. A is.front (x ++ (b ++ r))) cell.2 is.first));
         second = stable is.back b r s ends is.second;
       }
 
@@ -95,7 +101,8 @@ module _ (class : ℕ → Bool) where
   -- a form that stands wherever its first character does
   pub first_none : (A : Form) (passes : ℕ → Bool) → Sub passes class → Shows passes A
       → ((c : ℕ) (text : List ℕ) → passes c ≡ true → (q : List ℕ) × (t : List ℕ) × (c ∷ text ≡ q ++ t) × A q t) → StaysNone class A
-  first_none A passes within shows stands [] r s ends none q t e is = both_ways _ (stops_within passes class within s ends) (ap (first_passes passes) e ∙ shows q t is)
+  first_none A passes within shows stands [] r s ends none q t e is =
+      both_ways _ (stops_within passes class within s ends) (ap (first_passes passes) e ∙ shows q t is)
   first_none A passes within shows stands (c ∷ b) r s ends none q t e is =
       let at = stands c (b ++ r) (ap (first_passes passes) e ∙ shows q t is) in
       none at.0 at.1 at.2 at.3

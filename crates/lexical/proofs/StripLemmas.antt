@@ -25,7 +25,9 @@ strips_chars front text None utf8 ascii h =
     sym (begins_chars front text utf8 ascii) ∙ false_from_ne_true _ (λ begins. let split = begins_splits front text begins in h split.0 split.1)
 strips_chars front text (Some x) utf8 ascii h =
     let bytes = is_ascii front ascii in
-    ap chars (h.1.1 ∙ ap (λ ys. front ++ ys) (sym h.2)) ∙ (chars-append front x.now (IsUtf8-from_ascii front bytes) ∙ ap (λ xs. xs ++ chars x.now) (chars-IsAscii front bytes))
+    ap chars (h.1.1 ∙ ap (λ ys. front ++ ys) (sym h.2))
+    ∙ (chars-append front x.now (IsUtf8-from_ascii front bytes)
+    ∙ ap (λ xs. xs ++ chars x.now) (chars-IsAscii front bytes))
 
 -- ---- the CR at the end
 
@@ -52,5 +54,6 @@ no_return text utf8 none =
     let plain : ends_with 13 (chars text) ≡ false =
     false_from_ne_true _ (λ ends.
     let split = ends_splits 13 (chars text) ends in
-    none (encode_utf8_all split.0) (seam_bytes text split.0 (13 ∷ []) utf8 split.1 ∙ ap (λ b. encode_utf8_all split.0 ++ (b ++ [])) (encode_ascii 13 (omega arith)))) in
+    none (encode_utf8_all split.0) (seam_bytes text split.0 (13 ∷ []) utf8 split.1
+    ∙ ap (λ b. encode_utf8_all split.0 ++ (b ++ [])) (encode_ascii 13 (omega arith)))) in
     sym (append-nil (chars text)) ∙ ap (λ xs. chars text ++ xs) (sym (cond-false _ _ _ plain))

@@ -55,7 +55,8 @@ begins_encodes (c ∷ front) (d ∷ cs) h =
       | inl ascii ↦ rw (encode_ascii d ascii) (ap (λ b. (c == d) && b) (begins_encodes front cs parts.1))
       | inr past ↦
           let cell = first_byte d past in
-          rw cell.2 (apart c cell.0 (begins_with front (cell.1 ++ encode_utf8_all cs)) false low cell.3 ∙ sym (apart c d (begins_with front cs) false low past))
+          rw cell.2 (apart c cell.0 (begins_with front (cell.1 ++ encode_utf8_all cs)) false low cell.3
+          ∙ sym (apart c d (begins_with front cs) false low past))
     ]
 
 pub begins_chars : (front bytes : List ℕ) → IsUtf8 bytes → all_ascii front ≡ true → begins_with front bytes ≡ begins_with front (chars bytes)
@@ -73,25 +74,29 @@ pub front_bytes : (text rest front : List ℕ) → IsUtf8 text → IsUtf8 rest �
 front_bytes text rest front t r e =
     sym (encodes-chars text t) ∙ (ap encode_utf8_all e ∙ (encodes-append front (chars rest) ∙ ap (λ ys. encode_utf8_all front ++ ys) (encodes-chars rest r)))
 
-pub front_len : (text rest front : List ℕ) → IsUtf8 text → IsUtf8 rest → chars text ≡ front ++ chars rest → length (encode_utf8_all front) + length rest ≡ length text
+pub front_len : (text rest front : List ℕ) → IsUtf8 text → IsUtf8 rest → chars text ≡ front ++ chars rest
+    → length (encode_utf8_all front) + length rest ≡ length text
 front_len text rest front t r e = sym (ap length (front_bytes text rest front t r e) ∙ length-append (encode_utf8_all front) rest)
 
-pub front_boundary : (text rest front : List ℕ) → IsUtf8 text → IsUtf8 rest → chars text ≡ front ++ chars rest → IsCharBoundary text (length text - length rest)
+pub front_boundary : (text rest front : List ℕ) → IsUtf8 text → IsUtf8 rest → chars text ≡ front ++ chars rest
+    → IsCharBoundary text (length text - length rest)
 front_boundary text rest front t r e =
     let same : length (encode_utf8_all front) ≡ length text - length rest = omega (arith, front_len text rest front t r e) in
     subst (IsCharBoundary text) same (IsCharBoundary-at_seam text (encode_utf8_all front) rest (front_bytes text rest front t r e) r)
 
-pub front_chars : (text rest front : List ℕ) → IsUtf8 text → IsUtf8 rest → chars text ≡ front ++ chars rest → chars (take (length text - length rest) text) ≡ front
+pub front_chars : (text rest front : List ℕ) → IsUtf8 text → IsUtf8 rest → chars text ≡ front ++ chars rest
+    → chars (take (length text - length rest) text) ≡ front
 front_chars text rest front t r e =
     let bytes = front_bytes text rest front t r e in
     let same : length (encode_utf8_all front) ≡ length text - length rest = omega (arith, front_len text rest front t r e) in
-    let cut : take (length text - length rest) text ≡ encode_utf8_all front = ap (take (length text - length rest)) bytes ∙ take_at (encode_utf8_all front) rest _ same in
+    let cut : take (length text - length rest) text ≡ encode_utf8_all front =
+    ap (take (length text - length rest)) bytes ∙ take_at (encode_utf8_all front) rest _ same in
     let utf8 : IsUtf8 (take (length text - length rest) text) = IsUtf8-take text _ t (front_boundary text rest front t r e) in
     let whole : text ≡ take (length text - length rest) text ++ rest = bytes ∙ ap (λ xs. xs ++ rest) (sym cut) in
     append_cancel_right _ _ (chars rest) (sym (ap chars whole ∙ chars-append _ rest utf8) ∙ e)
 
 -- an ASCII text is its own encoding
-encode_all_ascii : (text : List ℕ) → all_ascii text ≡ true → encode_utf8_all text ≡ text
+pub encode_all_ascii : (text : List ℕ) → all_ascii text ≡ true → encode_utf8_all text ≡ text
 encode_all_ascii [] h = refl
 encode_all_ascii (c ∷ text) h =
     let parts = and_parts _ _ h in
@@ -129,13 +134,19 @@ pub seam_bytes : (text p r : List ℕ) → IsUtf8 text → chars text ≡ p ++ r
 seam_bytes text p r t e = sym (encodes-chars text t) ∙ (ap encode_utf8_all e ∙ encodes-append p r)
 
 pub seam_boundary : (text p r : List ℕ) (n : ℕ) → IsUtf8 text → chars text ≡ p ++ r → n ≡ length (encode_utf8_all p) → IsCharBoundary text n
-seam_boundary text p r n t e is = subst (IsCharBoundary text) (sym is) (IsCharBoundary-at_seam text (encode_utf8_all p) (encode_utf8_all r) (seam_bytes text p r t e) (seam_utf8 text p r t e))
+seam_boundary text p r n t e is =
+    subst (IsCharBoundary text) (sym is) (IsCharBoundary-at_seam text (encode_utf8_all p) (encode_utf8_all r)
+    (seam_bytes text p r t e) (seam_utf8 text p r t e))
 
 pub seam_take : (text p r : List ℕ) (n : ℕ) → IsUtf8 text → chars text ≡ p ++ r → n ≡ length (encode_utf8_all p) → chars (take n text) ≡ p
-seam_take text p r n t e is = ap chars (ap (take n) (seam_bytes text p r t e) ∙ take_at (encode_utf8_all p) (encode_utf8_all r) n (sym is)) ∙ seam_front text p r t e
+seam_take text p r n t e is =
+    ap chars (ap (take n) (seam_bytes text p r t e) ∙ take_at (encode_utf8_all p) (encode_utf8_all r) n (sym is))
+    ∙ seam_front text p r t e
 
 pub seam_drop : (text p r : List ℕ) (n : ℕ) → IsUtf8 text → chars text ≡ p ++ r → n ≡ length (encode_utf8_all p) → chars (drop n text) ≡ r
-seam_drop text p r n t e is = ap chars (ap (drop n) (seam_bytes text p r t e) ∙ drop_at (encode_utf8_all p) (encode_utf8_all r) n (sym is)) ∙ seam_rest text p r t e
+seam_drop text p r n t e is =
+    ap chars (ap (drop n) (seam_bytes text p r t e) ∙ drop_at (encode_utf8_all p) (encode_utf8_all r) n (sym is))
+    ∙ seam_rest text p r t e
 
 -- a text with no characters has no bytes
 pub bytes_from_no_chars : (text : List ℕ) → IsUtf8 text → chars text ≡ [] → length text ≡ 0
@@ -182,20 +193,25 @@ ends_past c d (e ∷ text) other = refl
 
 -- ---- a text before another
 
-begins_cut : (passes : ℕ → Bool) (front w v s : List ℕ) → list_all passes front ≡ true → first_passes passes s ≡ false → begins_with front (w ++ v) ≡ false → begins_with front (w ++ s) ≡ false
+begins_cut : (passes : ℕ → Bool) (front w v s : List ℕ) → list_all passes front ≡ true → first_passes passes s ≡ false
+    → begins_with front (w ++ v) ≡ false → begins_with front (w ++ s) ≡ false
 begins_cut passes [] w v s all ends h = h
 begins_cut passes (c ∷ front) [] v [] all ends h = refl
 begins_cut passes (c ∷ front) [] v (d ∷ s) all ends h =
-    and_left (c == d) (begins_with front s) (false_from_ne_true (c == d) (λ e. both_ways (passes d) ends (subst (λ x. passes x ≡ true) (eqb-true c d e) (and_parts _ _ all).0)))
+    and_left (c == d) (begins_with front s)
+    (false_from_ne_true (c == d) (λ e. both_ways (passes d) ends
+    (subst (λ x. passes x ≡ true) (eqb-true c d e) (and_parts _ _ all).0)))
 begins_cut passes (c ∷ front) (d ∷ w) v s all ends h = elim (and_cases (c == d) (begins_with front (w ++ v)) h) [
   | inl here ↦ and_left (c == d) (begins_with front (w ++ s)) here
   | inr there ↦ and_right (c == d) (begins_with front (w ++ s)) (begins_cut passes front w v s (and_parts _ _ all).1 ends there)
 ]
 
 -- where w begins none of these before one text, it begins none before another whose first character is in none
-pub any_cut : (passes : ℕ → Bool) (fronts : List (List ℕ)) (w v s : List ℕ) → list_all (list_all passes) fronts ≡ true → first_passes passes s ≡ false → begins_any fronts (w ++ v) ≡ false → begins_any fronts (w ++ s) ≡ false
+pub any_cut : (passes : ℕ → Bool) (fronts : List (List ℕ)) (w v s : List ℕ) → list_all (list_all passes) fronts ≡ true
+    → first_passes passes s ≡ false → begins_any fronts (w ++ v) ≡ false → begins_any fronts (w ++ s) ≡ false
 any_cut passes [] w v s all ends h = refl
 any_cut passes (front ∷ fronts) w v s all ends h =
     let both = and_parts _ _ all in
     let parts = or_parts (begins_with front (w ++ v)) (begins_any fronts (w ++ v)) h in
-    or_from (begins_with front (w ++ s)) (begins_any fronts (w ++ s)) (begins_cut passes front w v s both.0 ends parts.0) (any_cut passes fronts w v s both.1 ends parts.1)
+    or_from (begins_with front (w ++ s)) (begins_any fronts (w ++ s))
+    (begins_cut passes front w v s both.0 ends parts.0) (any_cut passes fronts w v s both.1 ends parts.1)

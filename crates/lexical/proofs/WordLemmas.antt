@@ -4,9 +4,8 @@ use Rattle.std.proofs.lemmas.Bool.{both_ways, false_from_ne_true, or_cases, not-
 use Rattle.lexical.specs.Text.{first_passes}
 use Rattle.lexical.specs.Form.{Form, HasNone, Then, Either, Else, Nothing, Perhaps, Exactly, One}
 use Rattle.lexical.specs.RawString.{Next}
-use Rattle.lexical.specs.Finder.{Finder, Finds, behind, or_find, find_else}
-use Rattle.lexical.specs.QuotedFinder.{and_next, find_next, find_nothing}
-use Rattle.lexical.proofs.FinderLemmas.{Answer, IsSplit, none_is, none_found, finds_either, then_whole}
+use Rattle.lexical.specs.Finder.{Answer, Finder, Finds, behind, or_find, find_else, and_next, find_next, find_nothing}
+use Rattle.lexical.proofs.FinderLemmas.{IsSplit, none_is, none_found, finds_either, then_whole}
 
 -- ---- `Either` of forms that stand apart
 
@@ -31,7 +30,8 @@ finds_apart f g A B h j apart = finds_either f g A B h j (none_apart f A B h apa
 
 -- ---- `Perhaps`
 
-else_sound : (A B : Form) (text : List ℕ) (o u : Answer) → IfSome o (IsSplit A text) → IfSome u (IsSplit B text) → (o ≡ None → HasNone A text) → IfSome (or_find o u) (IsSplit (Else A B) text)
+else_sound : (A B : Form) (text : List ℕ) (o u : Answer) → IfSome o (IsSplit A text) → IfSome u (IsSplit B text)
+    → (o ≡ None → HasNone A text) → IfSome (or_find o u) (IsSplit (Else A B) text)
 else_sound A B text None None is other none = tt
 else_sound A B text None (Some y) is other none = (other.0, inr (subst (HasNone A) other.0 (none refl), other.1))
 else_sound A B text (Some x) u is other none = (is.0, inl is.1)
@@ -53,21 +53,24 @@ finds_perhaps f A h = finds_else f find_nothing A Nothing h finds_nothing
 
 -- ---- `Next`
 
-next_back : (A : Form) (B : List ℕ → Form) (text : List ℕ) (x : List ℕ × List ℕ) → IsSplit A text x → (o : Answer) → IfSome o (IsSplit (B x.0) x.1) → IfSome (behind x.0 o) (IsSplit (Next A B) text)
+next_back : (A : Form) (B : List ℕ → Form) (text : List ℕ) (x : List ℕ × List ℕ) → IsSplit A text x → (o : Answer)
+    → IfSome o (IsSplit (B x.0) x.1) → IfSome (behind x.0 o) (IsSplit (Next A B) text)
 next_back A B text x is None more = tt
 next_back A B text x is (Some y) more = (
   is.0 ∙ (ap (λ xs. x.0 ++ xs) more.0 ∙ sym (append_assoc x.0 y.0 y.1)),
   record { front = x.0; back = y.0; whole = refl; first = subst (λ xs. A x.0 xs) more.0 is.1; second = more.1 },
 )
 
-next_front : (g : List ℕ → Finder) (A : Form) (B : List ℕ → Form) → ((front : List ℕ) → Finds (g front) (B front)) → (text : List ℕ) (o : Answer) → IfSome o (IsSplit A text) → IfSome (and_next g o) (IsSplit (Next A B) text)
+next_front : (g : List ℕ → Finder) (A : Form) (B : List ℕ → Form) → ((front : List ℕ) → Finds (g front) (B front))
+    → (text : List ℕ) (o : Answer) → IfSome o (IsSplit A text) → IfSome (and_next g o) (IsSplit (Next A B) text)
 next_front g A B h text None is = tt
 next_front g A B h text (Some x) is = next_back A B text x is (g x.0 x.1) ((h x.0).sound x.1)
 
 pub next_whole : (A : Form) (B : List ℕ → Form) (p r : List ℕ) (h : Next A B p r) → p ++ r ≡ h.front ++ (h.back ++ r)
 next_whole A B p r h = ap (λ q. q ++ r) h.whole ∙ append_assoc h.front h.back r
 
-pub finds_next : (f : Finder) (g : List ℕ → Finder) (A : Form) (B : List ℕ → Form) → Finds f A → ((front : List ℕ) → Finds (g front) (B front)) → Finds (find_next f g) (Next A B)
+pub finds_next : (f : Finder) (g : List ℕ → Finder) (A : Form) (B : List ℕ → Form) → Finds f A
+    → ((front : List ℕ) → Finds (g front) (B front)) → Finds (find_next f g) (Next A B)
 finds_next f g A B h j = record {
   sound = λ text. next_front g A B j text (f text) (h.sound text);
   complete = λ p r is.

@@ -36,4 +36,7 @@ doc_text p r = take (length p - 3 - length (closing p r)) (drop 3 p)
 
 -- what kind of piece the comment is; none where its doc text has a bare CR
 abbrev pub comment_kind : List ℕ → List ℕ → Option Kind
-comment_kind p r = cond (is_doc p) (cond (has_bare_return (doc_text p r)) None (Some (Doc (is_inner p) (doc_text p r)))) (Some Gap)
+comment_kind p r =
+    cond (is_doc p)
+    (cond (has_bare_return (doc_text p r)) None (Some (Doc (is_inner p) (doc_text p r))))
+    (Some Gap)

@@ -1,11 +1,15 @@
 -- Functions that find the piece of a form at the front of a text, one for each word that forms are made of.
-use Rattle.std.specs.Prelude.{ℕ, Bool, ◌≡◌, List, [], ◌∷◌, ◌++◌, Option, Some, None, IfSome, cond, ◌==◌}
+use Rattle.std.specs.Prelude.{ℕ, Bool, ◌≡◌, zero, suc, List, [], ◌∷◌, ◌++◌, length, Option, Some, None, IfSome, cond, ◌==◌}
 use Rattle.lexical.specs.Text.{begins_any}
 use Rattle.lexical.specs.Form.{Form}
 
 -- the piece, and what follows it
+abbrev pub Answer : Type 0
+Answer = Option (List ℕ × List ℕ)
+
+-- the piece at the front of a text, if one stands there
 abbrev pub Finder : Type 0
-Finder = List ℕ → Option (List ℕ × List ℕ)
+Finder = List ℕ → Answer
 
 -- a finder finds the pieces of a form, and nothing else
 pub record Finds (find : Finder) (A : Form) : Type 0 where
@@ -23,12 +27,12 @@ while_rest passes [] = []
 while_rest passes (c ∷ text) = cond (passes c) (while_rest passes text) (c ∷ text)
 
 -- what was found, with a front before it
-abbrev pub behind : List ℕ → Option (List ℕ × List ℕ) → Option (List ℕ × List ℕ)
+abbrev pub behind : List ℕ → Answer → Answer
 behind front None = None
 behind front (Some x) = Some (front ++ x.0, x.1)
 
 -- what a finder finds after what was found
-abbrev pub and_find : Finder → Option (List ℕ × List ℕ) → Option (List ℕ × List ℕ)
+abbrev pub and_find : Finder → Answer → Answer
 and_find find None = None
 and_find find (Some x) = behind x.0 (find x.1)
 
@@ -36,8 +40,17 @@ and_find find (Some x) = behind x.0 (find x.1)
 abbrev pub find_then : Finder → Finder → Finder
 find_then f g text = and_find g (f text)
 
+-- what a finder finds after what was found, which it depends on
+abbrev pub and_next : (List ℕ → Finder) → Answer → Answer
+and_next find None = None
+and_next find (Some x) = behind x.0 (find x.0 x.1)
+
+-- `Next`
+abbrev pub find_next : Finder → (List ℕ → Finder) → Finder
+find_next f g text = and_next g (f text)
+
 -- what was found, or else the other
-abbrev pub or_find : Option (List ℕ × List ℕ) → Option (List ℕ × List ℕ) → Option (List ℕ × List ℕ)
+abbrev pub or_find : Answer → Answer → Answer
 or_find None other = other
 or_find (Some x) other = Some x
 
@@ -54,7 +67,7 @@ abbrev pub find_not_at : List (List ℕ) → Finder → Finder
 find_not_at fronts f text = cond (begins_any fronts text) None (f text)
 
 -- what was found, if its text and what follows it pass
-abbrev pub if_passes : (List ℕ → List ℕ → Bool) → Option (List ℕ × List ℕ) → Option (List ℕ × List ℕ)
+abbrev pub if_passes : (List ℕ → List ℕ → Bool) → Answer → Answer
 if_passes test None = None
 if_passes test (Some x) = cond (test x.0 x.1) (Some x) None
 
@@ -75,6 +88,24 @@ find_run passes text = Some (while_front passes text, while_rest passes text)
 abbrev pub find_text : List ℕ → Finder
 find_text [] text = Some ([], text)
 find_text (c ∷ front) text = find_then (find_one (λ d. d == c)) (find_text front) text
+
+-- `Nothing`
+abbrev pub find_nothing : Finder
+find_nothing text = Some ([], text)
+
+-- what was found and what is found after it, or nothing
+abbrev pub or_stop : List ℕ → (List ℕ × List ℕ → Answer) → Answer → Answer
+or_stop text go None = Some ([], text)
+or_stop text go (Some x) = behind x.0 (go x)
+
+-- pieces of a form, at most so many, as long as one stands
+abbrev pub find_some_of : Finder → ℕ → Finder
+find_some_of f zero text = Some ([], text)
+find_some_of f (suc n) text = or_stop text (λ x. find_some_of f n x.1) (f text)
+
+-- pieces of a form, as long as one stands
+unfoldable pub find_many : Finder → Finder
+find_many f text = find_some_of f (length text) text
 
 -- `Never`
 abbrev pub find_never : Finder

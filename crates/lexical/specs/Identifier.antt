@@ -14,7 +14,9 @@ Name = Then (One is_ident_start) (Run is_ident_continue)
 -- `reserved-prefix`: how a literal with letters before its quote begins
 abbrev pub literal_prefixes : List (List ℕ)
 literal_prefixes =
-    codes "r\"" ∷ codes "r#\"" ∷ codes "r##" ∷ codes "b\"" ∷ codes "b'" ∷ codes "br\"" ∷ codes "br#" ∷ codes "c\"" ∷ codes "cr\"" ∷ codes "cr#" ∷ []
+    codes "r\"" ∷ codes "r#\"" ∷ codes "r##"
+    ∷ codes "b\"" ∷ codes "b'" ∷ codes "br\"" ∷ codes "br#"
+    ∷ codes "c\"" ∷ codes "cr\"" ∷ codes "cr#" ∷ []
 
 -- `plain-identifier`: a name, where no raw identifier begins
 abbrev pub PlainIdentifier : Form

@@ -13,6 +13,7 @@ pub mod Delimiter
 pub mod FrontMark
 pub mod Comment
 pub mod Gap
+pub mod WhiteRun
 pub mod Piece
 pub mod Cover
 pub mod Quiet
@@ -20,7 +21,11 @@ pub mod Found
 pub mod Ascii
 pub mod Finder
 pub mod CommentFinder
+pub mod EscapeFinder
 pub mod QuotedFinder
 pub mod NumberFinder
+pub mod IdentifierFinder
+pub mod MarkFinder
+pub mod DelimiterFinder
 pub mod PieceFinder
 pub mod Reading

@@ -9,7 +9,11 @@ use Rattle.lexical.specs.Number.{Number}
 
 -- `quoted-literal`: a string, a byte string or a C string, each with escapes or raw, a character or a byte
 abbrev pub QuotedLiteral : Form
-QuotedLiteral = Either (Either Str RawStr) (Either Character (Either (Either ByteStr RawByteStr) (Either Byte (Either CStr RawCStr))))
+QuotedLiteral =
+    Either (Either Str RawStr)
+    (Either Character
+    (Either (Either ByteStr RawByteStr)
+    (Either Byte (Either CStr RawCStr))))
 
 -- `literal`: one between quotes, or a number
 unfoldable pub Literal : Form

@@ -41,3 +41,7 @@ pub record FollowsQuote (r : List ℕ) : Type 0 where
 -- `lone-quote`: the mark `'` before such a text. It takes none of it
 abbrev pub LoneQuote : Form
 LoneQuote p r = Exactly (codes "'") p r × FollowsQuote r
+
+-- how the literals begin that may come next to it
+abbrev pub quotable_fronts : List (List ℕ)
+quotable_fronts = codes "b\"" ∷ codes "c\"" ∷ codes "r\"" ∷ codes "br\"" ∷ codes "cr\"" ∷ []

@@ -37,7 +37,9 @@ is_sign c = (c == 43) || (c == 45)
 
 -- `exponent`: `e` or `E`, one sign at most with `_` on both sides, and digits
 abbrev pub Exponent : Form
-Exponent = Then (One is_exponent_letter) (Then (Run is_underscore) (Then (Perhaps (One is_sign)) (Then (Run is_underscore) Digits)))
+Exponent =
+    Then (One is_exponent_letter)
+    (Then (Run is_underscore) (Then (Perhaps (One is_sign)) (Then (Run is_underscore) Digits)))
 
 -- what follows the digits before a dot: it, all digits and `_`, and an exponent wherever one stands there
 abbrev pub Fraction : Form
@@ -70,11 +72,16 @@ is_digit_or_underscore_in base c = is_digit c base || is_underscore c
 
 -- `base-digits`: all digits of the base and `_`, a digit among them, and no digit that is too large behind them
 abbrev pub DigitsIn : ℕ → Form
-DigitsIn base = NotBefore is_ascii_digit (Then (Run is_underscore) (Then (One (λ c. is_digit c base)) (Run (is_digit_or_underscore_in base))))
+DigitsIn base =
+    NotBefore is_ascii_digit
+    (Then (Run is_underscore) (Then (One (λ c. is_digit c base)) (Run (is_digit_or_underscore_in base))))
 
 -- `based`: the digits of base 16, 8 or 2 behind its prefix
 abbrev pub Based : Form
-Based = Either (Then (Exactly (codes "0x")) (DigitsIn 16)) (Either (Then (Exactly (codes "0o")) (DigitsIn 8)) (Then (Exactly (codes "0b")) (DigitsIn 2)))
+Based =
+    Either (Then (Exactly (codes "0x")) (DigitsIn 16))
+    (Either (Then (Exactly (codes "0o")) (DigitsIn 8))
+    (Then (Exactly (codes "0b")) (DigitsIn 2)))
 
 -- the digits of an integer, with the prefix of their base
 abbrev pub Integer : Form

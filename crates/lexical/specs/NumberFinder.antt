@@ -4,8 +4,8 @@ use Rattle.std.specs.Char.{is_ascii_digit, is_digit}
 use Rattle.lexical.specs.Text.{begins_any, first_passes}
 use Rattle.lexical.specs.Class.{is_ident_continue}
 use Rattle.lexical.specs.Number.{is_underscore, is_digit_or_underscore, bars_dot, is_exponent_letter, is_sign, base_prefixes, is_digit_or_underscore_in}
-use Rattle.lexical.specs.Finder.{Finder, find_then, find_else, find_where, find_one, find_run, find_text}
-use Rattle.lexical.specs.QuotedFinder.{find_nothing, find_suffix}
+use Rattle.lexical.specs.Finder.{Finder, find_then, find_else, find_where, find_one, find_run, find_text, find_nothing}
+use Rattle.lexical.specs.QuotedFinder.{find_suffix}
 
 -- `NotBefore`
 abbrev pub find_not_before : (ℕ → Bool) → Finder → Finder
@@ -33,7 +33,8 @@ find_power = find_then (find_run is_underscore) find_digits
 
 -- `exponent`
 abbrev pub find_exponent : Finder
-find_exponent = find_then (find_one is_exponent_letter) (find_then (find_run is_underscore) (find_then find_sign find_power))
+find_exponent =
+    find_then (find_one is_exponent_letter) (find_then (find_run is_underscore) (find_then find_sign find_power))
 
 -- an exponent, or nothing
 abbrev pub find_perhaps_exponent : Finder
@@ -63,10 +64,15 @@ find_base_digits base = find_then (find_one (λ c. is_digit c base)) (find_run (
 abbrev pub find_digits_in : ℕ → Finder
 find_digits_in base = find_not_before is_ascii_digit (find_then (find_run is_underscore) (find_base_digits base))
 
+-- the digits of base 8 or 2 behind its prefix
+abbrev pub find_octal_or_binary : Finder
+find_octal_or_binary =
+    find_else (find_then (find_text (codes "0o")) (find_digits_in 8))
+    (find_then (find_text (codes "0b")) (find_digits_in 2))
+
 -- `based`
 abbrev pub find_based : Finder
-find_based = find_else (find_then (find_text (codes "0x")) (find_digits_in 16))
-    (find_else (find_then (find_text (codes "0o")) (find_digits_in 8)) (find_then (find_text (codes "0b")) (find_digits_in 2)))
+find_based = find_else (find_then (find_text (codes "0x")) (find_digits_in 16)) find_octal_or_binary
 
 -- `number`
 unfoldable pub find_number : Finder

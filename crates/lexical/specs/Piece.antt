@@ -27,7 +27,9 @@ Piece = Kind × List ℕ
 -- the token stands before r
 abbrev pub Stands : Token → List ℕ → Type 0
 Stands (Name raw name) r = identifiers.Identifier raw name r
-Stands (Mark c joint) r = (marks.Mark (c ∷ []) r × (joint ≡ marks.joint_before r)) ⊎ (marks.LoneQuote (c ∷ []) r × IsTrue joint)
+Stands (Mark c joint) r =
+    (marks.Mark (c ∷ []) r × (joint ≡ marks.joint_before r))
+    ⊎ (marks.LoneQuote (c ∷ []) r × IsTrue joint)
 Stands (Literal text) r = literals.AnyLiteral text r
 
 -- the piece stands before r; `first` says that it stands at place 0

@@ -1,21 +1,23 @@
--- The finder of each rule, and which piece is found at the front of a text.
-use Rattle.std.specs.Prelude.{ℕ, Bool, true, false, not, ◌&&◌, ◌==◌, cond, List, [], ◌∷◌, codes, drop, Option, Some, None, if◌then◌else◌}
+-- Which piece is found at the front of a text, and its kind.
+use Rattle.std.specs.Prelude.{ℕ, Bool, ◌==◌, cond, List, [], ◌∷◌, codes, Option, Some, None, if◌then◌else◌}
 use Rattle.std.specs.Char.{is_ascii_digit}
-use Rattle.lexical.specs.Text.{begins_with, begins_any, first_passes}
-use Rattle.lexical.specs.Class.{is_white, is_ident_start, is_ident_continue}
-use Rattle.lexical.specs.Token.{Name, Mark, Literal}
-use Rattle.lexical.specs.Identifier.{literal_prefixes, is_allowed}
-use Rattle.lexical.specs.Mark.{is_mark, comment_fronts, joint_before, bars_quote}
+use Rattle.lexical.specs.Text.{begins_with, begins_any}
+use Rattle.lexical.specs.Class.{is_white, is_ident_start}
+use Rattle.lexical.specs.Token.{Literal}
+use Rattle.lexical.specs.Mark.{comment_fronts}
 use Rattle.lexical.specs.Delimiter.{is_opener, is_closer, error_literal}
-use Rattle.lexical.specs.Piece.{Kind, FrontMark, Gap, Open, Close, Leaf}
-use Rattle.lexical.specs.Finder.{Finder, find_if, find_then, find_else, find_not_at, find_where, find_one, find_run, find_text}
+use Rattle.lexical.specs.Piece.{Kind, FrontMark, Gap, Leaf}
+use Rattle.lexical.specs.Finder.{Answer, Finder, find_if, find_else, find_one, find_text}
+use Rattle.lexical.specs.IdentifierFinder.{find_plain, find_raw, name_kind, raw_kind}
+use Rattle.lexical.specs.MarkFinder.{find_mark, find_lone_quote, mark_kind, quote_kind}
+use Rattle.lexical.specs.DelimiterFinder.{find_opener, find_closer, opener_kind, closer_kind}
 use Rattle.lexical.specs.QuotedFinder.{find_quoted}
 use Rattle.lexical.specs.NumberFinder.{find_number}
 use Rattle.lexical.specs.CommentFinder.{find_comment, comment_kind}
 use Rattle.lexical.specs.declared.class.Start.{Start}
 use Rattle.lexical.specs.declared.class.Start.TheVariants as starts
 
--- ---- the rules
+-- ---- the finders of other pieces
 
 -- `front-mark`
 abbrev pub find_front_mark : Bool → Finder
@@ -25,95 +27,23 @@ find_front_mark first = find_if first (find_text (0xFEFF ∷ []))
 abbrev pub find_white : Finder
 find_white = find_one is_white
 
--- `name`
-abbrev pub find_name : Finder
-find_name = find_then (find_one is_ident_start) (find_run is_ident_continue)
-
--- `plain-identifier`, where no literal begins
-abbrev pub find_plain : Finder
-find_plain = find_not_at literal_prefixes (find_not_at (codes "r#" ∷ []) find_name)
-
--- the name of a raw identifier
-abbrev pub find_raw_name : Finder
-find_raw_name = find_where (λ p r. is_allowed true p) find_name
-
--- a raw identifier
-abbrev pub find_raw_text : Finder
-find_raw_text = find_then (find_text (codes "r#")) find_raw_name
-
--- `raw-identifier`, where no literal begins
-abbrev pub find_raw : Finder
-find_raw = find_not_at literal_prefixes find_raw_text
-
--- `mark`
-abbrev pub find_mark : Finder
-find_mark = find_not_at comment_fronts (find_one (λ c. is_mark c && not (c == 39)))
-
--- whether an identifier was found, and nothing that bars a `'` before it follows
-abbrev pub is_unbarred : Bool → Option (List ℕ × List ℕ) → Bool
-is_unbarred raw None = false
-is_unbarred raw (Some x) = not (first_passes (bars_quote raw) x.1)
-
--- whether a `'` may stand before the text
-abbrev pub follows_quote : List ℕ → Bool
-follows_quote text = cond (begins_with (codes "r#") text) (is_unbarred true (find_raw_text text)) (is_unbarred false (find_name text))
-
--- `lone-quote`
-abbrev pub find_lone_quote : Finder
-find_lone_quote = find_where (λ p r. follows_quote r) (find_text (codes "'"))
-
 -- `literal`
 abbrev pub find_literal : Finder
 find_literal = find_else find_quoted find_number
 
--- `opener`
-abbrev pub find_opener : Finder
-find_opener = find_not_at (error_literal ∷ []) (find_one is_opener)
+-- ---- their kinds, by the piece p and what follows it
 
--- `closer`
-abbrev pub find_closer : Finder
-find_closer = find_one is_closer
-
--- ---- the kind of what a finder finds, by the piece p and what follows it
-
--- the first character
-abbrev pub first_of : List ℕ → ℕ
-first_of [] = 0
-first_of (c ∷ p) = c
-
+-- of a front mark
 abbrev pub front_mark_kind : List ℕ → List ℕ → Kind
 front_mark_kind p r = FrontMark
 
+-- of a gap
 abbrev pub gap_kind : List ℕ → List ℕ → Kind
 gap_kind p r = Gap
-
--- of an identifier without `r#`
-abbrev pub name_kind : List ℕ → List ℕ → Kind
-name_kind p r = Leaf (Name false p)
-
--- of one with it, by what follows it
-abbrev pub raw_kind : List ℕ → List ℕ → Kind
-raw_kind p r = Leaf (Name true (drop 2 p))
-
--- of a mark
-abbrev pub mark_kind : List ℕ → List ℕ → Kind
-mark_kind p r = Leaf (Mark (first_of p) (joint_before r))
-
--- of a lone quote
-abbrev pub quote_kind : List ℕ → List ℕ → Kind
-quote_kind p r = Leaf (Mark 39 true)
 
 -- of a literal
 abbrev pub literal_kind : List ℕ → List ℕ → Kind
 literal_kind p r = Leaf (Literal p)
-
--- of an opener
-abbrev pub opener_kind : List ℕ → List ℕ → Kind
-opener_kind p r = Open (first_of p)
-
--- of a closer
-abbrev pub closer_kind : List ℕ → List ℕ → Kind
-closer_kind p r = Close (first_of p)
 
 -- ---- the piece
 
@@ -122,7 +52,7 @@ abbrev pub Found : Type 0
 Found = Option (Kind × List ℕ × List ℕ)
 
 -- what was found, with its kind
-abbrev pub tagged : (List ℕ → List ℕ → Kind) → Option (List ℕ × List ℕ) → Found
+abbrev pub tagged : (List ℕ → List ℕ → Kind) → Answer → Found
 tagged kind None = None
 tagged kind (Some x) = Some (kind x.0 x.1, x.0, x.1)
 
@@ -137,7 +67,7 @@ with_kind x None = None
 with_kind x (Some kind) = Some (kind, x.0, x.1)
 
 -- what was found, a comment, with its kind
-abbrev pub told : Option (List ℕ × List ℕ) → Found
+abbrev pub told : Answer → Found
 told None = None
 told (Some x) = with_kind x (comment_kind x.0 x.1)
 
@@ -161,7 +91,10 @@ found_at_slash text = cond (begins_any comment_fronts text) (told (find_comment 
 
 -- the identifier at the front of a text that begins with a letter
 abbrev pub found_identifier : List ℕ → Found
-found_identifier text = cond (begins_with (codes "r#") text) (tagged raw_kind (find_raw text)) (tagged name_kind (find_plain text))
+found_identifier text =
+    cond (begins_with (codes "r#") text)
+    (tagged raw_kind (find_raw text))
+    (tagged name_kind (find_plain text))
 
 -- the literal between quotes at the front of a text
 abbrev pub found_quoted : List ℕ → Found

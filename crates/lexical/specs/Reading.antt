@@ -5,7 +5,7 @@ use Rattle.lexical.specs.Ascii.{all_ascii}
 use Rattle.std.specs.Str.{chars, encode_utf8_all}
 use Rattle.lexical.specs.Found.{kind_of, LendsText}
 use Rattle.lexical.specs.Piece.{Kind}
-use Rattle.lexical.specs.Finder.{behind}
+use Rattle.lexical.specs.Finder.{Answer, behind}
 use Rattle.lexical.specs.CommentFinder.{find_ends}
 use Rattle.lexical.specs.PieceFinder.{Found}
 use Rattle.lexical.specs.declared.cursor.Cursor.{Cursor}
@@ -13,25 +13,25 @@ use Rattle.lexical.specs.declared.piece.Piece.{Piece}
 use Rattle.lexical.specs.declared.piece.PieceKind.{PieceKind}
 
 -- from one place to the other stands the piece that was found
-pub record Passes (answer : Option (List ℕ × List ℕ)) (at to : Cursor) : Type 0 where
+pub record Passes (answer : Answer) (at to : Cursor) : Type 0 where
   pub front : List ℕ
   pub found : answer ≡ Some (front, chars to.rest.now)
   pub whole : chars at.rest.now ≡ front ++ chars to.rest.now
   pub count : to.chars_before ≡ at.chars_before + length front
 
 -- the step leads past the piece that was found, or fails where none was
-abbrev pub Reads : Option (List ℕ × List ℕ) → Cursor → Option Cursor → Type 0
+abbrev pub Reads : Answer → Cursor → Option Cursor → Type 0
 Reads answer at result = MatchOption result (answer ≡ None) (Passes answer at)
 
 -- from one place to the other stands the piece that was found, and this is its text, which is ASCII
-pub record PassesText (answer : Option (List ℕ × List ℕ)) (at : Cursor) (x : Bor (List ℕ) × Cursor) : Type 0 where
+pub record PassesText (answer : Answer) (at : Cursor) (x : Bor (List ℕ) × Cursor) : Type 0 where
   pub found : answer ≡ Some (x.0.now, chars x.1.rest.now)
   pub whole : chars at.rest.now ≡ x.0.now ++ chars x.1.rest.now
   pub count : x.1.chars_before ≡ at.chars_before + length x.0.now
   pub ascii : IsTrue (all_ascii x.0.now)
 
 -- the step leads past the piece that was found, with its text, or fails where none was
-abbrev pub ReadsText : Option (List ℕ × List ℕ) → Cursor → Option (Bor (List ℕ) × Cursor) → Type 0
+abbrev pub ReadsText : Answer → Cursor → Option (Bor (List ℕ) × Cursor) → Type 0
 ReadsText answer at result = MatchOption result (answer ≡ None) (PassesText answer at)
 
 -- from one place to the other lead signs and characters of block comments, so many open at each

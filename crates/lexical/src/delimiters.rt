@@ -3,7 +3,8 @@
 ghost use Rattle.std.specs.Prelude.{◌≡◌, ◌∷◌, IsTrue};
 ghost use Rattle.std.specs.Str.{chars};
 ghost use Rattle.lexical.specs.Delimiter.{is_closer, is_opener};
-ghost use Rattle.lexical.specs.PieceFinder.{closer_kind, find_closer, find_opener, opener_kind, tagged};
+ghost use Rattle.lexical.specs.DelimiterFinder.{closer_kind, find_closer, find_opener, opener_kind};
+ghost use Rattle.lexical.specs.PieceFinder.{tagged};
 ghost use Rattle.lexical.specs.Reading.{Answers, IsFound};
 
 use crate::cursor::Cursor;

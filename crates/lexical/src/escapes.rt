@@ -6,7 +6,7 @@ ghost use Rattle.std.specs.List.{list_all};
 ghost use Rattle.std.specs.Str.{chars};
 ghost use Rattle.lexical.specs.Finder.{find_else, find_one, find_text, find_then};
 ghost use Rattle.lexical.specs.Quoted.{is_code, is_octal_digit, is_one_of};
-ghost use Rattle.lexical.specs.QuotedFinder.{allows_code, find_code, find_digits, find_escape, find_hex, find_hex_pair, find_pair, find_unicode, is_code_digit, letters_of};
+ghost use Rattle.lexical.specs.EscapeFinder.{allows_code, find_code, find_digits, find_escape, find_hex, find_hex_pair, find_pair, find_unicode, is_code_digit, letters_of};
 ghost use Rattle.lexical.specs.Reading.{Reads};
 
 use crate::cursor::Cursor;

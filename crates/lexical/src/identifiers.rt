@@ -5,7 +5,8 @@ ghost use Rattle.std.specs.Str.{chars};
 ghost use Rattle.lexical.specs.Class.{is_ident_continue, is_ident_start};
 ghost use Rattle.lexical.specs.Finder.{find_run};
 ghost use Rattle.lexical.specs.Identifier.{is_reserved as reserved, literal_prefixes};
-ghost use Rattle.lexical.specs.PieceFinder.{find_name, find_raw_name, find_raw_text, found_identifier, name_kind, raw_kind, tagged};
+ghost use Rattle.lexical.specs.IdentifierFinder.{find_name, find_raw_name, find_raw_text, name_kind, raw_kind};
+ghost use Rattle.lexical.specs.PieceFinder.{found_identifier, tagged};
 ghost use Rattle.lexical.specs.Reading.{Answers, IsFound, Passes, Reads};
 ghost use Rattle.lexical.specs.Text.{begins_any};
 

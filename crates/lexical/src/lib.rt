@@ -26,6 +26,7 @@ mod single_quotes;
 mod skip;
 mod text;
 
+pub use crate::gaps::past_white;
 pub use crate::identifiers::is_reserved;
 pub use crate::laws::one_piece;
 pub use crate::lexer::{literal_at, name_at, piece_at};

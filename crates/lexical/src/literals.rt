@@ -3,7 +3,7 @@
 ghost use Rattle.std.specs.Prelude.{◌≡◌};
 ghost use Rattle.std.specs.Str.{chars};
 ghost use Rattle.lexical.specs.Finder.{find_else};
-ghost use Rattle.lexical.specs.QuotedFinder.{find_byte, find_character, find_quoted, find_string};
+ghost use Rattle.lexical.specs.QuotedFinder.{find_byte, find_bytes, find_character, find_quoted, find_string};
 ghost use Rattle.lexical.specs.PieceFinder.{find_literal, found_error, found_number, found_quoted};
 ghost use Rattle.lexical.specs.Reading.{Answers, Reads};
 ghost use Rattle.lexical.specs.declared.quoted.StringKind.TheVariants as kinds;
@@ -37,7 +37,7 @@ fn byte_or_c_string(at: Cursor<'_>) -> Option<Cursor<'_>>
 
 /// The place after a byte, a byte string or a string of C.
 fn bytes(at: Cursor<'_>) -> Option<Cursor<'_>>
-    ensures { Reads (find_else (find_string kinds.Byte) (find_else find_byte (find_string kinds.C)) (chars at.entry.rest.now)) at.entry result }
+    ensures { Reads (find_bytes (chars at.entry.rest.now)) at.entry result }
 {
     match any_string(at, StringKind::Byte) {
         Some(end) => Some(end),
@@ -47,7 +47,7 @@ fn bytes(at: Cursor<'_>) -> Option<Cursor<'_>>
 
 /// The place after a character, or what has `b` or `c` before its quote.
 fn character_or_bytes(at: Cursor<'_>) -> Option<Cursor<'_>>
-    ensures { Reads (find_else find_character (find_else (find_string kinds.Byte) (find_else find_byte (find_string kinds.C))) (chars at.entry.rest.now)) at.entry result }
+    ensures { Reads (find_else find_character find_bytes (chars at.entry.rest.now)) at.entry result }
 {
     match character(at) {
         Some(end) => Some(end),

@@ -3,7 +3,8 @@
 ghost use Rattle.std.specs.Prelude.{◌≡◌, ◌∷◌, not};
 ghost use Rattle.std.specs.Str.{chars};
 ghost use Rattle.lexical.specs.Mark.{is_mark as is_one_of_marks, bars_quote, comment_fronts, joint_before};
-ghost use Rattle.lexical.specs.PieceFinder.{find_lone_quote, find_mark, follows_quote as follows, mark_kind, quote_kind, tagged};
+ghost use Rattle.lexical.specs.MarkFinder.{find_lone_quote, find_mark, follows_quote as follows, mark_kind, quote_kind};
+ghost use Rattle.lexical.specs.PieceFinder.{tagged};
 ghost use Rattle.lexical.specs.Reading.{Answers};
 ghost use Rattle.lexical.specs.Text.{begins_any, first_passes};
 

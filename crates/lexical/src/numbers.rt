@@ -1,12 +1,12 @@
 //! Numbers.
 
-ghost use Rattle.std.specs.Prelude.{◌≡◌, ◌≤◌, IsTrue, codes};
+ghost use Rattle.std.specs.Prelude.{◌≡◌, ◌≤◌, IsTrue};
 ghost use Rattle.std.specs.Char.{is_ascii_digit, is_digit};
 ghost use Rattle.std.specs.Str.{chars};
 ghost use Rattle.lexical.specs.Ascii.{all_ascii};
-ghost use Rattle.lexical.specs.Finder.{find_else, find_one, find_run, find_text, find_then};
+ghost use Rattle.lexical.specs.Finder.{find_one, find_run, find_text, find_then};
 ghost use Rattle.lexical.specs.Number.{base_prefixes, is_digit_or_underscore, is_digit_or_underscore_in, is_underscore};
-ghost use Rattle.lexical.specs.NumberFinder.{find_base_digits, find_based, find_decimal, find_digits, find_digits_in, find_dot, find_end, find_exponent, find_float_tail, find_fraction, find_number, find_perhaps_exponent, find_power, find_sign, find_tail};
+ghost use Rattle.lexical.specs.NumberFinder.{find_base_digits, find_based, find_decimal, find_digits, find_digits_in, find_dot, find_end, find_exponent, find_float_tail, find_fraction, find_number, find_octal_or_binary, find_perhaps_exponent, find_power, find_sign, find_tail};
 ghost use Rattle.lexical.specs.Reading.{Passes, Reads};
 ghost use Rattle.lexical.specs.Text.{begins_any};
 
@@ -85,7 +85,9 @@ fn signed_power(at: Cursor<'_>) -> Option<Cursor<'_>>
 
 /// The place after what follows the letter of an exponent.
 fn after_letter(at: Cursor<'_>) -> Option<Cursor<'_>>
-    ensures { Reads (find_then (find_run is_underscore) (find_then find_sign find_power) (chars at.entry.rest.now)) at.entry result }
+    ensures { Reads
+        (find_then (find_run is_underscore) (find_then find_sign find_power) (chars at.entry.rest.now))
+        at.entry result }
 {
     signed_power(skip_underscores(at))
 }
@@ -116,7 +118,9 @@ fn after_fraction(at: Cursor<'_>) -> Option<Cursor<'_>>
 
 /// The place after what follows the dot of a number.
 fn after_dot(at: Cursor<'_>) -> Option<Cursor<'_>>
-    ensures { Reads (find_then (find_run is_digit_or_underscore) (find_then find_perhaps_exponent find_end) (chars at.entry.rest.now)) at.entry result }
+    ensures { Reads
+        (find_then (find_run is_digit_or_underscore) (find_then find_perhaps_exponent find_end) (chars at.entry.rest.now))
+        at.entry result }
 {
     after_fraction(skip_digits(at))
 }
@@ -224,7 +228,7 @@ fn prefixed<'a>(at: Cursor<'a>, prefix: &str, base: u32) -> Option<Cursor<'a>>
 
 /// The place after the digits of base 8 or 2 with its prefix.
 fn octal_or_binary(at: Cursor<'_>) -> Option<Cursor<'_>>
-    ensures { Reads (find_else (find_then (find_text (codes "0o")) (find_digits_in 8)) (find_then (find_text (codes "0b")) (find_digits_in 2)) (chars at.entry.rest.now)) at.entry result }
+    ensures { Reads (find_octal_or_binary (chars at.entry.rest.now)) at.entry result }
 {
     match prefixed(at, "0o", 8) {
         Some(end) => Some(end),

@@ -2,8 +2,8 @@
 
 ghost use Rattle.std.specs.Prelude.{◌≡◌, codes};
 ghost use Rattle.std.specs.Str.{chars};
-ghost use Rattle.lexical.specs.Finder.{find_else, find_text, find_then};
-ghost use Rattle.lexical.specs.QuotedFinder.{find_body, find_cooked, find_escaped, find_many, find_newline, find_suffix, find_unit, is_plain, string_front};
+ghost use Rattle.lexical.specs.Finder.{find_else, find_many, find_text, find_then};
+ghost use Rattle.lexical.specs.QuotedFinder.{find_body, find_cooked, find_escaped, find_newline, find_suffix, find_unit, is_plain, string_front};
 ghost use Rattle.lexical.specs.Reading.{Passes, Reads};
 
 use crate::cursor::Cursor;
@@ -75,7 +75,9 @@ fn backslash(at: Cursor<'_>, kind: StringKind) -> Option<Cursor<'_>>
 
 /// The place after CR LF, or a backslash and what may stand behind it.
 fn long_unit(at: Cursor<'_>, kind: StringKind) -> Option<Cursor<'_>>
-    ensures { Reads (find_else find_newline (find_then (find_text (codes "\\")) (find_escaped kind)) (chars at.entry.rest.now)) at.entry result }
+    ensures { Reads
+        (find_else find_newline (find_then (find_text (codes "\\")) (find_escaped kind)) (chars at.entry.rest.now))
+        at.entry result }
 {
     match at.past("\r\n") {
         Some(end) => Some(end),

@@ -1,10 +1,10 @@
 //! Strings without escapes.
 
-ghost use Rattle.std.specs.Prelude.{◌≡◌, ◌==◌, ◌∷◌, IsTrue, codes};
+ghost use Rattle.std.specs.Prelude.{◌≡◌, ◌==◌, ◌∷◌, IsTrue};
 ghost use Rattle.std.specs.Str.{chars};
 ghost use Rattle.lexical.specs.Ascii.{all_ascii};
-ghost use Rattle.lexical.specs.Finder.{find_run, find_text, find_then};
-ghost use Rattle.lexical.specs.QuotedFinder.{find_body, find_hashes, find_many, find_next, find_raw_string, find_raw_quotes, find_raw_unit, find_suffix, is_raw, raw_front};
+ghost use Rattle.lexical.specs.Finder.{find_many, find_next, find_run, find_text, find_then};
+ghost use Rattle.lexical.specs.QuotedFinder.{find_body, find_hashes, find_raw_string, find_raw_quotes, find_raw_unit, find_suffix, is_raw, raw_front};
 ghost use Rattle.lexical.specs.Reading.{Passes, Reads, ReadsText};
 
 use crate::cursor::Cursor;
@@ -96,7 +96,9 @@ fn close<'a>(at: Cursor<'a>, hashes: &str) -> Option<Cursor<'a>>
 /// The place after the units, what closes the string, and the suffix.
 fn body<'a>(at: Cursor<'a>, kind: StringKind, hashes: &str) -> Option<Cursor<'a>>
     requires { IsTrue (all_ascii hashes.now) }
-    ensures { Reads (find_body (find_raw_unit kind (34 ∷ hashes.now)) (34 ∷ hashes.now) (chars at.entry.rest.now)) at.entry result }
+    ensures { Reads
+        (find_body (find_raw_unit kind (34 ∷ hashes.now)) (34 ∷ hashes.now) (chars at.entry.rest.now))
+        at.entry result }
 {
     close(raw_units(at, kind, hashes), hashes)
 }

@@ -1,9 +1,10 @@
 //! Characters and bytes.
 
-ghost use Rattle.std.specs.Prelude.{◌≡◌, codes};
+ghost use Rattle.std.specs.Prelude.{codes};
 ghost use Rattle.std.specs.Str.{chars};
-ghost use Rattle.lexical.specs.Finder.{find_else, find_one, find_text, find_then};
-ghost use Rattle.lexical.specs.QuotedFinder.{find_byte, find_character, find_escape, find_suffix};
+ghost use Rattle.lexical.specs.Finder.{find_text, find_then};
+ghost use Rattle.lexical.specs.EscapeFinder.{find_escape};
+ghost use Rattle.lexical.specs.QuotedFinder.{find_byte, find_character, find_single_end, find_single_unit};
 ghost use Rattle.lexical.specs.Reading.{Reads};
 ghost use Rattle.lexical.specs.SingleQuoted.{is_byte_char_plain, is_char_plain};
 ghost use Rattle.lexical.specs.declared.quoted.StringKind.TheVariants as kinds;
@@ -22,7 +23,7 @@ fn escaped(at: Cursor<'_>, kind: StringKind) -> Option<Cursor<'_>>
 
 /// The place after one character, or a backslash and an escape.
 fn character_unit(at: Cursor<'_>) -> Option<Cursor<'_>>
-    ensures { Reads (find_else (find_one is_char_plain) (find_then (find_text (codes "\\")) (find_escape kinds.Plain)) (chars at.entry.rest.now)) at.entry result }
+    ensures { Reads (find_single_unit is_char_plain kinds.Plain (chars at.entry.rest.now)) at.entry result }
 {
     match one(at, |c| c != '\\') {
         Some(end) => Some(end),
@@ -32,7 +33,7 @@ fn character_unit(at: Cursor<'_>) -> Option<Cursor<'_>>
 
 /// The place after one character of ASCII, or a backslash and an escape.
 fn byte_unit(at: Cursor<'_>) -> Option<Cursor<'_>>
-    ensures { Reads (find_else (find_one is_byte_char_plain) (find_then (find_text (codes "\\")) (find_escape kinds.Byte)) (chars at.entry.rest.now)) at.entry result }
+    ensures { Reads (find_single_unit is_byte_char_plain kinds.Byte (chars at.entry.rest.now)) at.entry result }
 {
     match one(at, |c| c != '\\' && c.is_ascii()) {
         Some(end) => Some(end),
@@ -42,21 +43,21 @@ fn byte_unit(at: Cursor<'_>) -> Option<Cursor<'_>>
 
 /// The place after the closing quote and the suffix.
 fn close(at: Cursor<'_>) -> Option<Cursor<'_>>
-    ensures { Reads (find_then (find_text (codes "'")) find_suffix (chars at.entry.rest.now)) at.entry result }
+    ensures { Reads (find_single_end (chars at.entry.rest.now)) at.entry result }
 {
     Some(suffix(at.past("'")?))
 }
 
 /// The place after the unit of a character, the closing quote and the suffix.
 fn character_body(at: Cursor<'_>) -> Option<Cursor<'_>>
-    ensures { Reads (find_then (find_else (find_one is_char_plain) (find_then (find_text (codes "\\")) (find_escape kinds.Plain))) (find_then (find_text (codes "'")) find_suffix) (chars at.entry.rest.now)) at.entry result }
+    ensures { Reads (find_then (find_single_unit is_char_plain kinds.Plain) find_single_end (chars at.entry.rest.now)) at.entry result }
 {
     close(character_unit(at)?)
 }
 
 /// The place after the unit of a byte, the closing quote and the suffix.
 fn byte_body(at: Cursor<'_>) -> Option<Cursor<'_>>
-    ensures { Reads (find_then (find_else (find_one is_byte_char_plain) (find_then (find_text (codes "\\")) (find_escape kinds.Byte))) (find_then (find_text (codes "'")) find_suffix) (chars at.entry.rest.now)) at.entry result }
+    ensures { Reads (find_then (find_single_unit is_byte_char_plain kinds.Byte) find_single_end (chars at.entry.rest.now)) at.entry result }
 {
     close(byte_unit(at)?)
 }

@@ -1,2 +1,2 @@
 mod DocLemmas
-mod InsideLemmas
+mod OrderLemmas

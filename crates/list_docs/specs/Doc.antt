@@ -1,6 +1,6 @@
 -- The attributes that doc comments are read as.
 use Rattle.std.specs.Prelude.{ℕ, ◌≡◌, List, ◌++◌, codes}
-use Rattle.pm_stream.specs.Level.{before, alone}
+use Rattle.proc_macro2.specs.Level.{before, alone}
 use Rattle.proc_macro2.specs.declared.Group.{Group as Grouped}
 use Rattle.proc_macro2.specs.declared.TokenTree.{TokenTree}
 use Rattle.proc_macro2.specs.Forest.{nil, group}

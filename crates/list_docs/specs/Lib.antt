@@ -1,1 +1,2 @@
 pub mod Doc
+pub mod Docs

@@ -1,39 +1,59 @@
-//! The doc comments among token trees.
-ghost use Rattle.std.specs.Prelude.{IfSome};
+//! The doc comments among the trees of a stream.
+ghost use Rattle.std.specs.Prelude.{◌≡◌, List, [], ◌∷◌, IfOk, IfSome, map, option_copied};
+ghost use Rattle.proc_macro2.specs.Level.{forest};
+ghost use Rattle.proc_macro2.specs.declared.TokenTree.{TokenTree};
 ghost use Rattle.list_docs.specs.Doc.{AreDocOf, IsDocOf};
+ghost use Rattle.list_docs.specs.Docs.{doc_literal, doc_of, AreDocs};
 
-use proc_macro2::{Delimiter, Group, Literal, Spacing, TokenTree};
-use std::alloc::AllocError;
+use proc_macro2::{Delimiter, Group, Literal, Spacing, TokenStream, TokenTree};
+use std::alloc::{AllocError, Global};
 
-/// Adds the texts of the doc comments among the trees, those inside groups too, in reading order.
+/// The texts of the doc comments of the stream, those inside groups too, in reading order.
 ///
 /// A doc comment is read as `#`, perhaps `!`, and the group `[doc = ".."]`; each such group counts,
-/// whatever stands before it, so that the attribute `#[doc = ".."]` does too. Which literals are
-/// added is not promised: the stored run shows it. A walk into a group takes stack, which may not
-/// be enough for a million groups inside one another: `reading_order` of `print_tokens` takes none.
-pub fn add_docs<'a>(trees: &'a [TokenTree], docs: &mut Vec<&'a Literal>) -> Result<(), AllocError> {
-    for tree in trees {
-        if let TokenTree::Group(group) = tree {
-            match doc_text(group) {
-                Some(text) => docs.push(text)?,
-                None => add_docs(group.stream_ref().trees(), docs)?,
+/// whatever stands before it, so that the attribute `#[doc = ".."]` does too. Groups may nest as
+/// deep as a text is long, so what is left after a group stands in a list and not on the stack. Of
+/// `#[doc = "x"] { #[doc = "y"] }` they are `"x"` and `"y"`.
+pub fn doc_texts(alloc: Global, stream: &TokenStream) -> Result<Vec<&Literal>, AllocError>
+    ensures { IfOk result (λ texts. AreDocs stream.now (map (λ text. text.now) texts.items)) }
+{
+    let mut texts = Vec::new(alloc);
+    let mut outer = Vec::new(alloc);
+    let mut left = stream.trees();
+    loop {
+        if let Some((tree, after)) = left.split_first() {
+            left = after;
+            if let TokenTree::Group(group) = tree {
+                if let Some(text) = doc_text(group) {
+                    texts.push(text)?;
+                }
+                outer.push(after)?;
+                left = group.stream_ref().trees();
             }
+        } else {
+            let Some(after) = outer.pop() else {
+                return Ok(texts);
+            };
+            left = after;
         }
     }
-    Ok(())
 }
 
-/// The literal in a group that is printed as `[doc = `, the literal and `]`.
+/// The literal in a Bracket group of the identifier `doc`, the mark `=` Alone and that literal, and
+/// `None` of every other group.
 ///
-/// It is `None` of every other group; that it isn't of such a one is not promised. Of the group in
-/// `#[doc = "x"]` it is `"x"`.
+/// The group is printed as `[doc = `, the literal and `]`. Of the group in `#[doc = "x"]` it is
+/// `"x"`.
 pub fn doc_text(group: &Group) -> Option<&Literal>
-    ensures { IfSome result (λ text. IsDocOf group.now text.now.text) }
+    ensures value { (trees : List TokenTree) × (forest trees ≡ group.now.stream)
+        × (option_copied result ≡ doc_of group.now.delimiter trees) }
+    ensures printed { IfSome result (λ text. IsDocOf group.now text.now.text) }
 {
+    let trees = group.stream_ref().trees();
     let Delimiter::Bracket = group.delimiter() else {
         return None;
     };
-    match group.stream_ref().trees() {
+    match trees {
         [name, mark, text] => literal_of(name, mark, text),
         _ => None,
     }
@@ -41,7 +61,10 @@ pub fn doc_text(group: &Group) -> Option<&Literal>
 
 // The last of the three trees `doc`, `=` and a literal.
 fn literal_of<'a>(name: &TokenTree, mark: &TokenTree, text: &'a TokenTree) -> Option<&'a Literal>
-    ensures { IfSome result (λ literal. AreDocOf name.now mark.now text.now literal.now.text) }
+    ensures value { option_copied result
+        ≡ doc_literal (name.now ∷ mark.now ∷ text.now ∷ []) }
+    ensures printed { IfSome result (λ literal.
+        AreDocOf name.now mark.now text.now literal.now.text) }
 {
     let TokenTree::Ident(name) = name else {
         return None;

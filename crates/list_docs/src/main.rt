@@ -4,7 +4,7 @@
 
 mod docs;
 
-use docs::add_docs;
+use docs::doc_texts;
 use proc_macro2::{Literal, ParseError, SourceMap, TokenStream};
 use std::io;
 use std::io::{BufWriter, Write};
@@ -16,9 +16,8 @@ fn main(rt: HostRuntime) -> io::Result<ExitCode> {
     let mut map = SourceMap::new(rt.alloc());
     let status = match TokenStream::from_str(text.as_str(), &mut map) {
         Ok(stream) => {
-            let mut docs = Vec::new(rt.alloc());
-            add_docs(stream.trees(), &mut docs)?;
-            print_docs(docs.as_slice(), &map, &mut writer)?;
+            let texts = doc_texts(rt.alloc(), &stream)?;
+            print_docs(texts.as_slice(), &map, &mut writer)?;
             ExitCode::SUCCESS
         }
         Err(ParseError::Lex(error)) => {

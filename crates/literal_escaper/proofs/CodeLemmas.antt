@@ -41,7 +41,9 @@ great n h = cond-true (nat_lt 0x10_FFFF n) _ _ (lt-ltb 0x10_FFFF n h)
 
 character_step : (n c : ℕ) (digits front : List ℕ) → ((m : ℕ) → character (fold number_with m front) ≡ character (fold hex_step m digits))
     → character (fold number_with (next_number n (digit_value c)) front) ≡ character (fold hex_step (hex_step n c) digits)
-character_step n c digits front ih = cond_both (nat_le n 0x10_FFFF) (16 * n + digit_value c) n (λ m. character (fold number_with m front) ≡ character (fold hex_step (hex_step n c) digits))
+character_step n c digits front ih =
+    cond_both (nat_le n 0x10_FFFF) (16 * n + digit_value c) n
+    (λ m. character (fold number_with m front) ≡ character (fold hex_step (hex_step n c) digits))
     (λ e. ih (hex_step n c))
     (λ e. let past = leb-false n 0x10_FFFF e in
     let less = grows n digits in
@@ -55,7 +57,8 @@ character_is n (c ∷ text) =
     step (is_hex c) ih
   where
     step : (b : Bool) → ((m : ℕ) → character (fold number_with m text) ≡ character (fold hex_step m (filter is_hex text)))
-        → character (fold number_with (cond b (next_number n (digit_value c)) n) text) ≡ character (fold hex_step n (cond b (c ∷ filter is_hex text) (filter is_hex text)))
+        → character (fold number_with (cond b (next_number n (digit_value c)) n) text)
+        ≡ character (fold hex_step n (cond b (c ∷ filter is_hex text) (filter is_hex text)))
     step true ih = character_step n c (filter is_hex text) text ih
     step false ih = ih n
 
@@ -72,7 +75,8 @@ pub code_unit_is : {U : Type 0} (kind : Kind U) (text : List ℕ)
     → code_answer kind (digit_count text) (digit_number text) ≡ code_unit kind (filter is_hex (while_front is_code_character text))
 code_unit_is kind text =
     ap₂ (λ long code. cond long (Err OverlongUnicodeEscape) (kind.of_code code))
-    (same_test (digit_count text) (length (filter is_hex (while_front is_code_character text))) (count_is 0 (while_front is_code_character text) (omega arith) ∙ zeroed))
+    (same_test (digit_count text) (length (filter is_hex (while_front is_code_character text)))
+    (count_is 0 (while_front is_code_character text) (omega arith) ∙ zeroed))
     (character_is 0 (while_front is_code_character text))
   where
     zeroed : min 7 (0 + length (filter is_hex (while_front is_code_character text))) ≡ min 7 (length (filter is_hex (while_front is_code_character text)))

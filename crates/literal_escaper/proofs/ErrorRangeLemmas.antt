@@ -54,7 +54,8 @@ read_within content rest t e =
     subst (λ (n : ℕ). IsRangeIn content (record { start = n; end = offset (bytes (chars content)) rest })) nothing
     (range_between content (chars content) rest (whole_content content t) e)
 
-error_within : {U : Type 0} (content : List ℕ) (range : Range ℕ) (unit : Result U EscapeError) → IsRangeIn content range → AreWithin content (at_most_one (error_at range unit))
+error_within : {U : Type 0} (content : List ℕ) (range : Range ℕ) (unit : Result U EscapeError)
+    → IsRangeIn content range → AreWithin content (at_most_one (error_at range unit))
 error_within content range (Ok unit) h = All-nil (λ (x : Error). IsRangeIn content x.0)
 error_within content range (Err e) h = All-cons (λ (x : Error). IsRangeIn content x.0) (range, e) [] h (All-nil (λ (x : Error). IsRangeIn content x.0))
 

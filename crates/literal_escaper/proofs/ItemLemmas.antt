@@ -17,7 +17,8 @@ unfolding items_within front
 items_none kind end zero = refl
 items_none kind end (suc n) = items_none kind end n
 
-within_same : {U : Type 0} (kind : Kind U) (end n m : ℕ) (text : List ℕ) → length text ≤ n → length text ≤ m → items_within kind end n text ≡ items_within kind end m text
+within_same : {U : Type 0} (kind : Kind U) (end n m : ℕ) (text : List ℕ) → length text ≤ n → length text ≤ m
+    → items_within kind end n text ≡ items_within kind end m text
 unfolding items_within
 within_same kind end zero m [] h k = sym (items_none kind end m)
 within_same kind end zero m (c ∷ text) h k = absurd (omega arith)
@@ -34,7 +35,9 @@ unfolding items_within front
 items_past kind end [] = refl
 items_past kind end (c ∷ text) =
     let less = front_shrinks kind end (c ∷ text) in
-    ap (λ items. (front kind end (c ∷ text)).items ++ items) (within_same kind end (length text) (length (front kind end (c ∷ text)).rest) (front kind end (c ∷ text)).rest (omega arith) (omega arith))
+    ap (λ items. (front kind end (c ∷ text)).items ++ items)
+    (within_same kind end (length text) (length (front kind end (c ∷ text)).rest)
+    (front kind end (c ∷ text)).rest (omega arith) (omega arith))
 
 -- what was read at a place, and what is left behind it
 pub items_step : {U : Type 0} (kind : Kind U) (at after : Place) (item : Option (Item U)) (warning : Option (Range ℕ))

@@ -40,7 +40,8 @@ boundary content text e =
     let rest : IsUtf8 (encode_utf8_all text) =
     (text, ((split_scalars e.is_end.0 text (ap scalars (sym e.is_end.1) ∙ scalars-chars content e.utf8)).1, refl))
     in
-    subst (IsCharBoundary content) (sym (before_end content text e)) (IsCharBoundary-at_seam content (encode_utf8_all e.is_end.0) (encode_utf8_all text) seam rest)
+    subst (IsCharBoundary content) (sym (before_end content text e))
+    (IsCharBoundary-at_seam content (encode_utf8_all e.is_end.0) (encode_utf8_all text) seam rest)
 
 pub ends_further : (content text rest : List ℕ) → EndsIn content text → IsEnd text rest → EndsIn content rest
 ends_further content text rest e f = record { utf8 = e.utf8; is_end = end_of_end (chars content) text rest e.is_end f }

@@ -90,11 +90,14 @@ within_raw : {U : Type 0} (of_char : ℕ → Result U EscapeError) (content text
 unfolding raw_items_from
 within_raw of_char content [] e = none_within content
 within_raw {U = U} of_char content (c ∷ text) e =
-    All-cons (λ (x : Item U). IsRangeIn content x.0) (between (bytes (chars content)) (c ∷ text) text, raw_unit of_char c) (raw_items_from of_char (bytes (chars content)) text)
+    All-cons (λ (x : Item U). IsRangeIn content x.0)
+    (between (bytes (chars content)) (c ∷ text) text, raw_unit of_char c)
+    (raw_items_from of_char (bytes (chars content)) text)
     (range_between content (c ∷ text) text e (end_tail c text))
     (within_raw of_char content text (ends_further content (c ∷ text) text e (end_tail c text)))
 
-pub raw_items_are_within : {U : Type 0} (of_char : ℕ → Result U EscapeError) (content : List ℕ) → IsUtf8 content → AreWithin content (raw_items of_char (chars content))
+pub raw_items_are_within : {U : Type 0} (of_char : ℕ → Result U EscapeError) (content : List ℕ) → IsUtf8 content
+    → AreWithin content (raw_items of_char (chars content))
 raw_items_are_within of_char content t = within_raw of_char content (chars content) (whole_content content t)
 
 -- what is left at the front of a content with escapes

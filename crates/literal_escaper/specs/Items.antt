@@ -1,4 +1,5 @@
--- The items of a content. `end` counts the bytes of the whole content; a place in it is known by the text that follows it.
+-- The items of a content.
+-- `end` counts the bytes of the whole content; a place in it is known by the text that follows it.
 use Rattle.std.specs.Prelude.{ℕ, zero, suc, ◌-◌, ◌&&◌, ◌==◌, if◌then◌else◌, List, [], ◌∷◌, ◌++◌, drop, length, Option, Some, None, Result, Err}
 use Rattle.std.specs.Char.{is_whitespace}
 use Rattle.std.specs.List.{list_any}
@@ -59,7 +60,8 @@ abbrev pub warning_at : {U : Type 0} → EscapeError → Option (Range ℕ) → 
 warning_at e None = []
 warning_at e (Some range) = (range, Err e) ∷ []
 
--- `line-skip`: no unit for a backslash and LF, the front of the text, nor for the blanks at the front of the line behind them
+-- `line-skip`: no unit for a backslash and LF, the front of the text,
+-- nor for the blanks at the front of the line behind them
 unfoldable pub line_skip : {U : Type 0} → ℕ → List ℕ → List ℕ → Front U
 line_skip end text line =
     let rest = while_rest is_blank line in record {

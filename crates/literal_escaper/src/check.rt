@@ -43,7 +43,7 @@ fn next_error<K: Unescape>(content: &mut Cooked<'_>) -> Option<(Range<usize>, Es
 
 /// The next error of a raw content.
 fn next_raw_error<K: CheckRaw>(place: &mut Place<'_>) -> Option<(Range<usize>, EscapeError)>
-    ensures { YieldsFirst (λ p. errors_among (raw_left K.raw_unit_of p)) place.old result place.new }
+    ensures { YieldsFirst (λ p. errors_among (raw_left K.unit_of p)) place.old result place.new }
 {
     while let Some((range, unit)) = next_raw_item::<K>(place) {
         if let Err(e) = unit {

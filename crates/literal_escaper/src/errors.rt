@@ -61,9 +61,10 @@ impl EscapeError {
     pub fn is_fatal(&self) -> bool
         ensures { result ≡ is_fault self.now }
     {
-        !matches!(
-            self,
-            EscapeError::UnskippedWhitespaceWarning | EscapeError::MultipleSkippedLinesWarning
-        )
+        match self {
+            EscapeError::UnskippedWhitespaceWarning => false,
+            EscapeError::MultipleSkippedLinesWarning => false,
+            _ => true,
+        }
     }
 }

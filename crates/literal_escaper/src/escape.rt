@@ -28,8 +28,8 @@ fn letter_escape<K: Unescape>(c: char) -> Result<K::Unit, EscapeError>
     ensures { result ≡ letter_unit K.kind (letter c) }
 {
     match simple_escape(c) {
-        Some('\0') => K::ZERO_RESULT,
-        Some(c) => K::char2unit(c),
+        Some('\0') => K::NUL,
+        Some(c) => K::of_char(c),
         None => Err(EscapeError::InvalidEscape),
     }
 }
@@ -45,7 +45,7 @@ fn low_digit<K: Unescape>(high: u32, at: Place<'_>) -> (Result<K::Unit, EscapeEr
     let Some(low) = c.to_digit(16) else {
         return (Err(EscapeError::InvalidCharInHexEscape), after);
     };
-    (K::hex2unit((16 * high + low) as u8), after)
+    (K::of_hex((16 * high + low) as u8), after)
 }
 
 /// The unit of two hex digits, by the rule `item-hex`.
@@ -137,7 +137,7 @@ fn code_escape<K: Unescape>(count: u32, number: u32) -> Result<K::Unit, EscapeEr
     if count > 6 {
         return Err(EscapeError::OverlongUnicodeEscape);
     }
-    K::unicode2unit(character_of(number))
+    K::of_code(character_of(number))
 }
 
 /// The digits from the place on and the end of the braces.

@@ -69,7 +69,9 @@ fn unskipped_white(start: Place<'_>, after: Place<'_>) -> Option<Range<usize>>
 #[tactic(auto, unfolding(crate::specs::Items::line_skip))]
 fn skip_line<'a, U: Copy>(at: Place<'a>, line: Place<'a>) -> Front<'a, U>
     requires { at.end ≡ line.end }
-    ensures { GivesFront (line_skip at.entry.end (text_at at.entry) (text_at line.entry)) at.entry result.item result.warning result.after }
+    ensures { GivesFront
+        (line_skip at.entry.end (text_at at.entry) (text_at line.entry))
+        at.entry result.item result.warning result.after }
 {
     let (lines, after) = skip_blanks(line);
     let white = unskipped_white(at, after);
@@ -97,7 +99,7 @@ fn read_unit<K: Unescape>(c: char, after: Place<'_>) -> (Result<K::Unit, EscapeE
         '\\' => escape::<K>(after),
         '"' => (Err(EscapeError::EscapeOnlyChar), after),
         '\r' => (Err(EscapeError::BareCarriageReturn), after),
-        _ => (K::char2unit(c), after),
+        _ => (K::of_char(c), after),
     }
 }
 

@@ -13,14 +13,14 @@ use crate::num::NonZeroChar;
 /// A kind of raw content.
 pub trait CheckRaw {
     /// What such a content is made of.
-    type RawUnit: Copy;
+    type Unit: Copy;
 
     // The unit of a character.
-    ghost raw_unit_of: { ℕ → Result Self.RawUnit TheError };
+    ghost unit_of: { ℕ → Result Self.Unit TheError };
 
     /// The unit of a character.
-    fn char2raw_unit(c: char) -> Result<Self::RawUnit, EscapeError>
-        ensures { result ≡ raw_unit_of c };
+    fn of_char(c: char) -> Result<Self::Unit, EscapeError>
+        ensures { result ≡ unit_of c };
 }
 
 /// A kind of content with escapes.
@@ -31,26 +31,26 @@ pub trait Unescape {
     // What the kind makes of what stands in a content.
     ghost kind: { Kind Self.Unit };
 
-    // What `\0` gives.
-    ghost ZERO_RESULT: { Result Self.Unit TheError };
+    // The unit of NUL.
+    ghost NUL: { Result Self.Unit TheError };
 
-    /// What `\0` gives.
-    const ZERO_RESULT: Result<Self::Unit, EscapeError>;
+    /// The unit of NUL, which `\0` gives.
+    const NUL: Result<Self::Unit, EscapeError>;
+
+    // It is what the kind makes of the character.
+    ghost nul_is: { NUL ≡ kind.of_char 0 };
 
     /// The unit of a character.
-    fn char2unit(c: char) -> Result<Self::Unit, EscapeError>
+    fn of_char(c: char) -> Result<Self::Unit, EscapeError>
         ensures { result ≡ kind.of_char c };
 
     /// The unit of the number of two hex digits.
-    fn hex2unit(byte: u8) -> Result<Self::Unit, EscapeError>
+    fn of_hex(byte: u8) -> Result<Self::Unit, EscapeError>
         ensures { result ≡ kind.of_hex byte };
 
     /// The unit of the character whose code stands in braces, or of what is wrong with the code.
-    fn unicode2unit(code: Result<char, EscapeError>) -> Result<Self::Unit, EscapeError>
+    fn of_code(code: Result<char, EscapeError>) -> Result<Self::Unit, EscapeError>
         ensures { result ≡ kind.of_code code };
-
-    // `\0` gives what NUL gives.
-    ghost zero_is_nul: { ZERO_RESULT ≡ kind.of_char 0 };
 }
 
 /// Strings and characters.
@@ -63,43 +63,45 @@ pub struct Bytes;
 pub struct CStr;
 
 /// The byte of an ASCII character.
-fn char2byte(c: char) -> Result<u8, EscapeError>
+fn byte_of(c: char) -> Result<u8, EscapeError>
     ensures { result ≡ ascii_byte c }
 {
-    if c.is_ascii() {
-        Ok(c as u8)
-    } else {
-        Err(EscapeError::NonAsciiCharInByte)
+    if !c.is_ascii() {
+        return Err(EscapeError::NonAsciiCharInByte);
     }
+    Ok(c as u8)
 }
 
 impl CheckRaw for Str {
-    type RawUnit = char;
+    type Unit = char;
 
-    ghost raw_unit_of = { any_char };
+    ghost unit_of = { any_char };
 
-    fn char2raw_unit(c: char) -> Result<char, EscapeError> {
+    fn of_char(c: char) -> Result<char, EscapeError> {
         Ok(c)
     }
 }
 
 impl CheckRaw for Bytes {
-    type RawUnit = u8;
+    type Unit = u8;
 
-    ghost raw_unit_of = { ascii_byte };
+    ghost unit_of = { ascii_byte };
 
-    fn char2raw_unit(c: char) -> Result<u8, EscapeError> {
-        char2byte(c)
+    fn of_char(c: char) -> Result<u8, EscapeError> {
+        byte_of(c)
     }
 }
 
 impl CheckRaw for CStr {
-    type RawUnit = NonZeroChar;
+    type Unit = NonZeroChar;
 
-    ghost raw_unit_of = { raw_c_char };
+    ghost unit_of = { raw_c_char };
 
-    fn char2raw_unit(c: char) -> Result<NonZeroChar, EscapeError> {
-        NonZeroChar::new(c).ok_or(EscapeError::NulInCStr)
+    fn of_char(c: char) -> Result<NonZeroChar, EscapeError> {
+        match NonZeroChar::new(c) {
+            Some(c) => Ok(c),
+            None => Err(EscapeError::NulInCStr),
+        }
     }
 }
 
@@ -108,25 +110,24 @@ impl Unescape for Str {
 
     ghost kind = { string_kind };
 
-    ghost ZERO_RESULT = { Ok 0 };
+    ghost NUL = { Ok 0 };
 
-    const ZERO_RESULT: Result<char, EscapeError> = Ok('\0');
+    const NUL: Result<char, EscapeError> = Ok('\0');
 
-    ghost zero_is_nul = { refl };
+    ghost nul_is = { refl };
 
-    fn char2unit(c: char) -> Result<char, EscapeError> {
+    fn of_char(c: char) -> Result<char, EscapeError> {
         Ok(c)
     }
 
-    fn hex2unit(byte: u8) -> Result<char, EscapeError> {
-        if byte.is_ascii() {
-            Ok(char::from(byte))
-        } else {
-            Err(EscapeError::OutOfRangeHexEscape)
+    fn of_hex(byte: u8) -> Result<char, EscapeError> {
+        if !byte.is_ascii() {
+            return Err(EscapeError::OutOfRangeHexEscape);
         }
+        Ok(char::from(byte))
     }
 
-    fn unicode2unit(code: Result<char, EscapeError>) -> Result<char, EscapeError> {
+    fn of_code(code: Result<char, EscapeError>) -> Result<char, EscapeError> {
         code
     }
 }
@@ -136,21 +137,21 @@ impl Unescape for Bytes {
 
     ghost kind = { byte_kind };
 
-    ghost ZERO_RESULT = { Ok 0 };
+    ghost NUL = { Ok 0 };
 
-    const ZERO_RESULT: Result<u8, EscapeError> = Ok(0);
+    const NUL: Result<u8, EscapeError> = Ok(0);
 
-    ghost zero_is_nul = { refl };
+    ghost nul_is = { refl };
 
-    fn char2unit(c: char) -> Result<u8, EscapeError> {
-        char2byte(c)
+    fn of_char(c: char) -> Result<u8, EscapeError> {
+        byte_of(c)
     }
 
-    fn hex2unit(byte: u8) -> Result<u8, EscapeError> {
+    fn of_hex(byte: u8) -> Result<u8, EscapeError> {
         Ok(byte)
     }
 
-    fn unicode2unit(_code: Result<char, EscapeError>) -> Result<u8, EscapeError> {
+    fn of_code(_code: Result<char, EscapeError>) -> Result<u8, EscapeError> {
         Err(EscapeError::UnicodeEscapeInByte)
     }
 }
@@ -160,21 +161,21 @@ impl Unescape for CStr {
 
     ghost kind = { c_kind };
 
-    ghost ZERO_RESULT = { Err NulInCStr };
+    ghost NUL = { Err NulInCStr };
 
-    const ZERO_RESULT: Result<MixedUnit, EscapeError> = Err(EscapeError::NulInCStr);
+    const NUL: Result<MixedUnit, EscapeError> = Err(EscapeError::NulInCStr);
 
-    ghost zero_is_nul = { refl };
+    ghost nul_is = { refl };
 
-    fn char2unit(c: char) -> Result<MixedUnit, EscapeError> {
+    fn of_char(c: char) -> Result<MixedUnit, EscapeError> {
         MixedUnit::try_from(c)
     }
 
-    fn hex2unit(byte: u8) -> Result<MixedUnit, EscapeError> {
+    fn of_hex(byte: u8) -> Result<MixedUnit, EscapeError> {
         MixedUnit::try_from(byte)
     }
 
-    fn unicode2unit(code: Result<char, EscapeError>) -> Result<MixedUnit, EscapeError> {
+    fn of_code(code: Result<char, EscapeError>) -> Result<MixedUnit, EscapeError> {
         MixedUnit::try_from(code?)
     }
 }
@@ -183,8 +184,9 @@ impl Unescape for CStr {
 pub fn character_of(code: u32) -> Result<char, EscapeError>
     ensures { result ≡ character code }
 {
-    if code > 0x10_FFFF {
-        return Err(EscapeError::OutOfRangeUnicodeEscape);
+    match char::from_u32(code) {
+        Some(c) => Ok(c),
+        None if code > 0x10_FFFF => Err(EscapeError::OutOfRangeUnicodeEscape),
+        None => Err(EscapeError::LoneSurrogateUnicodeEscape),
     }
-    char::from_u32(code).ok_or(EscapeError::LoneSurrogateUnicodeEscape)
 }

@@ -39,9 +39,9 @@ impl Mode {
         ensures { result.now ≡ prefix self }
     {
         match self {
-            Mode::Char | Mode::Str | Mode::RawStr => "",
-            Mode::Byte | Mode::ByteStr | Mode::RawByteStr => "b",
             Mode::CStr | Mode::RawCStr => "c",
+            Mode::Byte | Mode::ByteStr | Mode::RawByteStr => "b",
+            Mode::Char | Mode::Str | Mode::RawStr => "",
         }
     }
 }

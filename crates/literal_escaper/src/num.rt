@@ -22,13 +22,12 @@ impl NonZeroChar {
     ghost use Rattle.std.specs.Prelude.{◌≡◌, ◌<◌, MatchOption};
 
     /// The character, unless it is NUL: `a` for `a`, and `None` for U+0000.
-    pub fn new(ch: char) -> Option<NonZeroChar>
-        ensures { MatchOption result (ch ≡ 0) (λ c. (c ≡ ch) × (0 < ch)) }
+    pub fn new(c: char) -> Option<NonZeroChar>
+        ensures { MatchOption result (c ≡ 0) (λ other. (other ≡ c) × (0 < c)) }
     {
-        if ch == '\0' {
-            None
-        } else {
-            Some(NonZeroChar(ch))
+        match c {
+            '\0' => None,
+            _ => Some(NonZeroChar(c)),
         }
     }
 
@@ -37,7 +36,8 @@ impl NonZeroChar {
         ensures value { result ≡ self }
         ensures within { 0 < result }
     {
-        self.0
+        let NonZeroChar(c) = self;
+        c
     }
 }
 
@@ -72,6 +72,7 @@ impl NonZeroU8 {
         ensures value { result ≡ self }
         ensures within { 0 < result }
     {
-        self.0
+        let NonZeroU8(byte) = self;
+        byte
     }
 }

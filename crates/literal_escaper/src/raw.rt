@@ -11,20 +11,20 @@ use crate::kind::CheckRaw;
 use crate::place::Place;
 
 /// The unit of a character of a raw content.
-fn unit<K: CheckRaw>(c: char) -> Result<K::RawUnit, EscapeError>
-    ensures { result ≡ raw_unit K.raw_unit_of c }
+fn unit<K: CheckRaw>(c: char) -> Result<K::Unit, EscapeError>
+    ensures { result ≡ raw_unit K.unit_of c }
 {
     if c == '\r' {
         Err(EscapeError::BareCarriageReturnInRawString)
     } else {
-        K::char2raw_unit(c)
+        K::of_char(c)
     }
 }
 
 /// The next item of a raw content, and the place behind it.
 #[tactic(auto, unfolding(crate::specs::Items::raw_items_from))]
-pub fn next_raw_item<K: CheckRaw>(place: &mut Place<'_>) -> Option<Item<K::RawUnit>>
-    ensures { YieldsFirst (raw_left K.raw_unit_of) place.old result place.new }
+pub fn next_raw_item<K: CheckRaw>(place: &mut Place<'_>) -> Option<Item<K::Unit>>
+    ensures { YieldsFirst (raw_left K.unit_of) place.old result place.new }
 {
     let (c, after) = place.advance()?;
     let range = place.offset()..after.offset();

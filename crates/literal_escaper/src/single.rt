@@ -17,7 +17,7 @@ fn first_unit<K: Unescape>(c: char, after: Place<'_>) -> (Result<K::Unit, Escape
         '\\' => escape::<K>(after),
         '\n' | '\t' | '\'' => (Err(EscapeError::EscapeOnlyChar), after),
         '\r' => (Err(EscapeError::BareCarriageReturn), after),
-        _ => (K::char2unit(c), after),
+        _ => (K::of_char(c), after),
     }
 }
 

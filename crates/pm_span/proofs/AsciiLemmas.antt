@@ -30,6 +30,10 @@ more_bytes (c ∷ cs) h =
       | inr high ↦ omega (arith, bytes_of c cs, len_utf8_past c high, length-le-encodes cs)
     ]
 
+-- a text has at most as many characters as bytes
+pub length_chars_le : (bytes : List ℕ) → IsUtf8 bytes → length (chars bytes) ≤ length bytes
+length_chars_le bytes utf8 = omega (arith, length-le-encodes (chars bytes), ap length (encodes-chars bytes utf8))
+
 pub all_ascii_is : (bytes : List ℕ) → IsUtf8 bytes → eqb (length (chars bytes)) (length bytes) ≡ all_ascii (chars bytes)
 all_ascii_is bytes utf8 =
     let e : length (encode_utf8_all (chars bytes)) ≡ length bytes = ap length (encodes-chars bytes utf8) in

@@ -3,3 +3,4 @@ mod Examples
 pub mod FileLemmas
 pub mod LineLemmas
 pub mod PlacedLemmas
+pub mod SplitLemmas

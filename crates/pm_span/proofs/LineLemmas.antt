@@ -33,16 +33,6 @@ pub after_line_feeds-push :
 after_line_feeds-push xs c =
     after_line_feeds_from-append 0 xs (c ∷ []) ∙ ap (λ n. after_line_feeds xs ++ cond (is_line_feed c) ((n + 1) ∷ []) []) (omega arith)
 
--- the text up to the place n grows by the character that stands there
-pub after_line_feeds-more :
-    (text : List ℕ) (n c : ℕ) → n < length text → c ≡ get_or text n c
-    → after_line_feeds (take (n + 1) text) ≡ after_line_feeds (take n text) ++ cond (is_line_feed c) ((n + 1) ∷ []) []
-after_line_feeds-more text n c less e =
-    ap after_line_feeds (take_more text n c less ∙ ap (λ x. take n text ++ x ∷ []) (sym e))
-    ∙ (after_line_feeds-push (take n text) c
-    ∙ ap (λ k. after_line_feeds (take n text) ++ cond (is_line_feed c) ((k + 1) ∷ []) [])
-    (length-take-le n text (omega arith)))
-
 -- past the place k, and at most n characters from it
 abbrev IsWithin : ℕ → ℕ → ℕ → Type 0
 IsWithin k n start = (k < start) × (start ≤ k + n)
@@ -66,7 +56,9 @@ pub length-after_line_feeds_from : (k : ℕ) (text : List ℕ) → length (after
 length-after_line_feeds_from k [] = refl
 length-after_line_feeds_from k (c ∷ text) =
     rw (sum_by-cons (λ x. cond (is_line_feed x) 1 0) c text, ← length-after_line_feeds_from (k + 1) text)
-    (elim (is_line_feed c) as (λ b. length (cond b ((k + 1) ∷ after_line_feeds_from (k + 1) text) (after_line_feeds_from (k + 1) text)) ≡ cond b 1 0 + length (after_line_feeds_from (k + 1) text)) [
+    (elim (is_line_feed c) as
+    (λ b. length (cond b ((k + 1) ∷ after_line_feeds_from (k + 1) text) (after_line_feeds_from (k + 1) text))
+    ≡ cond b 1 0 + length (after_line_feeds_from (k + 1) text)) [
       | true ↦ omega arith
       | false ↦ omega arith
     ])
@@ -124,7 +116,9 @@ length-last_line-push :
     → length (last_line (front ++ c ∷ [])) + last_start (after_line_feeds (front ++ c ∷ [])) ≡ length front + 1
 length-last_line-push front c h =
     rw (last_line-push front c, after_line_feeds-push front c)
-    (elim (is_line_feed c) as (λ b. length (cond (not b) (c ∷ last_line front) []) + last_start (after_line_feeds front ++ cond b ((length front + 1) ∷ []) []) ≡ length front + 1) [
+    (elim (is_line_feed c) as
+    (λ b. length (cond (not b) (c ∷ last_line front) []) + last_start (after_line_feeds front ++ cond b ((length front + 1) ∷ []) [])
+    ≡ length front + 1) [
       | true ↦
           let starts = after_line_feeds front ++ (length front + 1) ∷ [] in
           let last : get_or starts (length starts - 1) 0 ≡ length front + 1 =

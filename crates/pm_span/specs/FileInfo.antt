@@ -11,7 +11,8 @@ pub record PlacedText : Type 0 where
 -- the places after each line feed of a text that begins at the place k
 abbrev pub after_line_feeds_from : ℕ → List ℕ → List ℕ
 after_line_feeds_from k [] = []
-after_line_feeds_from k (c ∷ text) = if is_line_feed c then (k + 1) ∷ after_line_feeds_from (k + 1) text else after_line_feeds_from (k + 1) text
+after_line_feeds_from k (c ∷ text) =
+    if is_line_feed c then (k + 1) ∷ after_line_feeds_from (k + 1) text else after_line_feeds_from (k + 1) text
 
 -- the places where the lines after the first begin, each after a line feed
 abbrev pub after_line_feeds : List ℕ → List ℕ

@@ -1,4 +1,5 @@
 pub mod Place
+pub mod Line
 pub mod Extent
 pub mod FileInfo
 pub mod Files

@@ -4,6 +4,7 @@ ghost use Rattle.pm_span.specs.FileInfo.{PlacedText, after_line_feeds};
 ghost use Rattle.pm_span.specs.Place.{line_column};
 
 use crate::location::LineColumn;
+use crate::text::{char_count, split_line};
 use std::alloc::{AllocError, Global};
 use std::marker::Model;
 
@@ -45,14 +46,13 @@ fn find_lines(alloc: Global, text: &str) -> Result<(Vec<u32>, u32), AllocError>
 {
     let mut starts = Vec::new(alloc);
     let mut count = 0;
-    for c in text.chars() {
-        let place = count + 1;
-        if c == '\n' {
-            starts.push(place)?;
-        }
-        count = place;
+    let mut rest = text;
+    while let Some((line, behind)) = split_line(rest) {
+        count += char_count(line) as u32 + 1;
+        starts.push(count)?;
+        rest = behind;
     }
-    Ok((starts, count))
+    Ok((starts, count + char_count(rest) as u32))
 }
 
 impl FileInfo {

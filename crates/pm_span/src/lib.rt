@@ -6,6 +6,7 @@ pub mod location;
 pub mod parts;
 pub mod source_map;
 pub mod spans;
+mod text;
 
 pub use location::LineColumn;
 pub use source_map::SourceMap;

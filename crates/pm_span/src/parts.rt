@@ -5,6 +5,7 @@ ghost use Rattle.pm_span.specs.Files.{Fits, next_lo, with_file};
 
 use crate::source_map::SourceMap;
 use crate::spans::Span;
+pub use crate::text::char_count;
 use std::alloc::{AllocError, Global};
 
 /// The span from `lo` to `hi`.
@@ -23,15 +24,15 @@ pub fn bounds(span: Span) -> (u32, u32)
     span.bounds()
 }
 
-/// Where a file of `count` characters would begin (`next-position`), if it fits (`fits`).
+/// Where the file of this text would begin (`next-position`), if it fits (`fits`).
 ///
-/// `None` where it would end past the map's limit: in a new map with the limit 5, a file of 4
-/// characters would begin at 1, and one of 5 doesn't fit.
-pub fn fits(map: &SourceMap, count: usize) -> Option<u32>
-    ensures found { SomeIff result (Fits map.now count) (next_lo map.now) }
-    ensures within { IfSome result (λ lo. lo + count < 2 ^ 32) }
+/// `None` where it would end past the map's limit: in a new map with the limit 5, `abcd` would begin
+/// at 1, and `abcde` doesn't fit.
+pub fn fits(map: &SourceMap, text: &str) -> Option<u32>
+    ensures found { SomeIff result (Fits map.now (length (chars text.now))) (next_lo map.now) }
+    ensures within { IfSome result (λ lo. lo + length (chars text.now) < 2 ^ 32) }
 {
-    map.fits(count)
+    map.fits(text)
 }
 
 /// Adds the text, which fits, as the map's next file.

@@ -8,6 +8,7 @@ ghost use Rattle.pm_span.specs.Placed.{file_0, IsFileOf};
 use crate::file_info::FileInfo;
 use crate::location::LineColumn;
 use crate::spans::Span;
+use crate::text::has_fewer;
 use std::alloc::{AllocError, Global};
 use std::marker::Model;
 
@@ -110,13 +111,13 @@ impl SourceMap {
         }
     }
 
-    /// Where a file of `count` characters would begin, if it fits.
-    pub(crate) fn fits(&self, count: usize) -> Option<u32>
-        ensures found { SomeIff result (Fits self.now count) (next_lo self.now) }
-        ensures within { IfSome result (λ lo. lo + count < 2 ^ 32) }
+    /// Where the file of this text would begin, if it fits.
+    pub(crate) fn fits(&self, text: &str) -> Option<u32>
+        ensures found { SomeIff result (Fits self.now (length (chars text.now))) (next_lo self.now) }
+        ensures within { IfSome result (λ lo. lo + length (chars text.now) < 2 ^ 32) }
     {
         let last = self.last_hi();
-        if last < self.limit && count < (self.limit - last) as usize {
+        if last < self.limit && has_fewer(text, (self.limit - last) as usize) {
             Some(last + 1)
         } else {
             None

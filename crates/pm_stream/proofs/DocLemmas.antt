@@ -55,7 +55,8 @@ abbrev pub doc_trees : ℕ → ℕ → Bool → List ℕ → Forest
 doc_trees lo hi true text = leaf hash lo hi (leaf bang lo hi (doc_group lo hi text))
 doc_trees lo hi false text = leaf hash lo hi (doc_group lo hi text)
 
-pub doc_trees-events : (lo hi : ℕ) (inner : Bool) (text : List ℕ) (events : List Event) → flat_onto (doc_trees lo hi inner text) events ≡ doc_onto lo hi inner text events
+pub doc_trees-events : (lo hi : ℕ) (inner : Bool) (text : List ℕ) (events : List Event)
+    → flat_onto (doc_trees lo hi inner text) events ≡ doc_onto lo hi inner text events
 doc_trees-events lo hi true text events = refl
 doc_trees-events lo hi false text events = refl
 
@@ -69,7 +70,8 @@ doc_built lo hi true text within all = (refl, within, (refl, within, doc_group_b
 doc_built lo hi false text within all = (refl, within, doc_group_built lo hi text within all)
 
 -- the events of the group that is made of these parts
-pub doc_group_events : (text : List ℕ) (doc : leaves.Name) (mark : leaves.Mark) (literal : leaves.Text) (items : List TokenTree) (made : Grouped) (span : Extent) (events : List Event)
+pub doc_group_events : (text : List ℕ) (doc : leaves.Name) (mark : leaves.Mark) (literal : leaves.Text)
+    (items : List TokenTree) (made : Grouped) (span : Extent) (events : List Event)
     → doc ≡ record { name = codes "doc"; raw = false; span = span } → mark ≡ record { mark = 61; spacing = Alone; span = span }
     → literal ≡ record { text = string_text text; span = span } → items ≡ Ident doc ∷ Punct mark ∷ trees.Literal literal ∷ []
     → made ≡ record { delimiter = Bracket; stream = forest items; span = span }

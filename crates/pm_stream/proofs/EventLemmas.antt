@@ -59,7 +59,8 @@ goes_on : (groups : List Opened) (trees : Forest) {es : List Event} → Balanced
 goes_on [] trees {es} h = ([], flat_balanced trees (subst Balanced (sym (append-nil es)) h))
 goes_on (x ∷ groups) trees {es} h =
     let inside = flat_balanced trees h in
-    let closed : Balanced (Opens x.delimiter x.lo ∷ (flat_onto trees es ++ (Closes x.delimiter 0 ∷ []))) = events.group x.delimiter x.lo 0 inside events.nothing in
+    let closed : Balanced (Opens x.delimiter x.lo ∷ (flat_onto trees es ++ (Closes x.delimiter 0 ∷ []))) =
+    events.group x.delimiter x.lo 0 inside events.nothing in
     let outer = goes_on groups x.outer closed in (
       Closes x.delimiter 0 ∷ outer.0,
       subst (λ xs. Balanced (written_onto groups x.outer (Opens x.delimiter x.lo ∷ xs)))

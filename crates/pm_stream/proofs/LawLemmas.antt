@@ -121,12 +121,15 @@ passes_none base source position h vs s more goes =
     elim h.stuck [
       | inl none ↦ none x.0 x.1 (onto more.later s) more.whole stands
       | inr closer ↦
-          let same = one_piece (is_first h.pieces) x.0 (Close closer.character) x.1 closer.front (onto more.later s) closer.rest stands closer.stands (sym more.whole ∙ closer.whole) in
+          let same =
+          one_piece (is_first h.pieces) x.0 (Close closer.character) x.1 closer.front
+          (onto more.later s) closer.rest stands closer.stands (sym more.whole ∙ closer.whole) in
           let later = expansion (base + width h.pieces + length x.1) more.later in
           let event : expansion (base + width h.pieces) (x ∷ more.later) ≡ Closes (delimiter_of closer.character) (position + length closer.front) ∷ later =
           ap₂ (λ k p. events_onto (base + width h.pieces) k p later) same.0 same.1
           ∙ ap (λ n. Closes (delimiter_of closer.character) (n + length closer.front) ∷ later) (sym h.at) in
-          let split : expansion base vs ≡ (expansion base h.pieces ++ (Closes (delimiter_of closer.character) (position + length closer.front) ∷ [])) ++ later =
+          let split : expansion base vs ≡ (expansion base h.pieces
+          ++ (Closes (delimiter_of closer.character) (position + length closer.front) ∷ [])) ++ later =
           ap (expansion base) more.split
           ∙ (expansion-append base h.pieces (x ∷ more.later) ∙ (ap (λ es. expansion base h.pieces ++ es) event
           ∙ sym (append_assoc (expansion base h.pieces) (Closes (delimiter_of closer.character) (position + length closer.front) ∷ []) later))) in

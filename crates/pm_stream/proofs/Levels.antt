@@ -81,7 +81,8 @@ pub flattening-joined : (f g : Forest) → flattening (joined f g) ≡ flattenin
 flattening-joined f g = flat_onto-joined f g [] ∙ sym (flat_onto-append f [] (flattening g))
 
 -- the events of one tree more
-pub flat_onto-push : (ts : List TokenTree) (t : TokenTree) (es : List Event) → flat_onto (forest (ts ++ t ∷ [])) es ≡ flat_onto (forest ts) (flat_onto (alone t) es)
+pub flat_onto-push : (ts : List TokenTree) (t : TokenTree) (es : List Event)
+    → flat_onto (forest (ts ++ t ∷ [])) es ≡ flat_onto (forest ts) (flat_onto (alone t) es)
 flat_onto-push ts t es = ap (λ f. flat_onto f es) (forest-push ts t) ∙ flat_onto-joined (forest ts) (alone t) es
 
 -- the measures of the trees of a list are below that of the stream
@@ -89,7 +90,8 @@ most_size_le : (ts : List TokenTree) → most size-TokenTree ts ≤ 3 * count (f
 most_size_le [] = omega arith
 most_size_le (t ∷ ts) = omega (arith, deep_le-before t (forest ts), most_size_le ts)
 
-pub item_size_le : (ts : List TokenTree) (i : ℕ) (t : TokenTree) (f : Forest) → i < length ts → t ≡ get_or ts i t → forest ts ≡ f → size-TokenTree t ≤ 3 * count f + 2
+pub item_size_le : (ts : List TokenTree) (i : ℕ) (t : TokenTree) (f : Forest) → i < length ts → t ≡ get_or ts i t
+    → forest ts ≡ f → size-TokenTree t ≤ 3 * count f + 2
 item_size_le ts i t f h is e = omega (arith, at_most size-TokenTree ts i t h, most_size_le ts, ap size-TokenTree is, ap count e)
 
 -- the last of a list
@@ -117,7 +119,8 @@ IsBuilt-taken old new None p q = subst IsBuilt (sym p) q
 IsBuilt-taken old new (Some t) p q = IsBuilt-front new (alone t) (subst IsBuilt p q)
 
 -- with a tree put behind the others, or not
-pub IsBuilt-put : (old new : Forest) (t : TokenTree) (r : Result (Unit {0}) TokenTree) → OnOk r (new ≡ joined old (alone t)) → IfErr r (λ back. (back ≡ t) × (new ≡ old))
+pub IsBuilt-put : (old new : Forest) (t : TokenTree) (r : Result (Unit {0}) TokenTree)
+    → OnOk r (new ≡ joined old (alone t)) → IfErr r (λ back. (back ≡ t) × (new ≡ old))
     → IsBuilt old → IsBuilt (alone t) → IsBuilt new
 IsBuilt-put old new t (Ok u) ok err p q = subst IsBuilt (sym ok) (IsBuilt-joined old (alone t) p q)
 IsBuilt-put old new t (Err back) ok err p q = subst IsBuilt (sym err.1) p

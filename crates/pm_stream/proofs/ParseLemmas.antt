@@ -1,11 +1,14 @@
 -- How the parser's loop goes on and ends.
-use Rattle.std.proofs.Common.{◌≡◌, ◌≢◌, ℕ, ◌+◌, ◌<◌, Bool, false, List, [], ◌∷◌, ◌++◌, length, refl, sym, ap, ◌∙◌, subst, arith, length-append, Result, Ok, Err, IfOk, IfErr}
+use Rattle.std.proofs.Common.{◌≡◌, ◌≢◌, ℕ, ◌+◌, ◌<◌, Bool, false, List, [], ◌∷◌, ◌++◌, length, drop, refl, sym, ap, ◌∙◌, subst, arith, length-append, Result, Ok, Err, IfOk, IfErr}
+use Rattle.std.specs.Str.{chars, IsUtf8}
 use Rattle.lexical.specs.Piece.{IsPiece, HasNoPiece}
+use Rattle.lexical.specs.WhiteRun.{IsPastWhite}
 use Rattle.lexical.specs.Found.{IsPieceAt, kind_of}
 use Rattle.lexical.specs.declared.piece.PieceKind.{PieceKind}
 use Rattle.lexical.specs.declared.piece.PieceKind.TheVariants.{FrontMark, Gap, Doc, Opener, Closer, Literal, Mark, Name}
 use Rattle.lexical.specs.declared.piece.Piece.{Piece}
-use Rattle.lexical.proofs.PieceFacts.{piece_shortens}
+use Rattle.lexical.proofs.PieceFacts.{piece_shortens, piece_rest}
+use Rattle.lexical.proofs.WhiteRunLemmas.{all_white}
 use Rattle.pm_span.specs.Extent.{Extent}
 use Rattle.pm_token.specs.declared.errors.ParseError.{ParseError}
 use Rattle.pm_token.specs.declared.errors.ParseError.TheVariants.{Lex, MapFull, Memory}
@@ -14,22 +17,45 @@ use Rattle.pm_stream.specs.Forest.{Forest}
 use Rattle.pm_stream.specs.Parsing.{ParsesTo, FaultAt}
 use Rattle.pm_stream.specs.Written.{Opened, written_onto}
 use Rattle.pm_stream.specs.Progress.{IsFaultFor, IsStray, IsOpenFault, IsFault}
-use Rattle.pm_stream.proofs.ReadSoFar.{Reads, reads_more, reads_all, reads_open, reads_stray, reads_stuck}
+use Rattle.pm_stream.proofs.ReadSoFar.{Reads, reads_more, reads_white, reads_all, reads_open, reads_stray, reads_stuck}
 
-pub found_shorter : (first : Bool) (source : List ℕ) (piece : Piece) (h : IsPieceAt first source piece)
+found_shorter : (first : Bool) (source : List ℕ) (piece : Piece) (h : IsPieceAt first source piece)
     → (piece.chars + length h.rest ≡ length source) × (length h.rest < length source)
 found_shorter first source piece h =
     let less = piece_shortens first (kind_of piece.kind h.front) h.front h.rest h.stands in
     let whole : length source ≡ length h.front + length h.rest = ap length h.whole ∙ length-append h.front h.rest in
     (omega (arith, h.chars), omega (arith, ap length h.whole, less))
 
-pub reads_found : (base : ℕ) (source mid rest : List ℕ) (at : ℕ) (first : Bool) (groups groups' : List Opened) (trees trees' : Forest) (piece : Piece)
+-- what is left behind a piece and the white characters behind it
+pub left_shorter : (first : Bool) (text behind rest : List ℕ) (count : ℕ) (piece : Piece) → IsUtf8 text
+    → IsPieceAt first (chars text) piece → behind ≡ drop piece.bytes text → IsPastWhite (chars behind) rest count
+    → (piece.chars + count + length rest ≡ length (chars text)) × (length rest < length (chars text))
+left_shorter first text behind rest count piece utf8 h e white =
+    let less = found_shorter first (chars text) piece h in
+    let same = ap length (ap chars e ∙ piece_rest first text piece utf8 h) in
+    let size : count + length rest ≡ length (chars behind) = omega (arith, white.chars, ap length white.whole, length-append white.front rest) in
+    (omega (arith, same, less.0), omega (arith, same, less.1))
+
+reads_found : (base : ℕ) (source mid rest : List ℕ) (at : ℕ) (first : Bool) (groups groups' : List Opened) (trees trees' : Forest) (piece : Piece)
     → Reads base source mid at first groups trees → (h : IsPieceAt first mid piece) → rest ≡ h.rest
     → written_onto groups' trees' [] ≡ written_onto groups trees (events_onto at (kind_of piece.kind h.front) h.front [])
     → Reads base source rest (at + piece.chars) false groups' trees'
 reads_found base source mid rest at first groups groups' trees trees' piece reads h e grows =
     subst (λ r. Reads base source r (at + piece.chars) false groups' trees') (sym e)
-    (reads_more base source mid h.front h.rest at (at + piece.chars) first groups groups' trees trees' (kind_of piece.kind h.front) reads h.whole h.stands (ap (λ n. at + n) h.chars) grows)
+    (reads_more base source mid h.front h.rest at (at + piece.chars) first groups groups' trees trees'
+    (kind_of piece.kind h.front) reads h.whole h.stands (ap (λ n. at + n) h.chars) grows)
+
+-- past a piece and the white characters behind it
+pub reads_on : (base : ℕ) (source mid behind rest : List ℕ) (at count : ℕ) (first : Bool) (groups groups' : List Opened) (trees trees' : Forest)
+    (piece : Piece)
+    → Reads base source mid at first groups trees → (h : IsPieceAt first mid piece) → behind ≡ h.rest
+    → written_onto groups' trees' [] ≡ written_onto groups trees (events_onto at (kind_of piece.kind h.front) h.front [])
+    → IsPastWhite behind rest count
+    → Reads base source rest (at + (piece.chars + count)) false groups' trees'
+reads_on base source mid behind rest at count first groups groups' trees trees' piece reads h e grows white =
+    reads_white base source behind white.front rest (at + piece.chars) (at + (piece.chars + count)) groups' trees'
+    (reads_found base source mid behind at first groups groups' trees trees' piece reads h e grows)
+    white.whole (all_white white.front white.stands.each) (omega (arith, white.chars))
 
 -- ---- faults
 

@@ -35,7 +35,8 @@ name_found first source piece raw name h is =
     token_built (Name raw (chars name.now)) h.rest stands.1
 
 -- the characters of a piece's bytes
-piece_chars : (first : Bool) (text bytes : List ℕ) (piece : Found) → IsUtf8 text → (h : IsPieceAt first (chars text) piece) → bytes ≡ take (piece.bytes - 0) text → chars bytes ≡ h.front
+piece_chars : (first : Bool) (text bytes : List ℕ) (piece : Found) → IsUtf8 text
+    → (h : IsPieceAt first (chars text) piece) → bytes ≡ take (piece.bytes - 0) text → chars bytes ≡ h.front
 piece_chars first text bytes piece utf8 h e =
     let all : piece.bytes - 0 ≡ piece.bytes = omega arith in
     ap chars (e ∙ ap (λ n. take n text) all) ∙ piece_front first text piece utf8 h
@@ -58,7 +59,8 @@ same_fronts (c ∷ p) (d ∷ q) r s e size =
     ap₂ (λ x xs. x ∷ xs) head (same_fronts p q r s tail (omega (arith, size)))
 
 -- the characters of the piece's bytes are any front that has as many
-pub front_is : (first : Bool) (text bytes front rest : List ℕ) (piece : Found) → IsUtf8 text → IsPieceAt first (chars text) piece → bytes ≡ take (piece.bytes - 0) text
+pub front_is : (first : Bool) (text bytes front rest : List ℕ) (piece : Found) → IsUtf8 text
+    → IsPieceAt first (chars text) piece → bytes ≡ take (piece.bytes - 0) text
     → chars text ≡ front ++ rest → piece.chars ≡ length front → chars bytes ≡ front
 front_is first text bytes front rest piece utf8 h e whole size =
     piece_chars first text bytes piece utf8 h e ∙ same_fronts h.front front h.rest rest (sym h.whole ∙ whole) (sym h.chars ∙ size)

@@ -33,7 +33,9 @@ outer_count (level ∷ inner) = 1 + 2 * count (forest level.after.now) + outer_c
 
 pub outer_text-push : (levels : List Level) (level : Level) → outer_text (levels ++ level ∷ []) ≡ level_text level ++ outer_text levels
 outer_text-push [] level = sym (append-nil (level_text level))
-outer_text-push (x ∷ levels) level = ap (λ l. l ++ level_text x) (outer_text-push levels level) ∙ append_assoc (level_text level) (outer_text levels) (level_text x)
+outer_text-push (x ∷ levels) level =
+    ap (λ l. l ++ level_text x) (outer_text-push levels level)
+    ∙ append_assoc (level_text level) (outer_text levels) (level_text x)
 
 pub outer_count-push : (levels : List Level) (level : Level) → outer_count (levels ++ level ∷ []) ≡ 1 + 2 * count (forest level.after.now) + outer_count levels
 outer_count-push [] level = refl
@@ -68,12 +70,14 @@ end_text : (gap : Bool) (level : Level) (outer : List Level)
 end_text gap level outer = rw (outer_text-push outer level) (simp append_assoc refl)
 
 -- a push that succeeds
-pub pushed : {E X : Type 0} (r : Result (Unit {0}) E) (b : Bool) (new xs ys : List X) → b ≡ is_err r → b ≡ false → new ≡ (if is_ok r then xs else ys) → new ≡ xs
+pub pushed : {E X : Type 0} (r : Result (Unit {0}) E) (b : Bool) (new xs ys : List X) → b ≡ is_err r → b ≡ false
+    → new ≡ (if is_ok r then xs else ys) → new ≡ xs
 pushed (Ok u) b new xs ys e f p = p
 pushed (Err x) b new xs ys e f p = cc
 
 -- after a token
-pub leaf_more : (gap now : Bool) (t : TokenTree) (left after : List TokenTree) (outer : List Level) → left ≡ t ∷ after → ((g : Grouped) → t ≡ Group g → ⊥) → now ≡ gap_within t
+pub leaf_more : (gap now : Bool) (t : TokenTree) (left after : List TokenTree) (outer : List Level) → left ≡ t ∷ after
+    → ((g : Grouped) → t ≡ Group g → ⊥) → now ≡ gap_within t
     → (space gap ++ front_text t) ++ left_text now after outer ≡ left_text gap left outer
 leaf_more gap now t left after outer whole other e = rw (e, whole) (sym (leaf_text gap t after outer other))
 
@@ -94,7 +98,8 @@ pub end_more : (gap : Bool) (left : List TokenTree) (level : Level) (outer new :
 end_more gap [] level outer new z p = rw p (sym (end_text gap level new))
 end_more gap (t ∷ ts) level outer new z p = absurd (omega (arith, z))
 
-pub end_less : (left : List TokenTree) (level : Level) (outer new : List Level) → outer ≡ new ++ level ∷ [] → left_count level.after.now new < left_count left outer
+pub end_less : (left : List TokenTree) (level : Level) (outer new : List Level) → outer ≡ new ++ level ∷ []
+    → left_count level.after.now new < left_count left outer
 end_less left level outer new p = rw p (omega (arith, outer_count-push new level))
 
 -- some texts are written, and the next
@@ -110,7 +115,8 @@ pub written_two : {W : Type 0} (took : W → List ℕ → W → Type 0) (f g h :
 written_two took f g h a b p q = has_written_of_eq _ _ _ _ _ (sym (encodes-append a b)) (has_written_append _ _ _ _ _ _ p q)
 
 -- a group is written
-pub group_written : {W : Type 0} (took : W → List ℕ → W → Type 0) (f f1 f2 f3 : Formatter W) (g : Grouped) (d : Delimiter) (gap : Bool) (inside : List TokenTree)
+pub group_written : {W : Type 0} (took : W → List ℕ → W → Type 0) (f f1 f2 f3 : Formatter W) (g : Grouped)
+    (d : Delimiter) (gap : Bool) (inside : List TokenTree)
     → d ≡ g.delimiter → gap ≡ is_brace d → forest inside ≡ g.stream
     → HasWritten took f (encode_utf8_all (opening d)) f1
     → HasWritten took f1 (encode_utf8_all (printed_after gap (forest inside))) f2

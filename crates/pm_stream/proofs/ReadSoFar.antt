@@ -1,6 +1,9 @@
 -- What the parser has read so far, and how the reading ends.
 use Rattle.std.proofs.Common.{◌≡◌, ◌≢◌, inl, inr, ℕ, ◌+◌, Bool, true, false, List, [], ◌∷◌, ◌++◌, length, refl, sym, ap, ◌∙◌, subst, arith}
-use Rattle.lexical.specs.Piece.{Kind, Piece, Close, IsPiece, HasNoPiece}
+use Rattle.lexical.specs.Class.{is_white}
+use Rattle.lexical.specs.Piece.{Kind, Piece, Gap, Close, IsPiece, HasNoPiece}
+use Rattle.std.specs.List.{list_all}
+use Rattle.std.proofs.lemmas.Bool.{and_parts}
 use Rattle.lexical.specs.Cover.{CoversUpTo, width}
 use Rattle.lexical.proofs.PieceFacts.{piece_not_empty}
 use Rattle.pm_stream.specs.Delimited.{delimiter_of}
@@ -37,6 +40,17 @@ reads_more base source mid p rest at end first groups groups' trees trees' k h w
   expands = grows ∙ (written-append groups trees [] (events_onto at k p []) ∙ (ap (λ es. es ++ events_onto at k p []) h.expands
       ∙ (ap (λ n. expansion base h.pieces ++ events_onto n k p []) h.place ∙ sym (expansion-more base h.pieces k p))));
 }
+
+-- white characters are gaps, which write nothing
+pub reads_white : (base : ℕ) (source mid p rest : List ℕ) (at end : ℕ) (groups : List Opened) (trees : Forest)
+    → Reads base source mid at false groups trees → mid ≡ p ++ rest → list_all is_white p ≡ true
+    → end ≡ at + length p → Reads base source rest end false groups trees
+reads_white base source mid [] rest at end groups trees h whole white e =
+    subst (λ n. Reads base source rest n false groups trees) (omega arith) (subst (λ m. Reads base source m at false groups trees) whole h)
+reads_white base source mid (c ∷ p) rest at end groups trees h whole white e =
+    let parts = and_parts _ _ white in
+    let past = reads_more base source mid (c ∷ []) (p ++ rest) at (at + 1) false groups groups trees trees Gap h whole (inl (c, refl, parts.0)) refl refl in
+    reads_white base source (p ++ rest) p rest (at + 1) end groups trees past refl parts.1 (omega arith)
 
 -- ---- how the reading ends
 

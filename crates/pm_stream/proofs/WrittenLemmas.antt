@@ -76,4 +76,5 @@ built_close at hi frames outer frame trees list d le last grown h =
     subst (λ gs. IsBuiltUpTo at gs trees) (ap (λ fs. reverse (map opened fs)) last ∙ groups-push outer frame) h in
     let within : frame.lo ≤ hi = omega (arith, parts.1) in
     subst (λ ts. IsBuiltUpTo hi groups (forest ts)) (sym grown)
-    (built_push hi groups frame.outer.items (closed d frame trees hi) (built_later groups (forest frame.outer.items) frame.lo hi within parts.2) (within, parts.0, tt))
+    (built_push hi groups frame.outer.items (closed d frame trees hi)
+    (built_later groups (forest frame.outer.items) frame.lo hi within parts.2) (within, parts.0, tt))

@@ -31,11 +31,13 @@ token_code (Mark c joint) = gcons (gnum 1) (gcons (gnum c) (coded_bool.code join
 token_code (Literal text) = gcons (gnum 2) (chars_code.code text)
 
 pub token_inj : (x y : Token) → token_code x ≡ token_code y → x ≡ y
-token_inj (Name r n) (Name s m) p = λ i. Name (coded_bool.inj r s (ap (λ v. head (tail v)) p) i) (chars_code.inj n m (ap (λ v. tail (tail v)) p) i)
+token_inj (Name r n) (Name s m) p =
+    λ i. Name (coded_bool.inj r s (ap (λ v. head (tail v)) p) i) (chars_code.inj n m (ap (λ v. tail (tail v)) p) i)
 token_inj (Name r n) (Mark d k) p = absurd (apart 0 1 p (omega arith))
 token_inj (Name r n) (Literal u) p = absurd (apart 0 2 p (omega arith))
 token_inj (Mark c j) (Name s m) p = absurd (apart 1 0 p (omega arith))
-token_inj (Mark c j) (Mark d k) p = λ i. Mark (coded_ℕ.inj c d (ap (λ v. head (tail v)) p) i) (coded_bool.inj j k (ap (λ v. tail (tail v)) p) i)
+token_inj (Mark c j) (Mark d k) p =
+    λ i. Mark (coded_ℕ.inj c d (ap (λ v. head (tail v)) p) i) (coded_bool.inj j k (ap (λ v. tail (tail v)) p) i)
 token_inj (Mark c j) (Literal u) p = absurd (apart 1 2 p (omega arith))
 token_inj (Literal t) (Name s m) p = absurd (apart 2 0 p (omega arith))
 token_inj (Literal t) (Mark d k) p = absurd (apart 2 1 p (omega arith))
@@ -46,7 +48,8 @@ forest_code nil = gcons (gnum 0) gnil
 forest_code (leaf token lo hi rest) =
     gcons (gnum 1) (gcons (token_code token) (gcons (gnum lo) (gcons (gnum hi) (forest_code rest))))
 forest_code (group d lo hi inside rest) =
-    gcons (gnum 2) (gcons (delimiter.the_row.coded.code d) (gcons (gnum lo) (gcons (gnum hi) (gcons (forest_code inside) (forest_code rest)))))
+    gcons (gnum 2) (gcons (delimiter.the_row.coded.code d)
+    (gcons (gnum lo) (gcons (gnum hi) (gcons (forest_code inside) (forest_code rest)))))
 
 pub forest_inj : (x y : Forest) → forest_code x ≡ forest_code y → x ≡ y
 forest_inj nil nil p = λ i. nil

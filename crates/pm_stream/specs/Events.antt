@@ -56,7 +56,8 @@ expansion at (piece ∷ pieces) = events_onto at piece.0 piece.1 (expansion (at 
 pub data Balanced : List Event → Type 0 where
   nothing : Balanced []
   leaf : (token : Token) (lo hi : ℕ) {events : List Event} → Balanced events → Balanced (One token lo hi ∷ events)
-  group : (d : Delimiter) (lo hi : ℕ) {inside events : List Event} → Balanced inside → Balanced events → Balanced (Opens d lo ∷ (inside ++ (Closes d hi ∷ events)))
+  group : (d : Delimiter) (lo hi : ℕ) {inside events : List Event} → Balanced inside → Balanced events
+      → Balanced (Opens d lo ∷ (inside ++ (Closes d hi ∷ events)))
 
 -- `can-go-on`: a front of a balanced list
 abbrev pub CanGoOn : List Event → Type 0

@@ -23,6 +23,7 @@ most_le-count [] = omega arith
 most_le-count (t ∷ ts) = omega (arith, deep_le-before t (forest ts), most_le-count ts)
 
 -- the law of the model's size
-pub deep_le-held : (o : Option (Rc (Vec TokenTree Global) Global)) → max (weighed-TokenStream-trees.weight TokenTree deep-TokenTree o) 0 ≤ count (held o)
+pub deep_le-held : (o : Option (Rc (Vec TokenTree Global) Global))
+    → max (weighed-TokenStream-trees.weight TokenTree deep-TokenTree o) 0 ≤ count (held o)
 deep_le-held None = omega arith
 deep_le-held (Some r) = omega (arith, most_le-count r.value.items)

@@ -5,7 +5,7 @@ pub mod Size
 pub mod Codec
 pub mod Level
 pub mod Falls
-pub mod Place
+pub mod TreeSpan
 pub mod Printed
 pub mod PrintedTree
 pub mod Rule

@@ -18,7 +18,8 @@ abbrev pub printed_after : Bool → Forest → List ℕ
 printed_after gap nil = []
 printed_after gap (leaf token lo hi rest) = space gap ++ (token_text token ++ printed_after (parts token) rest)
 printed_after gap (group d lo hi inside rest) =
-    space gap ++ (opening d ++ (printed_after (is_brace d) inside ++ (space (is_brace d) ++ (closing d ++ printed_after true rest))))
+    space gap ++ (opening d ++ (printed_after (is_brace d) inside
+    ++ (space (is_brace d) ++ (closing d ++ printed_after true rest))))
 
 -- `printed`: the text of a stream
 abbrev pub printed : Forest → List ℕ

@@ -1,14 +1,10 @@
 -- When the printed text of a stream can be read back.
-use Rattle.std.specs.Prelude.{ℕ, Bool, true, false, not, ◌&&◌, ◌==◌, Option, Some, None, List, [], ◌∷◌, codes, IsTrue, if◌then◌else◌}
+use Rattle.std.specs.Prelude.{ℕ, Bool, true, false, not, ◌&&◌, ◌==◌, Option, Some, None, [], ◌∷◌, IsTrue, if◌then◌else◌}
 use Rattle.lexical.specs.Text.{begins_any, first_passes}
-use Rattle.lexical.specs.Mark.{comment_fronts}
+use Rattle.lexical.specs.Mark.{comment_fronts, quotable_fronts}
 use Rattle.lexical.specs.Token.{Token, Name, Mark, Literal}
 use Rattle.pm_stream.specs.Forest.{Forest, nil, leaf, group}
 use Rattle.pm_stream.specs.Shown.{is_shown}
-
--- how the literals begin that may come next to the mark `'`
-abbrev pub quotable_fronts : List (List ℕ)
-quotable_fronts = codes "b\"" ∷ codes "c\"" ∷ codes "r\"" ∷ codes "br\"" ∷ codes "cr\"" ∷ []
 
 -- the next tree is an identifier or such a literal
 abbrev pub follows_quote : Option Token → Bool

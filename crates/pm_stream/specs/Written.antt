@@ -13,7 +13,8 @@ pub record Opened : Type 0 where
 -- the events of the open groups, the innermost of them first, and of its trees, and then other events
 abbrev pub written_onto : List Opened → Forest → List Event → List Event
 written_onto [] trees events = flat_onto trees events
-written_onto (group ∷ groups) trees events = written_onto groups group.outer (Opens group.delimiter group.lo ∷ flat_onto trees events)
+written_onto (group ∷ groups) trees events =
+    written_onto groups group.outer (Opens group.delimiter group.lo ∷ flat_onto trees events)
 
 -- the closer fits the innermost of the open groups
 abbrev pub FitsInnermost : Delimiter → List Opened → Type 0

@@ -18,7 +18,7 @@ ghost use Rattle.pm_stream.specs.Progress.{groups, trees, written, IsBuiltTo, Is
 
 use crate::doc::doc_group;
 use crate::stream::{Group, TokenStream, TokenTree};
-use lexical::{Piece, PieceKind, piece_at};
+use lexical::{Piece, PieceKind, past_white, piece_at};
 use pm_span::parts::{add_file, allocator, fits, span_of};
 use pm_span::{SourceMap, Span};
 use pm_token::parts::{fault, ident, literal, punct};
@@ -52,7 +52,7 @@ impl TokenStream {
         ensures kept { map.new
             ≡ (if was_read result then with_file map.old (chars text.now) else map.old) }
     {
-        let Some(lo) = fits(map, count(text)) else {
+        let Some(lo) = fits(map, text) else {
             return Err(ParseError::MapFull);
         };
         let parsed = parse(allocator(map), lo, text);
@@ -76,8 +76,11 @@ fn parse(alloc: Global, base: u32, text: &str) -> Result<TokenStream, ParseError
     let mut first = true;
     while let Some(piece) = piece_at(rest, first) {
         reading.take(piece, rest, at)?;
-        rest = &rest[piece.bytes..];
-        at += piece.chars as u32;
+        let behind = &rest[piece.bytes..];
+        // White characters are gaps, which say nothing, and are passed over all at once.
+        let (after, white) = past_white(behind);
+        rest = after;
+        at += (piece.chars + white) as u32;
         first = false;
     }
     reading.end(rest, at)
@@ -146,6 +149,8 @@ impl Reading {
     }
 
     /// Takes a tree that may be put into a stream.
+    // Inlined so that the tree is made in its place in the list.
+    #[inline(always)]
     fn push(&mut self, tree: TokenTree) -> Result<(), AllocError>
         requires { GoesInside tree }
         ensures ok { OnOk result ((events : List Event)
@@ -265,14 +270,6 @@ impl Reading {
     }
 }
 
-/// How many characters the text has.
-#[tactic(auto, using(std::proofs::lemmas::Str::chars_from_encodes))]
-fn count(text: &str) -> usize
-    ensures { result ≡ length (chars text.now) }
-{
-    text.chars().count()
-}
-
 /// The delimiter of which `c` is the opener or the closer.
 fn delimiter(c: char) -> Delimiter
     ensures { result ≡ delimiter_of c }
@@ -303,84 +300,4 @@ fn fault_at(position: u32) -> ParseError
 }
 
 #[cfg(test)]
-mod tests {
-    use super::*;
-    use pm_span::parts::bounds;
-    use std::test::Fail;
-
-    #[test]
-    fn tokens_are_printed_with_their_spacing(rt: HostRuntime) -> Result<(), Fail> {
-        for (text, want) in [
-            ("", ""),
-            ("a+b", "a + b"),
-            ("a += b", "a += b"),
-            ("<<=", "<<="),
-            ("fn f(x) { x + y }", "fn f (x) { x + y }"),
-            ("1..2", "1 .. 2"),
-            ("1.f32", "1 . f32"),
-            ("1.", "1."),
-            ("0E--0", "0E -- 0"),
-            ("tuple.0.0", "tuple . 0.0"),
-        ] {
-            let mut map = SourceMap::new(rt.alloc());
-            let stream = TokenStream::from_str(text, &mut map)?;
-            let printed = format!(in rt.alloc(); "{stream}")?;
-            assert_eq!(rt; printed.as_str(), want, "of {text:?}");
-        }
-        Ok(())
-    }
-
-    #[test]
-    fn a_fault_stands_before_what_cannot_be_read(rt: HostRuntime) -> Result<(), Fail> {
-        for (text, at) in [
-            ("a\"", 2),
-            ("b\"", 1),
-            ("0b12", 1),
-            ("0x_", 1),
-            ("1.5\u{301}", 3),
-            ("( \"", 3),
-            ("foo\u{FEFF}", 4),
-            ("///\r", 1),
-            ("///\r \n", 1),
-            ("(]", 2),
-            (")", 1),
-            ("a ( [ b", 5),
-            ("( /* x", 3),
-        ] {
-            let mut map = SourceMap::new(rt.alloc());
-            let parsed = TokenStream::from_str(text, &mut map);
-            let found = match &parsed {
-                Err(ParseError::Lex(fault)) => bounds(fault.span()),
-                _ => (0, 0),
-            };
-            assert_eq!(rt; found, (at, at), "of {text:?}");
-        }
-        Ok(())
-    }
-
-    #[test]
-    fn a_file_stays_in_the_map_up_to_the_limit(rt: HostRuntime) -> Result<(), Fail> {
-        for (text, parses, limit, full) in [
-            ("abcd", true, 5, true),
-            ("abcd", true, 6, false),
-            ("abc)", false, 5, true),
-            ("abc)", false, 6, false),
-        ] {
-            let mut map = SourceMap::with_limit(rt.alloc(), limit);
-            assert_eq!(rt;
-                TokenStream::from_str(text, &mut map).is_ok(),
-                parses,
-                "of {text:?}"
-            );
-            assert!(rt; map.holds(span_of(1, 5)), "at the limit {limit}");
-            let last = TokenStream::from_str("", &mut map);
-            assert_eq!(rt;
-                matches!(last, Err(ParseError::MapFull)),
-                full,
-                "at the limit {limit}"
-            );
-            assert_eq!(rt; map.holds(span_of(6, 6)), !full, "at the limit {limit}");
-        }
-        Ok(())
-    }
-}
+mod tests;

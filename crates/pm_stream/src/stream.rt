@@ -3,7 +3,7 @@ ghost use Rattle.std.specs.Prelude.{◌≡◌, ◌+◌, IfOk, IfErr, OnOk};
 ghost use Rattle.pm_stream.specs.Forest.{Forest, nil, joined, IsBuilt};
 ghost use Rattle.pm_stream.specs.Level.{forest, held, alone, inside, GoesInside, TakesLast};
 ghost use Rattle.pm_stream.specs.Size.{is_nil, count};
-ghost use Rattle.pm_stream.specs.Place.{extent_of};
+ghost use Rattle.pm_stream.specs.TreeSpan.{extent_of};
 
 use pm_span::Span;
 use pm_span::parts::bounds;

@@ -41,13 +41,20 @@ hex_escape p r is = inr (inl (record { front = codes "x"; back = p; whole = refl
 -- ---- one byte
 
 -- bytes and byte strings allow what is written for a byte
-allows_byte : (class : ℕ → Bool) (quote b : ℕ) → b < 256 → ((d : ℕ) → d < 128 → is_plain quote d ≡ true → class d ≡ true) → Allows class ByteEscape written_byte quote b
+allows_byte : (class : ℕ → Bool) (quote b : ℕ) → b < 256
+    → ((d : ℕ) → d < 128 → is_plain quote d ≡ true → class d ≡ true) → Allows class ByteEscape written_byte quote b
 allows_byte class quote b low within = record {
   letter = λ letter r is. inl (letter, refl, letter_of_all letter is);
   zeros = λ r e. (inl (48, refl, refl), hex_escape (codes "00") r (pair_hex 0 r (omega arith)));
   other = λ r plain. cond_both (nat_le 32 b && nat_lt b 127) (b ∷ []) (codes "\\x" ++ hex_pair b) (λ p. SingleUnit class ByteEscape p r)
       (λ e. inl (b, refl, within b (omega (arith, ltb-true b 127 (and_parts (nat_le 32 b) (nat_lt b 127) e).1)) plain))
-      (λ e. inr (record { front = codes "\\"; back = codes "x" ++ hex_pair b; whole = refl; first = refl; second = hex_escape (hex_pair b) r (pair_hex b r low) }));
+      (λ e. inr (record {
+        front = codes "\\";
+        back = codes "x" ++ hex_pair b;
+        whole = refl;
+        first = refl;
+        second = hex_escape (hex_pair b) r (pair_hex b r low);
+      }));
 }
 
 ascii_below : (d : ℕ) → d < 128 → is_ascii d ≡ true
@@ -74,7 +81,8 @@ each_unit : (bytes r : List ℕ) → AreBytes bytes → Each ByteUnit (units_of 
 each_unit [] r are = tt
 each_unit (b ∷ rest) r are = (
   body_unit is_byte_plain ByteEscape _ _
-      (written_stands is_byte_plain ByteEscape written_byte 34 b rest (concat (units_of 34 written_byte rest) ++ r) (allows_byte is_byte_plain 34 b are.0 byte_plain) refl),
+      (written_stands is_byte_plain ByteEscape written_byte 34 b rest (concat (units_of 34 written_byte rest) ++ r)
+      (allows_byte is_byte_plain 34 b are.0 byte_plain) refl),
   each_unit rest r are.1,
 )
 

@@ -46,13 +46,22 @@ byte_unit b r low some = inr (inr (record {
   back = codes "x" ++ hex_pair b;
   whole = refl;
   first = refl;
-  second = inr (inr (inl (record { front = codes "x"; back = hex_pair b; whole = refl; first = refl; second = (pair_hex b r low, pair_nonzero b r low some) })));
+  second =
+      inr (inr (inl (record {
+        front = codes "x";
+        back = hex_pair b;
+        whole = refl;
+        first = refl;
+        second = (pair_hex b r low, pair_nonzero b r low some);
+      })));
 }))
 
 -- the first character of bytes that have no zero isn't zero
 pub char_some : (c : ℕ) (rest : List ℕ) → has_no_zero (encode_utf8 c ++ rest) ≡ true → (c == 0) ≡ false
 char_some c rest none = false_from_ne_true _ (λ e.
-    let zeros : has_no_zero (0 ∷ rest) ≡ true = ap (λ x. has_no_zero (x ++ rest)) (sym (encode_ascii 0 (omega arith)) ∙ ap encode_utf8 (sym (eqb-true c 0 e))) ∙ none in
+    let zeros : has_no_zero (0 ∷ rest) ≡ true =
+    ap (λ x. has_no_zero (x ++ rest))
+    (sym (encode_ascii 0 (omega arith)) ∙ ap encode_utf8 (sym (eqb-true c 0 e))) ∙ none in
     both_ways false refl (and_parts false (has_no_zero rest) zeros).0)
 
 pub no_zero_behind : (front rest : List ℕ) → has_no_zero (front ++ rest) ≡ true → has_no_zero rest ≡ true
@@ -110,7 +119,9 @@ c_string_stands parts bytes r are fit none ends = record {
 pub c_string_whole : (bytes text : List ℕ) → IsCStringText bytes text → AreBytes bytes → has_no_zero bytes ≡ true → IsWhole text
 unfolding IsWhole literals.Literal
 c_string_whole bytes text is fit none =
-    subst (λ t. literals.AnyLiteral t []) (sym is.whole) (inl (inl (inr (inr (inr (inr (inl (c_string_stands is.parts bytes [] is.reads fit none (stop_ends [] refl)))))))))
+    subst (λ t. literals.AnyLiteral t []) (sym is.whole)
+    (inl (inl (inr (inr (inr (inr (inl
+    (c_string_stands is.parts bytes [] is.reads fit none (stop_ends [] refl)))))))))
 
 -- ---- the parts of bytes
 
@@ -144,7 +155,8 @@ parts_append [] qs = refl
 parts_append (p ∷ ps) qs = ap (λ x. part_text p ++ x) (parts_append ps qs) ∙ sym (append_assoc (part_text p) (parts_text ps) (parts_text qs))
 
 -- a text, and then other parts
-chars_parts : (cs : List ℕ) (more : List Part) (rest : List ℕ) → all_scalars cs ≡ true → AreParts more rest → AreParts (map Char cs ++ more) (encode_utf8_all cs ++ rest)
+chars_parts : (cs : List ℕ) (more : List Part) (rest : List ℕ) → all_scalars cs ≡ true → AreParts more rest
+    → AreParts (map Char cs ++ more) (encode_utf8_all cs ++ rest)
 chars_parts [] more rest all are = are
 chars_parts (c ∷ cs) more rest all are =
     let parts = and_parts _ _ all in
@@ -154,14 +166,18 @@ chars_parts (c ∷ cs) more rest all are =
 chars_some : (cs rest : List ℕ) → has_no_zero (encode_utf8_all cs ++ rest) ≡ true → no_zero_in cs ≡ true
 chars_some [] rest none = refl
 chars_some (c ∷ cs) rest none =
-    let whole : has_no_zero (encode_utf8 c ++ (encode_utf8_all cs ++ rest)) ≡ true = ap has_no_zero (sym (append_assoc (encode_utf8 c) (encode_utf8_all cs) rest)) ∙ none in
-    and_from _ _ (ap not (char_some c (encode_utf8_all cs ++ rest) whole)) (chars_some cs rest (no_zero_behind (encode_utf8 c) (encode_utf8_all cs ++ rest) whole))
+    let whole : has_no_zero (encode_utf8 c ++ (encode_utf8_all cs ++ rest)) ≡ true =
+    ap has_no_zero (sym (append_assoc (encode_utf8 c) (encode_utf8_all cs) rest)) ∙ none in
+    and_from _ _ (ap not (char_some c (encode_utf8_all cs ++ rest) whole))
+    (chars_some cs rest (no_zero_behind (encode_utf8 c) (encode_utf8_all cs ++ rest) whole))
 
 -- ---- where a text ends
 
 longest : (bytes : List ℕ) (m n : ℕ) → m ≤ n → is_utf8 (take m bytes) ≡ true → m ≤ valid_len_up_to bytes n
 longest bytes m zero le is = le
-longest bytes m (suc n) le is = cond_both (is_utf8 (take (suc n) bytes)) (suc n) (valid_len_up_to bytes n) (λ k. m ≤ k) (λ e. le) (λ e. longest bytes m n (shorter e) is)
+longest bytes m (suc n) le is =
+    cond_both (is_utf8 (take (suc n) bytes)) (suc n) (valid_len_up_to bytes n) (λ k. m ≤ k) (λ e. le)
+    (λ e. longest bytes m n (shorter e) is)
   where
     shorter : is_utf8 (take (suc n) bytes) ≡ false → m ≤ n
     shorter e = elim (cases_lt m (suc n)) [
@@ -177,7 +193,10 @@ begins_none bytes valid tail utf8 whole long c rest scalar e =
     let all : bytes ≡ front ++ rest = whole ∙ (ap (λ x. valid ++ x) e ∙ sym (append_assoc valid (encode_utf8 c) rest)) in
     let cut : take (length front) bytes ≡ front = ap (take (length front)) all ∙ take_at front rest (length front) refl in
     let within : length front ≤ length bytes = omega (arith, ap length all, length-append front rest) in
-    let most = longest bytes (length front) (length bytes) within (is_utf8-from_IsUtf8 (take (length front) bytes) (subst IsUtf8 (sym cut) (IsUtf8-append valid (encode_utf8 c) utf8 (IsUtf8-encode c scalar)))) in
+    let most =
+    longest bytes (length front) (length bytes) within
+    (is_utf8-from_IsUtf8 (take (length front) bytes)
+    (subst IsUtf8 (sym cut) (IsUtf8-append valid (encode_utf8 c) utf8 (IsUtf8-encode c scalar)))) in
     omega (arith, most, long, length-append valid (encode_utf8 c), length-encode c, len_utf8_bounds c)
 
 -- ---- one step
@@ -198,7 +217,8 @@ pub chunk_long : (bytes left valid text : List ℕ) → left ≡ bytes → lengt
 chunk_long bytes left valid text same long is = ap length is ∙ (long ∙ ap utf8_valid_len same)
 
 -- the text at the front, and the byte behind it
-pub front_and_byte : (bytes valid tail rest old new : List ℕ) (b : ℕ) → IsUtf8 valid → bytes ≡ valid ++ tail → length valid ≡ utf8_valid_len bytes → tail ≡ b ∷ rest
+pub front_and_byte : (bytes valid tail rest old new : List ℕ) (b : ℕ) → IsUtf8 valid → bytes ≡ valid ++ tail
+    → length valid ≡ utf8_valid_len bytes → tail ≡ b ∷ rest
     → has_no_zero bytes ≡ true → new ≡ (old ++ content 34 written_char (chars valid)) ++ (codes "\\x" ++ hex_pair b) → WritesFront bytes rest old new
 front_and_byte bytes valid tail rest old new b utf8 whole long split none e =
     let cs = chars valid in
@@ -208,11 +228,14 @@ front_and_byte bytes valid tail rest old new b utf8 whole long split none e =
       parts = map Char cs ++ (Byte b ∷ []);
       reads = λ more are. (
         map Char cs ++ (Byte b ∷ more),
-        subst (AreParts (map Char cs ++ (Byte b ∷ more))) spelled (chars_parts cs (Byte b ∷ more) tail (scalars-chars valid utf8) (begins_none bytes valid tail utf8 whole long, rest, split, are)),
+        subst (AreParts (map Char cs ++ (Byte b ∷ more))) spelled
+            (chars_parts cs (Byte b ∷ more) tail (scalars-chars valid utf8)
+            (begins_none bytes valid tail utf8 whole long, rest, split, are)),
         ap parts_text (sym (append_assoc (map Char cs) (Byte b ∷ []) more)) ∙ parts_append (map Char cs ++ (Byte b ∷ [])) more,
       );
       text = e ∙ (append_assoc old (content 34 written_char cs) (codes "\\x" ++ hex_pair b)
-          ∙ ap (λ x. old ++ x) (ap₂ (λ x y. x ++ y) (sym text) (sym (append-nil (codes "\\x" ++ hex_pair b))) ∙ sym (parts_append (map Char cs) (Byte b ∷ []))));
+          ∙ ap (λ x. old ++ x) (ap₂ (λ x y. x ++ y) (sym text) (sym (append-nil (codes "\\x" ++ hex_pair b)))
+          ∙ sym (parts_append (map Char cs) (Byte b ∷ []))));
       shorter = omega (arith, ap length whole, length-append valid tail, ap length split);
     }
 

@@ -67,7 +67,15 @@ char_as c scalar some =
     (λ line. cond_both (c == 92) _ _ As (λ e. inl (same_char _ c 92 e short_backslash))
     (λ backslash. cond_both (c == 34) _ _ As (λ e. inl (same_char _ c 34 e short_quote))
     (λ plain. cond_both (is_bare c) (c ∷ []) (escape_unicode c) As
-    (λ e. inr (record { whole = refl; unit_is = some_char c some; no_tab = tab; no_return = return; no_line = line; no_backslash = backslash; no_quote = plain }))
+    (λ e. inr (record {
+      whole = refl;
+      unit_is = some_char c some;
+      no_tab = tab;
+      no_return = return;
+      no_line = line;
+      no_backslash = backslash;
+      no_quote = plain;
+    }))
     (λ e. inl (code_escapes_as c_kind (units.Char c) c scalar (some_char c some))))))))))
   where
     As : List ℕ → Type 0
@@ -126,7 +134,8 @@ fit_behind bytes front rest e fit = record {
   some = no_zero_behind front rest (ap has_no_zero (sym e) ∙ fit.some);
 }
 
-parts_give : (end : ℕ) (parts : List Part) (bytes : List ℕ) → AreParts parts bytes → AreFit bytes → Give (items_from c_kind end (parts_text parts)) (units_of parts)
+parts_give : (end : ℕ) (parts : List Part) (bytes : List ℕ) → AreParts parts bytes → AreFit bytes
+    → Give (items_from c_kind end (parts_text parts)) (units_of parts)
 parts_give end [] bytes are fit = give_none c_kind end
 parts_give end (Char c ∷ parts) bytes are fit =
     let some = char_some c are.1 (ap has_no_zero (sym are.2) ∙ fit.some) in
@@ -147,12 +156,14 @@ parts_bytes (Byte b ∷ parts) bytes are = ap₂ (λ x y. x ++ y) (byte_bytes b)
 
 -- ---- the law
 
-pub c_strings_come_back : (bytes text : List ℕ) → AllByRecursion (λ b. b < 256) bytes → has_no_zero bytes ≡ true → IsCStringText bytes text → cstr_value text ≡ Ok (ended bytes)
+pub c_strings_come_back : (bytes text : List ℕ) → AllByRecursion (λ b. b < 256) bytes → has_no_zero bytes ≡ true
+    → IsCStringText bytes text → cstr_value text ≡ Ok (ended bytes)
 c_strings_come_back all text low some is =
     let inside = parts_text is.parts in
     let fit : AreFit all = record { low = low; some = some } in
     let raw = option_map (λ content. ended (encode_utf8_all content)) (raw_content (codes "cr") (codes "c\"" ++ (inside ++ codes "\""))) in
     ap cstr_value is.whole
     ∙ (ap (λ o. value_from (option_map (λ content. c_bytes (values.units c_kind content)) o) raw) (between_within (codes "c\"") (codes "\"") inside)
-    ∙ (ap (λ v. value_from (Some (c_bytes v)) raw) (given_value (items c_kind inside) (units_of is.parts) (parts_give (bytes inside) is.parts all is.reads fit))
+    ∙ (ap (λ v. value_from (Some (c_bytes v)) raw)
+    (given_value (items c_kind inside) (units_of is.parts) (parts_give (bytes inside) is.parts all is.reads fit))
     ∙ ap (λ x. Ok (ended x)) (parts_bytes is.parts all is.reads)))

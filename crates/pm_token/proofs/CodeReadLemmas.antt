@@ -52,14 +52,17 @@ digits_number n (d ∷ ds) all =
 
 -- ---- the character
 
-code_is : {U : Type 0} (kind : Kind U) (unit : U) (c : ℕ) (ds : List ℕ) → AreHex ds → length ds ≤ 6 → value_behind 0 ds ≡ c → IsScalar c → kind.of_code (Ok c) ≡ Ok unit
+code_is : {U : Type 0} (kind : Kind U) (unit : U) (c : ℕ) (ds : List ℕ) → AreHex ds → length ds ≤ 6
+    → value_behind 0 ds ≡ c → IsScalar c → kind.of_code (Ok c) ≡ Ok unit
     → code_unit kind (digits_of ds) ≡ Ok unit
 code_is kind unit c ds all few value scalar is =
-    cond-false _ _ _ (false_from_ne_true (nat_lt 6 (length (digits_of ds))) (λ e. let lt = ltb-true 6 (length (digits_of ds)) e in absurd (omega (arith, digits_count ds))))
+    cond-false _ _ _ (false_from_ne_true (nat_lt 6 (length (digits_of ds)))
+    (λ e. let lt = ltb-true 6 (length (digits_of ds)) e in absurd (omega (arith, digits_count ds))))
     ∙ (ap (λ n. kind.of_code (character n)) (digits_number 0 ds all ∙ value) ∙ (ap kind.of_code (scalar_character c (is_scalar-IsScalar c scalar)) ∙ is))
 
 -- the digits in the braces
-coded_is : {U : Type 0} (kind : Kind U) (unit : U) (c : ℕ) (ds more : List ℕ) → AreHex ds → length ds ≤ 6 → value_behind 0 ds ≡ c → IsScalar c → kind.of_code (Ok c) ≡ Ok unit
+coded_is : {U : Type 0} (kind : Kind U) (unit : U) (c : ℕ) (ds more : List ℕ) → AreHex ds → length ds ≤ 6
+    → value_behind 0 ds ≡ c → IsScalar c → kind.of_code (Ok c) ≡ Ok unit
     → coded kind ((digits_of ds ++ 125 ∷ []) ++ more) ≡ record { unit = Ok unit; rest = more }
 unfolding coded
 coded_is kind unit c ds more all few value scalar is =
@@ -67,7 +70,8 @@ coded_is kind unit c ds more all few value scalar is =
     ∙ ap (λ u. record { unit = u; rest = more }) (code_is kind unit c ds all few value scalar is)
 
 -- behind `u`
-unicode_is : {U : Type 0} (kind : Kind U) (unit : U) (c first : ℕ) (others more : List ℕ) → AreHex (first ∷ others) → length others ≤ 5 → value_behind 0 (first ∷ others) ≡ c → IsScalar c
+unicode_is : {U : Type 0} (kind : Kind U) (unit : U) (c first : ℕ) (others more : List ℕ) → AreHex (first ∷ others)
+    → length others ≤ 5 → value_behind 0 (first ∷ others) ≡ c → IsScalar c
     → kind.of_code (Ok c) ≡ Ok unit → escape kind (117 ∷ (123 ∷ ((digits_of (first ∷ others) ++ 125 ∷ []) ++ more))) ≡ record { unit = Ok unit; rest = more }
 unfolding escape unicode_escape
 unicode_is kind unit c first others more all few value scalar is =

@@ -114,7 +114,8 @@ eq_apart a b s t h k differ = ap₂ (pointwise nat_eq) (written_bytes a s h) (wr
     fronts_apart false false differ = absurd (differ refl)
 
 -- by the fields
-pub eq_fields : (a b : Name) (s t : List ℕ) (r : Bool) → IsNameOf a s → IsNameOf b t → a.raw ≡ b.raw → r ≡ pointwise nat_eq s t → IsTrue r ↔ ((a.name ≡ b.name) × (a.raw ≡ b.raw))
+pub eq_fields : (a b : Name) (s t : List ℕ) (r : Bool) → IsNameOf a s → IsNameOf b t → a.raw ≡ b.raw
+    → r ≡ pointwise nat_eq s t → IsTrue r ↔ ((a.name ≡ b.name) × (a.raw ≡ b.raw))
 eq_fields a b s t r h k alike is =
     let same = bytes_eq-Decides s t in (
       λ yes. (h.own ∙ (ap chars (same.0 (sym is ∙ yes)) ∙ sym k.own), alike),
@@ -136,7 +137,8 @@ cmp_text a b o is =
 cmp_bytes : (a b : Name) (s t : List ℕ) → IsNameOf a s → IsNameOf b t → name_cmp a b ≡ slice_cmp nat_cmp (raw_front a.raw ++ s) (raw_front b.raw ++ t)
 cmp_bytes a b s t h k = ap₂ (slice_cmp nat_cmp) (written_bytes a s h) (written_bytes b t k)
 
-cmp_fronts : (a b : Name) (s t : List ℕ) (x y : Bool) → IsNameOf a s → IsNameOf b t → a.raw ≡ x → b.raw ≡ y → name_cmp a b ≡ slice_cmp nat_cmp (raw_front x ++ s) (raw_front y ++ t)
+cmp_fronts : (a b : Name) (s t : List ℕ) (x y : Bool) → IsNameOf a s → IsNameOf b t → a.raw ≡ x → b.raw ≡ y
+    → name_cmp a b ≡ slice_cmp nat_cmp (raw_front x ++ s) (raw_front y ++ t)
 cmp_fronts a b s t x y h k p q = cmp_bytes a b s t h k ∙ ap₂ (λ u v. slice_cmp nat_cmp (raw_front u ++ s) (raw_front v ++ t)) p q
 
 -- raw and plain: the plain name is compared with `r#`

@@ -56,7 +56,8 @@ before_back back front =
     ap (λ t. option_map reverse (behind (reverse back) t)) (reverse-append front back)
     ∙ (ap (option_map reverse) (behind_front (reverse back) (reverse front)) ∙ ap (λ x. Some x) (reverse-reverse front))
 
-before_cases : (o : Option (List ℕ)) (back text front : List ℕ) → behind (reverse back) (reverse text) ≡ o → option_map reverse o ≡ Some front → text ≡ front ++ back
+before_cases : (o : Option (List ℕ)) (back text front : List ℕ) → behind (reverse back) (reverse text) ≡ o
+    → option_map reverse o ≡ Some front → text ≡ front ++ back
 before_cases None back text front h e = absurd (not_some front e)
 before_cases (Some rest) back text front h e =
     sym (reverse-reverse text) ∙ (ap reverse (behind_splits (reverse back) (reverse text) rest h)
@@ -74,7 +75,8 @@ before_none back text none = no_option (before back text) (λ front e. none fron
 pub between_within : (front back content : List ℕ) → between front back (front ++ (content ++ back)) ≡ Some content
 between_within front back content = ap (option_and_then (before back)) (behind_front front (content ++ back)) ∙ before_back back content
 
-between_cases : (o : Option (List ℕ)) (front back text content : List ℕ) → behind front text ≡ o → option_and_then (before back) o ≡ Some content → text ≡ front ++ (content ++ back)
+between_cases : (o : Option (List ℕ)) (front back text content : List ℕ) → behind front text ≡ o
+    → option_and_then (before back) o ≡ Some content → text ≡ front ++ (content ++ back)
 between_cases None front back text content h e = absurd (not_some content e)
 between_cases (Some rest) front back text content h e = behind_splits front text rest h ∙ ap (λ r. front ++ r) (before_splits back rest content e)
 
@@ -210,24 +212,32 @@ before_found c text None low utf8 none =
     none (encode_utf8_all front) (seam_bytes text front (c ∷ []) utf8 e ∙ ap (λ b. encode_utf8_all front ++ (b ++ [])) (encode_ascii c low)))
 before_found c text (Some x) low utf8 whole =
     let split : chars text ≡ chars x.now ++ (c ∷ []) =
-    ap chars whole ∙ (chars-append x.now (c ∷ []) (utf8_before text x.now c utf8 whole low) ∙ ap (λ xs. chars x.now ++ xs) (chars-IsAscii (c ∷ []) (IsAscii-cons c [] low IsAscii-nil))) in
+    ap chars whole ∙ (chars-append x.now (c ∷ []) (utf8_before text x.now c utf8 whole low)
+    ∙ ap (λ xs. chars x.now ++ xs) (chars-IsAscii (c ∷ []) (IsAscii-cons c [] low IsAscii-nil))) in
     ap (before (c ∷ [])) split ∙ before_back (c ∷ []) (chars x.now)
 
 -- ---- the loop over the signs
 
 -- a sign at the front, none at the end
-pub stop_signs : (all quoted rest : List ℕ) → hashed_content quoted ≡ hashed_content all → behind (codes "#") quoted ≡ Some rest → before (codes "#") rest ≡ None → hashed_content all ≡ None
+pub stop_signs : (all quoted rest : List ℕ) → hashed_content quoted ≡ hashed_content all
+    → behind (codes "#") quoted ≡ Some rest → before (codes "#") rest ≡ None → hashed_content all ≡ None
 stop_signs all quoted rest same front back = sym same ∙ (ap hashed_content (behind_splits (codes "#") quoted rest front) ∙ hashed_alone rest back)
 
 -- one at either end
-pub past_signs : (all quoted rest inside : List ℕ) → hashed_content quoted ≡ hashed_content all → behind (codes "#") quoted ≡ Some rest → before (codes "#") rest ≡ Some inside → hashed_content inside ≡ hashed_content all
+pub past_signs : (all quoted rest inside : List ℕ) → hashed_content quoted ≡ hashed_content all
+    → behind (codes "#") quoted ≡ Some rest → before (codes "#") rest ≡ Some inside
+    → hashed_content inside ≡ hashed_content all
 past_signs all quoted rest inside same front back =
-    sym (hashed_peel inside) ∙ (ap (λ xs. hashed_content (35 ∷ xs)) (sym (before_splits (codes "#") rest inside back)) ∙ (sym (ap hashed_content (behind_splits (codes "#") quoted rest front)) ∙ same))
+    sym (hashed_peel inside) ∙ (ap (λ xs. hashed_content (35 ∷ xs)) (sym (before_splits (codes "#") rest inside back))
+    ∙ (sym (ap hashed_content (behind_splits (codes "#") quoted rest front)) ∙ same))
 
 -- what is left is shorter
-pub past_shorter : (quoted rest inside : List ℕ) → behind (codes "#") quoted ≡ Some rest → before (codes "#") rest ≡ Some inside → length inside < length quoted
+pub past_shorter : (quoted rest inside : List ℕ) → behind (codes "#") quoted ≡ Some rest
+    → before (codes "#") rest ≡ Some inside → length inside < length quoted
 past_shorter quoted rest inside front back =
-    omega (arith, ap length (behind_splits (codes "#") quoted rest front), ap length (before_splits (codes "#") rest inside back), length-append inside (codes "#"))
+    let first = ap length (behind_splits (codes "#") quoted rest front) in
+    let last = ap length (before_splits (codes "#") rest inside back) in
+    omega (arith, first, last, length-append inside (codes "#"))
 
 -- none at the front
 pub no_signs : (all quoted : List ℕ) (r : Option (Bor (List ℕ))) → hashed_content quoted ≡ hashed_content all → behind (codes "#") quoted ≡ None

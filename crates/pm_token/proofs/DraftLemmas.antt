@@ -18,7 +18,8 @@ chars_pushed (Err v) new old c utf8 is e = tt
 
 -- ---- the content of a literal, one character after another
 
-pub content_more : (quote c : ℕ) (old new text rest : List ℕ) → IsUtf8 text → text ≡ encode_utf8 c ++ rest → new ≡ old ++ written quote written_char c (chars rest)
+pub content_more : (quote c : ℕ) (old new text rest : List ℕ) → IsUtf8 text → text ≡ encode_utf8 c ++ rest
+    → new ≡ old ++ written quote written_char c (chars rest)
     → new ++ content quote written_char (chars rest) ≡ old ++ content quote written_char (chars text)
 content_more quote c old new text rest utf8 split e =
     ap (λ cs. cs ++ content quote written_char (chars rest)) e

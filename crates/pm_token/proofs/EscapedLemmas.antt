@@ -57,7 +57,8 @@ written_stands class Escape plain quote c rest r allows is =
 
 -- ---- characters of strings
 
-code : (allowed : ℕ → Bool) (c : ℕ) (p r : List ℕ) (is : IsCoded c p) → IsScalar c → allowed c ≡ true → Code allowed (digits_of (is.first ∷ is.others)) (125 ∷ r)
+code : (allowed : ℕ → Bool) (c : ℕ) (p r : List ℕ) (is : IsCoded c p) → IsScalar c → allowed c ≡ true
+    → Code allowed (digits_of (is.first ∷ is.others)) (125 ∷ r)
 code allowed c p r is scalar fits =
     let digits = is.first ∷ is.others in
     let count : length (filter is_ascii_hexdigit (digits_of digits)) ≤ 6 = omega (arith, length_digits digits is.hex, is.few) in
@@ -104,7 +105,8 @@ zeros_of_string r = (
 )
 
 -- strings and characters allow what is written for a character
-allows_char : (class : ℕ → Bool) (quote c : ℕ) → IsScalar c → ((d : ℕ) → is_plain quote d ≡ true → class d ≡ true) → Allows class StringEscape written_char quote c
+allows_char : (class : ℕ → Bool) (quote c : ℕ) → IsScalar c → ((d : ℕ) → is_plain quote d ≡ true → class d ≡ true)
+    → Allows class StringEscape written_char quote c
 allows_char class quote c scalar within = record {
   letter = λ letter r is. inl (letter, refl, letter_of_all letter is);
   zeros = λ r e. zeros_of_string r;
@@ -121,7 +123,8 @@ pub string_plain : (c : ℕ) → is_plain 34 c ≡ true → is_string_plain c �
 string_plain c is =
     let parts = and_parts _ _ is in
     let others = and_parts _ _ parts.1 in
-    ap not (or_from _ _ (flipped c 34 (not-true _ others.1)) (or_from _ _ (flipped c 92 (not-true _ others.0)) (or_from _ _ (flipped c 13 (not-true _ parts.0)) refl)))
+    ap not (or_from _ _ (flipped c 34 (not-true _ others.1))
+    (or_from _ _ (flipped c 92 (not-true _ others.0)) (or_from _ _ (flipped c 13 (not-true _ parts.0)) refl)))
 
 pub not_backslash : (quote c : ℕ) → is_plain quote c ≡ true → not (c == 92) ≡ true
 not_backslash quote c is = (and_parts _ _ (and_parts (not (c == 13)) _ is).1).0
@@ -147,7 +150,9 @@ each_unit [] r all = tt
 each_unit (c ∷ rest) r all =
     let parts = and_parts _ _ all in (
       body_unit is_string_plain StringEscape _ _
-          (written_stands is_string_plain StringEscape written_char 34 c rest (concat (units_of 34 written_char rest) ++ r) (allows_char is_string_plain 34 c parts.0 string_plain) refl),
+          (written_stands is_string_plain StringEscape written_char 34 c rest
+          (concat (units_of 34 written_char rest) ++ r)
+          (allows_char is_string_plain 34 c parts.0 string_plain) refl),
       each_unit rest r parts.1,
     )
 

@@ -41,7 +41,8 @@ length_digits (d ∷ ds) all = ap length (cond-true _ _ _ (hex_digit d all.0)) �
 value_of : (n : ℕ) (ds : List ℕ) → AreHex ds → fold (λ m c. cond (c == 95) m (16 * m + digit_value c)) n (digits_of ds) ≡ value_behind n ds
 value_of n [] all = refl
 value_of n (d ∷ ds) all =
-    ap (λ m. fold (λ k c. cond (c == 95) k (16 * k + digit_value c)) m (digits_of ds)) (cond-false _ _ _ (not_underscore d all.0) ∙ ap (λ v. 16 * n + v) (digit_value-digit_char d (omega arith)))
+    ap (λ m. fold (λ k c. cond (c == 95) k (16 * k + digit_value c)) m (digits_of ds))
+    (cond-false _ _ _ (not_underscore d all.0) ∙ ap (λ v. 16 * n + v) (digit_value-digit_char d (omega arith)))
     ∙ value_of (16 * n + d) ds all.1
 
 pub hex_value-digits : (ds : List ℕ) → AreHex ds → hex_value (digits_of ds) ≡ value_behind 0 ds
@@ -75,7 +76,8 @@ value_4 c low = omega arith
 value_5 : (c : ℕ) → c < 0x10_0000 → value_behind 0 (c / 0x1_0000 % 16 ∷ c / 0x1000 % 16 ∷ c / 0x100 % 16 ∷ c / 0x10 % 16 ∷ c / 1 % 16 ∷ []) ≡ c
 value_5 c low = omega arith
 
-value_6 : (c : ℕ) → c < 0x11_0000 → value_behind 0 (c / 0x10_0000 % 16 ∷ c / 0x1_0000 % 16 ∷ c / 0x1000 % 16 ∷ c / 0x100 % 16 ∷ c / 0x10 % 16 ∷ c / 1 % 16 ∷ []) ≡ c
+value_6 : (c : ℕ) → c < 0x11_0000 → value_behind 0
+    (c / 0x10_0000 % 16 ∷ c / 0x1_0000 % 16 ∷ c / 0x1000 % 16 ∷ c / 0x100 % 16 ∷ c / 0x10 % 16 ∷ c / 1 % 16 ∷ []) ≡ c
 value_6 c low = omega arith
 
 -- p is the escape of c, by the values of its digits
@@ -95,9 +97,23 @@ coded c is =
     cond_both (nat_lt c 0x10) _ _ (IsCoded c)
     (λ e. record { first = at 1 c; others = []; hex = (omega arith, tt); few = omega arith; value = value_1 c (ltb-true c _ e); whole = refl })
     (λ e. cond_both (nat_lt c 0x100) _ _ (IsCoded c)
-    (λ e. record { first = at 0x10 c; others = at 1 c ∷ []; hex = (omega arith, (omega arith, tt)); few = omega arith; value = value_2 c (ltb-true c _ e); whole = refl })
+    (λ e. record {
+      first = at 0x10 c;
+      others = at 1 c ∷ [];
+      hex = (omega arith, (omega arith, tt));
+      few = omega arith;
+      value = value_2 c (ltb-true c _ e);
+      whole = refl;
+    })
     (λ e. cond_both (nat_lt c 0x1000) _ _ (IsCoded c)
-    (λ e. record { first = at 0x100 c; others = at 0x10 c ∷ at 1 c ∷ []; hex = (omega arith, (omega arith, (omega arith, tt))); few = omega arith; value = value_3 c (ltb-true c _ e); whole = refl })
+    (λ e. record {
+      first = at 0x100 c;
+      others = at 0x10 c ∷ at 1 c ∷ [];
+      hex = (omega arith, (omega arith, (omega arith, tt)));
+      few = omega arith;
+      value = value_3 c (ltb-true c _ e);
+      whole = refl;
+    })
     (λ e. cond_both (nat_lt c 0x1_0000) _ _ (IsCoded c)
     (λ e. record {
       first = at 0x1000 c;

@@ -10,11 +10,13 @@ pub mod ByteLemmas
 pub mod CStringLemmas
 pub mod CStringValueLemmas
 mod Examples
+mod JoinedExamples
 pub mod TestTokens
 pub mod CompareLemmas
 pub mod NameLemmas
 pub mod RawValueLemmas
 pub mod ReadLemmas
 pub mod SuffixLemmas
+pub mod UnitLemmas
 pub mod ValueLawLemmas
 pub mod WholeLemmas

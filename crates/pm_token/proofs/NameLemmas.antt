@@ -1,7 +1,6 @@
 -- Lemmas on the names of identifiers.
-use Rattle.std.proofs.Common.{◌≡◌, ◌≢◌, ◌↔◌, ℕ, Bool, true, false, not, ◌==◌, List, [], ◌∷◌, ◌++◌, length, drop, IsTrue, eqb, nat_eq, codes, refl, sym, ap, ◌∙◌, arith, append-nil, length-append, ltb-true, ne_eqb, cond, Option, Some, None, IfSome, IfNone}
+use Rattle.std.proofs.Common.{◌≡◌, ◌≢◌, ◌↔◌, ℕ, Bool, true, false, not, ◌==◌, List, [], ◌∷◌, ◌++◌, length, drop, IsTrue, eqb, nat_eq, codes, refl, sym, ap, ◌∙◌, arith, append-nil, length-append, ne_eqb, cond, Option, Some, None, IfSome, IfNone}
 use Rattle.std.specs.List.{list_all}
-use Rattle.std.specs.Bool.{one_answer}
 use Rattle.std.specs.Option.{option_eq}
 use Rattle.std.specs.Str.{chars, IsUtf8, encode_utf8_all}
 use Rattle.std.specs.Cmp.Lexicographic.{pointwise}
@@ -9,8 +8,7 @@ use Rattle.std.proofs.lemmas.Bool.{and_parts, and_from, both_ways, false_from_ne
 use Rattle.std.proofs.lemmas.List.Folds.{list_all-append}
 use Rattle.std.proofs.lemmas.Option.{none-some}
 use Rattle.std.proofs.lemmas.Slice.Eq.{bytes_eq-Decides}
-use Rattle.std.proofs.lemmas.Str.{encodes-chars, encodes-append, encode_ascii, encodes_same, length-le-encodes}
-use Rattle.lexical.specs.Ascii.{all_ascii}
+use Rattle.std.proofs.lemmas.Str.{encodes-chars, encodes-append, encodes_same, length-le-encodes}
 use Rattle.lexical.specs.Class.{is_ident_continue}
 use Rattle.lexical.specs.Form.{HasNone}
 use Rattle.lexical.specs.Found.{IsAt}
@@ -18,30 +16,13 @@ use Rattle.lexical.specs.Identifier.{Name, is_allowed}
 use Rattle.lexical.specs.Token as tokens
 use Rattle.lexical.specs.Token.{raw_front}
 use Rattle.lexical.proofs.PieceFacts.{name_continues}
+use Rattle.lexical.proofs.TextLemmas.{encode_all_ascii}
 use Rattle.pm_token.specs.Built.{IsBuiltToken}
 use Rattle.pm_token.specs.IdentFault.{is_name, is_number, ident_fault}
 use Rattle.pm_token.specs.declared.identifiers.faults.IdentError.{IdentError}
 use Rattle.pm_token.specs.declared.identifiers.faults.IdentError.TheVariants.{Empty, Number, Invalid, Reserved}
 
--- ---- texts of ASCII
-
--- an ASCII text is its own encoding
-pub encode_all_ascii : (text : List ℕ) → all_ascii text ≡ true → encode_utf8_all text ≡ text
-encode_all_ascii [] h = refl
-encode_all_ascii (c ∷ text) h =
-    let parts = and_parts _ _ h in
-    rw (encode_ascii c (ltb-true c 128 parts.0)) (ap (λ x. c ∷ x) (encode_all_ascii text parts.1))
-
--- a text is an ASCII one in bytes where it is in characters
-pub ascii_same : (text ascii : List ℕ) → IsUtf8 text → all_ascii ascii ≡ true → pointwise nat_eq text ascii ≡ pointwise nat_eq (chars text) ascii
-ascii_same text ascii utf8 h =
-    let bytes = bytes_eq-Decides text ascii in
-    let points = bytes_eq-Decides (chars text) ascii in
-    let own = encode_all_ascii ascii h in
-    one_answer (pointwise nat_eq text ascii) (pointwise nat_eq (chars text) ascii) bytes (
-      λ e. sym (encodes-chars text utf8) ∙ (ap encode_utf8_all (points.0 e) ∙ own),
-      λ e. points.1 (encodes_same (chars text) ascii (encodes-chars text utf8 ∙ (e ∙ sym own))),
-    )
+-- ---- texts
 
 -- a text has no byte where it has no character
 pub empty_same : (text : List ℕ) → IsUtf8 text → (length text == 0) ≡ (length (chars text) == 0)
@@ -59,9 +40,11 @@ written_is true name = encodes-append (codes "r#") name ∙ ap (λ x. x ++ encod
 written_is false name = refl
 
 -- an identifier is written so in bytes where it is in characters
-pub text_bytes : (raw : Bool) (name s text : List ℕ) → name ≡ chars s → IsUtf8 s → IsUtf8 text → (raw_front raw ++ s ≡ text) ↔ (raw_front raw ++ name ≡ chars text)
+pub text_bytes : (raw : Bool) (name s text : List ℕ) → name ≡ chars s → IsUtf8 s → IsUtf8 text
+    → (raw_front raw ++ s ≡ text) ↔ (raw_front raw ++ name ≡ chars text)
 text_bytes raw name s text e own utf8 =
-    let bytes : encode_utf8_all (raw_front raw ++ name) ≡ raw_front raw ++ s = written_is raw name ∙ ap (λ x. raw_front raw ++ x) (ap encode_utf8_all e ∙ encodes-chars s own) in (
+    let bytes : encode_utf8_all (raw_front raw ++ name) ≡ raw_front raw ++ s =
+    written_is raw name ∙ ap (λ x. raw_front raw ++ x) (ap encode_utf8_all e ∙ encodes-chars s own) in (
       λ h. encodes_same (raw_front raw ++ name) (chars text) (bytes ∙ (h ∙ sym (encodes-chars text utf8))),
       λ h. sym bytes ∙ (ap encode_utf8_all h ∙ encodes-chars text utf8),
     )
@@ -76,7 +59,8 @@ plain_is false name s text r plain e own utf8 is =
     (λ h. bytes.0 (same.0 (sym is ∙ h)), λ h. is ∙ same.1 (bytes.1 h))
 
 -- a raw one where its name follows `r#`
-pub raw_is : (raw : Bool) (name s text rest : List ℕ) (r : Bool) → raw ≡ true → name ≡ chars s → IsUtf8 s → IsUtf8 text → text ≡ codes "r#" ++ rest → r ≡ pointwise nat_eq s rest
+pub raw_is : (raw : Bool) (name s text rest : List ℕ) (r : Bool) → raw ≡ true → name ≡ chars s → IsUtf8 s
+    → IsUtf8 text → text ≡ codes "r#" ++ rest → r ≡ pointwise nat_eq s rest
     → IsTrue r ↔ (raw_front raw ++ name ≡ chars text)
 raw_is false name s text rest r marked e own utf8 split is = absurd (both_ways _ refl marked)
 raw_is true name s text rest r marked e own utf8 split is =
@@ -90,7 +74,8 @@ raw_is true name s text rest r marked e own utf8 split is =
 pub raw_is_not : (raw : Bool) (name s text : List ℕ) → raw ≡ true → name ≡ chars s → IsUtf8 s → IsUtf8 text → ((rest : List ℕ) → text ≢ codes "r#" ++ rest)
     → IsTrue false ↔ (raw_front raw ++ name ≡ chars text)
 raw_is_not false name s text marked e own utf8 none = absurd (both_ways _ refl marked)
-raw_is_not true name s text marked e own utf8 none = (λ h. absurd (both_ways _ refl h), λ h. absurd (none s (sym ((text_bytes true name s text e own utf8).1 h))))
+raw_is_not true name s text marked e own utf8 none =
+    (λ h. absurd (both_ways _ refl h), λ h. absurd (none s (sym ((text_bytes true name s text e own utf8).1 h))))
 
 -- ---- names
 

@@ -22,13 +22,16 @@ no_cooked front text other = ap (option_and_then (before (codes "\""))) (behind_
 
 pub raw_strings : RawStringsHaveBodies
 raw_strings signs body all =
-    ap₂ (λ cooked raw. value_from (option_map (units string_kind) cooked) raw) (no_cooked (codes "\"") (raw_text (codes "r") signs body) refl) (body_is (codes "r") signs body all)
+    ap₂ (λ cooked raw. value_from (option_map (units string_kind) cooked) raw)
+    (no_cooked (codes "\"") (raw_text (codes "r") signs body) refl) (body_is (codes "r") signs body all)
 
 pub raw_byte_strings : RawByteStringsHaveBodies
 raw_byte_strings signs body all =
-    ap₂ (λ cooked raw. value_from (option_map (units byte_kind) cooked) (option_map encode_utf8_all raw)) (no_cooked (codes "b\"") (raw_text (codes "br") signs body) refl) (body_is (codes "br") signs body all)
+    ap₂ (λ cooked raw. value_from (option_map (units byte_kind) cooked) (option_map encode_utf8_all raw))
+    (no_cooked (codes "b\"") (raw_text (codes "br") signs body) refl) (body_is (codes "br") signs body all)
 
 pub raw_c_strings : RawCStringsHaveBodies
 raw_c_strings signs body all =
-    ap₂ (λ cooked raw. value_from (option_map (λ content. c_bytes (units c_kind content)) cooked) (option_map (λ content. ended (encode_utf8_all content)) raw))
+    ap₂ (λ cooked raw. value_from (option_map (λ content. c_bytes (units c_kind content)) cooked)
+    (option_map (λ content. ended (encode_utf8_all content)) raw))
     (no_cooked (codes "c\"") (raw_text (codes "cr") signs body) refl) (body_is (codes "cr") signs body all)

@@ -25,7 +25,8 @@ given_value items units give = ap₂ value_or give.sound give.all
 pub give_none : {U : Type 0} (kind : Kind U) (end : ℕ) → Give (items_from kind end []) []
 give_none kind end = subst (λ items. Give items []) (sym (items_none kind end 0)) (record { sound = refl; all = refl })
 
-give_more : {U : Type 0} (range : Range ℕ) (unit : U) (items : List (Item U)) (units : List U) → Give items units → Give ((range, Ok unit) ∷ items) (unit ∷ units)
+give_more : {U : Type 0} (range : Range ℕ) (unit : U) (items : List (Item U)) (units : List U) → Give items units
+    → Give ((range, Ok unit) ∷ items) (unit ∷ units)
 give_more range unit items units give = record { sound = give.sound; all = ap (λ us. unit ∷ us) give.all }
 
 -- the front of the text is this unit, and this follows it
@@ -79,9 +80,11 @@ begins_read kind end c text unit rest h read =
       rest_is = ap (λ x. x.rest) whole;
     }
 
-pub begins_escape : {U : Type 0} (kind : Kind U) (end : ℕ) (p : List ℕ) (unit : U) (more : List ℕ) → Escapes kind p unit → Begins kind end (p ++ more) unit more
+pub begins_escape : {U : Type 0} (kind : Kind U) (end : ℕ) (p : List ℕ) (unit : U) (more : List ℕ) → Escapes kind p unit
+    → Begins kind end (p ++ more) unit more
 begins_escape kind end p unit more is =
-    subst (λ q. Begins kind end (q ++ more) unit more) (sym is.whole) (begins_read kind end 92 (is.letter ∷ (is.back ++ more)) unit more is.no_line (is.gives more))
+    subst (λ q. Begins kind end (q ++ more) unit more) (sym is.whole)
+    (begins_read kind end 92 (is.letter ∷ (is.back ++ more)) unit more is.no_line (is.gives more))
 
 -- a character that stands for itself between double quotes
 pub record Alone {U : Type 0} (kind : Kind U) (c : ℕ) (unit : U) : Type 0 where
@@ -96,12 +99,14 @@ begins_alone kind end c unit more is =
     cond-false _ _ _ is.no_backslash
     ∙ ap (λ u. record { unit = u; rest = more }) (cond-false _ _ _ is.no_quote ∙ (cond-false _ _ _ is.no_return ∙ is.unit_is)))
 
-begins_stand : {U : Type 0} (kind : Kind U) (end c : ℕ) (p : List ℕ) (unit : U) (more : List ℕ) → Stands kind 34 c p unit → Begins kind end (p ++ more) unit more
+begins_stand : {U : Type 0} (kind : Kind U) (end c : ℕ) (p : List ℕ) (unit : U) (more : List ℕ) → Stands kind 34 c p unit
+    → Begins kind end (p ++ more) unit more
 begins_stand kind end c p unit more is =
     let alone : Alone kind c unit = record { unit_is = is.unit_is; no_return = is.no_return; no_backslash = is.no_backslash; no_quote = is.no_quote } in
     subst (λ q. Begins kind end (q ++ more) unit more) (sym is.whole) (begins_alone kind end c unit more alone)
 
-pub begins_written : {U : Type 0} (kind : Kind U) (end c : ℕ) (p : List ℕ) (unit : U) (more : List ℕ) → WrittenAs kind 34 c p unit → Begins kind end (p ++ more) unit more
+pub begins_written : {U : Type 0} (kind : Kind U) (end c : ℕ) (p : List ℕ) (unit : U) (more : List ℕ) → WrittenAs kind 34 c p unit
+    → Begins kind end (p ++ more) unit more
 begins_written kind end c p unit more (inl is) = begins_escape kind end p unit more is
 begins_written kind end c p unit more (inr is) = begins_stand kind end c p unit more is
 
@@ -112,14 +117,16 @@ pub record IsPlain (kind : Kind ℕ) : Type 0 where
   pub chars : (d : ℕ) → d < 128 → kind.of_char d ≡ Ok d
   pub zero : kind.of_hex 0 ≡ Ok 0
 
-simple : (kind : Kind ℕ) (letter d : ℕ) → (letter == 10) ≡ false → ((more : List ℕ) → escape kind (letter ∷ more) ≡ record { unit = kind.of_char d; rest = more })
+simple : (kind : Kind ℕ) (letter d : ℕ) → (letter == 10) ≡ false
+    → ((more : List ℕ) → escape kind (letter ∷ more) ≡ record { unit = kind.of_char d; rest = more })
     → kind.of_char d ≡ Ok d → Escapes kind (92 ∷ letter ∷ []) d
 simple kind letter d line reads is =
     record { letter = letter; back = []; whole = refl; no_line = line; gives = λ more. reads more ∙ ap (λ u. record { unit = u; rest = more }) is }
 
 long_zero : (kind : Kind ℕ) → IsPlain kind → Escapes kind (codes "\\x00") 0
 unfolding escape hex_escape
-long_zero kind is = record { letter = 120; back = codes "00"; whole = refl; no_line = refl; gives = λ more. ap (λ u. record { unit = u; rest = more }) is.zero }
+long_zero kind is =
+    record { letter = 120; back = codes "00"; whole = refl; no_line = refl; gives = λ more. ap (λ u. record { unit = u; rest = more }) is.zero }
 
 short_zero : (kind : Kind ℕ) → IsPlain kind → Escapes kind (codes "\\0") 0
 unfolding escape
@@ -158,7 +165,8 @@ pub written_as : (kind : Kind ℕ) (quote : ℕ) (how : ℕ → List ℕ) (c : �
     → ((c == 9) ≡ false → (c == 13) ≡ false → (c == 10) ≡ false → (c == 92) ≡ false → (c == quote) ≡ false → WrittenAs kind quote c (how c) c)
     → WrittenAs kind quote c (written quote how c rest) c
 written_as kind quote how c rest is closing other =
-    cond_both ((c == 0) && first_passes is_octal_digit rest) _ _ (λ p. WrittenAs kind quote c p c) (λ e. inl (same_unit kind _ c 0 (and_parts (c == 0) _ e).0 (long_zero kind is)))
+    cond_both ((c == 0) && first_passes is_octal_digit rest) _ _ (λ p. WrittenAs kind quote c p c)
+    (λ e. inl (same_unit kind _ c 0 (and_parts (c == 0) _ e).0 (long_zero kind is)))
     (λ e. cond_both (c == 0) _ _ (λ p. WrittenAs kind quote c p c) (λ e. inl (same_unit kind _ c 0 e (short_zero kind is)))
     (λ e. cond_both (c == 9) _ _ (λ p. WrittenAs kind quote c p c) (λ e. inl (same_unit kind _ c 9 e (short_tab kind is)))
     (λ tab. cond_both (c == 13) _ _ (λ p. WrittenAs kind quote c p c) (λ e. inl (same_unit kind _ c 13 e (short_return kind is)))

@@ -1,5 +1,5 @@
 -- A literal that a quote ends has no suffix, and its content is the body of the grammar.
-use Rattle.std.proofs.Common.{◌≡◌, ℕ, true, false, List, [], ◌∷◌, ◌++◌, arith, codes, refl, sym, ap, ap₂, ◌∙◌, subst, inl, inr, eqb-true}
+use Rattle.std.proofs.Common.{◌≡◌, ℕ, true, false, List, [], ◌∷◌, ◌++◌, arith, codes, append-nil, refl, sym, ap, ap₂, ◌∙◌, subst₂, inl, inr, eqb-true}
 use Rattle.std.specs.List.{list_all}
 use Rattle.std.proofs.lemmas.Bool.{and_parts, both_ways}
 use Rattle.std.proofs.lemmas.List.{append_cancel_left, append_cancel_right}
@@ -20,7 +20,8 @@ ends_append c (x ∷ (y ∷ front)) d back = ends_append c (y ∷ front) d back
 continues_plain : (text : List ℕ) → list_all is_ident_continue text ≡ true → ends_with 34 text ≡ true → ⊥
 continues_plain [] all ends = both_ways false refl ends
 continues_plain (c ∷ []) all ends =
-    both_ways (is_ident_continue 34) (ident_continue_ascii 34 (omega arith)) (ap is_ident_continue (sym (eqb-true c 34 ends)) ∙ (and_parts (is_ident_continue c) true all).0)
+    both_ways (is_ident_continue 34) (ident_continue_ascii 34 (omega arith))
+    (ap is_ident_continue (sym (eqb-true c 34 ends)) ∙ (and_parts (is_ident_continue c) true all).0)
 continues_plain (c ∷ (d ∷ text)) all ends = continues_plain (d ∷ text) (and_parts (is_ident_continue c) _ all).1 ends
 
 name_plain : (c : ℕ) (text : List ℕ) → is_ident_start c ≡ true → list_all is_ident_continue text ≡ true → ends_with 34 (c ∷ text) ≡ true → ⊥
@@ -38,12 +39,14 @@ body_same body content suffix r (inl name) same =
     sym (ends_append 34 body 34 (c ∷ name.back)) ∙ (ap (λ s. ends_with 34 (body ++ (34 ∷ s))) (sym text) ∙ (ap (ends_with 34) same ∙ ends_back 34 content)) in
     absurd (name_plain c name.back name.first.2 name.second.each ends)
 
--- the units of the content
-pub content_units : (front content : List ℕ) (Unit : Form) → Cooked front Unit (front ++ (content ++ codes "\"")) [] → (r : List ℕ) × Many Unit content r
+-- the units of the content, which the quote follows
+pub content_units : (front content : List ℕ) (Unit : Form) → Cooked front Unit (front ++ (content ++ codes "\"")) [] → Many Unit content (codes "\"")
 content_units front content Unit is =
     let end = is.second.second in
-    let back : is.back ≡ is.second.front ++ (34 ∷ end.back) =
-    is.second.whole ∙ ap (λ x. is.second.front ++ x) (end.whole ∙ ap (λ x. x ++ end.back) end.first) in
+    let closing : is.second.back ≡ 34 ∷ end.back = end.whole ∙ ap (λ x. x ++ end.back) end.first in
+    let back : is.back ≡ is.second.front ++ (34 ∷ end.back) = is.second.whole ∙ ap (λ x. is.second.front ++ x) closing in
     let same : is.second.front ++ (34 ∷ end.back) ≡ content ++ codes "\"" =
     append_cancel_left front _ _ (ap₂ (λ x y. x ++ y) (sym is.first) (sym back) ∙ sym is.whole) in
-    (is.second.back ++ [], subst (λ text. Many Unit text (is.second.back ++ [])) (body_same is.second.front content end.back [] end.second same) is.second.first)
+    let body = body_same is.second.front content end.back [] end.second same in
+    let quote : 34 ∷ end.back ≡ codes "\"" = append_cancel_left content _ _ (ap (λ x. x ++ (34 ∷ end.back)) (sym body) ∙ same) in
+    subst₂ (λ text r. Many Unit text r) body (append-nil is.second.back ∙ (closing ∙ quote)) is.second.first

@@ -45,7 +45,8 @@ pub strings_come_back : StringsComeBack
 strings_come_back text all =
     let inside = content 34 written_char text in
     ap (λ o. value_from (option_map (units string_kind) o) (raw_content (codes "r") (string_text text))) (between_within (codes "\"") (codes "\"") inside)
-    ∙ ap (λ v. value_from (Some v) (raw_content (codes "r") (string_text text))) (given_value (items string_kind inside) text (string_units (bytes inside) text all))
+    ∙ ap (λ v. value_from (Some v) (raw_content (codes "r") (string_text text)))
+    (given_value (items string_kind inside) text (string_units (bytes inside) text all))
 
 -- ---- byte strings
 
@@ -82,7 +83,15 @@ byte_as : (quote b : ℕ) → b < 256 → (b == 9) ≡ false → (b == 13) ≡ f
 byte_as quote b low tab return line backslash other =
     cond_both (nat_le 32 b && nat_lt b 127) (b ∷ []) (codes "\\x" ++ hex_pair b) (λ p. WrittenAs byte_kind quote b p b)
     (λ e. let ascii = ltb-true b 127 (and_parts (nat_le 32 b) (nat_lt b 127) e).1 in
-    inr (record { whole = refl; unit_is = byte_plain.chars b (omega arith); no_tab = tab; no_return = return; no_line = line; no_backslash = backslash; no_quote = other }))
+    inr (record {
+      whole = refl;
+      unit_is = byte_plain.chars b (omega arith);
+      no_tab = tab;
+      no_return = return;
+      no_line = line;
+      no_backslash = backslash;
+      no_quote = other;
+    }))
     (λ e. inl (byte_escapes b low))
 
 byte_units : (end : ℕ) (text : List ℕ) → AllByRecursion (λ b. b < 256) text → Give (items_from byte_kind end (content 34 written_byte text)) text

@@ -39,7 +39,9 @@ whole_literal text (Some n) utf8 at none = (from_all, to_all)
     from_all : IsTrue (n == length text) → Literal (chars text) []
     from_all h =
         let all : n ≡ length text = eqb-true n (length text) h in
-        let nothing : at.rest ≡ [] = no_bytes at.rest (omega (arith, all, at.size, ap length bytes, length-append (encode_utf8_all at.front) (encode_utf8_all at.rest))) in
+        let nothing : at.rest ≡ [] =
+        let sum = length-append (encode_utf8_all at.front) (encode_utf8_all at.rest) in
+        no_bytes at.rest (omega (arith, all, at.size, ap length bytes, sum)) in
         let front : chars text ≡ at.front = at.whole ∙ (ap (λ r. at.front ++ r) nothing ∙ append-nil at.front) in
         subst (λ p. Literal p []) (sym front) (subst (Literal at.front) nothing at.stands)
 
@@ -59,7 +61,8 @@ pub minus_stripped : (text : List ℕ) (r : Option (Bor (List ℕ))) → IsUtf8 
     → MatchOption r (first_passes (λ c. c == 45) (chars text) ≡ false) (λ x. chars text ≡ 45 ∷ chars x.now)
 minus_stripped text None utf8 none = false_from_ne_true _ (λ h.
     let at = begins_minus (chars text) h in
-    none (encode_utf8_all at.0) (sym (encodes-chars text utf8) ∙ (ap encode_utf8_all at.1 ∙ ap (λ bytes. bytes ++ encode_utf8_all at.0) (encode_ascii 45 (omega arith)))))
+    none (encode_utf8_all at.0) (sym (encodes-chars text utf8)
+    ∙ (ap encode_utf8_all at.1 ∙ ap (λ bytes. bytes ++ encode_utf8_all at.0) (encode_ascii 45 (omega arith)))))
 minus_stripped text (Some x) utf8 e = chars_past_char text x.now 45 utf8 (e ∙ ap (λ bytes. bytes ++ x.now) (sym (encode_ascii 45 (omega arith))))
 
 -- no literal of the grammar begins with `-`
@@ -77,12 +80,19 @@ negative_of text number split (inr negative) =
     (subst (λ p. Literal p []) same negative.literal, ap (first_passes is_ascii_digit) (sym same) ∙ negative.digit)
 
 -- where a digit follows the `-`
-pub minus_digit : (text number : List ℕ) (literal : Bool) → text ≡ 45 ∷ number → first_passes is_ascii_digit number ≡ true → (IsTrue literal ↔ Literal number []) → IsTrue literal ↔ IsByItself text
+pub minus_digit : (text number : List ℕ) (literal : Bool) → text ≡ 45 ∷ number
+    → first_passes is_ascii_digit number ≡ true → (IsTrue literal ↔ Literal number [])
+    → IsTrue literal ↔ IsByItself text
 minus_digit text number literal split digit is = (
   λ h. inr (record { number = number; whole = split; literal = is.0 h; digit = digit }),
   λ by_itself. is.1 (negative_of text number split by_itself).0,
 )
 
 -- where none does
-pub minus_other : (text number : List ℕ) (digit : Bool) → text ≡ 45 ∷ number → first_passes is_ascii_digit number ≡ false → digit ≡ false → IsTrue digit ↔ IsByItself text
-minus_other text number digit split other e = (λ h. absurd (both_ways _ e h), λ by_itself. absurd (both_ways _ other (negative_of text number split by_itself).1))
+pub minus_other : (text number : List ℕ) (digit : Bool) → text ≡ 45 ∷ number
+    → first_passes is_ascii_digit number ≡ false → digit ≡ false → IsTrue digit ↔ IsByItself text
+minus_other text number digit split other e = (
+  λ h. absurd (both_ways _ e h),
+  λ by_itself.
+      absurd (both_ways _ other (negative_of text number split by_itself).1),
+)

@@ -41,6 +41,7 @@ pub record IsCStringText (bytes text : List ℕ) : Type 0 where
 -- what was written of the front of the bytes, before the rest
 pub record WritesFront (bytes rest old new : List ℕ) : Type 0 where
   pub parts : List Part
-  pub reads : (more : List Part) → AreParts more rest → (whole : List Part) × AreParts whole bytes × (parts_text whole ≡ parts_text parts ++ parts_text more)
+  pub reads : (more : List Part) → AreParts more rest
+      → (whole : List Part) × AreParts whole bytes × (parts_text whole ≡ parts_text parts ++ parts_text more)
   pub text : new ≡ old ++ parts_text parts
   pub shorter : length rest < length bytes

@@ -4,6 +4,7 @@ pub mod Escaped
 pub mod CString
 pub mod IdentFault
 pub mod Integer
+pub mod Joined
 pub mod Leaf
 pub mod LiteralText
 pub mod Message

@@ -1,14 +1,17 @@
 -- What holds of the values of literals that were made.
-use Rattle.std.specs.Prelude.{Bool, not, ◌==◌, ◌≡◌, ◌<◌, ℕ, List, [], ◌++◌, codes, IsTrue, Ok}
+use Rattle.std.specs.Prelude.{Bool, not, ◌==◌, ◌≡◌, ◌<◌, ℕ, List, [], ◌++◌, codes, IsTrue, Result, Ok}
 use Rattle.std.specs.Char.{IsScalar}
 use Rattle.std.specs.List.{AllByRecursion, list_all}
 use Rattle.std.specs.Str.{all_scalars, encode_utf8_all}
-use Rattle.lexical.specs.Quoted.{ByteStr, CStr, Str}
+use Rattle.lexical.specs.Form.{Form, Many}
+use Rattle.lexical.specs.Quoted.{ByteStr, ByteUnit, CStr, CUnit, Str, StringUnit}
 use Rattle.literal_escaper.specs.Kind.{byte_kind, string_kind}
 use Rattle.literal_escaper.specs.Single.{single}
+use Rattle.pm_token.specs.declared.literals.conversion.ConversionErrorKind.{ConversionErrorKind}
 use Rattle.pm_token.specs.CString.{IsCStringText, has_no_zero}
 use Rattle.pm_token.specs.Content.{is_hash}
 use Rattle.pm_token.specs.Escaped.{byte_string_text, byte_text, character_text, string_text}
+use Rattle.pm_token.specs.Joined.{c_joined, string_joined}
 use Rattle.pm_token.specs.Value.{byte_str_value, cstr_value, ended, str_value}
 
 -- the value of the string literal of a text is the text
@@ -17,7 +20,8 @@ StringsComeBack = (text : List ℕ) → IsTrue (all_scalars text) → str_value 
 
 -- that of the byte string literal of some bytes the bytes
 abbrev pub ByteStringsComeBack : Type 0
-ByteStringsComeBack = (bytes : List ℕ) → AllByRecursion (λ b. b < 256) bytes → byte_str_value (byte_string_text bytes) ≡ Ok bytes
+ByteStringsComeBack = (bytes : List ℕ) → AllByRecursion (λ b. b < 256) bytes
+    → byte_str_value (byte_string_text bytes) ≡ Ok bytes
 
 -- that of the C string literal of some bytes, none of them zero, the bytes and a zero byte
 abbrev pub CStringsComeBack : Type 0
@@ -27,7 +31,8 @@ CStringsComeBack = (bytes text : List ℕ) → AllByRecursion (λ b. b < 256) by
 -- what stands between the quotes of the literal of a character is one unit, the character
 abbrev pub CharactersComeBack : Type 0
 CharactersComeBack = (c : ℕ) → IsScalar c
-    → (content : List ℕ) × (character_text c ≡ codes "'" ++ (content ++ codes "'")) × ((single string_kind content).unit ≡ Ok c)
+    → (content : List ℕ)
+    × (character_text c ≡ codes "'" ++ (content ++ codes "'")) × ((single string_kind content).unit ≡ Ok c)
 
 -- that of a byte the byte
 abbrev pub BytesComeBack : Type 0
@@ -40,7 +45,8 @@ raw_text front signs body = front ++ ((signs ++ codes "\"") ++ (body ++ (codes "
 
 -- the value of a raw string is its body
 abbrev pub RawStringsHaveBodies : Type 0
-RawStringsHaveBodies = (signs body : List ℕ) → IsTrue (list_all is_hash signs) → str_value (raw_text (codes "r") signs body) ≡ Ok body
+RawStringsHaveBodies = (signs body : List ℕ) → IsTrue (list_all is_hash signs)
+    → str_value (raw_text (codes "r") signs body) ≡ Ok body
 
 -- that of a raw byte string the bytes of its body
 abbrev pub RawByteStringsHaveBodies : Type 0
@@ -60,17 +66,25 @@ has_no_return text = list_all (λ c. not (c == 13)) text
 abbrev pub cooked_text : List ℕ → List ℕ → List ℕ
 cooked_text front content = front ++ (content ++ codes "\"")
 
--- a string without CR has a value
+-- what the units of a content, by this form of the grammar, give together is the value
+pub record IsJoined (Unit : Form) (joined : List (List ℕ) → List ℕ) (content : List ℕ)
+    (value : Result (List ℕ) ConversionErrorKind) : Type 0 where
+  -- the content is made of units, which a quote follows
+  pub units : Many Unit content (codes "\"")
+  -- and however it is divided into units, these give the value
+  pub value_is : (body : Many Unit content (codes "\"")) → value ≡ Ok (joined body.units)
+
+-- the value of a string without CR is its units joined
 abbrev pub StringsHaveValues : Type 0
 StringsHaveValues = (content : List ℕ) → Str (cooked_text (codes "\"") content) [] → IsTrue (has_no_return content)
-    → (value : List ℕ) × (str_value (cooked_text (codes "\"") content) ≡ Ok value)
+    → IsJoined StringUnit string_joined content (str_value (cooked_text (codes "\"") content))
 
--- so has a byte string
+-- so is that of a byte string
 abbrev pub ByteStringsHaveValues : Type 0
 ByteStringsHaveValues = (content : List ℕ) → ByteStr (cooked_text (codes "b\"") content) [] → IsTrue (has_no_return content)
-    → (value : List ℕ) × (byte_str_value (cooked_text (codes "b\"") content) ≡ Ok value)
+    → IsJoined ByteUnit string_joined content (byte_str_value (cooked_text (codes "b\"") content))
 
--- and a C string, which a zero byte ends
+-- and that of a C string, with a zero byte behind them
 abbrev pub CStringsHaveValues : Type 0
 CStringsHaveValues = (content : List ℕ) → CStr (cooked_text (codes "c\"") content) [] → IsTrue (has_no_return content)
-    → (value : List ℕ) × (cstr_value (cooked_text (codes "c\"") content) ≡ Ok (ended value))
+    → IsJoined CUnit (λ units. ended (c_joined units)) content (cstr_value (cooked_text (codes "c\"") content))

@@ -34,8 +34,13 @@ pub fn raw_values()
     ensures c_strings { RawCStringsHaveBodies }
 {}
 
-/// A literal with escapes, without a suffix and without CR always has a value: none of its items is a
-/// fault. With CR LF it may have none.
+/// The value of a literal with escapes, without a suffix and without CR is what the units of its content
+/// give, one behind another, by the units of the grammar and however they divide the content. A character
+/// by itself gives that character, and an escape what it stands for. A backslash and LF give nothing, nor
+/// do the spaces, tabs and LFs that follow them. In a C string a character gives its UTF-8, `\x` and two
+/// digits give one byte, and a zero byte ends the value. With CR LF there may be no value.
+///
+/// A string of `a\`, LF, two spaces and `b` has the value `ab`, and `c"é\xe9"` has C3 A9 E9 00.
 pub fn cooked_values()
     ensures strings { StringsHaveValues }
     ensures byte_strings { ByteStringsHaveValues }

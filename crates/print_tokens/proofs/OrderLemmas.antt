@@ -2,9 +2,9 @@
 use Rattle.std.proofs.Common.{◌≡◌, ℕ, ◌+◌, ◌*◌, ◌<◌, length, List, [], ◌∷◌, ◌++◌, Bor, refl, sym, ap, ◌∙◌, append_assoc, arith}
 use Rattle.std.proofs.lemmas.List.{append-nil}
 use Rattle.proc_macro2.specs.Forest.{Forest}
-use Rattle.pm_stream.specs.Level.{forest, alone}
-use Rattle.pm_stream.specs.Size.{count}
-use Rattle.pm_stream.specs.declared.stream.Group.{Group as Grouped}
+use Rattle.proc_macro2.specs.Level.{forest, alone}
+use Rattle.proc_macro2.specs.Size.{count}
+use Rattle.proc_macro2.specs.declared.Group.{Group as Grouped}
 use Rattle.proc_macro2.specs.declared.TokenTree.{TokenTree}
 use Rattle.proc_macro2.specs.declared.TokenTree.TheVariants.{Group, Ident, Punct, Literal}
 use Rattle.print_tokens.specs.Order.{order_onto, trees_of}
@@ -68,7 +68,8 @@ pub leaf_more : (found new : Found) (tree : Bor TokenTree) (left after : List To
     → new ≡ found ++ tree ∷ [] → left ≡ tree.now ∷ after → ((g : Grouped) → tree.now ≡ Group g → ⊥)
     → trees_of found ++ left_order left outer ≡ all → trees_of new ++ left_order after outer ≡ all
 leaf_more found new tree left after outer all more is other whole =
-    found_more found new tree (left_order left outer) (left_order after outer) all more (ap (λ l. left_order l outer) is ∙ leaf_order tree.now after outer other) whole
+    found_more found new tree (left_order left outer) (left_order after outer) all more
+    (ap (λ l. left_order l outer) is ∙ leaf_order tree.now after outer other) whole
 
 leaf_count : (t : TokenTree) (after : List TokenTree) (outer : Rests) → left_count after outer < left_count (t ∷ after) outer
 leaf_count (Group g) after outer = omega arith
@@ -86,12 +87,14 @@ group_order : (t : TokenTree) (g : Grouped) (left inside : List TokenTree) (afte
 group_order t g left inside after outer new whole is into p = rw (whole, is, into, p, outer_onto-push outer after []) refl
 
 -- after a group's opener
-pub group_more : (found more : Found) (tree : Bor TokenTree) (g : Grouped) (left inside : List TokenTree) (after : Bor (List TokenTree)) (outer new : Rests) (all : List Forest)
+pub group_more : (found more : Found) (tree : Bor TokenTree) (g : Grouped) (left inside : List TokenTree)
+    (after : Bor (List TokenTree)) (outer new : Rests) (all : List Forest)
     → more ≡ found ++ tree ∷ [] → left ≡ tree.now ∷ after.now → tree.now ≡ Group g → forest inside ≡ g.stream
     → new ≡ outer ++ after ∷ []
     → trees_of found ++ left_order left outer ≡ all → trees_of more ++ left_order inside new ≡ all
 group_more found more tree g left inside after outer new all push whole is into p before =
-    found_more found more tree (left_order left outer) (left_order inside new) all push (group_order tree.now g left inside after outer new whole is into p) before
+    found_more found more tree (left_order left outer) (left_order inside new) all push
+    (group_order tree.now g left inside after outer new whole is into p) before
 
 group_count : (g : Grouped) (after : Bor (List TokenTree)) (outer : Rests)
     → 2 * count g.stream + outer_count (outer ++ after ∷ []) < left_count (Group g ∷ after.now) outer

@@ -8,7 +8,7 @@
 mod lines;
 mod order;
 
-use lines::print_lines;
+use lines::{print_fault, print_lines};
 use proc_macro2::{ParseError, SourceMap, TokenStream};
 use std::io;
 use std::io::{BufWriter, Write};
@@ -24,8 +24,7 @@ fn main(rt: HostRuntime) -> io::Result<ExitCode> {
             ExitCode::SUCCESS
         }
         Err(ParseError::Lex(error)) => {
-            let place = error.span().start(&map);
-            writeln!(writer, "fault at {}:{}", place.line, place.column)?;
+            print_fault(error.span(), &map, &mut writer)?;
             ExitCode::FAILURE
         }
         Err(error) => {

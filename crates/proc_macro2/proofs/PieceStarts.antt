@@ -8,7 +8,7 @@ use Rattle.lexical.specs.Text.{begins_with, begins_any, first_passes}
 use Rattle.lexical.specs.Token.{Name, Mark, Literal}
 use Rattle.lexical.specs.Identifier.{Identifier, literal_prefixes}
 use Rattle.lexical.specs.Mark as marks
-use Rattle.lexical.specs.Mark.{is_mark, comment_fronts, joint_before, FollowsQuote}
+use Rattle.lexical.specs.Mark.{is_mark, comment_fronts, joint_before, FollowsQuote, quotable_fronts}
 use Rattle.lexical.specs.Delimiter.{is_opener, is_closer, error_literal}
 use Rattle.lexical.specs.Literal as literals
 use Rattle.lexical.specs.Literal.{AnyLiteral}
@@ -17,7 +17,6 @@ use Rattle.lexical.proofs.ClassLemmas.{any_of, ident_start_ascii, ident_continue
 use Rattle.lexical.proofs.LeafLaws.{comment_first, identifier_before_stop, mark_before_stop, stop_alone, quote_next, literal_before_stop, literal_first, literal_plain, literal_quoted, stops}
 use Rattle.lexical.proofs.PieceFacts.{open_is, close_is, stands_mark, start_continues, name_continues, none_begins}
 use Rattle.pm_token.specs.Built.{IsBuiltToken}
-use Rattle.pm_stream.specs.WellSpaced.{quotable_fronts}
 
 -- ---- characters
 

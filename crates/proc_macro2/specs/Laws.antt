@@ -65,7 +65,8 @@ OneText = (s t : Forest) → IsBuilt s → IsBuilt t → IsWellSpaced s → IsWe
 
 -- ---- joined texts
 
--- two texts with a line's end between them parse to the two streams joined, up to spans, unless the second begins with U+FEFF
+-- two texts with a line's end between them parse to the two streams joined, up to spans,
+-- unless the second begins with U+FEFF
 abbrev pub JoinedTexts : Type 0
 JoinedTexts = (base first second : ℕ) (a b : List ℕ) (s t : Forest) → ParsesTo first a s → ParsesTo second b t
     → IsFalse (begins_with (0xFEFF ∷ []) b) → Gives base (a ++ (codes "\n" ++ b)) (joined s t)

@@ -1,54 +1,47 @@
 -- Lemmas on the place of an input's fault.
-use Rattle.std.proofs.Common.{◌≡◌, ℕ, ◌+◌, ◌-◌, ◌≤◌, List, [], ◌∷◌, length, Result, Err, IfErr, if◌then◌else◌, refl, sym, subst, arith}
+use Rattle.std.proofs.Common.{◌≡◌, ◌↔◌, ℕ, ◌+◌, ◌-◌, List, [], ◌∷◌, Err, if◌then◌else◌, refl, sym, subst, arith}
 use Rattle.std.specs.Str.{chars, IsUtf8}
+use Rattle.std.specs.Prelude.{alloc_error}
 use Rattle.proc_macro2.specs.declared.LineColumn.{LineColumn}
 use Rattle.proc_macro2.specs.declared.ParseError.{ParseError}
-use Rattle.proc_macro2.specs.declared.ParseError.TheVariants.{Lex}
+use Rattle.proc_macro2.specs.declared.ParseError.TheVariants.{Lex, MapFull, Memory}
 use Rattle.proc_macro2.specs.Extent.{Extent}
 use Rattle.proc_macro2.specs.Files.{Files, IsFile, next_lo, with_file}
 use Rattle.proc_macro2.specs.Forest.{Forest}
 use Rattle.proc_macro2.specs.Outcome.{IfLex, was_read}
 use Rattle.proc_macro2.specs.Parsing.{FaultAt}
-use Rattle.proc_macro2.specs.Place.{line_column}
 use Rattle.proc_macro2.proofs.FaultLemmas.{fault_within}
-use Rattle.tokens.specs.Output.{new_map, HasFaultAt}
-
--- the new map has read the text after what the old one had, and the text's fault is the span
-pub record HasReadFault (old new : Files) (text : List ℕ) (span : Extent) : Type 0 where
-  pub read : new ≡ with_file old text
-  pub empty : span.lo ≡ span.hi
-  pub fault : FaultAt (next_lo old) text span.lo
-
--- what a parse tells of the fault that it lends
-pub HasReadFault-parsed : (old new : Files) (text : List ℕ) (answer : Result Forest ParseError) (fault span : Extent) → span ≡ fault → answer ≡ Err (Lex fault)
-    → IfErr answer (λ error. IfLex error (λ e. (e.lo ≡ e.hi) × FaultAt (next_lo old) text e.lo))
-    → new ≡ (if was_read answer then with_file old text else old) → HasReadFault old new text span
-HasReadFault-parsed old new text answer fault span lent is lex kept =
-    let Tells : Result Forest ParseError → Type 0 = λ r. IfErr r (λ error. IfLex error (λ e. (e.lo ≡ e.hi) × FaultAt (next_lo old) text e.lo)) in
-    let Kept : Result Forest ParseError → Type 0 = λ r. new ≡ (if was_read r then with_file old text else old) in
-    let told = subst Tells is lex in
-    let OfSpan : Extent → Type 0 = λ e. HasReadFault old new text e in
-    subst OfSpan (sym lent) (record { read = subst Kept is kept; empty = told.0; fault = told.1 })
+use Rattle.tokens.specs.declared.errors.RunError.{RunError}
+use Rattle.tokens.specs.declared.errors.RunError.TheVariants as run
+use Rattle.tokens.specs.Output.{new_map, HasFaultAt, StartsAt}
 
 -- the one text that a map has read is its file at position 1
 first_file : (text : List ℕ) → IsFile (with_file new_map text) text 1
 first_file text = record { before = [] ∷ []; after = []; whole = refl; begins = refl }
 
--- the place that the map tells is that of the fault
-pub HasFaultAt-told : (old new : Files) (input text : List ℕ) (span : Extent) (place : LineColumn) → old ≡ new_map
-    → HasReadFault old new (chars text) span → (text ≡ input) × IsUtf8 input
-    → ((t : List ℕ) (lo : ℕ) → IsFile new t lo → lo ≤ span.lo → span.hi ≤ lo + length t → place ≡ line_column t (span.lo - lo))
-    → HasFaultAt input place
-HasFaultAt-told old new input text span place start has utf8 told =
-    let FromOld : Files → Type 0 = λ m. HasReadFault m new (chars text) span in
-    let OfText : List ℕ → Type 0 = λ bytes. HasReadFault new_map new (chars bytes) span in
-    let h = subst OfText utf8.0 (subst FromOld start has) in
-    let within = fault_within 1 (chars input) span.lo h.fault in
-    let back : span.lo ≡ 1 + (span.lo - 1) = omega arith in
+-- where the fault of the one text that a map has read begins is the place of the input's fault
+HasFaultAt-read : (new : Files) (input : List ℕ) (fault : Extent) (place : LineColumn) → IsUtf8 input → new ≡ with_file new_map (chars input)
+    → fault.lo ≡ fault.hi → FaultAt 1 (chars input) fault.lo → StartsAt new fault place → HasFaultAt input place
+HasFaultAt-read new input fault place text read empty stands told =
+    let within = fault_within 1 (chars input) fault.lo stands in
+    let back : fault.lo ≡ 1 + (fault.lo - 1) = omega arith in
     let File : Files → Type 0 = λ m. IsFile m (chars input) 1 in
     record {
-      text = utf8.1;
-      before = span.lo - 1;
-      fault = subst (FaultAt 1 (chars input)) back h.fault;
-      at = told (chars input) 1 (subst File (sym h.read) (first_file (chars input))) within.0 (omega (arith, h.empty, within.1));
+      text = text;
+      before = fault.lo - 1;
+      fault = subst (FaultAt 1 (chars input)) back stands;
+      at = told (chars input) 1 (subst File (sym read) (first_file (chars input))) within.0 (omega (arith, empty, within.1));
     }
+
+-- a refusal that tells a place tells that of the fault
+pub HasFaultAt-told : (new : Files) (input : List ℕ) (error : ParseError) (why : RunError) (place : LineColumn) → IsUtf8 input
+    → IfLex error (λ fault. (fault.lo ≡ fault.hi) × FaultAt (next_lo new_map) (chars input) fault.lo)
+    → new ≡ (if was_read {T = Forest} (Err error) then with_file new_map (chars input) else new_map)
+    → IfLex error (λ fault. (p : LineColumn) × (why ≡ run.Lex p) × StartsAt new fault p)
+    → ((why ≡ run.MapFull) ↔ (error ≡ MapFull)) → ((why ≡ run.Memory alloc_error) ↔ (error ≡ Memory alloc_error))
+    → why ≡ run.Lex place → HasFaultAt input place
+HasFaultAt-told new input (Lex fault) why place text lex kept told full memory is =
+    let same : told.0 ≡ place = cc in
+    subst (HasFaultAt input) same (HasFaultAt-read new input fault told.0 text kept lex.0 lex.1 told.2)
+HasFaultAt-told new input MapFull why place text lex kept told full memory is = let e = full.1 refl in cc
+HasFaultAt-told new input (Memory error) why place text lex kept told full memory is = let e = memory.1 refl in cc

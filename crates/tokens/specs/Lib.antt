@@ -3,4 +3,5 @@ pub mod Refusal
 pub mod Output
 pub mod Answer
 pub mod Run
+pub mod Arguments
 pub mod Command

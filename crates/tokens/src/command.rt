@@ -1,5 +1,5 @@
 //! The command line: which run the words ask for, what is said of it, and the status.
-ghost use Rattle.std.specs.Prelude.{◌≡◌, map, Result, IfSome, IfNone, string_bytes};
+ghost use Rattle.std.specs.Prelude.{◌≡◌, map, Result, Err, OnErr, IfOk, IfNone, IfSome, alloc_error, string_bytes};
 ghost use Rattle.tokens.specs.Command.{mode_named, mode_of, usage, message, status};
 ghost use Rattle.tokens.specs.Known.{Says};
 ghost use Rattle.tokens.specs.Run.{Runs, seen_by};
@@ -11,7 +11,7 @@ use crate::messages::{say, say_usage};
 use crate::mode::OutputMode;
 use crate::sinks::ByteSink;
 use crate::sources::ByteSource;
-use std::alloc::Global;
+use std::alloc::{AllocError, Global};
 
 #[cfg(test)]
 mod tests;
@@ -48,8 +48,38 @@ pub fn command<R: ByteSource, W: ByteSink, E: ByteSink>(
     conclude(run(alloc, mode, reader, writer), errors)
 }
 
-/// Says on `errors` why a run was refused, and answers the program's status after it.
-pub fn conclude<E: ByteSink>(answer: Result<(), RunError>, errors: &mut E) -> u8
+/// Does what `command` does for the words, where there was memory for them. Else nothing is read or
+/// written, the line on `errors` says that there was none, and the status is 2.
+pub fn answer<R: ByteSource, W: ByteSink, E: ByteSink>(
+    alloc: Global,
+    words: Result<Vec<String>, AllocError>,
+    reader: &mut R,
+    writer: &mut W,
+    errors: &mut E,
+) -> u8
+    ensures usage { IfOk words (λ list. IfNone (mode_of (map string_bytes list.items))
+        ((result ≡ 2) × (reader.new ≡ reader.old) × (writer.new ≡ writer.old)
+        × Says (E.held errors.old) (E.held errors.new) (E.has_failed errors.new) usage)) }
+    ensures runs { IfOk words (λ list. IfSome (mode_of (map string_bytes list.items)) (λ mode.
+        let seen = seen_by R.left R.has_failed W.held W.has_failed in
+        (answer : Result Unit RunError)
+        × Runs mode (seen reader.old writer.old) answer (seen reader.new writer.new)
+        × (result ≡ status answer)
+        × Says (E.held errors.old) (E.held errors.new) (E.has_failed errors.new)
+        (message answer))) }
+    ensures memory { OnErr words ((result ≡ 2)
+        × (reader.new ≡ reader.old) × (writer.new ≡ writer.old)
+        × Says (E.held errors.old) (E.held errors.new) (E.has_failed errors.new)
+        (message (Err (RunError.Memory alloc_error)))) }
+{
+    match words {
+        Ok(words) => command(alloc, words.as_slice(), reader, writer, errors),
+        Err(error) => conclude(Err(RunError::Memory(error)), errors),
+    }
+}
+
+// Says on `errors` why a run was refused, and answers the program's status after it.
+fn conclude<E: ByteSink>(answer: Result<(), RunError>, errors: &mut E) -> u8
     ensures status { result ≡ status answer }
     ensures says { Says (E.held errors.old) (E.held errors.new) (E.has_failed errors.new)
         (message answer) }

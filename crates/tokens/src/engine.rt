@@ -1,9 +1,11 @@
 //! A run: from the bytes of a source to the bytes of a sink.
-ghost use Rattle.std.specs.Prelude.{◌≡◌, ◌↔◌, IfOk, IsFalse, string_bytes};
+ghost use Rattle.std.specs.Prelude.{◌≡◌, ◌↔◌, IfOk, IsFalse, alloc_error, string_bytes};
 ghost use Rattle.std.specs.Str.{IsUtf8};
 ghost use Rattle.proc_macro2.specs.declared.LineColumn.{LineColumn};
+ghost use Rattle.proc_macro2.specs.Files.{Holds};
+ghost use Rattle.proc_macro2.specs.Outcome.{IfLex};
 ghost use Rattle.tokens.specs.Answer.{is_io};
-ghost use Rattle.tokens.specs.Output.{IsOutput, IsTooLong, HasFaultAt, written};
+ghost use Rattle.tokens.specs.Output.{IsOutput, IsReadable, IsTooLong, HasFaultAt, StartsAt, written};
 ghost use Rattle.tokens.specs.Run.{Runs, seen_by};
 
 use crate::errors::RunError;
@@ -47,6 +49,9 @@ fn output_of(alloc: Global, mode: OutputMode, input: &[u8]) -> Result<String, Ru
     ensures map_full { (result ≡ Err RunError.MapFull) ↔ IsTooLong input.now }
     ensures lex { (place : LineColumn) → result ≡ Err (RunError.Lex place)
         → HasFaultAt input.now place }
+
+    // That a growth was refused can't be stated, only which inputs may come so far.
+    ensures memory { result ≡ Err (RunError.Memory alloc_error) → IsReadable input.now }
 {
     let Ok(text) = str::from_utf8(input) else {
         return Err(RunError::NotUtf8);
@@ -54,9 +59,23 @@ fn output_of(alloc: Global, mode: OutputMode, input: &[u8]) -> Result<String, Ru
     let mut map = SourceMap::new(alloc);
     match TokenStream::from_str(text, &mut map) {
         Ok(stream) => Ok(written(alloc, mode, &stream)?),
-        Err(ParseError::Lex(error)) => Err(RunError::Lex(error.span().start(&map))),
-        Err(ParseError::MapFull) => Err(RunError::MapFull),
-        Err(ParseError::Memory(error)) => Err(RunError::Memory(error)),
+        Err(error) => Err(refusal(error, &map)),
+    }
+}
+
+// Why a run is refused whose text wasn't parsed into the map.
+fn refusal(error: ParseError, map: &SourceMap) -> RunError
+    requires { IfLex error (Holds map.now) }
+    ensures lex { IfLex error (λ fault. (place : LineColumn)
+        × (result ≡ RunError.Lex place) × StartsAt map.now fault place) }
+    ensures map_full { (result ≡ RunError.MapFull) ↔ (error ≡ ParseError.MapFull) }
+    ensures memory { (result ≡ RunError.Memory alloc_error)
+        ↔ (error ≡ ParseError.Memory alloc_error) }
+{
+    match error {
+        ParseError::Lex(error) => RunError::Lex(error.span().start(map)),
+        ParseError::MapFull => RunError::MapFull,
+        ParseError::Memory(error) => RunError::Memory(error),
     }
 }
 

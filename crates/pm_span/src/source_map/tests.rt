@@ -4,7 +4,7 @@ use std::test::Fail;
 
 /// Adds the text if it fits, and says where it begins.
 fn add(map: &mut SourceMap, text: &str) -> Result<Option<u32>, AllocError> {
-    match fits(map, text.chars().count()) {
+    match fits(map, text) {
         None => Ok(None),
         Some(lo) => {
             add_file(map, text)?;

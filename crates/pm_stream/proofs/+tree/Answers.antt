@@ -11,11 +11,17 @@ use Rattle.pm_stream.proofs.+tree.Goals.{stream::TokenStream::drop-in-Some-take_
 pub stream::TokenStream::drop-drop-shared-requires : goal.stream::TokenStream::drop-drop-shared-requires
 stream::TokenStream::drop-drop-shared-requires t c κs =
     let below : most size-TokenTree c.take_last.new.shared.value.items < t =
-    omega (arith, shared_size_le c.take_last.new.shared.value.items _ (c.in_default-take_last.ensures ∙ ap held (sym c.in-Some.is) ∙ c.self.view_is), c.decreases) in
+    omega (
+      arith,
+      shared_size_le c.take_last.new.shared.value.items _
+          (c.in_default-take_last.ensures ∙ ap held (sym c.in-Some.is) ∙ c.self.view_is),
+      c.decreases,
+    ) in
     search (rules, below)
 
 pub stream::TokenStream::drop-invariant_of-here : goal.stream::TokenStream::drop-invariant_of-here
-stream::TokenStream::drop-invariant_of-here t c = IsBuilt-taken _ _ c.take_last.result c.take_last.ensures (subst IsBuilt (ap held c.in-Some.is) c.self.invariant)
+stream::TokenStream::drop-invariant_of-here t c =
+    IsBuilt-taken _ _ c.take_last.result c.take_last.ensures (subst IsBuilt (ap held c.in-Some.is) c.self.invariant)
 
 pub stream::TokenStream::drop-loop-init : goal.stream::TokenStream::drop-loop-init
 stream::TokenStream::drop-loop-init t c =

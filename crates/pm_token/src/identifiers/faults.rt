@@ -1,12 +1,9 @@
 //! Which names identifiers refuse.
-ghost use Rattle.std.specs.Prelude.{◌≡◌, ◌==◌, IsTrue, length, nat_eq};
-ghost use Rattle.std.specs.Cmp.Lexicographic.{pointwise};
+ghost use Rattle.std.specs.Prelude.{◌≡◌, ◌==◌, length};
 ghost use Rattle.std.specs.Str.{chars};
-ghost use Rattle.lexical.specs.Ascii.{all_ascii};
-ghost use Rattle.lexical.specs.Identifier.{is_reserved as reserved};
 ghost use Rattle.pm_token.specs.IdentFault.{ident_fault, is_name as name_only, is_number as digits_only};
 
-use lexical::name_at;
+use lexical::{is_reserved, name_at};
 use std::alloc::AllocError;
 use std::error::Error;
 use std::fmt;
@@ -76,25 +73,6 @@ fn is_name(text: &str) -> bool
     ensures { result ≡ name_only (chars text.now) }
 {
     name_at(text) == Some(text.len())
-}
-
-/// Whether the text is this ASCII text.
-fn text_is(text: &str, ascii: &str) -> bool
-    requires { IsTrue (all_ascii ascii.now) }
-    ensures { result ≡ pointwise nat_eq (chars text.now) ascii.now }
-{
-    text == ascii
-}
-
-/// Whether no raw identifier is called so.
-fn is_reserved(name: &str) -> bool
-    ensures { result ≡ reserved (chars name.now) }
-{
-    text_is(name, "_")
-        || text_is(name, "super")
-        || text_is(name, "self")
-        || text_is(name, "Self")
-        || text_is(name, "crate")
 }
 
 /// Why no identifier has the name, by the rule `identifier-fault`.

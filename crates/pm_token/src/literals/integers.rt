@@ -88,14 +88,15 @@ fn signed(alloc: Global, value: i128, suffix: Suffix) -> Result<Literal, AllocEr
 }
 
 // Each has the span 0..0 and fails where memory runs out. Without a suffix the literal is the
-// decimal text of the number, by the rule `integer-text`, and with one the type's name follows it.
+// decimal text of the number, by the rule `integer-text`, which is the same for a number of a wider
+// type, and with one the type's name follows it.
 impl Literal {
     /// The literal of the number, without its type. For 255 it is `255`.
     pub fn u8_unsuffixed(alloc: Global, value: u8) -> Result<Literal, AllocError>
         ensures ok { IfOk result (λ literal.
             literal ≡ record { text = decimal value; span = nowhere }) }
     {
-        unsigned(alloc, u128::from(value), Suffix::Nothing)
+        Literal::u16_unsuffixed(alloc, u16::from(value))
     }
 
     /// The literal of the number, without its type. For 65535 it is `65535`.
@@ -103,7 +104,7 @@ impl Literal {
         ensures ok { IfOk result (λ literal.
             literal ≡ record { text = decimal value; span = nowhere }) }
     {
-        unsigned(alloc, u128::from(value), Suffix::Nothing)
+        Literal::u32_unsuffixed(alloc, u32::from(value))
     }
 
     /// The literal of the number, without its type. For 3 it is `3`.
@@ -111,7 +112,7 @@ impl Literal {
         ensures ok { IfOk result (λ literal.
             literal ≡ record { text = decimal value; span = nowhere }) }
     {
-        unsigned(alloc, u128::from(value), Suffix::Nothing)
+        Literal::u64_unsuffixed(alloc, u64::from(value))
     }
 
     /// The literal of the number, without its type. For 10 it is `10`.
@@ -119,7 +120,7 @@ impl Literal {
         ensures ok { IfOk result (λ literal.
             literal ≡ record { text = decimal value; span = nowhere }) }
     {
-        unsigned(alloc, u128::from(value), Suffix::Nothing)
+        Literal::u128_unsuffixed(alloc, u128::from(value))
     }
 
     /// The literal of the number, without its type. For 7 it is `7`.
@@ -191,7 +192,7 @@ impl Literal {
         ensures ok { IfOk result (λ literal.
             literal ≡ record { text = signed_decimal value; span = nowhere }) }
     {
-        signed(alloc, i128::from(value), Suffix::Nothing)
+        Literal::i16_unsuffixed(alloc, i16::from(value))
     }
 
     /// The literal of the number, without its type. For -3 it is `-3`.
@@ -199,7 +200,7 @@ impl Literal {
         ensures ok { IfOk result (λ literal.
             literal ≡ record { text = signed_decimal value; span = nowhere }) }
     {
-        signed(alloc, i128::from(value), Suffix::Nothing)
+        Literal::i32_unsuffixed(alloc, i32::from(value))
     }
 
     /// The literal of the number, without its type. For -3 it is `-3`.
@@ -207,7 +208,7 @@ impl Literal {
         ensures ok { IfOk result (λ literal.
             literal ≡ record { text = signed_decimal value; span = nowhere }) }
     {
-        signed(alloc, i128::from(value), Suffix::Nothing)
+        Literal::i64_unsuffixed(alloc, i64::from(value))
     }
 
     /// The literal of the number, without its type. For 12 it is `12`.
@@ -215,7 +216,7 @@ impl Literal {
         ensures ok { IfOk result (λ literal.
             literal ≡ record { text = signed_decimal value; span = nowhere }) }
     {
-        signed(alloc, i128::from(value), Suffix::Nothing)
+        Literal::i128_unsuffixed(alloc, i128::from(value))
     }
 
     /// The literal of the number, without its type. For -1 it is `-1`.

@@ -12,7 +12,7 @@ ghost use Rattle.pm_token.specs.Outcome.{IfLex, IsRefusalOf, was_read};
 use crate::errors::{LexError, ParseError};
 use crate::literals::Literal;
 use lexical::literal_at;
-use pm_span::parts::{add_file, allocator, fits, span_of};
+use pm_span::parts::{add_file, allocator, char_count, fits, span_of};
 use pm_span::{SourceMap, Span};
 use std::alloc::{AllocError, Global};
 
@@ -42,11 +42,10 @@ impl Literal {
         ensures kept { map.new
             ≡ (if was_read result then with_file map.old (chars text.now) else map.old) }
     {
-        let count = count(text);
-        let Some(lo) = fits(map, count) else {
+        let Some(lo) = fits(map, text) else {
             return Err(ParseError::MapFull);
         };
-        let span = span_of(lo, lo + count as u32);
+        let span = span_of(lo, lo + char_count(text) as u32);
         let literal = Literal::whole_at(allocator(map), text, span);
         if let Err(ParseError::Memory(_)) = &literal {
             return literal;
@@ -114,14 +113,6 @@ fn is_literal(text: &str) -> bool
     ensures { IsTrue result ↔ literals.Literal (chars text.now) [] }
 {
     literal_at(text) == Some(text.len())
-}
-
-/// How many characters the text has.
-#[tactic(auto, using(std::proofs::lemmas::Str::chars_from_encodes))]
-fn count(text: &str) -> usize
-    ensures { result ≡ length (chars text.now) }
-{
-    text.chars().count()
 }
 
 #[cfg(test)]

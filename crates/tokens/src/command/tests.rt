@@ -3,7 +3,6 @@ use crate::failing::{FailingSink, FailingSource};
 use crate::sinks::MemorySink;
 use crate::sources::MemorySource;
 use proc_macro2::LineColumn;
-use std::alloc::AllocError;
 use std::test::Fail;
 
 const ROW: &[u8] = b"fn f(x) { x + y }";
@@ -70,6 +69,22 @@ fn words_that_ask_for_nothing_are_told_the_usage(rt: HostRuntime) -> Result<(), 
         assert_eq!(rt; errors.bytes(), said, "at {words:?}");
     }
     Ok(())
+}
+
+#[test]
+fn words_without_memory_move_no_byte(rt: HostRuntime) {
+    let mut writer = MemorySink::new(rt.alloc());
+    let mut errors = MemorySink::new(rt.alloc());
+    let status = answer(
+        rt.alloc(),
+        Err(AllocError),
+        &mut MemorySource::new(ROW),
+        &mut writer,
+        &mut errors,
+    );
+    assert_eq!(rt; status, 2);
+    assert_eq!(rt; writer.bytes(), b"".as_slice());
+    assert_eq!(rt; errors.bytes(), b"no memory\n".as_slice());
 }
 
 #[test]

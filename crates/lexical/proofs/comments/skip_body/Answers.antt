@@ -8,7 +8,9 @@ returns-in_err-after c =
     search (rules, nothing)
 
 pub loop-depth-preserved : goal.loop-depth-preserved
-loop-depth-preserved c = leads_on c.args.at c.loop-depth.end c.in_ok-after.after 1 c.loop-depth.depth c.in_ok-after.inside c.loop-depth.invariant c.in_ok-after.ensures.leads
+loop-depth-preserved c =
+    leads_on c.args.at c.loop-depth.end c.in_ok-after.after 1 c.loop-depth.depth c.in_ok-after.inside
+    c.loop-depth.invariant c.in_ok-after.ensures.leads
 
 pub returns : goal.returns
 returns c = leads_out c.args.at c.loop-depth.end 1 c.loop-depth.depth c.loop-depth.invariant c.loop-depth-test.false

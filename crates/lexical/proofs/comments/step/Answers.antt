@@ -6,12 +6,14 @@ use Rattle.lexical.proofs.comments.step.Goals.{then-c-eq42+in_default, else-c-eq
 
 pub returns-in-Some-clause-leads : goal.returns-in-Some-clause-leads
 returns-in-Some-clause-leads c =
-    leads_close c.args.at c.in_ok-c.after c.in-Some.closed c.args.depth (c.in_ok-c.ensures.0 ∙ ap (λ x. x ∷ chars c.in_ok-c.after.rest.now) c.if-c-eq42.true) c.in_ok-c.ensures.1
+    leads_close c.args.at c.in_ok-c.after c.in-Some.closed c.args.depth
+    (c.in_ok-c.ensures.0 ∙ ap (λ x. x ∷ chars c.in_ok-c.after.rest.now) c.if-c-eq42.true) c.in_ok-c.ensures.1
     c.in-Some.ensures c.requires.inside c.requires.fits
 
 pub returns-in-Some-past-clause-leads : goal.returns-in-Some-past-clause-leads
 returns-in-Some-past-clause-leads c =
-    leads_open c.args.at c.in_ok-c.after c.in-Some-past.opened c.args.depth (c.in_ok-c.ensures.0 ∙ ap (λ x. x ∷ chars c.in_ok-c.after.rest.now) c.if-c-eq47.true) c.in_ok-c.ensures.1
+    leads_open c.args.at c.in_ok-c.after c.in-Some-past.opened c.args.depth
+    (c.in_ok-c.ensures.0 ∙ ap (λ x. x ∷ chars c.in_ok-c.after.rest.now) c.if-c-eq47.true) c.in_ok-c.ensures.1
     c.in-Some-past.ensures c.requires.inside c.requires.fits
 
 pub returns-clause-leads : goal.returns-clause-leads

@@ -2,7 +2,7 @@ use Rattle.std.proofs.Common.{[], ◌∷◌, refl, sym}
 use Rattle.std.specs.Str.{chars}
 use Rattle.std.proofs.lemmas.Bool.{or_from}
 use Rattle.lexical.specs.Delimiter.{is_opener, error_literal}
-use Rattle.lexical.specs.PieceFinder.{opener_kind}
+use Rattle.lexical.specs.DelimiterFinder.{opener_kind}
 use Rattle.lexical.proofs.AnswerLemmas.{one_found_not_at, found_piece}
 use Rattle.lexical.proofs.delimiters.opener.Goals as goal
 

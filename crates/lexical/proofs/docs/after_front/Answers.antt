@@ -15,4 +15,5 @@ pub returns : goal.returns
 returns c =
     let d = doc_front (chars c.args.comment.now) c.requires in
     let cut : c.range_from.result.now ≡ drop 3 c.args.comment.now = grind (arith, common_steps) in
-    ap chars cut ∙ (seam_drop c.args.comment.now d.front d.rest 3 c.utf8.comment d.whole d.bytes ∙ sym (ap (drop 3) d.whole ∙ drop_at d.front d.rest 3 d.three))
+    ap chars cut ∙ (seam_drop c.args.comment.now d.front d.rest 3 c.utf8.comment d.whole d.bytes
+    ∙ sym (ap (drop 3) d.whole ∙ drop_at d.front d.rest 3 d.three))

@@ -13,14 +13,20 @@ sign = refl
 pub before-requires : goal.before-requires
 before-requires c =
     let p = chars c.args.comment.now in
-    let r = chars c.args.rest.now in
-    (doc_text p r, c.after_front-said.ensures ∙ (doc_back p r c.requires.0 c.requires.1 ∙ ap (λ x. doc_text p r ++ x) (closing_block p r (sym c.if-begins.ensures) ∙ sym sign)))
+    let r = chars c.args.rest.now in (
+      doc_text p r,
+      c.after_front-said.ensures
+          ∙ (doc_back p r c.requires.0 c.requires.1
+          ∙ ap (λ x. doc_text p r ++ x) (closing_block p r (sym c.if-begins.ensures) ∙ sym sign)),
+    )
 
 pub returns-then-begins : goal.returns-then-begins
 returns-then-begins c =
     let p = chars c.args.comment.now in
     let r = chars c.args.rest.now in
-    c.before-then-begins.ensures (doc_text p r) (c.after_front-said.ensures ∙ (doc_back p r c.requires.0 c.requires.1 ∙ ap (λ x. doc_text p r ++ x) (closing_block p r (sym c.if-begins.ensures) ∙ sym sign)))
+    c.before-then-begins.ensures (doc_text p r)
+    (c.after_front-said.ensures ∙ (doc_back p r c.requires.0 c.requires.1
+    ∙ ap (λ x. doc_text p r ++ x) (closing_block p r (sym c.if-begins.ensures) ∙ sym sign)))
 
 pub returns-then-begins-2 : goal.returns-then-begins-2
 returns-then-begins-2 c =
@@ -31,7 +37,8 @@ returns-then-begins-2 c =
     (sym c.without_return.ensures
     ∙ (c.after_front-said.ensures
     ∙ (doc_back p r c.requires.0 c.requires.1
-    ∙ ap (λ x. doc_text p r ++ x) (closing_line p r c.requires.1 (sym c.if-begins.ensures) (sym c.if-begins-2.ensures) ∙ ap last_return (sym c.after_front-said.ensures)))))
+    ∙ ap (λ x. doc_text p r ++ x) (closing_line p r c.requires.1 (sym c.if-begins.ensures) (sym c.if-begins-2.ensures)
+    ∙ ap last_return (sym c.after_front-said.ensures)))))
 
 pub returns-else-begins-2 : goal.returns-else-begins-2
 returns-else-begins-2 c =

@@ -1,6 +1,6 @@
 use Rattle.std.proofs.Common.{List, ℕ, sym}
 use Rattle.std.specs.Str.{chars}
-use Rattle.lexical.specs.QuotedFinder.{allows_code}
+use Rattle.lexical.specs.EscapeFinder.{allows_code}
 use Rattle.lexical.proofs.CodeLemmas.{CountsTo, reads_digit, reads_line, digits_tail, no_code_long, no_code_great}
 use Rattle.lexical.proofs.escapes.writes_character.Goals as goal
 use Rattle.lexical.proofs.escapes.writes_character.Goals.{in-Some-to_digit, in_default-to_digit, then-count-gt6-via-then-count-gt6, then-count-gt6-via-else-count-gt6+then-value-gt1114111}
@@ -12,14 +12,17 @@ returns-then-count-gt6 c =
     let split = c.in-Some.ensures.split in
     let tail = digits_tail c.in-Some.c after (chars c.loop-c.rest.now) split c.loop-c.invariant.1 in
     let counts : CountsTo c.match-to_digit.value c.match-to_digit.count after text = elim c.match-to_digit.branch [
-      | in-Some-to_digit w ↦ reads_digit _ _ _ _ _ c.in-Some.c after _ text split tail.0 c.loop-c.invariant.2 w.in-Some-to_digit.ensures.value w.value-is w.count-is
-      | in_default-to_digit w ↦ reads_line _ _ _ _ c.in-Some.c after _ text split tail.0 c.loop-c.invariant.2 w.in_default-to_digit.ensures.value w.value-is w.count-is
+      | in-Some-to_digit w ↦ reads_digit _ _ _ _ _ c.in-Some.c after _ text split tail.0 c.loop-c.invariant.2
+          w.in-Some-to_digit.ensures.value w.value-is w.count-is
+      | in_default-to_digit w ↦ reads_line _ _ _ _ c.in-Some.c after _ text split tail.0 c.loop-c.invariant.2
+          w.in_default-to_digit.ensures.value w.value-is w.count-is
     ] in
     let value : ℕ = c.match-to_digit.value in
     let count : ℕ = c.match-to_digit.count in
     sym (elim c.then-count-gt6.branch [
       | then-count-gt6-via-then-count-gt6 w ↦ no_code_long (allows_code c.args.kind) value count after text counts w.if-count-gt6.true
-      | then-count-gt6-via-else-count-gt6+then-value-gt1114111 w ↦ no_code_great (allows_code c.args.kind) value count after text counts w.if-value-gt1114111.true
+      | then-count-gt6-via-else-count-gt6+then-value-gt1114111 w ↦
+          no_code_great (allows_code c.args.kind) value count after text counts w.if-value-gt1114111.true
     ])
 
 pub loop-c-preserved : goal.loop-c-preserved
@@ -29,7 +32,9 @@ loop-c-preserved c =
     let split = c.in-Some.ensures.split in
     let tail = digits_tail c.in-Some.c after (chars c.loop-c.rest.now) split c.loop-c.invariant.1 in
     let counts : CountsTo c.match-to_digit.value c.match-to_digit.count after text = elim c.match-to_digit.branch [
-      | in-Some-to_digit w ↦ reads_digit _ _ _ _ _ c.in-Some.c after _ text split tail.0 c.loop-c.invariant.2 w.in-Some-to_digit.ensures.value w.value-is w.count-is
-      | in_default-to_digit w ↦ reads_line _ _ _ _ c.in-Some.c after _ text split tail.0 c.loop-c.invariant.2 w.in_default-to_digit.ensures.value w.value-is w.count-is
+      | in-Some-to_digit w ↦ reads_digit _ _ _ _ _ c.in-Some.c after _ text split tail.0 c.loop-c.invariant.2
+          w.in-Some-to_digit.ensures.value w.value-is w.count-is
+      | in_default-to_digit w ↦ reads_line _ _ _ _ c.in-Some.c after _ text split tail.0 c.loop-c.invariant.2
+          w.in_default-to_digit.ensures.value w.value-is w.count-is
     ] in
     (c.in-Some.ensures.utf8, tail.1, counts, c.if-count-gt6.false, c.if-value-gt1114111.false)

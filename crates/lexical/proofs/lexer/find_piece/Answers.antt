@@ -24,7 +24,9 @@ returns-in-Letter c =
 pub returns-in-Opener : goal.returns-in-Opener
 returns-in-Opener c =
     let split = ap chars (sym c.new.ensures.rest) ∙ c.in_ok-first.ensures.0 in
-    subst (λ o. Answers o c.opener_or_error.result) (sym (from_start c.args.at_front _ _ _ starts.Opener split (sym c.in-Opener.ensures))) c.opener_or_error.ensures
+    subst (λ o. Answers o c.opener_or_error.result)
+    (sym (from_start c.args.at_front _ _ _ starts.Opener split (sym c.in-Opener.ensures)))
+    c.opener_or_error.ensures
 
 pub returns-in-Closer : goal.returns-in-Closer
 returns-in-Closer c =
@@ -44,7 +46,9 @@ returns-in-Slash c =
 pub returns-in-FrontMark : goal.returns-in-FrontMark
 returns-in-FrontMark c =
     let split = ap chars (sym c.new.ensures.rest) ∙ c.in_ok-first.ensures.0 in
-    subst (λ o. Answers o c.front_mark.result) (sym (from_start c.args.at_front _ _ _ starts.FrontMark split (sym c.in-FrontMark.ensures))) c.front_mark.ensures
+    subst (λ o. Answers o c.front_mark.result)
+    (sym (from_start c.args.at_front _ _ _ starts.FrontMark split (sym c.in-FrontMark.ensures)))
+    c.front_mark.ensures
 
 pub returns-in-Quote : goal.returns-in-Quote
 returns-in-Quote c =
@@ -54,7 +58,9 @@ returns-in-Quote c =
 pub returns-in-DoubleQuote : goal.returns-in-DoubleQuote
 returns-in-DoubleQuote c =
     let split = ap chars (sym c.new.ensures.rest) ∙ c.in_ok-first.ensures.0 in
-    subst (λ o. Answers o c.quoted_piece.result) (sym (from_start c.args.at_front _ _ _ starts.DoubleQuote split (sym c.in-DoubleQuote.ensures))) c.quoted_piece.ensures
+    subst (λ o. Answers o c.quoted_piece.result)
+    (sym (from_start c.args.at_front _ _ _ starts.DoubleQuote split (sym c.in-DoubleQuote.ensures)))
+    c.quoted_piece.ensures
 
 pub returns-in-Digit : goal.returns-in-Digit
 returns-in-Digit c =

@@ -11,4 +11,6 @@ returns c =
     let pass = c.in_ok-end.ensures in
     let text = ap chars (sym c.new.ensures.rest) in
     let whole : chars c.args.text.now ≡ pass.front ++ chars c.in_ok-end.end.rest.now = text ∙ pass.whole in
-    found_piece literal_kind _ c.piece_from.result _ pass.front (chars c.in_ok-end.end.rest.now) (ap (find_text error_literal) text ∙ pass.found) c.piece_from.ensures.kind refl tt (c.piece_from.ensures.size pass.front whole)
+    found_piece literal_kind _ c.piece_from.result _ pass.front (chars c.in_ok-end.end.rest.now)
+    (ap (find_text error_literal) text ∙ pass.found) c.piece_from.ensures.kind refl tt
+    (c.piece_from.ensures.size pass.front whole)

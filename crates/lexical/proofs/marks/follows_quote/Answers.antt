@@ -1,6 +1,6 @@
 use Rattle.std.proofs.Common.{codes, true, ap, sym, ◌∙◌}
 use Rattle.lexical.specs.Finder.{behind}
-use Rattle.lexical.specs.PieceFinder.{follows_quote, is_unbarred}
+use Rattle.lexical.specs.MarkFinder.{follows_quote, is_unbarred}
 use Rattle.lexical.proofs.SkipLemmas.{past_text}
 use Rattle.lexical.proofs.marks.follows_quote.Goals as goal
 

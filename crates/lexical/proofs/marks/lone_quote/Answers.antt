@@ -1,7 +1,7 @@
 use Rattle.std.proofs.Common.{[], ◌∷◌, refl, sym, ap, ◌∙◌}
 use Rattle.std.specs.Str.{chars}
 use Rattle.std.proofs.lemmas.Bool.{cond-true}
-use Rattle.lexical.specs.PieceFinder.{find_lone_quote, quote_kind}
+use Rattle.lexical.specs.MarkFinder.{find_lone_quote, quote_kind}
 use Rattle.lexical.proofs.AnswerLemmas.{found_piece}
 use Rattle.lexical.proofs.marks.lone_quote.Goals as goal
 

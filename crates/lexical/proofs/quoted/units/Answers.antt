@@ -6,7 +6,8 @@ use Rattle.lexical.proofs.quoted.units.Goals as goal
 pub loop-after-preserved : goal.loop-after-preserved
 loop-after-preserved c =
     let kind = c.args.kind in
-    goes_on (find_unit kind) (UnitOf kind) (finds_unit kind) (some_unit kind) c.args.at c.loop-after.end c.in-Some.after c.loop-after.invariant c.in-Some.ensures
+    goes_on (find_unit kind) (UnitOf kind) (finds_unit kind)
+    (some_unit kind) c.args.at c.loop-after.end c.in-Some.after c.loop-after.invariant c.in-Some.ensures
 
 pub loop-after-smaller : goal.loop-after-smaller
 loop-after-smaller c =

@@ -18,7 +18,9 @@ returns c =
     let rest : List ℕ = chars c.skip_hashes-end.result.rest.now in
     let same = hashes_text text run.front rest c.before-hashes.result.now run.found c.before-hashes.utf8 (c.before-hashes.ensures run.front run.whole) in
     record {
-      found = hashes_found text run.front rest run.found (omega (arith, ap length same.0, c.if-hashes-gt-MOST_HASHES.false)) ∙ ap (λ x. Some (x, rest)) (sym same.0);
+      found =
+          hashes_found text run.front rest run.found
+          (omega (arith, ap length same.0, c.if-hashes-gt-MOST_HASHES.false)) ∙ ap (λ x. Some (x, rest)) (sym same.0);
       whole = run.whole ∙ ap (λ x. x ++ rest) (sym same.0);
       count = omega (arith, run.count, ap length same.0);
       ascii = same.1;

@@ -5,7 +5,7 @@ use Rattle.literal_escaper.proofs.check.next_raw_error.Given as goal
 
 abbrev pub invariant-loop-range : goal.invariant-loop-range
 invariant-loop-range g l =
-    errors_among (raw_left g.K.CheckRaw.raw_unit_of l.place) ≡ errors_among (raw_left g.K.CheckRaw.raw_unit_of l.initial.place)
+    errors_among (raw_left g.K.CheckRaw.unit_of l.place) ≡ errors_among (raw_left g.K.CheckRaw.unit_of l.initial.place)
 
 abbrev pub decreases-loop-range : goal.decreases-loop-range
-decreases-loop-range g l = length (raw_left g.K.CheckRaw.raw_unit_of l.place)
+decreases-loop-range g l = length (raw_left g.K.CheckRaw.unit_of l.place)

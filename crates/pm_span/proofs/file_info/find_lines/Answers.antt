@@ -1,51 +1,45 @@
-use Rattle.std.proofs.Common.{◌+◌, [], ◌∷◌, ◌++◌, cond, get_or, take, ap, sym, ◌∙◌, append-nil, ne_eqb, arith}
+use Rattle.std.proofs.Common.{◌+◌, ◌∷◌, ◌++◌, [], ap, sym, ◌∙◌, append_assoc, append-nil, arith}
 use Rattle.std.specs.Str.{chars}
-use Rattle.std.proofs.lemmas.Iterator.{YieldsList-from_chars}
-use Rattle.std.proofs.lemmas.Iterator.Consumers.{YieldsList-turn, YieldsList-end}
-use Rattle.std.proofs.lemmas.List.{length_push, take_all}
-use Rattle.pm_span.specs.FileInfo.{after_line_feeds}
-use Rattle.pm_span.specs.Place.{is_line_feed}
-use Rattle.pm_span.proofs.LineLemmas.{after_line_feeds-more}
+use Rattle.pm_span.specs.FileInfo.{after_line_feeds_from}
+use Rattle.pm_span.proofs.SplitLemmas.{after_line_feeds_from-line, after_line_feeds_from-split, split_size}
 use Rattle.pm_span.proofs.file_info.find_lines.Goals as goal
 
-pub overflow_add-place : goal.overflow_add-place
-overflow_add-place c =
-    let turn = YieldsList-turn (YieldsList-from_chars c.args.text.now c.utf8.text cc) c.loop-c.yielded _
-    c.loop-c.yielded_by _ _ c.in-Some.c c.in-Some.is c.next.ensures.steps in
-    omega (arith, turn.0)
+pub overflow_cast-count : goal.overflow_cast-count
+overflow_cast-count c =
+    omega (arith, split_size _ _ _ c.in-Some.ensures.split.0, c.loop-line.invariant.count, c.char_count.ensures)
 
-pub loop-c-preserved-in_ok-push : goal.loop-c-preserved-in_ok-push
-loop-c-preserved-in_ok-push c =
-    let turn = YieldsList-turn (YieldsList-from_chars c.args.text.now c.utf8.text cc) c.loop-c.yielded _
-    c.loop-c.yielded_by _ _ c.in-Some.c c.in-Some.is c.next.ensures.steps in
-    let text = chars c.args.text.now in
-    let n = c.loop-c.count in
-    let more = after_line_feeds-more text n c.in-Some.c (omega (arith, turn.0))
-    (turn.1 ∙ ap (λ k. get_or text k c.in-Some.c) (sym c.loop-c.invariant.0)) in (
-      omega (arith, length_push c.loop-c.yielded c.in-Some.c),
-      c.in_ok-push.ensures.items
-          ∙ (ap (λ xs. xs ++ (n + 1) ∷ []) c.loop-c.invariant.1
-          ∙ (ap (λ x. after_line_feeds (take n text) ++ cond (is_line_feed x) ((n + 1) ∷ []) []) (sym c.if-c-eq10.true) ∙ sym more)),
-    )
+pub overflow_add-count : goal.overflow_add-count
+overflow_add-count c =
+    omega (arith, split_size _ _ _ c.in-Some.ensures.split.0, c.loop-line.invariant.count, c.char_count.ensures)
 
-pub loop-c-preserved : goal.loop-c-preserved
-loop-c-preserved c =
-    let turn = YieldsList-turn (YieldsList-from_chars c.args.text.now c.utf8.text cc) c.loop-c.yielded _
-    c.loop-c.yielded_by _ _ c.in-Some.c c.in-Some.is c.next.ensures.steps in
-    let text = chars c.args.text.now in
-    let n = c.loop-c.count in
-    let more = after_line_feeds-more text n c.in-Some.c (omega (arith, turn.0))
-    (turn.1 ∙ ap (λ k. get_or text k c.in-Some.c) (sym c.loop-c.invariant.0)) in (
-      omega (arith, length_push c.loop-c.yielded c.in-Some.c),
-      c.loop-c.invariant.1
-          ∙ sym (more
-          ∙ (ap (λ b. after_line_feeds (take n text) ++ cond b ((n + 1) ∷ []) []) (ne_eqb _ _ c.if-c-eq10.false) ∙ append-nil _)),
-    )
+pub overflow_add-count-in-Some : goal.overflow_add-count-in-Some
+overflow_add-count-in-Some c =
+    omega (arith, split_size _ _ _ c.in-Some.ensures.split.0, c.loop-line.invariant.count, c.char_count.ensures)
+
+pub loop-line-smaller : goal.loop-line-smaller
+loop-line-smaller c = omega (arith, split_size _ _ _ c.in-Some.ensures.split.0)
+
+pub loop-line-preserved : goal.loop-line-preserved
+loop-line-preserved c =
+    let split = c.in-Some.ensures.split in
+    let n = c.loop-line.count + (c.char_count.result + 1) in
+    let left = after_line_feeds_from n (chars c.in-Some.behind.now) in
+    let more = after_line_feeds_from-split c.loop-line.count n _ _ _ split.0 split.1 (omega (arith, c.char_count.ensures)) in
+    record {
+      utf8 = c.in-Some.ensures.utf8.1;
+      count = omega (arith, split_size _ _ _ split.0, c.loop-line.invariant.count, c.char_count.ensures);
+      starts = ap (λ xs. xs ++ left) c.in_ok-push.ensures.items
+          ∙ (append_assoc c.loop-line.starts.items (n ∷ []) left
+          ∙ (ap (λ xs. c.loop-line.starts.items ++ xs) (sym more) ∙ c.loop-line.invariant.starts));
+    }
 
 pub returns : goal.returns
-returns c =
-    let end = YieldsList-end (YieldsList-from_chars c.args.text.now c.utf8.text cc) c.loop-c.yielded _
-    c.loop-c.yielded_by _ _ c.in-None.is c.next.ensures.steps in
-    record {
-      ok = (c.loop-c.invariant.1 ∙ ap after_line_feeds (take_all c.loop-c.count _ (omega (arith, end.1))), omega (arith, end.1));
-    }
+returns c = record {
+  ok = (
+    sym (ap (λ xs. c.loop-line.starts.items ++ xs)
+        (after_line_feeds_from-line c.loop-line.count (chars c.loop-line.rest.now) c.in_default.ensures.split)
+        ∙ append-nil c.loop-line.starts.items)
+        ∙ c.loop-line.invariant.starts,
+    omega (arith, c.loop-line.invariant.count, c.char_count-2.ensures),
+  );
+}

@@ -18,7 +18,9 @@ loop-tree-preserved-in-Group g c = λ plain.
     let fronted = c.in_ok-print_front.ensures spaced.plain (refl {a = true}) in
     let more = pushed _ _ _ _ _ c.is_err.ensures.value c.if-is_err.false c.push.ensures.items in
     written_more _ _ _ _ _ _ _ _ now.1 (written_two _ _ _ _ _ _ spaced fronted)
-    (ap (λ l. now.0 ++ l) (group_more _ _ _ _ _ _ _ _ _ c.in-Some.ensures.cases.0 c.in-Group.is c.gap_within-gap.ensures c.delimiter-delimiter.ensures (c.trees-left.ensures ∙ c.stream_ref.ensures) more) ∙ now.2)
+    (ap (λ l. now.0 ++ l) (group_more _ _ _ _ _ _ _ _ _ c.in-Some.ensures.cases.0 c.in-Group.is
+    c.gap_within-gap.ensures c.delimiter-delimiter.ensures (c.trees-left.ensures ∙ c.stream_ref.ensures) more)
+    ∙ now.2)
 
 pub loop-tree-preserved-in_default-tree : goal.loop-tree-preserved-in_default-tree
 loop-tree-preserved-in_default-tree g c = λ plain.

@@ -16,10 +16,10 @@ grown c =
 pub returns-clause-ok : goal.returns-clause-ok
 returns-clause-ok c = λ events.
     let same : c.in-Some.frame.delimiter ≡ c.args.delimiter = search rules in
-    written-close c.args.self.now.frames.items c.pop.new.self.items c.in-Some.frame (forest c.args.self.now.trees.items) c.push.new.self.items c.args.delimiter c.args.hi events
-    c.in-Some.ensures.items same (grown c)
+    written-close c.args.self.now.frames.items c.pop.new.self.items c.in-Some.frame (forest c.args.self.now.trees.items)
+    c.push.new.self.items c.args.delimiter c.args.hi events c.in-Some.ensures.items same (grown c)
 
 pub returns-clause-built : goal.returns-clause-built
 returns-clause-built c =
-    built_close c.args.lo c.args.hi c.args.self.now.frames.items c.pop.new.self.items c.in-Some.frame (forest c.args.self.now.trees.items) c.push.new.self.items c.args.delimiter
-    c.requires.ordered c.in-Some.ensures.items (grown c) c.requires.built
+    built_close c.args.lo c.args.hi c.args.self.now.frames.items c.pop.new.self.items c.in-Some.frame (forest c.args.self.now.trees.items)
+    c.push.new.self.items c.args.delimiter c.requires.ordered c.in-Some.ensures.items (grown c) c.requires.built

@@ -14,4 +14,5 @@ returns-clause-ok c = λ events.
 pub returns-clause-built : goal.returns-clause-built
 returns-clause-built c = λ at h.
     let open_groups = groups c.args.self.now in
-    subst (λ ts. IsBuiltUpTo at open_groups (forest ts)) (sym c.in_ok-push.ensures.items) (built_push at open_groups c.args.self.now.trees.items c.args.tree h c.built.ensures)
+    subst (λ ts. IsBuiltUpTo at open_groups (forest ts)) (sym c.in_ok-push.ensures.items)
+    (built_push at open_groups c.args.self.now.trees.items c.args.tree h c.built.ensures)

@@ -8,5 +8,6 @@ use Rattle.pm_token.proofs.escapes.Draft.push.Goals as goal
 pub returns : goal.returns
 returns c = record {
   ok = subst (λ old. OnOk c.push.result (chars (string_bytes c.push.new.self) ≡ old ++ c.args.c ∷ [])) c.self.view_is
-      (chars_pushed c.push.result (string_bytes c.push.new.self) (string_bytes c.self.inside.text) c.args.c (IsUtf8-string_bytes c.self.inside.text) c.ranges.c.0 c.push.ensures.bytes);
+      (chars_pushed c.push.result (string_bytes c.push.new.self) (string_bytes c.self.inside.text) c.args.c
+      (IsUtf8-string_bytes c.self.inside.text) c.ranges.c.0 c.push.ensures.bytes);
 }

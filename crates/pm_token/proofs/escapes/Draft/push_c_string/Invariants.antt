@@ -5,7 +5,9 @@ use Rattle.pm_token.proofs.escapes.Draft.push_c_string.Given as goal
 -- what is written, whatever parts the bytes have that are left
 abbrev pub invariant-loop-left : goal.invariant-loop-left
 invariant-loop-left l = record {
-  reads : (more : List Part) → AreParts more l.left → (parts : List Part) × AreParts parts l.initial.left × (l.initial.self ++ parts_text parts ≡ l.self ++ parts_text more);
+  reads : (more : List Part) → AreParts more l.left
+      → (parts : List Part) × AreParts parts l.initial.left
+      × (l.initial.self ++ parts_text parts ≡ l.self ++ parts_text more);
   nonzero : IsTrue (has_no_zero l.left);
 }
 

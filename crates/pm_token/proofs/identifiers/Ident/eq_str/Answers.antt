@@ -15,7 +15,8 @@ returns-in-Some c =
     let name : c.args.self.now.name ≡ chars c.as_str-name.result.now = sym (ap (λ x. x.name) c.self.view_is) ∙ sym c.as_str-name.ensures in
     let stripped = c.in-Some.ensures.cases in
     let split : c.args.text.now ≡ codes "r#" ++ c.in-Some.rest.now = stripped.1.1 ∙ ap (λ x. codes "r#" ++ x) (sym stripped.2) in
-    raw_is _ _ c.as_str-name.result.now c.args.text.now c.in-Some.rest.now c.eq-in-Some.result raw name c.as_str-name.utf8 c.utf8.text split c.eq-in-Some.ensures
+    raw_is _ _ c.as_str-name.result.now c.args.text.now c.in-Some.rest.now c.eq-in-Some.result raw name
+    c.as_str-name.utf8 c.utf8.text split c.eq-in-Some.ensures
 
 pub returns-in-None : goal.returns-in-None
 returns-in-None c =

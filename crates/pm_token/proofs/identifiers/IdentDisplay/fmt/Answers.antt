@@ -17,6 +17,7 @@ returns-clause-writes g c = elim c.if-self.branch [
       written_is c.args.self.now.raw c.args.self.now.name ∙ ap₂ (λ b n. raw_front b ++ encode_utf8_all n) raw name in
       let first = w.in_ok-write_str.ensures.writes plain (refl {a = true}) in
       let after : IsPlainFormatter {W = g.row.W.Denot} c.if-self.f = rw w.f-is first.plain in
-      put_two g.W.Write.write_str_gives _ c.if-self.f _ (codes "r#") (encode_utf8_all c.self.inside.name) _ (rw w.f-is first) (c.fmt.ensures.writes after ok) (sym same)
+      put_two g.W.Write.write_str_gives _ c.if-self.f _ (codes "r#") (encode_utf8_all c.self.inside.name) _
+      (rw w.f-is first) (c.fmt.ensures.writes after ok) (sym same)
   | else-self w ↦ search rules
 ]

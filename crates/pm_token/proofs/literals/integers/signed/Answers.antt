@@ -13,12 +13,18 @@ use Rattle.pm_token.proofs.literals.integers.signed.Goals.{After-call_site}
 -- the characters of what was written
 text : (c : After-call_site) → c.from_string.result ≡ signed_decimal c.args.value ++ suffix_text c.args.suffix
 text c =
+    let written =
+    c.in_ok-format.ensures.ok ∙ ap (λ z. signed_decimal z ++ c.name-suffix.result.now) (to_z-of_z w128 c.args.value c.ranges.value)
+    ∙ ap (λ xs. signed_decimal c.args.value ++ xs) c.name-suffix.ensures in
     c.from_string.ensures
-    ∙ (ap chars (c.in_ok-format.ensures.ok ∙ ap (λ z. signed_decimal z ++ c.name-suffix.result.now) (to_z-of_z w128 c.args.value c.ranges.value) ∙ ap (λ xs. signed_decimal c.args.value ++ xs) c.name-suffix.ensures)
+    ∙ (ap chars written
     ∙ chars_signed c.args.value c.args.suffix c.ranges.value)
 
 pub invariant_of-result : goal.invariant_of-result
 invariant_of-result c = subst IsLiteralText (sym (text c)) (literal_text _ (signed_by_itself c.args.value c.args.suffix c.ranges.value))
 
 pub returns : goal.returns
-returns c = record { ok = ap (λ x. record { text = x; span = c.call_site.result }) (text c) ∙ ap (λ x. record { text = signed_decimal c.args.value ++ suffix_text c.args.suffix; span = x }) c.call_site.ensures }
+returns c = record {
+  ok = ap (λ x. record { text = x; span = c.call_site.result }) (text c)
+      ∙ ap (λ x. record { text = signed_decimal c.args.value ++ suffix_text c.args.suffix; span = x }) c.call_site.ensures;
+}

@@ -19,4 +19,7 @@ pub invariant_of-result : goal.invariant_of-result
 invariant_of-result c = subst IsLiteralText (sym (text c)) (literal_text _ (unsigned_by_itself c.args.value c.args.suffix c.ranges.value.fits))
 
 pub returns : goal.returns
-returns c = record { ok = ap (λ x. record { text = x; span = c.call_site.result }) (text c) ∙ ap (λ x. record { text = decimal c.args.value ++ suffix_text c.args.suffix; span = x }) c.call_site.ensures }
+returns c = record {
+  ok = ap (λ x. record { text = x; span = c.call_site.result }) (text c)
+      ∙ ap (λ x. record { text = decimal c.args.value ++ suffix_text c.args.suffix; span = x }) c.call_site.ensures;
+}

@@ -5,4 +5,5 @@ use Rattle.pm_token.proofs.literals.whole.behind_minus.Goals as goal
 
 pub returns-clause-split : goal.returns-clause-split
 returns-clause-split c =
-    minus_stripped c.args.text.now c.strip_prefix.result c.utf8.text (strip_prefix_char 45 c.args.text.now c.strip_prefix.result c.strip_prefix.ensures.cases (omega arith))
+    minus_stripped c.args.text.now c.strip_prefix.result c.utf8.text
+    (strip_prefix_char 45 c.args.text.now c.strip_prefix.result c.strip_prefix.ensures.cases (omega arith))

@@ -10,8 +10,11 @@ returns-clause-value g c =
     elim c.if-self.branch [
       | then-self w ↦
           let raw : c.args.self.now.raw ≡ true = sym (ap (λ x. x.raw) c.self.view_is) ∙ w.if-self.true in
-          c.hash.ensures ∙ (ap (λ x. fold g.H.Hasher.write x (fed.str c.as_str-name.result.now)) (w.state-is ∙ w.write.ensures) ∙ ap (fold g.H.Hasher.write c.args.state.now) (sym (fed_raw _ _ own raw)))
+          c.hash.ensures ∙ (ap (λ x. fold g.H.Hasher.write x (fed.str c.as_str-name.result.now))
+          (w.state-is ∙ w.write.ensures)
+          ∙ ap (fold g.H.Hasher.write c.args.state.now) (sym (fed_raw _ _ own raw)))
       | else-self w ↦
           let raw : c.args.self.now.raw ≡ false = sym (ap (λ x. x.raw) c.self.view_is) ∙ w.if-self.false in
-          c.hash.ensures ∙ (ap (λ x. fold g.H.Hasher.write x (fed.str c.as_str-name.result.now)) w.state-is ∙ ap (fold g.H.Hasher.write c.args.state.now) (sym (fed_plain _ _ own raw)))
+          c.hash.ensures ∙ (ap (λ x. fold g.H.Hasher.write x (fed.str c.as_str-name.result.now)) w.state-is
+          ∙ ap (fold g.H.Hasher.write c.args.state.now) (sym (fed_plain _ _ own raw)))
     ]

@@ -7,7 +7,9 @@ pub returns-then-self-other-clause-value : goal.returns-then-self-other-clause-v
 returns-then-self-other-clause-value c =
     let own = name_of _ c.self.view_is c.as_str-name.ensures c.as_str-name.utf8 c.self.invariant in
     let other = name_of _ c.other.view_is c.as_str-other_name.ensures c.as_str-other_name.utf8 c.other.invariant in
-    let alike : c.args.self.now.raw ≡ c.args.other.now.raw = sym (ap (λ x. x.raw) c.self.view_is) ∙ ((booleans_Decides _ _).0 c.if-self-other.true ∙ ap (λ x. x.raw) c.other.view_is) in
+    let alike : c.args.self.now.raw ≡ c.args.other.now.raw =
+    sym (ap (λ x. x.raw) c.self.view_is)
+    ∙ ((booleans_Decides _ _).0 c.if-self-other.true ∙ ap (λ x. x.raw) c.other.view_is) in
     c.cmp.ensures ∙ cmp_alike c.args.self.now c.args.other.now _ _ c.args.other.now.raw own other alike refl
 
 pub returns-then-self-other-clause-equal : goal.returns-then-self-other-clause-equal

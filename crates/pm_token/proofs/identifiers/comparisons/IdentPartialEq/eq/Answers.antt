@@ -8,14 +8,18 @@ pub returns-then-self-other-clause-value : goal.returns-then-self-other-clause-v
 returns-then-self-other-clause-value c =
     let own = name_of _ c.self.view_is c.as_str-name.ensures c.as_str-name.utf8 c.self.invariant in
     let other = name_of _ c.other.view_is c.as_str-other_name.ensures c.as_str-other_name.utf8 c.other.invariant in
-    let alike : c.args.self.now.raw ≡ c.args.other.now.raw = sym (ap (λ x. x.raw) c.self.view_is) ∙ ((booleans_Decides _ _).0 c.if-self-other.true ∙ ap (λ x. x.raw) c.other.view_is) in
+    let alike : c.args.self.now.raw ≡ c.args.other.now.raw =
+    sym (ap (λ x. x.raw) c.self.view_is)
+    ∙ ((booleans_Decides _ _).0 c.if-self-other.true ∙ ap (λ x. x.raw) c.other.view_is) in
     eq_alike c.args.self.now c.args.other.now _ _ c.eq.result own other alike c.eq.ensures
 
 pub returns-then-self-other-clause-fields : goal.returns-then-self-other-clause-fields
 returns-then-self-other-clause-fields c =
     let own = name_of _ c.self.view_is c.as_str-name.ensures c.as_str-name.utf8 c.self.invariant in
     let other = name_of _ c.other.view_is c.as_str-other_name.ensures c.as_str-other_name.utf8 c.other.invariant in
-    let alike : c.args.self.now.raw ≡ c.args.other.now.raw = sym (ap (λ x. x.raw) c.self.view_is) ∙ ((booleans_Decides _ _).0 c.if-self-other.true ∙ ap (λ x. x.raw) c.other.view_is) in
+    let alike : c.args.self.now.raw ≡ c.args.other.now.raw =
+    sym (ap (λ x. x.raw) c.self.view_is)
+    ∙ ((booleans_Decides _ _).0 c.if-self-other.true ∙ ap (λ x. x.raw) c.other.view_is) in
     eq_fields c.args.self.now c.args.other.now _ _ c.eq.result own other alike c.eq.ensures
 
 pub returns-then-self-other-clause-text : goal.returns-then-self-other-clause-text

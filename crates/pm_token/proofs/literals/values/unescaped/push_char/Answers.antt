@@ -5,4 +5,5 @@ use Rattle.pm_token.proofs.literals.values.unescaped.push_char.Goals as goal
 
 pub returns : goal.returns
 returns c =
-    chars_pushed c.push.result (string_bytes c.push.new.self) (string_bytes c.args.text.now) c.args.c (IsUtf8-string_bytes c.args.text.now) c.ranges.c.0 c.push.ensures.bytes
+    chars_pushed c.push.result (string_bytes c.push.new.self) (string_bytes c.args.text.now) c.args.c
+    (IsUtf8-string_bytes c.args.text.now) c.ranges.c.0 c.push.ensures.bytes

@@ -1,0 +1,35 @@
+//! The characters and the lines of texts.
+ghost use Rattle.std.specs.Prelude.{◌≡◌, ◌<◌, ◌↔◌, ◌∷◌, ◌++◌, length, IsTrue, IfSome, MatchOption};
+ghost use Rattle.std.specs.Str.{chars, IsUtf8};
+ghost use Rattle.pm_span.specs.Line.{is_one_line};
+
+/// How many characters the text has, which are as many as its bytes or fewer.
+#[tactic(auto, using(std::proofs::lemmas::Str::chars_from_encodes))]
+pub fn char_count(text: &str) -> usize
+    ensures { result ≡ length (chars text.now) }
+{
+    if text.is_ascii() {
+        return text.len();
+    }
+    text.chars().count()
+}
+
+/// Whether the text has fewer characters than `count`.
+///
+/// They are counted only where its bytes, which are at least as many, don't answer it.
+#[tactic(auto, using(crate::proofs::AsciiLemmas::length_chars_le))]
+pub(crate) fn has_fewer(text: &str, count: usize) -> bool
+    ensures { IsTrue result ↔ (length (chars text.now) < count) }
+{
+    text.len() < count || char_count(text) < count
+}
+
+/// The first line of the text, without its line feed, and what follows that; `None` where the text
+/// is one line.
+pub(crate) fn split_line(text: &str) -> Option<(&str, &str)>
+    ensures split { MatchOption result (IsTrue (is_one_line (chars text.now)))
+        (λ x. (chars text.now ≡ chars x.0.now ++ (10 ∷ chars x.1.now)) × IsTrue (is_one_line (chars x.0.now))) }
+    ensures utf8 { IfSome result (λ x. IsUtf8 x.0.now × IsUtf8 x.1.now) }
+{
+    text.split_once('\n')
+}

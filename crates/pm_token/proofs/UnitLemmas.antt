@@ -1,0 +1,40 @@
+-- The units that are read of characters and of escapes, and what these give.
+use Rattle.std.proofs.Common.{◌≡◌, ℕ, Bool, true, not, ◌==◌, List, [], ◌∷◌, Result, Ok, refl}
+use Rattle.std.specs.Char.{is_ascii}
+use Rattle.std.proofs.lemmas.Bool.{cond-false, cond-true, not-true}
+use Rattle.literal_escaper.specs.declared.errors.EscapeError.{EscapeError}
+use Rattle.literal_escaper.specs.declared.mixed_unit.MixedUnit.TheVariants.{Char}
+use Rattle.literal_escaper.specs.Kind.{Kind, byte_kind, string_kind}
+use Rattle.literal_escaper.specs.Units.{c_char}
+use Rattle.pm_token.specs.Joined.{numbers, utf8}
+use Rattle.pm_token.specs.Value.{unit_bytes}
+use Rattle.pm_token.proofs.ReadLemmas.{Escapes}
+
+-- the unit of a reading, which gives this
+pub record Gives {U : Type 0} (spell : U → List ℕ) (read : Result U EscapeError) (value : List ℕ) : Type 0 where
+  pub unit : U
+  pub is : read ≡ Ok unit
+  pub value_is : spell unit ≡ value
+
+-- the unit of an escape, which gives this
+pub record EscapesAs {U : Type 0} (kind : Kind U) (spell : U → List ℕ) (p value : List ℕ) : Type 0 where
+  pub unit : U
+  pub escapes : Escapes kind p unit
+  pub value_is : spell unit ≡ value
+
+-- a character that passes has a unit, which gives what is made of the character
+abbrev pub Spells : {U : Type 0} → (U → List ℕ) → (ℕ → Result U EscapeError) → (ℕ → List ℕ) → (ℕ → Bool) → Type 0
+Spells spell read of_char passes = (c : ℕ) → passes c ≡ true → Gives spell (read c) (of_char c)
+
+-- a number gives itself
+abbrev pub one : ℕ → List ℕ
+one n = n ∷ []
+
+pub string_chars : Spells one string_kind.of_char numbers.of_char (λ c. true)
+string_chars c passes = record { unit = c; is = refl; value_is = refl }
+
+pub byte_chars : Spells one byte_kind.of_char numbers.of_char is_ascii
+byte_chars c ascii = record { unit = c; is = cond-true _ _ _ ascii; value_is = refl }
+
+pub c_chars : Spells unit_bytes c_char utf8.of_char (λ c. not (c == 0))
+c_chars c some = record { unit = Char c; is = cond-false _ _ _ (not-true _ some); value_is = refl }

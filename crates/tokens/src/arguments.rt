@@ -1,0 +1,79 @@
+//! The words that the program was given.
+ghost use Rattle.std.specs.Prelude.{◌≡◌, ◌↔◌, Err, IfErr, IfOk, IsFalse, Ok, alloc_error, map, string_bytes};
+ghost use Rattle.std.specs.IoError.{error_kind};
+ghost use Rattle.tokens.specs.Arguments.{is_no_text, words};
+
+use std::alloc::{AllocError, Global};
+use std::env::Args;
+use std::io;
+
+/// The words after the program's name, which is the first of its arguments.
+///
+/// Arguments that are no text are no words, since they ask for nothing. It fails where memory ran
+/// out, for the arguments or for the list.
+pub fn words(alloc: Global, arguments: io::Result<Args>) -> Result<Vec<String>, AllocError>
+    ensures ok { IfOk result (λ list. words arguments ≡ Ok (map string_bytes list.items)) }
+    ensures refused { IfErr arguments (λ error.
+        (result ≡ Err alloc_error) ↔ IsFalse (is_no_text (error_kind error))) }
+{
+    match arguments {
+        Ok(mut arguments) => {
+            let _name = arguments.next();
+            let mut words = Vec::new(alloc);
+            for word in arguments {
+                words.push(word)?;
+            }
+            Ok(words)
+        }
+        Err(error) if is_no_text(error.kind()) => Ok(Vec::new(alloc)),
+        Err(_) => Err(AllocError),
+    }
+}
+
+// Whether arguments weren't had since they are no text.
+fn is_no_text(kind: io::ErrorKind) -> bool
+    ensures { result ≡ is_no_text kind }
+{
+    matches!(kind, io::ErrorKind::InvalidData)
+}
+
+#[cfg(test)]
+mod tests {
+    use super::*;
+    use std::test::Fail;
+
+    // How many words the arguments have.
+    fn count(alloc: Global, arguments: io::Result<Args>) -> Option<usize> {
+        match words(alloc, arguments) {
+            Ok(words) => Some(words.len()),
+            Err(_) => None,
+        }
+    }
+
+    #[test]
+    fn the_name_of_the_program_is_no_word(rt: HostRuntime) -> Result<(), Fail> {
+        let mut arguments = Vec::new(rt.alloc());
+        assert_eq!(rt;
+            count(rt.alloc(), Ok(Vec::new(rt.alloc()).into_iter())),
+            Some(0)
+        );
+        arguments.push(String::from_str(rt.alloc(), "tokens")?)?;
+        arguments.push(String::from_str(rt.alloc(), "print")?)?;
+        let words = words(rt.alloc(), Ok(arguments.into_iter()))?;
+        assert_eq!(rt; words.len(), 1);
+        assert_eq!(rt; words[0].as_str(), "print");
+        Ok(())
+    }
+
+    #[test]
+    fn arguments_that_are_no_text_are_no_words(rt: HostRuntime) {
+        for (kind, want) in [
+            (io::ErrorKind::InvalidData, Some(0)),
+            (io::ErrorKind::OutOfMemory, None),
+            (io::ErrorKind::Other, None),
+        ] {
+            let had = count(rt.alloc(), Err(io::Error::from(kind)));
+            assert_eq!(rt; had, want, "at {kind:?}");
+        }
+    }
+}
