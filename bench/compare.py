@@ -4,7 +4,8 @@
 Usage: bench/compare.py CRATE IDENT SOURCES [RUNS]
 CRATE and IDENT are the folders of the Rust crates proc-macro2 and unicode-ident (each with src/lib.rs), and SOURCES is
 a folder of Rust files. Builds the program and the twin, runs them in turn, and prints the least user time, the least of
-user and system time, and the most memory of each, with the ratios and the growth from the half to the whole.
+user and system time, and the most memory of each, with the ratios and the growth from the half to the whole. Ends with
+an error where a run fails, or where the last outputs of the two on the half or on the whole differ.
 """
 import os
 import pathlib
@@ -19,7 +20,7 @@ HERE = pathlib.Path(__file__).resolve().parent
 def source(folder: pathlib.Path, size: int) -> bytes:
     """The folder's files one after another, over and over, until there are `size` bytes."""
     files = [file.read_bytes() + b"\n" for file in sorted(folder.rglob("*.rs"))]
-    files = [text for text in files if parses(text)]
+    files = [text for text in files if is_unmarked_utf8(text)]
     if not files:
         sys.exit(f"no Rust files below {folder}")
     parts, length = [], 0
@@ -32,7 +33,7 @@ def source(folder: pathlib.Path, size: int) -> bytes:
     return b"".join(parts)
 
 
-def parses(text: bytes) -> bool:
+def is_unmarked_utf8(text: bytes) -> bool:
     """Whether the text is UTF-8 without a front mark, which stands only at the front of a source."""
     try:
         return not text.decode().startswith("\ufeff")
@@ -77,8 +78,9 @@ def main() -> None:
                     found = measured(path, out / text, out / f"{program}.{text}")
                     old = best.get((program, text), found)
                     best[program, text] = (min(found[0], old[0]), min(found[1], old[1]), max(found[2], old[2]))
-        if (out / "tokens.whole").read_bytes() != (out / "twin.whole").read_bytes():
-            sys.exit("the outputs differ")
+        for text in ("half", "whole"):
+            if (out / f"tokens.{text}").read_bytes() != (out / f"twin.{text}").read_bytes():
+                sys.exit(f"the outputs on the {text} differ")
         report(best, len(half), len(whole), runs)
 
 

@@ -1,52 +1,12 @@
 //! The Rust crate behind the command line of `tokens`, and a recorder of its answers.
 //!
-//! `twin print` does what `tokens print` does. `twin answers` reads the lines of
-//! crates/conformance/stdin, and writes them with the crate's own answers.
-use proc_macro2::{extra, Literal, LexError, TokenStream};
-use std::ffi::CString;
+//! `twin print` does what `tokens print` does. `twin answers` reads lines as those of
+//! crates/conformance/stdin, and writes each with the crate's own answer.
+mod answers;
+
+use proc_macro2::{extra, TokenStream};
 use std::io::{self, BufRead, Read, Write};
 use std::process::exit;
-
-/// The kinds of lines that are answered. Any other line is written as it stands.
-const KINDS: [&str; 10] = [
-    "print", "tree", "fault", "literal", "refused", "string", "character", "byte_character", "byte_string", "c_string",
-];
-
-/// The literal that the crate makes of a value by this call, as the crate writes it.
-fn written(call: &str, value: &str) -> Option<String> {
-    let literal = match call {
-        "string" => Literal::string(value),
-        "character" => Literal::character(value.chars().next()?),
-        "byte_character" => Literal::byte_character(*value.as_bytes().first()?),
-        "byte_string" => Literal::byte_string(value.as_bytes()),
-        "c_string" => Literal::c_string(&CString::new(value).ok()?),
-        _ => return None,
-    };
-    Some(literal.to_string())
-}
-
-/// What the crate says of a text: the kind of the answer, and the answer.
-fn answer(kind: &str, text: &str) -> (String, String) {
-    let fault = |error: LexError| {
-        let place = error.span().start();
-        ("fault".to_string(), format!("{}:{}", place.line, place.column))
-    };
-    match kind {
-        "literal" | "refused" => match text.parse::<Literal>() {
-            Ok(literal) => ("literal".to_string(), literal.to_string()),
-            Err(_) => ("refused".to_string(), String::new()),
-        },
-        "tree" | "print" | "fault" => match text.parse::<TokenStream>() {
-            Ok(stream) if kind == "tree" => (kind.to_string(), format!("{stream:?}")),
-            Ok(stream) => ("print".to_string(), stream.to_string()),
-            Err(error) => fault(error),
-        },
-        _ => match written(kind, text) {
-            Some(said) => (kind.to_string(), said),
-            None => ("refused".to_string(), String::new()),
-        },
-    }
-}
 
 /// The text that stands escaped in a column.
 fn unescaped(column: &str) -> Option<String> {
@@ -59,8 +19,9 @@ fn unescaped(column: &str) -> Option<String> {
             ('\\', 't') => '\t',
             ('\\', '\\') => '\\',
             ('\\', 'u') => {
-                let number: String = rest.by_ref().skip(1).take_while(|c| *c != '}').collect();
-                char::from_u32(u32::from_str_radix(&number, 16).ok()?)?
+                let (number, behind) = rest.as_str().strip_prefix('{')?.split_once('}')?;
+                rest = behind.chars();
+                char::from_u32(u32::from_str_radix(number, 16).ok()?)?
             }
             ('\\', _) => return None,
             _ => c,
@@ -90,22 +51,24 @@ fn answers() -> io::Result<()> {
     let mut out = io::BufWriter::new(io::stdout());
     for line in io::stdin().lock().lines() {
         let line = line?;
-        let mut columns = line.split('\t');
-        let kind = columns.next().unwrap_or_default();
-        let Some(text) = columns.next().and_then(unescaped) else {
+        let Some(answered) = answered(&line) else {
             eprintln!("not a line of answers: {line}");
             exit(2)
         };
-        // each text is the first of a map
-        extra::invalidate_current_thread_spans();
-        if !KINDS.contains(&kind) {
-            writeln!(out, "{line}")?;
-            continue;
-        }
-        let (kind, said) = answer(kind, &text);
-        writeln!(out, "{kind}\t{}\t{}", escaped(&text), escaped(&said))?;
+        writeln!(out, "{answered}")?;
     }
     out.flush()
+}
+
+/// The line with the crate's answer. `None` where it hasn't three columns, its kind isn't known, or its text has a
+/// wrong escape.
+fn answered(line: &str) -> Option<String> {
+    let [asked, text, _] = line.split('\t').collect::<Vec<_>>().try_into().ok()?;
+    let text = unescaped(text)?;
+    // each text is the first of a map
+    extra::invalidate_current_thread_spans();
+    let (kind, said) = answers::answer(asked, &text)?;
+    Some(format!("{kind}\t{}\t{}", escaped(&text), escaped(&said)))
 }
 
 fn print() -> io::Result<()> {

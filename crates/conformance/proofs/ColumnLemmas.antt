@@ -1,5 +1,7 @@
 -- What a column is read as, a character at a time.
-use Rattle.std.proofs.Common.{◌≡◌, ◌≢◌, ℕ, ◌+◌, ◌*◌, ◌^◌, ◌<◌, ◌≤◌, Bool, true, false, ◌==◌, ◌&&◌, nat_lt, if◌then◌else◌, List, [], ◌∷◌, ◌++◌, codes, IsTrue, Option, Some, None, IfSome, refl, sym, ap, subst, ◌∙◌, append_assoc, append-nil, inl, inr, eqb-true, ne_eqb, arith}
+use Rattle.std.proofs.Common.{◌≡◌, ◌≢◌, ℕ, ◌+◌, ◌*◌, ◌^◌, ◌<◌, ◌≤◌, Bool, true, false, ◌==◌, ◌&&◌}
+use Rattle.std.proofs.Common.{nat_lt, if◌then◌else◌, List, [], ◌∷◌, ◌++◌, codes, IsTrue, Option, Some, None, IfSome}
+use Rattle.std.proofs.Common.{refl, sym, ap, subst, ◌∙◌, append_assoc, append-nil, inl, inr, eqb-true, ne_eqb, arith}
 use Rattle.std.specs.List.{list_all}
 use Rattle.std.specs.Option.{option_map, option_and_then}
 use Rattle.std.specs.Char.{IsScalar, digit_value, encode_utf8}
@@ -12,7 +14,8 @@ use Rattle.std.proofs.Math.Utf8.{scalar_cases}
 use lib.Utf8.{scalar}
 use Rattle.conformance.specs.declared.columns.State.{State}
 use Rattle.conformance.specs.declared.columns.State.TheVariants.{Plain, Backslash, Brace, Number}
-use Rattle.conformance.specs.Column.{tab, backslash, letter, is_hex, hex_onto, Begins, IsUnescaped, by_itself, by_letter, by_number, StandsFor, step}
+use Rattle.conformance.specs.Column.{tab, backslash, letter, is_hex, hex_onto, Begins}
+use Rattle.conformance.specs.Column.{IsUnescaped, by_itself, by_letter, by_number, StandsFor, step}
 
 -- the character that was read, if one was, before a text
 abbrev pub onto : Option ℕ → List ℕ → List ℕ
@@ -39,7 +42,9 @@ abbrev pub IsLeft : State → List ℕ → List ℕ → Type 0
 IsLeft Plain column text = StandsFor column text
 IsLeft Backslash column text = StandsFor (backslash ∷ column) text
 IsLeft Brace column text = StandsFor (codes "\\u" ++ column) text
-IsLeft (Number n) column text = (digits : List ℕ) → IsTrue (list_all is_hex digits) → n ≡ hex_onto 0 digits → StandsFor (codes "\\u{" ++ (digits ++ column)) text
+IsLeft (Number n) column text =
+    (digits : List ℕ) → IsTrue (list_all is_hex digits) → n ≡ hex_onto 0 digits
+    → StandsFor (codes "\\u{" ++ (digits ++ column)) text
 
 -- what stands for a text behind a character, stands for it and what is read with the character before it
 abbrev KeepsLeft : State → ℕ → List ℕ → List ℕ → Option (State × Option ℕ) → Type 0
@@ -49,9 +54,11 @@ IsLeft-plain : (c : ℕ) (column text : List ℕ) → KeepsLeft Plain c column t
 IsLeft-plain c column text =
     by_test (KeepsLeft Plain c column text) (c == backslash) _ _
     (λ is left. subst (λ (d : ℕ). StandsFor (d ∷ column) text) (sym (eqb-true c backslash is)) left)
-    (λ other. by_test (KeepsLeft Plain c column text) (c == tab) _ _ (λ is. tt) (λ third left. (column, (by_itself (eqb-false c backslash other) (eqb-false c tab third) refl, left))))
+    (λ other. by_test (KeepsLeft Plain c column text) (c == tab) _ _ (λ is. tt)
+    (λ third left. (column, (by_itself (eqb-false c backslash other) (eqb-false c tab third) refl, left))))
 
-IsLeft-letter : (c : ℕ) (column text : List ℕ) (o : Option ℕ) → letter c ≡ o → KeepsLeft Backslash c column text (option_map (λ d. (Plain, Some d)) o)
+IsLeft-letter : (c : ℕ) (column text : List ℕ) (o : Option ℕ) → letter c ≡ o
+    → KeepsLeft Backslash c column text (option_map (λ d. (Plain, Some d)) o)
 IsLeft-letter c column text None is = tt
 IsLeft-letter c column text (Some d) is = λ left. (column, (by_letter c is refl, left))
 
@@ -69,20 +76,25 @@ IsLeft-brace c column text =
 
 -- the number that one digit more writes
 hex_onto-push : (n c : ℕ) (digits : List ℕ) → n ≡ hex_onto 0 digits → n * 16 + digit_value c ≡ hex_onto 0 (digits ++ c ∷ [])
-hex_onto-push n c digits is = ap (λ m. m * 16 + digit_value c) is ∙ sym (fold-append (λ m d. m * 16 + digit_value d) 0 digits (c ∷ []))
+hex_onto-push n c digits is =
+    ap (λ m. m * 16 + digit_value c) is
+    ∙ sym (fold-append (λ m d. m * 16 + digit_value d) 0 digits (c ∷ []))
 
-list_all-push : (c : ℕ) (digits : List ℕ) → IsTrue (list_all is_hex digits) → is_hex c ≡ true → IsTrue (list_all is_hex (digits ++ c ∷ []))
+list_all-push : (c : ℕ) (digits : List ℕ) → IsTrue (list_all is_hex digits) → is_hex c ≡ true
+    → IsTrue (list_all is_hex (digits ++ c ∷ []))
 list_all-push c digits each hex = rw (list_all-append is_hex digits (c ∷ []), each, hex) refl
 
 -- one more digit
-IsLeft-digit : (n c : ℕ) (column text : List ℕ) → is_hex c ≡ true → IsLeft (Number (n * 16 + digit_value c)) column text → IsLeft (Number n) (c ∷ column) text
+IsLeft-digit : (n c : ℕ) (column text : List ℕ) → is_hex c ≡ true
+    → IsLeft (Number (n * 16 + digit_value c)) column text → IsLeft (Number n) (c ∷ column) text
 IsLeft-digit n c column text hex left = λ digits each is.
     let more = left (digits ++ c ∷ []) (list_all-push c digits each hex) (hex_onto-push n c digits is) in
     let Stands : List ℕ → Type 0 = λ l. StandsFor (codes "\\u{" ++ l) text in
     subst Stands (append_assoc digits (c ∷ []) column) more
 
 -- the end of a number
-IsLeft-code : (n c : ℕ) (column text : List ℕ) → IsScalar n → c ≡ 125 → StandsFor column text → IsLeft (Number n) (c ∷ column) (n ∷ text)
+IsLeft-code : (n c : ℕ) (column text : List ℕ) → IsScalar n → c ≡ 125 → StandsFor column text
+    → IsLeft (Number n) (c ∷ column) (n ∷ text)
 IsLeft-code n c column text scalar is left = λ digits each number.
     (column, (by_number digits each number scalar (ap (λ d. codes "\\u{" ++ (digits ++ (d ∷ column))) is), left))
 
@@ -122,7 +134,8 @@ ReadsLeft-read [] Plain = refl
 ReadsLeft-read [] Backslash = tt
 ReadsLeft-read [] Brace = tt
 ReadsLeft-read [] (Number n) = tt
-ReadsLeft-read (c ∷ column) s = ReadsLeft-next s c column (step s c) (λ text. IsLeft-step s c column text) (λ t. ReadsLeft-read column t)
+ReadsLeft-read (c ∷ column) s =
+    ReadsLeft-next s c column (step s c) (λ text. IsLeft-step s c column text) (λ t. ReadsLeft-read column t)
 
 pub StandsFor-read : (column text : List ℕ) → read Plain column ≡ Some text → StandsFor column text
 StandsFor-read column text is =
@@ -137,10 +150,12 @@ option_map-same (Some text) = refl
 
 -- after a character with which none is read
 read-silent : (s t : State) (c : ℕ) (column : List ℕ) → step s c ≡ Some (t, None) → read s (c ∷ column) ≡ read t column
-read-silent s t c column is = ap (option_and_then (λ p. option_map (onto p.1) (read p.0 column))) is ∙ option_map-same (read t column)
+read-silent s t c column is =
+    ap (option_and_then (λ p. option_map (onto p.1) (read p.0 column))) is ∙ option_map-same (read t column)
 
 -- after a character with which one is read
-read-character : (s t : State) (c d : ℕ) (column : List ℕ) → step s c ≡ Some (t, Some d) → read s (c ∷ column) ≡ option_map (λ text. d ∷ text) (read t column)
+read-character : (s t : State) (c d : ℕ) (column : List ℕ) → step s c ≡ Some (t, Some d)
+    → read s (c ∷ column) ≡ option_map (λ text. d ∷ text) (read t column)
 read-character s t c d column is = ap (option_and_then (λ p. option_map (onto p.1) (read p.0 column))) is
 
 -- after a character that is wrong
@@ -157,7 +172,8 @@ hex_onto-grows (c ∷ digits) n = omega (arith, hex_onto-grows digits (n * 16 + 
 other_than_brace : (c : ℕ) → is_hex c ≡ true → c ≢ 125
 other_than_brace c hex is = let Hex : ℕ → Type 0 = λ d. is_hex d ≡ true in absurd (true≢false (sym (subst Hex is hex)))
 
-step-digit : (n c : ℕ) → is_hex c ≡ true → n * 16 + digit_value c < 2 ^ 32 → step (Number n) c ≡ Some (Number (n * 16 + digit_value c), None)
+step-digit : (n c : ℕ) → is_hex c ≡ true → n * 16 + digit_value c < 2 ^ 32
+    → step (Number n) c ≡ Some (Number (n * 16 + digit_value c), None)
 step-digit n c hex small = rw (ne_eqb c 125 (other_than_brace c hex), hex, lt-ltb (n * 16 + digit_value c) (2 ^ 32) small) refl
 
 read-number : (digits : List ℕ) (n : ℕ) (rest : List ℕ) → IsTrue (list_all is_hex digits) → IsScalar (hex_onto n digits)
@@ -165,20 +181,24 @@ read-number : (digits : List ℕ) (n : ℕ) (rest : List ℕ) → IsTrue (list_a
 read-number [] n rest each code = read-character (Number n) Plain 125 n rest (rw code refl)
 read-number (c ∷ digits) n rest each code =
     let hex = and_parts (is_hex c) (list_all is_hex digits) each in
-    let grows = hex_onto-grows digits (n * 16 + digit_value c) in
-    read-silent (Number n) (Number (n * 16 + digit_value c)) c (digits ++ (125 ∷ rest)) (step-digit n c hex.0 (omega (arith, grows, scalar_low (hex_onto n (c ∷ digits)) code)))
-    ∙ read-number digits (n * 16 + digit_value c) rest hex.1 code
+    let more = n * 16 + digit_value c in
+    let grows = hex_onto-grows digits more in
+    let small : more < 2 ^ 32 = omega (arith, grows, scalar_low (hex_onto n (c ∷ digits)) code) in
+    read-silent (Number n) (Number more) c (digits ++ (125 ∷ rest)) (step-digit n c hex.0 small)
+    ∙ read-number digits more rest hex.1 code
 
 step-letter : (l c : ℕ) → letter l ≡ Some c → step Backslash l ≡ Some (Plain, Some c)
 step-letter l c is =
     let other : l ≢ 117 = λ u. (let Is : ℕ → Type 0 = λ d. letter d ≡ Some c in let none : None ≡ Some c = subst Is u is in cc) in
     rw (ne_eqb l 117 other, is) refl
 
-read-begins : (c : ℕ) (column rest : List ℕ) → Begins c column rest → read Plain column ≡ option_map (λ text. c ∷ text) (read Plain rest)
+read-begins : (c : ℕ) (column rest : List ℕ) → Begins c column rest
+    → read Plain column ≡ option_map (λ text. c ∷ text) (read Plain rest)
 read-begins c column rest (by_itself other third is) =
     ap (read Plain) is ∙ read-character Plain Plain c c rest (rw (ne_eqb c backslash other, ne_eqb c tab third) refl)
 read-begins c column rest (by_letter l stands is) =
-    ap (read Plain) is ∙ read-silent Plain Backslash backslash (l ∷ rest) refl ∙ read-character Backslash Plain l c rest (step-letter l c stands)
+    ap (read Plain) is ∙ read-silent Plain Backslash backslash (l ∷ rest) refl
+    ∙ read-character Backslash Plain l c rest (step-letter l c stands)
 read-begins c column rest (by_number digits each number code is) =
     let Code : ℕ → Type 0 = IsScalar in
     ap (read Plain) is ∙ read-silent Plain Backslash backslash (117 ∷ (123 ∷ (digits ++ (125 ∷ rest)))) refl
@@ -189,7 +209,8 @@ read-begins c column rest (by_number digits each number code is) =
 
 pub read-stands : (column text : List ℕ) → StandsFor column text → read Plain column ≡ Some text
 read-stands column [] is = ap (read Plain) is
-read-stands column (c ∷ text) (rest, (begins, stands)) = read-begins c column rest begins ∙ ap (option_map (λ t. c ∷ t)) (read-stands rest text stands)
+read-stands column (c ∷ text) (rest, (begins, stands)) =
+    read-begins c column rest begins ∙ ap (option_map (λ t. c ∷ t)) (read-stands rest text stands)
 
 -- ---- as far as a column is read
 
@@ -214,7 +235,9 @@ IsReading-silent column bytes s t c rest is so = record {
   left = so.left ∙ ap (option_map (λ more. so.text ++ more)) (read-silent s t c rest is);
 }
 
-option_map-push : (text : List ℕ) (c : ℕ) (o : Option (List ℕ)) → option_map (λ more. text ++ more) (option_map (λ more. c ∷ more) o) ≡ option_map (λ more. (text ++ c ∷ []) ++ more) o
+option_map-push : (text : List ℕ) (c : ℕ) (o : Option (List ℕ))
+    → option_map (λ more. text ++ more) (option_map (λ more. c ∷ more) o)
+    ≡ option_map (λ more. (text ++ c ∷ []) ++ more) o
 option_map-push text c None = refl
 option_map-push text c (Some more) = ap Some (sym (append_assoc text (c ∷ []) more))
 
@@ -222,8 +245,13 @@ pub IsReading-character : (column old new : List ℕ) (s t : State) (c d : ℕ) 
     → new ≡ old ++ encode_utf8 d → IsReading column old s (c ∷ rest) → IsReading column new t rest
 IsReading-character column old new s t c d rest is pushed so = record {
   text = so.text ++ d ∷ [];
-  writes = pushed ∙ ap (λ l. l ++ encode_utf8 d) so.writes ∙ ap (λ l. encode_utf8_all so.text ++ l) (sym (append-nil (encode_utf8 d))) ∙ sym (encodes-append so.text (d ∷ []));
-  left = so.left ∙ ap (option_map (λ more. so.text ++ more)) (read-character s t c d rest is) ∙ option_map-push so.text d (read t rest);
+  writes =
+      pushed ∙ ap (λ l. l ++ encode_utf8 d) so.writes
+      ∙ ap (λ l. encode_utf8_all so.text ++ l) (sym (append-nil (encode_utf8 d)))
+      ∙ sym (encodes-append so.text (d ∷ []));
+  left =
+      so.left ∙ ap (option_map (λ more. so.text ++ more)) (read-character s t c d rest is)
+      ∙ option_map-push so.text d (read t rest);
 }
 
 pub IsReading-wrong : (column bytes : List ℕ) (s : State) (c : ℕ) (rest text : List ℕ) → step s c ≡ None
@@ -235,12 +263,19 @@ IsReading-wrong column bytes s c rest text is so stands =
     cc
 
 pub IsReading-end : (column bytes : List ℕ) → IsReading column bytes Plain [] → IsUnescaped column bytes
-IsReading-end column bytes so =
-    record { text = so.text ++ []; stands = StandsFor-read column (so.text ++ []) so.left; writes = so.writes ∙ ap encode_utf8_all (sym (append-nil so.text)) }
+IsReading-end column bytes so = record {
+  text = so.text ++ [];
+  stands = StandsFor-read column (so.text ++ []) so.left;
+  writes = so.writes ∙ ap encode_utf8_all (sym (append-nil so.text));
+}
 
 -- an escape is open at the end
-pub IsReading-open : (column bytes : List ℕ) (s : State) (text : List ℕ) → (s ≢ Plain) → IsReading column bytes s [] → StandsFor column text → ⊥
+pub IsReading-open : (column bytes : List ℕ) (s : State) (text : List ℕ) → (s ≢ Plain)
+    → IsReading column bytes s [] → StandsFor column text → ⊥
 IsReading-open column bytes Plain text other so stands = other refl
-IsReading-open column bytes Backslash text other so stands = let clash : None ≡ Some text = sym so.left ∙ read-stands column text stands in cc
-IsReading-open column bytes Brace text other so stands = let clash : None ≡ Some text = sym so.left ∙ read-stands column text stands in cc
-IsReading-open column bytes (Number n) text other so stands = let clash : None ≡ Some text = sym so.left ∙ read-stands column text stands in cc
+IsReading-open column bytes Backslash text other so stands =
+    let clash : None ≡ Some text = sym so.left ∙ read-stands column text stands in cc
+IsReading-open column bytes Brace text other so stands =
+    let clash : None ≡ Some text = sym so.left ∙ read-stands column text stands in cc
+IsReading-open column bytes (Number n) text other so stands =
+    let clash : None ≡ Some text = sym so.left ∙ read-stands column text stands in cc

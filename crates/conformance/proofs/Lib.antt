@@ -1,4 +1,5 @@
 mod ColumnLemmas
+mod ContentLemmas
 mod LineLemmas
 mod PlaceLemmas
 mod ReplayLemmas

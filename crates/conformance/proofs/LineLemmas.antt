@@ -1,5 +1,7 @@
 -- Where the columns of a line are cut.
-use Rattle.std.proofs.Common.{◌≡◌, ◌≢◌, ℕ, ◌+◌, ◌<◌, true, not, ◌==◌, List, [], ◌∷◌, ◌++◌, length, get_or, Option, Some, None, MatchOption, Bor, IsTrue, refl, sym, subst, ◌∙◌, add-one, ne_eqb, arith}
+use Rattle.std.proofs.Common.{◌≡◌, ◌≢◌, ℕ, ◌+◌, ◌<◌, true, not, ◌==◌, List, []}
+use Rattle.std.proofs.Common.{◌∷◌, ◌++◌, length, get_or, Option, Some, None, MatchOption, Bor, IsTrue}
+use Rattle.std.proofs.Common.{refl, sym, subst, ◌∙◌, add-one, ne_eqb, arith}
 use Rattle.std.specs.List.{list_all}
 use Rattle.std.proofs.lemmas.Bool.{and_parts, true≢false}
 use Rattle.std.proofs.lemmas.List.Folds.{list_all-append}
@@ -15,7 +17,8 @@ HasNoTab bytes = IsTrue (list_all (λ byte. not (byte == tab)) bytes)
 HasNoTab-bytes : (bytes : List ℕ) → ((i : ℕ) → i < length bytes → get_or bytes i 0 ≢ tab) → HasNoTab bytes
 HasNoTab-bytes [] other = refl
 HasNoTab-bytes (byte ∷ bytes) other =
-    rw (ne_eqb byte tab (other 0 (omega arith)), HasNoTab-bytes bytes (λ i lt. rw add-one at (other (i + 1) (omega (arith, lt))))) refl
+    let more = HasNoTab-bytes bytes (λ i lt. rw add-one at (other (i + 1) (omega (arith, lt)))) in
+    rw (ne_eqb byte tab (other 0 (omega arith)), more) refl
 
 -- a tab is none of the bytes
 tab_apart : (byte : ℕ) (bytes : List ℕ) → HasNoTab (byte ∷ bytes) → tab ≢ byte

@@ -1,16 +1,17 @@
 -- Lemmas on the place of a text's fault.
-use Rattle.std.proofs.Common.{◌≡◌, ℕ, ◌+◌, ◌-◌, ◌≤◌, List, [], ◌∷◌, length, Result, Err, IfErr, if◌then◌else◌, refl, sym, subst, ap, ◌∙◌, arith}
+use Rattle.std.proofs.Common.{◌≡◌, ℕ, ◌+◌, ◌-◌, ◌≤◌, List, [], ◌∷◌, length, Result, Err, IfErr, if◌then◌else◌}
+use Rattle.std.proofs.Common.{refl, sym, subst, ap, ◌∙◌, arith}
 use Rattle.proc_macro2.specs.declared.LineColumn.{LineColumn}
 use Rattle.proc_macro2.specs.declared.ParseError.{ParseError}
 use Rattle.proc_macro2.specs.declared.ParseError.TheVariants.{Lex}
 use Rattle.proc_macro2.specs.Extent.{Extent}
-use Rattle.proc_macro2.specs.Files.{Files, IsFile, next_lo, with_file}
+use Rattle.proc_macro2.specs.Files.{Files, IsFile, new_map, next_lo, with_file}
 use Rattle.proc_macro2.specs.Forest.{Forest}
 use Rattle.proc_macro2.specs.Outcome.{IfLex, was_read}
 use Rattle.proc_macro2.specs.Parsing.{FaultAt}
 use Rattle.proc_macro2.specs.Place.{line_column}
 use Rattle.proc_macro2.proofs.FaultLemmas.{fault_within}
-use Rattle.conformance.specs.Said.{new_map, place_text, IsFaultPlace}
+use Rattle.conformance.specs.Said.{place_text, IsFaultPlace}
 
 -- the new map has read the text after what the old one had, and the text's fault is the span
 pub record HasReadFault (old new : Files) (text : List ℕ) (span : Extent) : Type 0 where
@@ -19,11 +20,13 @@ pub record HasReadFault (old new : Files) (text : List ℕ) (span : Extent) : Ty
   pub fault : FaultAt (next_lo old) text span.lo
 
 -- what a parse tells of the fault that it lends
-pub HasReadFault-parsed : (old new : Files) (text : List ℕ) (answer : Result Forest ParseError) (fault span : Extent) → span ≡ fault → answer ≡ Err (Lex fault)
+pub HasReadFault-parsed : (old new : Files) (text : List ℕ) (answer : Result Forest ParseError)
+    (fault span : Extent) → span ≡ fault → answer ≡ Err (Lex fault)
     → IfErr answer (λ error. IfLex error (λ e. (e.lo ≡ e.hi) × FaultAt (next_lo old) text e.lo))
     → new ≡ (if was_read answer then with_file old text else old) → HasReadFault old new text span
 HasReadFault-parsed old new text answer fault span lent is lex kept =
-    let Tells : Result Forest ParseError → Type 0 = λ r. IfErr r (λ error. IfLex error (λ e. (e.lo ≡ e.hi) × FaultAt (next_lo old) text e.lo)) in
+    let Tells : Result Forest ParseError → Type 0 =
+    λ r. IfErr r (λ error. IfLex error (λ e. (e.lo ≡ e.hi) × FaultAt (next_lo old) text e.lo)) in
     let Kept : Result Forest ParseError → Type 0 = λ r. new ≡ (if was_read r then with_file old text else old) in
     let told = subst Tells is lex in
     let OfSpan : Extent → Type 0 = λ e. HasReadFault old new text e in

@@ -1,16 +1,17 @@
 -- What a replay comes to, a line at a time.
-use Rattle.std.proofs.Common.{◌≡◌, ℕ, ◌+◌, ◌<◌, Bool, true, false, not, if◌then◌else◌, List, [], ◌∷◌, ◌++◌, length, All, count_by, Option, Some, None, IfSome, Result, Ok, refl, sym, ap, subst, ◌∙◌, length-append, arith}
+use Rattle.std.proofs.Common.{◌≡◌, ℕ, ◌+◌, ◌<◌, Bool, true, false, not, if◌then◌else◌, List, []}
+use Rattle.std.proofs.Common.{◌∷◌, ◌++◌, length, All, count_by, Option, Some, None, IfSome, Result, Ok}
+use Rattle.std.proofs.Common.{refl, sym, ap, subst, ◌∙◌, length-append, arith}
 use Rattle.std.specs.Fmt.{◌++?◌}
 use Rattle.std.specs.Io.BufRead.{drop_through, first_line}
 use Rattle.std.specs.Io.Iter.{u64_saturate, YieldsKnownPiece}
 use Rattle.std.specs.Io.KnownBytes.{Appends, IsAtEnd}
-use Rattle.std.proofs.KnownBytes.{Appends-trans}
+use Rattle.std.proofs.KnownBytes.{Appends-nil, Appends-trans}
 use Rattle.std.proofs.lemmas.List.Elements.{All-nil, All-push}
 use Rattle.std.proofs.lemmas.List.Sums.{fold-append}
 use Rattle.conformance.specs.declared.replay.Tally.{Tally}
 use Rattle.conformance.specs.Replay.{Judged, BeginWith, IsReplay, all_told}
 use Rattle.conformance.specs.Verdict.{IsTold, IsVerdict}
-use Rattle.conformance.proofs.VerdictLemmas.{Appends-nothing}
 
 -- the known bytes are the lines that were judged and those that are left
 abbrev pub AreLeft : List Judged → Option (List ℕ) → Option (List ℕ) → Type 0
@@ -29,7 +30,8 @@ start_left : (known left : Option (List ℕ)) → left ≡ known → AreLeft [] 
 start_left None left is = tt
 start_left (Some bytes) left is = (bytes, (is, refl))
 
-pub IsReplaying-start : (known left : Option (List ℕ)) (tally : Tally) (old : Option (List ℕ)) → left ≡ known → tally ≡ record { answers = 0; differences = 0 }
+pub IsReplaying-start : (known left : Option (List ℕ)) (tally : Tally) (old : Option (List ℕ)) → left ≡ known
+    → tally ≡ record { answers = 0; differences = 0 }
     → IsReplaying known left tally old old
 IsReplaying-start known left tally old is none = record {
   judged = [];
@@ -37,18 +39,21 @@ IsReplaying-start known left tally old is none = record {
   each = All-nil (λ one. IsVerdict one.line one.same one.told);
   answers = ap (λ t. t.answers) none;
   differences = ap (λ t. t.differences) none;
-  tells = Appends-nothing old;
+  tells = Appends-nil old;
 }
 
 -- the next line is cut off what was left
-BeginWith-more : (judged : List Judged) (bytes rest : List ℕ) (one : Judged) → BeginWith judged bytes rest → 0 < length rest → one.line ≡ first_line rest
+BeginWith-more : (judged : List Judged) (bytes rest : List ℕ) (one : Judged) → BeginWith judged bytes rest
+    → 0 < length rest → one.line ≡ first_line rest
     → BeginWith (judged ++ one ∷ []) bytes (drop_through 10 rest)
 BeginWith-more [] bytes rest one is some line =
     let Bytes : List ℕ → Type 0 = λ b. (0 < length b) × (one.line ≡ first_line b) × (drop_through 10 b ≡ drop_through 10 rest) in
     subst Bytes (sym is) (some, line, refl)
-BeginWith-more (first ∷ judged) bytes rest one all some line = (all.0, all.1, BeginWith-more judged (drop_through 10 bytes) rest one all.2 some line)
+BeginWith-more (first ∷ judged) bytes rest one all some line =
+    (all.0, all.1, BeginWith-more judged (drop_through 10 bytes) rest one all.2 some line)
 
-AreLeft-more : {X E : Type 0} (view : X → List ℕ) (judged : List Judged) (known left new : Option (List ℕ)) (r : Option (Result X E)) (x : X) (one : Judged)
+AreLeft-more : {X E : Type 0} (view : X → List ℕ) (judged : List Judged) (known left new : Option (List ℕ))
+    (r : Option (Result X E)) (x : X) (one : Judged)
     → AreLeft judged known left → YieldsKnownPiece view first_line 10 left r new → r ≡ Some (Ok x) → one.line ≡ view x
     → AreLeft (judged ++ one ∷ []) known new
 AreLeft-more view judged None left new r x one so gives is line = tt
@@ -57,11 +62,14 @@ AreLeft-more {X} {E} view judged (Some bytes) left new r x one (rest, (known, be
     let one_gives = subst (Gives (Some rest)) is (subst (λ (l : Option (List ℕ)). Gives l r) known gives) in
     (drop_through 10 rest, (one_gives.1, BeginWith-more judged bytes rest one begin one_gives.0.0 (line ∙ one_gives.0.1)))
 
-count_by-push : (judged : List Judged) (one : Judged) → count_by (λ j. not j.same) (judged ++ one ∷ []) ≡ count_by (λ j. not j.same) judged + (if not one.same then 1 else 0)
+count_by-push : (judged : List Judged) (one : Judged)
+    → count_by (λ j. not j.same) (judged ++ one ∷ [])
+    ≡ count_by (λ j. not j.same) judged + (if not one.same then 1 else 0)
 count_by-push judged one = fold-append (λ n j. n + (if not j.same then 1 else 0)) 0 judged (one ∷ [])
 
 -- what is told after what was told
-told_more : (one two : Option (List ℕ)) (old mid new : Option (List ℕ)) → IfSome one (λ text. Appends old mid text) → IfSome two (λ text. Appends mid new text)
+told_more : (one two : Option (List ℕ)) (old mid new : Option (List ℕ))
+    → IfSome one (λ text. Appends old mid text) → IfSome two (λ text. Appends mid new text)
     → IfSome (one ++? two) (λ text. Appends old new text)
 told_more None two old mid new first second = tt
 told_more (Some one) None old mid new first second = tt
@@ -76,10 +84,12 @@ saturated_more : (same : Bool) (n old count : ℕ) → old ≡ u64_saturate coun
 saturated_more true n old count is more = omega (arith, is, more)
 saturated_more false n old count is more = omega (arith, is, more)
 
-pub IsReplaying-more : {X E : Type 0} (view : X → List ℕ) (known left next : Option (List ℕ)) (tally new_tally : Tally) (old mid new : Option (List ℕ))
-    (r : Option (Result X E)) (x : X) (line : List ℕ) (same : Bool) → IsReplaying known left tally old mid → YieldsKnownPiece view first_line 10 left r next
+pub IsReplaying-more : {X E : Type 0} (view : X → List ℕ) (known left next : Option (List ℕ)) (tally new_tally : Tally)
+    (old mid new : Option (List ℕ)) (r : Option (Result X E)) (x : X) (line : List ℕ) (same : Bool)
+    → IsReplaying known left tally old mid → YieldsKnownPiece view first_line 10 left r next
     → r ≡ Some (Ok x) → line ≡ view x → IsTold line same mid new → new_tally.answers ≡ u64_saturate (tally.answers + 1)
-    → new_tally.differences ≡ (if same then tally.differences else u64_saturate (tally.differences + 1)) → IsReplaying known next new_tally old new
+    → new_tally.differences ≡ (if same then tally.differences else u64_saturate (tally.differences + 1))
+    → IsReplaying known next new_tally old new
 IsReplaying-more view known left next tally new_tally old mid new r x line same so gives is line_is told answers differences =
     let one : Judged = record { line = line; same = same; told = told.told } in
     let Each : Judged → Type 0 = λ j. IsVerdict j.line j.same j.told in
@@ -89,19 +99,25 @@ IsReplaying-more view known left next tally new_tally old mid new r x line same 
       lines = AreLeft-more view so.judged known left next r x one so.lines gives is line_is;
       each = All-push Each so.judged one so.each told.verdict;
       answers = omega (arith, answers, so.answers, length-append so.judged (one ∷ []));
-      differences = saturated_more same new_tally.differences tally.differences _ so.differences differences ∙ ap u64_saturate (sym (count_by-push so.judged one));
-      tells = subst Told (sym (all_told-push so.judged one)) (told_more (all_told so.judged) told.told old mid new so.tells told.tells);
+      differences =
+          saturated_more same new_tally.differences tally.differences _ so.differences differences
+          ∙ ap u64_saturate (sym (count_by-push so.judged one));
+      tells =
+          subst Told (sym (all_told-push so.judged one))
+          (told_more (all_told so.judged) told.told old mid new so.tells told.tells);
     }
 
-end_left : (judged : List Judged) (known left : Option (List ℕ)) → AreLeft judged known left → IsAtEnd left → IfSome known (λ bytes. BeginWith judged bytes [])
+end_left : (judged : List Judged) (known left : Option (List ℕ)) → AreLeft judged known left → IsAtEnd left
+    → IfSome known (λ bytes. BeginWith judged bytes [])
 end_left judged None left so end = tt
 end_left judged (Some bytes) left (rest, (is, begin)) end =
     let none : rest ≡ [] = subst IsAtEnd is end in
     let Rest : List ℕ → Type 0 = λ l. BeginWith judged bytes l in
     subst Rest none begin
 
-pub IsReplaying-end : {X E : Type 0} (view : X → List ℕ) (known left next : Option (List ℕ)) (tally : Tally) (old new : Option (List ℕ)) (r : Option (Result X E))
-    → IsReplaying known left tally old new → YieldsKnownPiece view first_line 10 left r next → r ≡ None → IsReplay known tally old new
+pub IsReplaying-end : {X E : Type 0} (view : X → List ℕ) (known left next : Option (List ℕ)) (tally : Tally)
+    (old new : Option (List ℕ)) (r : Option (Result X E)) → IsReplaying known left tally old new
+    → YieldsKnownPiece view first_line 10 left r next → r ≡ None → IsReplay known tally old new
 IsReplaying-end {X} {E} view known left next tally old new r so gives is =
     let Gives : Option (Result X E) → Type 0 = λ item. YieldsKnownPiece view first_line 10 left item next in
     record {

@@ -20,12 +20,15 @@ pub IsValue-failed : {T : Type 0} (seen : T → List ℕ) (bytes_of : List ℕ �
     (value : Result (List ℕ) ConversionErrorKind) (result : Result T ConversionErrorKind)
     (error : ConversionErrorKind) (said : List ℕ)
     → Answers seen value result → result ≡ Err error → HasName error → IsValue bytes_of value said
-IsValue-failed seen bytes_of value result (FailedToUnescape fault) said answers is named = IsValue-none bytes_of value _ said (answers.unescape fault is)
-IsValue-failed seen bytes_of value result InvalidLiteralKind said answers is named = IsValue-none bytes_of value _ said (answers.kind.0 is)
+IsValue-failed seen bytes_of value result (FailedToUnescape fault) said answers is named =
+    IsValue-none bytes_of value _ said (answers.unescape fault is)
+IsValue-failed seen bytes_of value result InvalidLiteralKind said answers is named =
+    IsValue-none bytes_of value _ said (answers.kind.0 is)
 IsValue-failed seen bytes_of value result (Memory error) said answers is named = absurd named
 
 -- the bytes of a string are those of its characters
-pub IsValue-string : (value : Result (List ℕ) ConversionErrorKind) (bytes said : List ℕ) → IsUtf8 bytes → value ≡ Ok (chars bytes) → said ≡ encode_lower bytes
+pub IsValue-string : (value : Result (List ℕ) ConversionErrorKind) (bytes said : List ℕ)
+    → IsUtf8 bytes → value ≡ Ok (chars bytes) → said ≡ encode_lower bytes
     → IsValue encode_utf8_all value said
 IsValue-string value bytes said utf8 is told = λ units some.
     let Told : Result (List ℕ) ConversionErrorKind → Type 0 = λ r. IfOk r (λ u. said ≡ encode_lower (encode_utf8_all u)) in

@@ -1,4 +1,5 @@
 pub mod Column
+pub mod Contents
 pub mod Line
 pub mod Literals
 pub mod Name

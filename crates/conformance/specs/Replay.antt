@@ -1,5 +1,5 @@
 -- What the replay of lines comes to.
-use Rattle.std.specs.Prelude.{◌≡◌, ℕ, ◌<◌, Bool, not, List, [], ◌∷◌, ◌++◌, codes, decimal, length, All, count_by, fold, Option, Some, IfSome}
+use Rattle.std.specs.Prelude.{◌≡◌, ℕ, ◌<◌, ◌==◌, if◌then◌else◌, Bool, not, List, [], ◌∷◌, ◌++◌, codes, decimal, length, All, count_by, fold, Option, Some, IfSome}
 use Rattle.std.specs.Fmt.{◌++?◌}
 use Rattle.std.specs.Io.BufRead.{drop_through, first_line}
 use Rattle.std.specs.Io.Iter.{u64_saturate}
@@ -36,3 +36,11 @@ pub record IsReplay (known : Option (List ℕ)) (tally : Tally) (old new : Optio
 abbrev pub tally_text : Tally → List ℕ
 tally_text tally =
     decimal tally.answers ++ (codes " answers, " ++ (decimal tally.differences ++ codes " differences\n"))
+
+-- the lines were replayed, the numbers are written behind what was told, and the status is 1 exactly where a line differs
+pub record IsRun (known : Option (List ℕ)) (status : ℕ) (old new : Option (List ℕ)) : Type 0 where
+  pub tally : Tally
+  pub told : Option (List ℕ)
+  pub replay : IsReplay known tally old told
+  pub numbers : Appends told new (tally_text tally)
+  pub failure : status ≡ (if tally.differences == 0 then 0 else 1)

@@ -8,6 +8,7 @@ use Rattle.conformance.specs.declared.kind.Kind.TheVariants.{Fault}
 use Rattle.conformance.specs.declared.literals.Question.{Question}
 use Rattle.conformance.specs.declared.literals.Question.TheVariants.{Refused}
 use Rattle.conformance.specs.declared.texts.Maker.{Maker}
+use Rattle.conformance.specs.Contents.{AreItemsOf}
 use Rattle.conformance.specs.Literals.{IsAnswer}
 use Rattle.conformance.specs.Said.{IsSaid, of_stream}
 use Rattle.conformance.specs.Texts.{HasNoLiteral, IsWritten}
@@ -28,11 +29,11 @@ pub record IsOfNone (maker : Maker) (found : Question) (value said : List ℕ) :
   pub kind : found ≡ Refused
   pub nothing : said ≡ []
 
--- what is answered where this was asked of the text of these bytes; of a content's items nothing is promised
+-- what is answered where this was asked of the text of these bytes
 abbrev pub IsReply : Asked → List ℕ → Asked → List ℕ → Type 0
 IsReply (Stream asked) bytes (Stream found) said = IsOfStream asked found (chars bytes) said
 IsReply (Literal asked) bytes (Literal found) said = IsOfText asked found (chars bytes) said
 IsReply (Written maker) bytes (Literal found) said = IsOfNone maker found bytes said
 IsReply (Written maker) bytes (Written found) said = (found ≡ maker) × IsWritten maker bytes said
-IsReply (Items call) bytes (Items found) said = found ≡ call
+IsReply (Items call) bytes (Items found) said = (found ≡ call) × AreItemsOf call (chars bytes) said
 IsReply _ bytes _ said = ⊥

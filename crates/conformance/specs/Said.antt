@@ -1,18 +1,14 @@
 -- What is answered to a text in a new map.
-use Rattle.std.specs.Prelude.{ℕ, ◌+◌, ◌≡◌, List, [], ◌++◌, codes, decimal}
+use Rattle.std.specs.Prelude.{ℕ, ◌+◌, ◌≡◌, List, ◌++◌, codes, decimal}
 use Rattle.std.specs.Str.{encode_utf8_all}
 use Rattle.conformance.specs.declared.kind.Kind.{Kind}
 use Rattle.conformance.specs.declared.kind.Kind.TheVariants.{Print, Tree, Fault}
 use Rattle.proc_macro2.specs.declared.LineColumn.{LineColumn}
-use Rattle.proc_macro2.specs.Files.{Files, next_lo}
+use Rattle.proc_macro2.specs.Files.{new_map, next_lo}
 use Rattle.proc_macro2.specs.Place.{line_column}
 use Rattle.proc_macro2.specs.Forest.{Forest}
 use Rattle.proc_macro2.specs.Parsing.{ParsesTo, FaultAt}
 use Rattle.proc_macro2.specs.Printed.{printed}
-
--- a map that has read nothing, and has all positions to give
-abbrev pub new_map : Files
-new_map = record { texts = []; limit = 4294967295 }
 
 -- the bytes are what is printed of the stream that the text parses to
 pub record IsPrinted (text said : List ℕ) : Type 0 where

@@ -4,7 +4,7 @@ use Rattle.std.specs.Option.{option_map}
 use Rattle.std.specs.Fmt.{debug_str}
 use Rattle.std.specs.Io.KnownBytes.{Appends}
 use Rattle.std.specs.Str.{chars}
-use Rattle.proc_macro2.specs.Files.{Fits}
+use Rattle.proc_macro2.specs.Files.{Fits, new_map}
 use Rattle.proc_macro2.specs.Message.{message}
 use Rattle.proc_macro2.specs.declared.ParseError.{ParseError}
 use Rattle.proc_macro2.specs.declared.ParseError.TheVariants.{Lex, MapFull, Memory}
@@ -12,7 +12,6 @@ use Rattle.conformance.specs.declared.asked.Asked.{Asked}
 use Rattle.conformance.specs.Line.{IsLine}
 use Rattle.conformance.specs.Name.{asked_name}
 use Rattle.conformance.specs.Reply.{IsReply}
-use Rattle.conformance.specs.Said.{new_map}
 
 -- the line's answer is the library's
 pub record Agrees (line : List ℕ) : Type 0 where

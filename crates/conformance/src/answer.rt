@@ -1,10 +1,10 @@
 //! What the library answers to a text.
 ghost use Rattle.std.specs.Prelude.{◌≡◌, ◌≢◌, ◌↔◌, IfErr, IfOk, length, string_bytes};
 ghost use Rattle.std.specs.Str.{chars, encode_utf8_all};
-ghost use Rattle.proc_macro2.specs.Files.{Fits};
+ghost use Rattle.proc_macro2.specs.Files.{Fits, new_map};
 ghost use Rattle.proc_macro2.specs.Outcome.{IfLex};
 ghost use Rattle.proc_macro2.specs.Printed.{printed};
-ghost use Rattle.conformance.specs.Said.{IsSaid, new_map, of_stream, place_text};
+ghost use Rattle.conformance.specs.Said.{IsSaid, of_stream, place_text};
 
 use crate::kind::Kind;
 use proc_macro2::{LineColumn, ParseError, SourceMap, TokenStream};
@@ -63,7 +63,7 @@ fn of_stream(asked: Kind) -> Kind
 
 // The stream as it is printed, or shown.
 fn shown(alloc: Global, kind: Kind, stream: &TokenStream) -> Result<String, AllocError>
-    ensures { kind ≡ Kind.Print
+    ensures { kind ≢ Kind.Tree
         → IfOk result (λ said. string_bytes said ≡ encode_utf8_all (printed stream.now)) }
 {
     match kind {

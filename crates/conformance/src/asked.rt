@@ -1,11 +1,10 @@
 //! What a line asks, of whatever kind.
 ghost use Rattle.std.specs.Prelude.{◌≡◌, IfErr, IfOk, length, string_bytes};
 ghost use Rattle.std.specs.Str.{chars};
-ghost use Rattle.proc_macro2.specs.Files.{Fits};
+ghost use Rattle.proc_macro2.specs.Files.{Fits, new_map};
 ghost use Rattle.proc_macro2.specs.Outcome.{IfLex};
 ghost use Rattle.conformance.specs.Name.{Names, asked_name};
 ghost use Rattle.conformance.specs.Reply.{IsReply};
-ghost use Rattle.conformance.specs.Said.{new_map};
 
 use crate::answer::answer_to;
 use crate::items::{Call, items};

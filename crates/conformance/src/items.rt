@@ -1,6 +1,10 @@
 //! What the library finds in the content of a literal.
-ghost use Rattle.std.specs.Prelude.{◌≡◌};
-ghost use Rattle.std.specs.Iterator.{IsFinite};
+ghost use Rattle.std.specs.Prelude.{◌≡◌, ◌++◌, ℕ, IfOk, List, OnOk, string_bytes};
+ghost use Rattle.std.specs.Iterator.{Drains, IsFinite};
+ghost use Rattle.std.specs.Str.{chars};
+ghost use Rattle.proc_macro2.specs.Errors.{errors_in};
+ghost use Rattle.proc_macro2.specs.Items.{Item};
+ghost use Rattle.conformance.specs.Contents.{AreItemsOf, AreToldItems, IsToldError, IsToldUnit, item_text, told_byte, told_character, told_mixed};
 ghost use Rattle.conformance.specs.Name.{Names, call_name, mode_name};
 
 use proc_macro2::rustc_literal_escaper::{
@@ -105,29 +109,42 @@ fn errors_name(mode: Mode) -> &'static str
 
 /// What a unit is told by.
 trait Unit: Copy {
+    // What is told of it.
+    ghost text: { Self → List ℕ };
+
     /// `U+` and the character's code, or the byte in two digits of hex.
-    fn told(self, alloc: Global) -> Result<String, AllocError>;
+    fn told(self, alloc: Global) -> Result<String, AllocError>
+        ensures { IfOk result (λ said. string_bytes said ≡ text self) };
 }
 
 impl Unit for char {
+    ghost text = { told_character };
+
     fn told(self, alloc: Global) -> Result<String, AllocError> {
         format!(in alloc; "U+{:X}", u32::from(self))
     }
 }
 
 impl Unit for u8 {
+    ghost text = { told_byte };
+
+    #[tactic(auto, using(crate::proofs::ContentLemmas::told_byte_is))]
     fn told(self, alloc: Global) -> Result<String, AllocError> {
         format!(in alloc; "{self:02X}")
     }
 }
 
 impl Unit for NonZeroChar {
+    ghost text = { told_character };
+
     fn told(self, alloc: Global) -> Result<String, AllocError> {
         self.get().told(alloc)
     }
 }
 
 impl Unit for MixedUnit {
+    ghost text = { told_mixed };
+
     fn told(self, alloc: Global) -> Result<String, AllocError> {
         match self {
             MixedUnit::Char(c) => c.told(alloc),
@@ -137,10 +154,13 @@ impl Unit for MixedUnit {
 }
 
 /// What the call gives for the content: each item by its range of bytes and its unit or error, with
-/// a semicolon behind it; of a character or a byte only the unit or the error.
+/// a semicolon behind it; of a character or a byte only the unit or the error. How an error is named
+/// is not promised.
 ///
 /// For `Str`, `\x41b` gives `0..4 U+41;4..5 U+62;`. For `Char`, `'` gives `EscapeOnlyChar`.
-pub fn items(alloc: Global, call: Call, content: &str) -> Result<String, AllocError> {
+pub fn items(alloc: Global, call: Call, content: &str) -> Result<String, AllocError>
+    ensures { IfOk result (λ said. AreItemsOf call (chars content.now) (string_bytes said)) }
+{
     match call {
         Call::Str => all_items(alloc, unescape_str(content)),
         Call::ByteStr => all_items(alloc, unescape_byte_str(content)),
@@ -155,7 +175,9 @@ pub fn items(alloc: Global, call: Call, content: &str) -> Result<String, AllocEr
 }
 
 // A unit, or what is wrong.
-fn told<U: Unit>(alloc: Global, unit: Result<U, EscapeError>) -> Result<String, AllocError> {
+fn told<U: Unit>(alloc: Global, unit: Result<U, EscapeError>) -> Result<String, AllocError>
+    ensures { IfOk result (λ said. IsToldUnit U.text unit (string_bytes said)) }
+{
     match unit {
         Ok(unit) => unit.told(alloc),
         Err(error) => format!(in alloc; "{error:?}"),
@@ -163,11 +185,14 @@ fn told<U: Unit>(alloc: Global, unit: Result<U, EscapeError>) -> Result<String, 
 }
 
 // All items that are left.
+#[tactic(auto, using(crate::proofs::ContentLemmas::AreToldItems_more))]
 fn all_items<U: Unit, I: Iterator<Item = (Range<usize>, Result<U, EscapeError>)> + Drop>(
     alloc: Global,
     items: I,
 ) -> Result<String, AllocError>
     requires { I.can_next items × IsFinite (I.remaining items) }
+    ensures { IfOk result (λ said. (all : List (Item U)) × Drains I.next_gives items all
+        × AreToldItems (IsToldUnit U.text) all (string_bytes said)) }
 {
     let mut said = String::new(alloc);
     for (range, unit) in items {
@@ -178,7 +203,11 @@ fn all_items<U: Unit, I: Iterator<Item = (Range<usize>, Result<U, EscapeError>)>
 }
 
 // All errors of a content of this kind.
-fn all_errors(alloc: Global, content: &str, mode: Mode) -> Result<String, AllocError> {
+#[tactic(auto, using(crate::proofs::ContentLemmas::AreToldItems_more))]
+fn all_errors(alloc: Global, content: &str, mode: Mode) -> Result<String, AllocError>
+    ensures { IfOk result (λ said.
+        AreToldItems IsToldError (errors_in mode (chars content.now)) (string_bytes said)) }
+{
     let mut said = String::new(alloc);
     for (range, error) in check_for_errors(content, mode) {
         let error = format!(in alloc; "{error:?}")?;
@@ -193,7 +222,10 @@ fn push_item(
     said: &mut String,
     range: Range<usize>,
     what: &str,
-) -> Result<(), AllocError> {
+) -> Result<(), AllocError>
+    ensures { OnOk result
+        (string_bytes said.new ≡ string_bytes said.old ++ item_text range what.now) }
+{
     let item = format!(in alloc; "{}..{} {what};", range.start, range.end)?;
     said.push_str(item.as_str())?;
     Ok(())

@@ -1,12 +1,11 @@
 //! What the library answers to a literal's text.
 ghost use Rattle.std.specs.Prelude.{◌≡◌, ◌≢◌, ◌↔◌, IfErr, IfOk, length, string_bytes};
 ghost use Rattle.std.specs.Str.{chars, encode_utf8_all};
-ghost use Rattle.proc_macro2.specs.Files.{Fits};
+ghost use Rattle.proc_macro2.specs.Files.{Fits, new_map};
 ghost use Rattle.proc_macro2.specs.Outcome.{IfLex};
 ghost use Rattle.proc_macro2.specs.Value.{byte_str_value, cstr_value, str_value};
 ghost use Rattle.conformance.specs.Literals.{HasName, IsAnswer, IsOfLiteral, IsValue};
 ghost use Rattle.conformance.specs.Name.{Names, question_name};
-ghost use Rattle.conformance.specs.Said.{new_map};
 
 use proc_macro2::{ConversionErrorKind, Literal, ParseError, SourceMap};
 use std::alloc::{AllocError, Global};

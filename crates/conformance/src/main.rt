@@ -2,10 +2,10 @@
 //! difference. The status is 1 where there is one.
 #![tactic(auto)]
 
-ghost use Rattle.std.specs.Prelude.{◌≡◌, ◌==◌, if◌then◌else◌, OnOk};
+ghost use Rattle.std.specs.Prelude.{◌≡◌, ◌==◌, if◌then◌else◌, IfOk, OnOk};
 ghost use Rattle.std.specs.Io.KnownBytes.{Appends};
 ghost use Rattle.std.specs.Process.{exit_status};
-ghost use Rattle.conformance.specs.Replay.{tally_text};
+ghost use Rattle.conformance.specs.Replay.{IsRun, tally_text};
 
 mod answer;
 mod asked;
@@ -21,15 +21,28 @@ mod rows;
 mod texts;
 
 use replay::{Tally, replay};
+use std::alloc::Global;
 use std::io;
-use std::io::{BufReader, BufWriter, Write};
+use std::io::{BufRead, BufReader, BufWriter, Write};
 use std::process::ExitCode;
 
 fn main(rt: HostRuntime) -> io::Result<ExitCode> {
     let reader = BufReader::new(rt.alloc(), rt.stdin())?;
     let mut writer = BufWriter::new(rt.alloc(), rt.stdout())?;
-    let tally = replay(rt.alloc(), reader, &mut writer)?;
-    print_tally(tally, &mut writer)?;
+    run(rt.alloc(), reader, &mut writer)
+}
+
+// Replays the answers on the reader's lines, and writes what differs and how many do.
+fn run<R: BufRead + Drop, W: Write>(
+    alloc: Global,
+    reader: R,
+    writer: &mut W,
+) -> io::Result<ExitCode>
+    ensures { IfOk result (λ code. IsRun (R.remaining reader) (exit_status code)
+        (W.contents writer.old) (W.contents writer.new)) }
+{
+    let tally = replay(alloc, reader, writer)?;
+    print_tally(tally, writer)?;
     writer.flush()?;
     Ok(status(tally))
 }

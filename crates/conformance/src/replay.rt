@@ -1,5 +1,5 @@
 //! Replays recorded answers, a line at a time.
-ghost use Rattle.std.specs.Prelude.{◌≡◌, ◌+◌, ◌↔◌, if◌then◌else◌, IfOk, IfSome, IsTrue, OnOk, string_bytes};
+ghost use Rattle.std.specs.Prelude.{◌≡◌, ◌+◌, ◌↔◌, true, false, if◌then◌else◌, IfOk, IfSome, IsTrue, OnOk, string_bytes};
 ghost use Rattle.std.specs.Io.Iter.{u64_saturate};
 ghost use Rattle.std.specs.Io.KnownBytes.{Appends};
 ghost use Rattle.proc_macro2.specs.Message.{message};
@@ -77,9 +77,7 @@ fn is_same<W: Write>(alloc: Global, line: &str, writer: &mut W) -> io::Result<bo
         Ok((asked, said)) => {
             let said = said.as_str();
             let same = is_recorded(&recorded, asked, said);
-            if !same {
-                tell(line, asked, said, writer)?;
-            }
+            tell(line, same, asked, said, writer)?;
             Ok(same)
         }
         Err(error) => {
@@ -97,11 +95,21 @@ fn is_recorded(recorded: &Recorded, asked: Asked, said: &str) -> bool
     asked == recorded.asked && said == recorded.answer.as_str()
 }
 
-// Tells that the library answers otherwise than the line.
-fn tell<W: Write>(line: &str, asked: Asked, said: &str, writer: &mut W) -> io::Result<()>
-    ensures { OnOk result (IfSome (otherwise line.now asked said.now)
+// Tells the library's answer to the line, unless it is the same as the line's.
+fn tell<W: Write>(
+    line: &str,
+    same: bool,
+    asked: Asked,
+    said: &str,
+    writer: &mut W,
+) -> io::Result<()>
+    ensures same { OnOk result (same ≡ true → W.contents writer.new ≡ W.contents writer.old) }
+    ensures differs { OnOk result (same ≡ false → IfSome (otherwise line.now asked said.now)
         (λ text. Appends (W.contents writer.old) (W.contents writer.new) text)) }
 {
+    if same {
+        return Ok(());
+    }
     writeln!(writer, "differs: {line}\nhere: {} {said:?}", asked.name())
 }
 

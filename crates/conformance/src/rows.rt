@@ -54,16 +54,17 @@ fn a_text_past_the_limit_leaves_the_map_as_it_was(rt: HostRuntime) -> Result<(),
 
 #[test]
 fn printed_text_is_read_as_the_same_trees(rt: HostRuntime) -> Result<(), Fail> {
-    for text in [
-        "fn f(x) { x + y }",
-        "a+'b'",
-        "'b\"x\"",
-        "1..2",
-        "/// d\r\n",
-        "<<=",
-        "&'a r#b",
+    for (text, want) in [
+        ("fn f(x) { x + y }", "fn f (x) { x + y }"),
+        ("a+'b'", "a +'b'"),
+        ("'b\"x\"", "'b\"x\""),
+        ("1..2", "1 .. 2"),
+        ("/// d\r\n", "# [doc = \" d\"]"),
+        ("<<=", "<<="),
+        ("&'a r#b", "&'a r#b"),
     ] {
         let first = printed(rt.alloc(), text)?;
+        assert_eq!(rt; first.as_str(), want, "of {text:?}");
         let again = printed(rt.alloc(), first.as_str())?;
         assert_eq!(rt; again.as_str(), first.as_str(), "of {text:?}");
     }

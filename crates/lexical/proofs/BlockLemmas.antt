@@ -130,7 +130,8 @@ sign_pair a b c d text h =
     ap₂ (λ x y. x ∷ y ∷ []) (eqb-true a c parts.0) (eqb-true b d more.0)
 
 pair_sound : (depth c d : ℕ) (text : List ℕ) (closed opened passed : Answer)
-    → IfSome closed (IsSplit (Ends depth) text) → IfSome opened (IsSplit (Ends (suc (suc depth))) text) → IfSome passed (IsSplit (Ends (suc depth)) (d ∷ text))
+    → IfSome closed (IsSplit (Ends depth) text) → IfSome opened (IsSplit (Ends (suc (suc depth))) text)
+    → IfSome passed (IsSplit (Ends (suc depth)) (d ∷ text))
     → IfSome (cond (begins_with (codes "*/") (c ∷ (d ∷ text))) (behind (c ∷ d ∷ []) closed)
     (cond (begins_with (codes "/*") (c ∷ (d ∷ text))) (behind (c ∷ d ∷ []) opened) (behind (c ∷ []) passed)))
     (IsSplit (Ends (suc depth)) (c ∷ (d ∷ text)))

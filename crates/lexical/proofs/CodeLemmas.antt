@@ -39,7 +39,8 @@ digit_low c h = elim (or_cases (is_ascii_hexdigit c) (c == 95) h) [
 -- a hex digit is one by its value
 hex_is : (c : ℕ) → is_code_digit c ≡ true → is_ascii_hexdigit c ≡ nat_lt (digit_value c) 16
 hex_is c h =
-    let agree = agree_below_at (λ x. is_code_digit x && is_ascii_hexdigit x) (λ x. is_code_digit x && nat_lt (digit_value x) 16) 128 c refl (digit_low c h) in
+    let agree = agree_below_at (λ x. is_code_digit x && is_ascii_hexdigit x)
+    (λ x. is_code_digit x && nat_lt (digit_value x) 16) 128 c refl (digit_low c h) in
     sym (ap (λ b. b && is_ascii_hexdigit c) h) ∙ (agree ∙ ap (λ b. b && nat_lt (digit_value c) 16) h)
 
 hex_no_line : (c : ℕ) → is_ascii_hexdigit c ≡ true → (c == 95) ≡ false
@@ -68,7 +69,8 @@ counts_line value count c after rest text e is high counts =
     let none : hexes (c ∷ after) ≡ hexes after =
     ap length (cond-false (is_ascii_hexdigit c) (c ∷ filter is_ascii_hexdigit after)
     (filter is_ascii_hexdigit after) other) in (
-      ap (λ n. fold value_step n after) (sym (cond-true (c == 95) value (16 * value + digit_value c) line)) ∙ (ap (fold value_step value) (sym e) ∙ counts.0),
+      ap (λ n. fold value_step n after) (sym (cond-true (c == 95) value (16 * value + digit_value c) line))
+          ∙ (ap (fold value_step value) (sym e) ∙ counts.0),
       omega (arith, counts.1, ap hexes e, none),
     )
 

@@ -28,7 +28,8 @@ pub block_front : (p r : List ℕ) (h : BlockComment p r) → p ≡ codes "/*" +
 block_front p r h = h.whole ∙ ap (λ x. x ++ h.back) h.first
 
 pub finds_comment : Finds find_comment Comment
-finds_comment = finds_either find_line find_block LineComment BlockComment finds_line finds_block (λ p r h. ap (λ x. find_line (x ++ r)) (block_front p r h))
+finds_comment = finds_either find_line find_block LineComment BlockComment finds_line finds_block
+    (λ p r h. ap (λ x. find_line (x ++ r)) (block_front p r h))
 
 -- a comment begins with `/`, and where it stands no mark does
 pub comment_first : (p r : List ℕ) → Comment p r → (q : List ℕ) × (p ≡ 47 ∷ q) × ((s : List ℕ) → begins_any comment_fronts (p ++ s) ≡ true)

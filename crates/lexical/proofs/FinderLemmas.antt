@@ -3,8 +3,8 @@ use Rattle.std.proofs.Common.{◌≡◌, ℕ, Bool, true, false, cond, ◌==◌,
 use Rattle.std.specs.List.{list_all}
 use Rattle.std.proofs.lemmas.Bool.{cond-true, cond-false, cond_both, and_parts, and_from}
 use Rattle.lexical.specs.Text.{begins_any, first_passes}
-use Rattle.lexical.specs.Form.{Form, HasNone, Then, Either, NotAt, Exactly, One, Run, Never}
-use Rattle.lexical.specs.Finder.{Answer, Finder, Finds, while_front, while_rest, behind, and_find, or_find, if_passes, find_then, find_else, find_if, find_not_at, find_where, find_one, find_run, find_text, find_never}
+use Rattle.lexical.specs.Form.{Form, HasNone, Then, Either, NotAt, Exactly, One, Run}
+use Rattle.lexical.specs.Finder.{Answer, Finder, Finds, while_front, while_rest, behind, and_find, or_find, if_passes, find_then, find_else, find_if, find_not_at, find_where, find_one, find_run, find_text}
 
 -- what was found is of the form
 abbrev pub IsSplit : Form → List ℕ → List ℕ × List ℕ → Type 0
@@ -55,7 +55,8 @@ then_back A B text x is (Some y) more = (
   record { front = x.0; back = y.0; whole = refl; first = subst (λ xs. A x.0 xs) more.0 is.1; second = more.1 },
 )
 
-then_front : (g : Finder) (A B : Form) → Finds g B → (text : List ℕ) (o : Answer) → IfSome o (IsSplit A text) → IfSome (and_find g o) (IsSplit (Then A B) text)
+then_front : (g : Finder) (A B : Form) → Finds g B → (text : List ℕ) (o : Answer) → IfSome o (IsSplit A text)
+    → IfSome (and_find g o) (IsSplit (Then A B) text)
 then_front g A B h text None is = tt
 then_front g A B h text (Some x) is = then_back A B text x is (g x.1) (h.sound x.1)
 
@@ -175,7 +176,7 @@ finds_run passes = record {
   complete = λ q r is. let split = while_split passes q r is.each is.stops in ap₂ (λ x y. Some (x, y)) split.0 split.1;
 }
 
--- ---- `One`, `Exactly`, `Never`
+-- ---- `One`, `Exactly`
 
 one_sound : (passes : ℕ → Bool) (text : List ℕ) → IfSome (find_one passes text) (IsSplit (One passes) text)
 one_sound passes [] = tt
@@ -201,6 +202,3 @@ finds_text [] = record { sound = λ text. (refl, refl); complete = λ p r is. su
 finds_text (c ∷ front) = finds_same (find_text (c ∷ front)) (Then (One (λ d. d == c)) (Exactly front)) (Exactly (c ∷ front))
     (finds_then (find_one (λ d. d == c)) (find_text front) (One (λ d. d == c)) (Exactly front) (finds_one (λ d. d == c)) (finds_text front))
     (text_to c front) (text_from c front)
-
-pub finds_never : Finds find_never Never
-finds_never = record { sound = λ text. tt; complete = λ p r is. absurd is }

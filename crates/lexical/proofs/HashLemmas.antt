@@ -31,7 +31,8 @@ hashes_text text front rest bytes e utf8 is =
     let whole : bytes ≡ front = sym (encodes-chars bytes utf8) ∙ (ap encode_utf8_all is ∙ same.0) in
     (whole, ap all_ascii whole ∙ same.1)
 
-pub hashes_found : (text front rest : List ℕ) → find_run (λ c. c == 35) text ≡ Some (front, rest) → length front ≤ 255 → find_hashes text ≡ Some (front, rest)
+pub hashes_found : (text front rest : List ℕ) → find_run (λ c. c == 35) text ≡ Some (front, rest)
+    → length front ≤ 255 → find_hashes text ≡ Some (front, rest)
 hashes_found text front rest e few =
     ap (if_passes (λ hashes r. nat_le (length hashes) 255)) e
     ∙ cond-true (nat_le (length front) 255) (Some (front, rest)) None (le-leb (length front) 255 few)

@@ -177,7 +177,8 @@ quoted_starts p r h = elim h [
 -- ---- a lone quote is no character
 
 -- what a character has behind its first quote: a backslash, or a character and a quote
-character_text : (p r : List ℕ) → Character p r → ((tail : List ℕ) × (p ++ r ≡ 39 ∷ 92 ∷ tail)) ⊎ ((c : ℕ) × (tail : List ℕ) × (p ++ r ≡ 39 ∷ c ∷ 39 ∷ tail))
+character_text : (p r : List ℕ) → Character p r
+    → ((tail : List ℕ) × (p ++ r ≡ 39 ∷ 92 ∷ tail)) ⊎ ((c : ℕ) × (tail : List ℕ) × (p ++ r ≡ 39 ∷ c ∷ 39 ∷ tail))
 character_text p r h =
     let whole : p ++ r ≡ 39 ∷ (h.back ++ r) = front_whole (codes "'") _ p r h in
     let unit = h.second in

@@ -172,7 +172,10 @@ quoted_before p r s ends is = quoted_stable p [] r s ends.continue is
 pub literal_before_stop : (p r s : List ℕ) → stops s ≡ true → AnyLiteral p r → AnyLiteral p s
 unfolding Literal
 literal_before_stop p r s e is = elim is [
-  | inl literal ↦ inl (elim literal [ inl quoted ↦ inl (quoted_before p r s (stop_ends s e) quoted) | inr number ↦ inr (number_before_stop p r s e number) ])
+  | inl literal ↦ inl (elim literal [
+    | inl quoted ↦ inl (quoted_before p r s (stop_ends s e) quoted)
+    | inr number ↦ inr (number_before_stop p r s e number)
+  ])
   | inr error ↦ inr error
 ]
 

@@ -90,7 +90,8 @@ pub quote_before_stop : (raw : Bool) (name r s : List ℕ) → stops s ≡ true 
 quote_before_stop raw name r s e h = quote_before raw name s (named_before_stop raw name r s e h) (stop_unbarred raw s e)
 
 -- where it stands before an identifier, no character follows that which bars it
-pub quote_unbarred : (raw : Bool) (name r : List ℕ) → Named raw name r → FollowsQuote (raw_front raw ++ (name ++ r)) → first_passes (bars_quote raw) r ≡ false
+pub quote_unbarred : (raw : Bool) (name r : List ℕ) → Named raw name r
+    → FollowsQuote (raw_front raw ++ (name ++ r)) → first_passes (bars_quote raw) r ≡ false
 quote_unbarred raw name r h follows = not-true _ (sym (follows_at raw name r h) ∙ follows_complete (raw_front raw ++ (name ++ r)) follows)
 
 -- the mark `'` stands only so

@@ -85,7 +85,8 @@ finds_digits_in base =
 finds_based : Finds find_based Based
 finds_based =
     finds_apart _ _ _ _ (finds_then _ _ _ _ (finds_text (codes "0x")) (finds_digits_in 16))
-    (finds_apart _ _ _ _ (finds_then _ _ _ _ (finds_text (codes "0o")) (finds_digits_in 8)) (finds_then _ _ _ _ (finds_text (codes "0b")) (finds_digits_in 2))
+    (finds_apart _ _ _ _ (finds_then _ _ _ _ (finds_text (codes "0o")) (finds_digits_in 8))
+    (finds_then _ _ _ _ (finds_text (codes "0b")) (finds_digits_in 2))
     (apart_fronts (codes "0o") (codes "0b") _ _ refl))
     (apart_either _ _ _ (apart_fronts (codes "0x") (codes "0o") _ _ refl) (apart_fronts (codes "0x") (codes "0b") _ _ refl))
 
@@ -125,7 +126,8 @@ ByFront p r =
     (Then Based End p r × IsTrue (begins_any base_prefixes (p ++ r)))
     ⊎ (Then Digits (Else FloatTail End) p r × IsFalse (begins_any base_prefixes (p ++ r)))
 
-based_sound : (text : List ℕ) (o : Answer) → begins_any base_prefixes text ≡ true → IfSome o (IsSplit (Then Based End) text) → IfSome o (IsSplit ByFront text)
+based_sound : (text : List ℕ) (o : Answer) → begins_any base_prefixes text ≡ true
+    → IfSome o (IsSplit (Then Based End) text) → IfSome o (IsSplit ByFront text)
 based_sound text None h is = tt
 based_sound text (Some x) h is = (is.0, inl (is.1, ap (begins_any base_prefixes) (sym is.0) ∙ h))
 
@@ -169,7 +171,10 @@ to_number p r (inr decimal) =
           let plain : Then Digits End p r = record { front = is.front; back = is.back; whole = is.whole; first = is.first; second = end.1 } in
           let begins : begins_any base_prefixes (is.front ++ (is.back ++ r)) ≡ false =
           ap (begins_any base_prefixes) (sym (then_whole Digits End p r plain)) ∙ decimal.1 in
-          inr (no_float_there p r plain end.0, record { front = is.front; back = is.back; whole = is.whole; first = inl (is.first, begins); second = end.1 })
+          inr (
+            no_float_there p r plain end.0,
+            record { front = is.front; back = is.back; whole = is.whole; first = inl (is.first, begins); second = end.1 },
+          )
     ]
 
 int_by_front : (p r : List ℕ) → HasNone Float (p ++ r) → (is : Then Integer End p r) → ByFront p r
@@ -177,7 +182,8 @@ int_by_front p r none is = elim is.first [
   | inl decimal ↦
       let plain : Then Digits End p r = record { front = is.front; back = is.back; whole = is.whole; first = decimal.0; second = is.second } in
       let whole : p ++ r ≡ is.front ++ (is.back ++ r) = then_whole Digits End p r plain in
-      let no : HasNone FloatTail (is.back ++ r) = λ q s e tail. none (is.front ++ q) s (whole ∙ (ap (λ x. is.front ++ x) e ∙ sym (append_assoc is.front q s)))
+      let no : HasNone FloatTail (is.back ++ r) =
+      λ q s e tail. none (is.front ++ q) s (whole ∙ (ap (λ x. is.front ++ x) e ∙ sym (append_assoc is.front q s)))
       (float_of (is.front ++ q) s (record { front = is.front; back = q; whole = refl; first = subst (Digits is.front) e decimal.0; second = tail })) in
       inr (
         record {

@@ -81,7 +81,8 @@ quote_piece : (first : Bool) (p r : List ℕ) → marks.LoneQuote p r → IsPiec
 quote_piece first p r h = (h.0, inr ((refl, h.1), refl))
 
 -- a comment with its kind
-kind_sound : (first : Bool) (text : List ℕ) (x : List ℕ × List ℕ) → IsSplit Comment text x → IfSome (with_kind x (comment_kind x.0 x.1)) (IsTagged first text)
+kind_sound : (first : Bool) (text : List ℕ) (x : List ℕ × List ℕ) → IsSplit Comment text x
+    → IfSome (with_kind x (comment_kind x.0 x.1)) (IsTagged first text)
 kind_sound first text x is =
     cond_both (is_doc x.0) _ _ (λ o. IfSome (with_kind x o) (IsTagged first text))
     (λ doc. cond_both (has_bare_return (doc_text x.0 x.1)) _ _ (λ o. IfSome (with_kind x o) (IsTagged first text))
@@ -233,7 +234,8 @@ found_complete first (Open c) p r h =
     let one = passes_of is_opener c p r h.0 in
     let opens : NotAt (error_literal ∷ []) (One is_opener) p r = ((c, one.0, one.1), h.1) in
     from_start first (p ++ r) c r starts.Opener (one_front c p r one.0) (start_opener c one.1)
-    ∙ (ap (λ o. or_found (tagged opener_kind o) (found_error (p ++ r))) (finds_opener.complete p r opens) ∙ ap (λ d. Some (Open d, p, r)) (ap first_of one.0))
+    ∙ (ap (λ o. or_found (tagged opener_kind o) (found_error (p ++ r))) (finds_opener.complete p r opens)
+    ∙ ap (λ d. Some (Open d, p, r)) (ap first_of one.0))
 found_complete first (Close c) p r h =
     let one = passes_of is_closer c p r h in
     from_start first (p ++ r) c r starts.Closer (one_front c p r one.0) (start_closer c one.1)
@@ -280,7 +282,8 @@ found_complete first (Leaf (Literal text)) p r h = subst (λ q. found first (p +
 -- at most one piece stands at a place
 pub one_piece : (first : Bool) (k l : Kind) (p q r s : List ℕ) → IsPiece first k p r → IsPiece first l q s → p ++ r ≡ q ++ s → (k ≡ l) × (p ≡ q) × (r ≡ s)
 one_piece first k l p q r s h j e =
-    let same : ◌≡◌ {A = Found} (Some (k, p, r)) (Some (l, q, s)) = sym (found_complete first k p r h) ∙ (ap (found first) e ∙ found_complete first l q s j) in
+    let same : ◌≡◌ {A = Found} (Some (k, p, r)) (Some (l, q, s)) =
+    sym (found_complete first k p r h) ∙ (ap (found first) e ∙ found_complete first l q s j) in
     let parts : ◌≡◌ {A = Kind × List ℕ × List ℕ} (k, p, r) (l, q, s) = cc in
     (ap (λ x. x.0) parts, ap (λ x. x.1) parts, ap (λ x. x.2) parts)
 

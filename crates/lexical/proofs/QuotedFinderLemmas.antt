@@ -119,7 +119,8 @@ finds_unit kind =
     finds_apart _ _ _ _ (finds_one (is_plain kind))
     (finds_apart _ _ _ _ finds_newline (finds_then _ _ _ _ (finds_text (codes "\\")) (finds_escaped kind))
     (apart_char (λ d. d == 13) 92 _ _ (shows_text 13 (codes "\n")) (shows_front 92 [] _) refl))
-    (apart_either _ _ _ (apart_char _ 13 _ _ (shows_one _) (shows_text 13 (codes "\n")) out.0) (apart_char _ 92 _ _ (shows_one _) (shows_front 92 [] _) out.1))
+    (apart_either _ _ _ (apart_char _ 13 _ _ (shows_one _) (shows_text 13 (codes "\n")) out.0)
+    (apart_char _ 92 _ _ (shows_one _) (shows_front 92 [] _) out.1))
 
 pub some_unit : (kind : StringKind) → NotEmpty (UnitOf kind)
 some_unit kind = some_either _ _ (some_one (is_plain kind)) (some_either _ _ (some_text 13 (codes "\n")) (some_then _ _ (some_text 92 [])))

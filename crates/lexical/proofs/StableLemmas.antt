@@ -142,7 +142,9 @@ module _ (class : ℕ → Bool) where
   on_run passes within p r is = all_within passes within p is.each
 
   pub on_then : (A B : Form) → AllIn class A → AllIn class B → AllIn class (Then A B)
-  on_then A B one other p r is = ap (list_all class) is.whole ∙ all_append is.front is.back (one is.front (is.back ++ r) is.first) (other is.back r is.second)
+  on_then A B one other p r is =
+      ap (list_all class) is.whole
+      ∙ all_append is.front is.back (one is.front (is.back ++ r) is.first) (other is.back r is.second)
 
   pub on_either : (A B : Form) → AllIn class A → AllIn class B → AllIn class (Either A B)
   on_either A B one other p r is = elim is [ inl x ↦ one p r x | inr y ↦ other p r y ]
@@ -183,7 +185,8 @@ pub extends_then : (A B : Form) → Local A → NotEmpty B → Extends B → Ext
 extends_then A B local some extends p r s is =
     let more = extends is.back r s is.second in
     let cell = cons_of is.back (some is.back r is.second) in
-    let first : A is.front (cell.0 ∷ (cell.1 ++ s)) = local is.front cell.0 (cell.1 ++ r) (cell.1 ++ s) (subst (λ x. A is.front (x ++ r)) cell.2 is.first) in (
+    let first : A is.front (cell.0 ∷ (cell.1 ++ s)) =
+    local is.front cell.0 (cell.1 ++ r) (cell.1 ++ s) (subst (λ x. A is.front (x ++ r)) cell.2 is.first) in (
       is.front ++ more.0,
       more.1,
       ap (λ x. x ++ s) is.whole ∙ (append_assoc is.front is.back s ∙ (ap (λ x. is.front ++ x) more.2 ∙ sym (append_assoc is.front more.0 more.1))),

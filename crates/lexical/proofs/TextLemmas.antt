@@ -72,7 +72,8 @@ ascii_bytes (c ∷ front) h =
 -- the bytes of a text and of an end of it
 pub front_bytes : (text rest front : List ℕ) → IsUtf8 text → IsUtf8 rest → chars text ≡ front ++ chars rest → text ≡ encode_utf8_all front ++ rest
 front_bytes text rest front t r e =
-    sym (encodes-chars text t) ∙ (ap encode_utf8_all e ∙ (encodes-append front (chars rest) ∙ ap (λ ys. encode_utf8_all front ++ ys) (encodes-chars rest r)))
+    sym (encodes-chars text t) ∙ (ap encode_utf8_all e
+    ∙ (encodes-append front (chars rest) ∙ ap (λ ys. encode_utf8_all front ++ ys) (encodes-chars rest r)))
 
 pub front_len : (text rest front : List ℕ) → IsUtf8 text → IsUtf8 rest → chars text ≡ front ++ chars rest
     → length (encode_utf8_all front) + length rest ≡ length text

@@ -17,11 +17,11 @@ abbrev pub StandBefore : Bool → List Piece → List ℕ → Type 0
 StandBefore first [] r = Unit {0}
 StandBefore first (piece ∷ pieces) r = IsPiece first piece.0 piece.1 (onto pieces r) × StandBefore false pieces r
 
--- the pieces cover the source up to where the rest of it begins
+-- `cover`, a partial one: the pieces cover the source up to where the rest of it begins
 pub record CoversUpTo (pieces : List Piece) (source rest : List ℕ) : Type 0 where
   pub whole : source ≡ onto pieces rest
   pub stand : StandBefore true pieces rest
 
--- the pieces cover the whole source
+-- `cover`: the pieces cover the whole source
 abbrev pub IsCover : List Piece → List ℕ → Type 0
 IsCover pieces source = CoversUpTo pieces source []

@@ -106,7 +106,3 @@ find_some_of f (suc n) text = or_stop text (λ x. find_some_of f n x.1) (f text)
 -- pieces of a form, as long as one stands
 unfoldable pub find_many : Finder → Finder
 find_many f text = find_some_of f (length text) text
-
--- `Never`
-abbrev pub find_never : Finder
-find_never text = None

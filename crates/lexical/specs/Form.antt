@@ -74,7 +74,3 @@ One passes p r = (c : ℕ) × (p ≡ c ∷ []) × IsTrue (passes c)
 pub record Run (passes : ℕ → Bool) (p r : List ℕ) : Type 0 where
   pub each : IsTrue (list_all passes p)
   pub stops : IsFalse (first_passes passes r)
-
--- no piece at all: a form that the grammar does not have yet
-abbrev pub Never : Form
-Never p r = ⊥

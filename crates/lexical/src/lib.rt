@@ -2,8 +2,9 @@
 //!
 //! [`piece_at`] answers the one piece that stands at the front of what is left of a source, or
 //! that none stands there. The rules are in docs/GRAMMAR.md and, exactly, in `specs/`: a form is a
-//! relation between a piece and all that follows it. No call takes memory, and none looks at more
-//! of the text than the piece and a few characters behind it.
+//! relation between a piece and all that follows it. No call takes memory. A call may read more of
+//! the text than the piece that it answers: an unclosed `/*` or string is read to the end, and a
+//! lone `'` with the whole identifier behind it.
 #![tactic(auto)]
 
 mod class;
@@ -28,6 +29,5 @@ mod text;
 
 pub use crate::gaps::past_white;
 pub use crate::identifiers::is_reserved;
-pub use crate::laws::one_piece;
 pub use crate::lexer::{literal_at, name_at, piece_at};
 pub use crate::piece::{Piece, PieceKind};

@@ -1,6 +1,5 @@
 //! Literals.
 
-ghost use Rattle.std.specs.Prelude.{◌≡◌};
 ghost use Rattle.std.specs.Str.{chars};
 ghost use Rattle.lexical.specs.Finder.{find_else};
 ghost use Rattle.lexical.specs.QuotedFinder.{find_byte, find_bytes, find_character, find_quoted, find_string};

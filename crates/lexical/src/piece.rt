@@ -1,6 +1,3 @@
-ghost use Rattle.std.specs.Prelude.{◌≡◌, IfSome, IfNone};
-ghost use Rattle.std.specs.Str.{chars};
-
 /// What kind of piece it is, by the rules of the lexical grammar.
 #[derive(Clone, Copy, Debug, PartialEq, Eq)]
 pub enum PieceKind<'a> {
@@ -26,7 +23,8 @@ pub enum PieceKind<'a> {
     Mark {
         /// The mark's character.
         mark: char,
-        /// Whether another mark follows right after it.
+        /// Whether it is Joint: by the rule `joint` if a mark that begins no comment follows right
+        /// after it, and by the rule `lone-quote` always as the `'` before an identifier.
         joint: bool,
     },
     /// An identifier.

@@ -1,2 +1,4 @@
+mod AnswerLemmas
 mod DocLemmas
+mod LineLemmas
 mod OrderLemmas

@@ -1,5 +1,6 @@
 -- The doc comments among trees.
-use Rattle.std.specs.Prelude.{ℕ, Bool, not, ◌==◌, ◌&&◌, List, [], ◌∷◌, ◌++◌, codes, nat_eq, if◌then◌else◌, Option, Some, None, option_to_list}
+use Rattle.std.specs.Prelude.{ℕ, Bool, not, ◌==◌, ◌&&◌, List, [], ◌∷◌, ◌++◌, codes, nat_eq, if◌then◌else◌}
+use Rattle.std.specs.Prelude.{Option, Some, None, option_to_list}
 use lib.Pointwise.{pointwise}
 use Rattle.proc_macro2.specs.Level.{forest}
 use Rattle.proc_macro2.specs.Leaf.{Name, Mark, Text, is_joint}
@@ -30,7 +31,8 @@ is_equals mark = (mark.mark == 61) && not (is_joint mark.spacing)
 
 -- the literal, where the trees are `doc`, `=` and that literal
 abbrev pub doc_literal : List TokenTree → Option Text
-doc_literal (Ident name ∷ Punct mark ∷ Literal literal ∷ []) = if is_doc name && is_equals mark then Some literal else None
+doc_literal (Ident name ∷ Punct mark ∷ Literal literal ∷ []) =
+    if is_doc name && is_equals mark then Some literal else None
 doc_literal _ = None
 
 -- it in a group of these trees, which are a doc comment in a Bracket group only

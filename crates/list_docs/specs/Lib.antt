@@ -1,2 +1,4 @@
+pub mod Answer
 pub mod Doc
 pub mod Docs
+pub mod Lines

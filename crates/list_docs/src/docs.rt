@@ -3,9 +3,9 @@ ghost use Rattle.std.specs.Prelude.{◌≡◌, List, [], ◌∷◌, IfOk, IfSome
 ghost use Rattle.proc_macro2.specs.Level.{forest};
 ghost use Rattle.proc_macro2.specs.declared.TokenTree.{TokenTree};
 ghost use Rattle.list_docs.specs.Doc.{AreDocOf, IsDocOf};
-ghost use Rattle.list_docs.specs.Docs.{doc_literal, doc_of, AreDocs};
+ghost use Rattle.list_docs.specs.Docs.{doc_literal, doc_of, is_doc, is_equals, AreDocs};
 
-use proc_macro2::{Delimiter, Group, Literal, Spacing, TokenStream, TokenTree};
+use proc_macro2::{Delimiter, Group, Ident, Literal, Punct, Spacing, TokenStream, TokenTree};
 use std::alloc::{AllocError, Global};
 
 /// The texts of the doc comments of the stream, those inside groups too, in reading order.
@@ -59,7 +59,7 @@ pub fn doc_text(group: &Group) -> Option<&Literal>
     }
 }
 
-// The last of the three trees `doc`, `=` and a literal.
+// The last of the three trees `doc`, `=` Alone and a literal, and `None` of others.
 fn literal_of<'a>(name: &TokenTree, mark: &TokenTree, text: &'a TokenTree) -> Option<&'a Literal>
     ensures value { option_copied result
         ≡ doc_literal (name.now ∷ mark.now ∷ text.now ∷ []) }
@@ -75,12 +75,23 @@ fn literal_of<'a>(name: &TokenTree, mark: &TokenTree, text: &'a TokenTree) -> Op
     let TokenTree::Literal(literal) = text else {
         return None;
     };
-    let Spacing::Alone = mark.spacing() else {
-        return None;
-    };
-    if name.eq_str("doc") && mark.as_char() == '=' {
+    if is_doc(name) && is_equals(mark) {
         Some(literal)
     } else {
         None
     }
+}
+
+// Whether it is the identifier `doc`.
+fn is_doc(name: &Ident) -> bool
+    ensures { result ≡ is_doc name.now }
+{
+    name.eq_str("doc")
+}
+
+// Whether it is the mark `=` Alone.
+fn is_equals(mark: &Punct) -> bool
+    ensures { result ≡ is_equals mark.now }
+{
+    mark.as_char() == '=' && mark.spacing() == Spacing::Alone
 }

@@ -4,7 +4,6 @@ ghost use Rattle.std.specs.Prelude.{◌≡◌};
 ghost use Rattle.std.specs.Iterator.{YieldsFirst};
 ghost use Rattle.std.specs.Str.{chars};
 ghost use Rattle.literal_escaper.specs.Errors.{errors_among, errors_in, single_error};
-ghost use Rattle.literal_escaper.specs.Kind.{byte_kind, string_kind};
 ghost use Rattle.literal_escaper.specs.Reading.{cooked_left, raw_left};
 ghost use Rattle.literal_escaper.specs.Within.{AreWithin};
 

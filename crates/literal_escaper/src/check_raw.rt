@@ -1,6 +1,6 @@
 //! The items of raw contents.
 
-ghost use Rattle.std.specs.Prelude.{◌≡◌, Ok};
+ghost use Rattle.std.specs.Prelude.{◌≡◌};
 ghost use Rattle.std.specs.Str.{chars};
 ghost use Rattle.literal_escaper.specs.Items.{raw_items};
 ghost use Rattle.literal_escaper.specs.Kind.{any_char, ascii_byte};

@@ -56,8 +56,8 @@ pub enum EscapeError {
 }
 
 impl EscapeError {
-    /// Whether it is a fault, and not one of the two warnings: `true` for `LoneSlash`, `false` for
-    /// `MultipleSkippedLinesWarning`.
+    /// Whether it is a fault, and not one of the two warnings, by the rule `fatal`: `true` for
+    /// `LoneSlash`, `false` for `MultipleSkippedLinesWarning`.
     pub fn is_fatal(&self) -> bool
         ensures { result ≡ is_fault self.now }
     {

@@ -1,8 +1,7 @@
 //! Contents that are one unit.
 
-ghost use Rattle.std.specs.Prelude.{◌≡◌, Result};
 ghost use Rattle.literal_escaper.specs.Reading.{Gives, text_at};
-ghost use Rattle.literal_escaper.specs.Single.{only, single, single_front};
+ghost use Rattle.literal_escaper.specs.Single.{single, single_front};
 
 use crate::errors::EscapeError;
 use crate::escape::escape;

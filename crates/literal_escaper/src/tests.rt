@@ -13,17 +13,36 @@ fn the_value_zero_is_refused(rt: HostRuntime) {
     assert_eq!(rt; NonZeroU8::new(0xFF).map(|b| b.get()), Some(0xFF));
 }
 
+/// The character that the unit is, if it is one.
+fn character(unit: MixedUnit) -> Option<char> {
+    match unit {
+        MixedUnit::Char(c) => Some(c.get()),
+        MixedUnit::HighByte(_) => None,
+    }
+}
+
+/// The byte past ASCII that the unit is, if it is one.
+fn high_byte(unit: MixedUnit) -> Option<u8> {
+    match unit {
+        MixedUnit::Char(_) => None,
+        MixedUnit::HighByte(byte) => Some(byte.get()),
+    }
+}
+
 #[test]
 fn a_unit_of_a_c_string_is_a_character_up_to_7f(rt: HostRuntime) {
     assert_eq!(rt; MixedUnit::try_from(0), Err(EscapeError::NulInCStr));
     assert_eq!(rt; MixedUnit::try_from('\0'), Err(EscapeError::NulInCStr));
-    assert_eq!(rt; MixedUnit::try_from(0x7F), MixedUnit::try_from('\x7F'));
-    assert_eq!(rt;
-        MixedUnit::try_from(0x80),
-        NonZeroU8::new(0x80)
-            .map(MixedUnit::HighByte)
-            .ok_or(EscapeError::NulInCStr)
-    );
+    let rows = [
+        (MixedUnit::try_from(0x7F), '\x7F'),
+        (MixedUnit::try_from('\x7F'), '\x7F'),
+        (MixedUnit::try_from('\u{E9}'), '\u{E9}'),
+    ];
+    for (unit, want) in rows {
+        assert_eq!(rt; unit.map(character), Ok(Some(want)), "at {want:?}");
+    }
+    let unit = MixedUnit::try_from(0x80);
+    assert_eq!(rt; unit.map(high_byte), Ok(Some(0x80)));
 }
 
 #[test]
@@ -152,8 +171,14 @@ fn a_byte_string_gives_bytes(rt: HostRuntime) {
 #[test]
 fn a_c_string_gives_characters_and_bytes_but_no_zero(rt: HostRuntime) {
     let mut items = unescape_c_str("\\x80\\x41\\0\\x00\0\\u{0}");
-    assert_eq!(rt; items.next(), Some((0..4, MixedUnit::try_from(0x80))));
-    assert_eq!(rt; items.next(), Some((4..8, MixedUnit::try_from('A'))));
+    let first = items
+        .next()
+        .map(|(range, unit)| (range, unit.map(high_byte)));
+    assert_eq!(rt; first, unit(0..4, Some(0x80)));
+    let second = items
+        .next()
+        .map(|(range, unit)| (range, unit.map(character)));
+    assert_eq!(rt; second, unit(4..8, Some('A')));
     assert_eq!(rt; items.next(), error(8..10, EscapeError::NulInCStr));
     assert_eq!(rt; items.next(), error(10..14, EscapeError::NulInCStr));
     assert_eq!(rt; items.next(), error(14..15, EscapeError::NulInCStr));
@@ -177,10 +202,10 @@ fn a_raw_content_gives_an_item_for_each_character(rt: HostRuntime) {
     assert_eq!(rt; items.next(), unit(3..4, 0));
     assert_eq!(rt; items.next(), None);
     let mut items = check_raw_c_str("a\0");
-    assert_eq!(rt;
-        items.next(),
-        Some((0..1, NonZeroChar::new('a').ok_or(EscapeError::NulInCStr)))
-    );
+    let first = items
+        .next()
+        .map(|(range, unit)| (range, unit.map(|c| c.get())));
+    assert_eq!(rt; first, unit(0..1, 'a'));
     assert_eq!(rt; items.next(), error(1..2, EscapeError::NulInCStr));
     assert_eq!(rt; items.next(), None);
 }

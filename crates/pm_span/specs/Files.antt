@@ -7,6 +7,10 @@ pub record Files : Type 0 where
   pub texts : List (List ℕ)
   pub limit : ℕ
 
+-- a map that has read nothing, and has all positions to give
+abbrev pub new_map : Files
+new_map = record { texts = []; limit = 4294967295 }
+
 -- `file-0`: the empty text comes before all others
 abbrev pub all_texts : Files → List (List ℕ)
 all_texts map = [] ∷ map.texts

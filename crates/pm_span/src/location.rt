@@ -1,3 +1,5 @@
+//! Lines and columns.
+
 /// A place in a text, as people count it.
 #[derive(Clone, Copy, Debug, PartialEq, Eq, PartialOrd, Ord, Hash)]
 pub struct LineColumn {

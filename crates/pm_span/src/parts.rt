@@ -8,7 +8,7 @@ use crate::spans::Span;
 pub use crate::text::char_count;
 use std::alloc::{AllocError, Global};
 
-/// The span from `lo` to `hi`.
+/// The span of the positions from `lo` up to `hi`, in characters.
 pub fn span_of(lo: u32, hi: u32) -> Span
     requires { lo ≤ hi }
     ensures { result ≡ record { lo = lo; hi = hi } }
@@ -16,7 +16,7 @@ pub fn span_of(lo: u32, hi: u32) -> Span
     Span::new(lo, hi)
 }
 
-/// Where the span begins and ends.
+/// The positions where the span begins and ends, in characters.
 pub fn bounds(span: Span) -> (u32, u32)
     ensures value { result ≡ (span.lo, span.hi) }
     ensures ordered { span.lo ≤ span.hi }
@@ -24,7 +24,8 @@ pub fn bounds(span: Span) -> (u32, u32)
     span.bounds()
 }
 
-/// Where the file of this text would begin (`next-position`), if it fits (`fits`).
+/// The position, in characters, where the file of this text would begin (`next-position`), if it
+/// fits (`fits`).
 ///
 /// `None` where it would end past the map's limit: in a new map with the limit 5, `abcd` would begin
 /// at 1, and `abcde` doesn't fit.
@@ -46,7 +47,7 @@ pub fn add_file(map: &mut SourceMap, text: &str) -> Result<(), AllocError>
     map.add_file(text)
 }
 
-/// What the map's memory is taken from, and that of the streams that are read with it.
+/// Where the memory of the map comes from, and that of the streams that are read with it.
 pub fn allocator(map: &SourceMap) -> Global {
     map.allocator()
 }

@@ -1,7 +1,8 @@
+//! The map of the texts that were read.
 ghost use Rattle.std.specs.Prelude.{◌≡◌, ◌≤◌, ◌↔◌, ◌+◌, ◌-◌, ◌^◌, ◌<◌, ℕ, List, [], length, IfSome, IsTrue, OnOk, OnErr, SomeIff};
 ghost use Rattle.std.specs.Option.{unwrap_or, option_copied};
 ghost use Rattle.std.specs.Str.{chars};
-ghost use Rattle.pm_span.specs.Files.{Files, next_lo, Fits, IsFile, Holds, with_file};
+ghost use Rattle.pm_span.specs.Files.{Files, next_lo, Fits, IsFile, Holds, new_map, with_file};
 ghost use Rattle.pm_span.specs.Place.{line_column};
 ghost use Rattle.pm_span.specs.Placed.{file_0, IsFileOf};
 
@@ -44,7 +45,7 @@ impl Model for SourceMap {
 impl SourceMap {
     /// A map with no file but file 0, whose positions go up to 4294967295; takes no memory.
     pub fn new(alloc: Global) -> SourceMap
-        ensures { result ≡ record { texts = []; limit = 4294967295 } }
+        ensures { result ≡ new_map }
     {
         SourceMap::with_limit(alloc, u32::MAX)
     }

@@ -1,3 +1,4 @@
+//! Where tokens stand.
 ghost use Rattle.std.specs.Prelude.{◌≡◌, ◌≤◌, ◌↔◌, IsTrue};
 ghost use Rattle.pm_span.specs.Extent.{nowhere};
 
@@ -25,7 +26,7 @@ impl Model for Span {
 }
 
 impl Span {
-    /// The span of what stands in no file: 0..0.
+    /// The span 0..0, in the empty file 0: that of what was read from no text.
     pub fn call_site() -> Span
         ensures { result ≡ nowhere }
     {

@@ -60,7 +60,8 @@ fault_within base source position (inl h) =
 fault_within base source position (inr h) =
     let within = cover_within h.pieces source [] h.covers in
     opener_within base (base + length source) position h.delimiter h.front h.back
-    (subst (OpenWithin base (base + length source)) h.split (expansion_within base (base + length source) base h.pieces (omega arith) (omega (arith, within))))
+    (subst (OpenWithin base (base + length source)) h.split
+    (expansion_within base (base + length source) base h.pieces (omega arith) (omega (arith, within))))
 
 -- the map holds the fault of its last file
 pub fault_held : (map : Files) (source : List ℕ) (fault : Extent) → fault.lo ≡ fault.hi

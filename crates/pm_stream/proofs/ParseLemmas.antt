@@ -102,7 +102,8 @@ pub ends_ok : (base : ℕ) (source rest : List ℕ) (at : ℕ) (first : Bool) (g
     → Reads base source rest at first groups trees
     → IfOk result (λ stream. (rest ≡ []) × (groups ≡ []) × (stream ≡ trees)) → IfOk result (ParsesTo base source)
 ends_ok base source rest at first groups trees (Ok stream) reads h =
-    subst (ParsesTo base source) (sym h.2) (reads_all base source rest at first trees (subst (λ gs. Reads base source rest at first gs trees) h.1 reads) h.0)
+    subst (ParsesTo base source) (sym h.2)
+    (reads_all base source rest at first trees (subst (λ gs. Reads base source rest at first gs trees) h.1 reads) h.0)
 ends_ok base source rest at first groups trees (Err error) reads h = tt
 
 ends_fault : (base : ℕ) (source rest : List ℕ) (at : ℕ) (first : Bool) (groups : List Opened) (trees : Forest) (error : ParseError)

@@ -37,7 +37,8 @@ outer_text-push (x ∷ levels) level =
     ap (λ l. l ++ level_text x) (outer_text-push levels level)
     ∙ append_assoc (level_text level) (outer_text levels) (level_text x)
 
-pub outer_count-push : (levels : List Level) (level : Level) → outer_count (levels ++ level ∷ []) ≡ 1 + 2 * count (forest level.after.now) + outer_count levels
+pub outer_count-push : (levels : List Level) (level : Level)
+    → outer_count (levels ++ level ∷ []) ≡ 1 + 2 * count (forest level.after.now) + outer_count levels
 outer_count-push [] level = refl
 outer_count-push (x ∷ levels) level = omega (arith, outer_count-push levels level)
 

@@ -1,5 +1,5 @@
 -- What a stream is seen as: its trees, one after another.
-use Rattle.std.specs.Prelude.{ℕ, ◌+◌, ◌≤◌, List, [], ◌∷◌, max}
+use Rattle.std.specs.Prelude.{ℕ, ◌≤◌, List, [], ◌∷◌}
 use Rattle.lexical.specs.Token.{Token}
 use Rattle.pm_token.specs.declared.delimiters.Delimiter.{Delimiter}
 use Rattle.pm_token.specs.Built.{IsBuiltToken}
@@ -26,12 +26,6 @@ abbrev pub joined : Forest → Forest → Forest
 joined nil more = more
 joined (leaf token lo hi rest) more = leaf token lo hi (joined rest more)
 joined (group d lo hi inside rest) more = group d lo hi inside (joined rest more)
-
--- how deep the groups nest
-abbrev pub depth : Forest → ℕ
-depth nil = 0
-depth (leaf token lo hi rest) = depth rest
-depth (group d lo hi inside rest) = max (depth inside + 1) (depth rest)
 
 -- `built`: what every stream is promised to be
 abbrev pub IsBuilt : Forest → Type 0

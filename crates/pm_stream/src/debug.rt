@@ -30,7 +30,7 @@ impl Debug for TokenTree {
     }
 }
 
-/// Shows the delimiter, the stream, and the span unless the group stands in no file.
+/// Shows the delimiter, the stream, and the span unless that is 0..0.
 impl Debug for Group {
     #[cycle(tree)]
     fn fmt<W: fmt::Write>(&self, f: &mut fmt::Formatter<W>) -> fmt::Result {

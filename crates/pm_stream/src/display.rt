@@ -132,9 +132,10 @@ fn gap_within(tree: &TokenTree) -> bool
     }
 }
 
-/// The trees in order, with one space between two of them but none after a Joint mark. A group is
+/// The trees by the rule `printed`: one space between two, but none after a Joint mark. A group is
 /// written with its delimiters, a Brace with spaces inside them, so that `{x}` is printed `{ x }`
-/// and `{}` is `{ }`. Fails where memory for the groups within groups is refused.
+/// and `{}` is `{ }`. Fails where the writer does, or where memory for the list of the groups that
+/// are being printed is refused; the text may be written in part then.
 impl Display for TokenStream {
     ghost use Rattle.std.specs.Prelude.{Some};
     ghost use Rattle.std.specs.Str.{encode_utf8_all};
@@ -147,7 +148,7 @@ impl Display for TokenStream {
     }
 }
 
-/// A token, or a group with its delimiters.
+/// A token, or a group with its delimiters, by the rule `printed`.
 impl Display for TokenTree {
     ghost use Rattle.std.specs.Prelude.{Some};
     ghost use Rattle.std.specs.Str.{encode_utf8_all};
@@ -166,7 +167,8 @@ impl Display for TokenTree {
     }
 }
 
-/// The trees between the delimiters. A group without delimiters is its trees alone.
+/// The trees between the delimiters, by the rule `printed`. A group without delimiters is its trees
+/// alone. Fails as a stream does.
 impl Display for Group {
     ghost use Rattle.std.specs.Prelude.{Some};
     ghost use Rattle.std.specs.Str.{encode_utf8_all};

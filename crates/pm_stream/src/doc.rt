@@ -20,7 +20,7 @@ pub(crate) fn doc_group(alloc: Global, text: &str, span: Span) -> Result<Group, 
     let doc = ident(alloc, "doc", false, span)?;
     let equals = punct('=', Spacing::Alone, span);
     let text = string_literal(alloc, text, span)?;
-    let mut trees = Vec::new(alloc);
+    let mut trees = Vec::with_capacity(alloc, 3)?;
     trees.push(TokenTree::Ident(doc))?;
     trees.push(TokenTree::Punct(equals))?;
     trees.push(TokenTree::Literal(text))?;

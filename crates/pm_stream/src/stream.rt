@@ -84,24 +84,28 @@ impl Drop for TokenStream {
             trees: Some(shared),
         };
         let mut outer = last.into_inside(alloc);
+        // A step takes a tree, or the way back that an earlier step put in its place. So there are at
+        // most two for each tree, and one that ends the walk: fewer than the bound, which no memory has
+        // trees for. It spares a measure of the walk; what it left would be dropped by other walks.
         for _ in 0..u64::MAX {
-            if let Some(tree) = here.take_last() {
-                let inside = tree.into_inside(alloc);
-                if !inside.is_empty() {
-                    match here.put_way(outer) {
-                        Ok(()) => {
-                            outer = here;
-                            here = inside;
-                        }
-                        Err(back) => outer = back,
-                    }
-                }
-            } else {
+            let Some(tree) = here.take_last() else {
                 let Some(way) = outer.take_last() else {
                     return;
                 };
                 here = outer;
                 outer = way.into_inside(alloc);
+                continue;
+            };
+            let inside = tree.into_inside(alloc);
+            if inside.is_empty() {
+                continue;
+            }
+            match here.put_way(outer) {
+                Ok(()) => {
+                    outer = here;
+                    here = inside;
+                }
+                Err(back) => outer = back,
             }
         }
     }
@@ -213,6 +217,7 @@ impl TokenStream {
     pub(crate) fn built(&self)
         ensures { IsBuilt self.now }
     {
+        // It computes nothing: it hands the type's invariant to proofs.
         let _ = &self.trees;
     }
 }
@@ -266,7 +271,6 @@ impl TokenTree {
 }
 
 impl Group {
-    ghost use Rattle.pm_stream.specs.Level.{before};
     ghost use Rattle.pm_stream.specs.declared.stream.TokenTree.TheVariants.{Group as GroupTree};
 
     /// The group of these parts.

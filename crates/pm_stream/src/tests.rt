@@ -137,6 +137,24 @@ fn groups_nest_deep_without_stack(rt: HostRuntime) -> Result<(), AllocError> {
 }
 
 #[test]
+fn deep_groups_are_read_without_stack(rt: HostRuntime) -> Result<(), Fail> {
+    let mut text = String::new(rt.alloc());
+    for _ in 0..100000 {
+        text.push('[')?;
+    }
+    text.push('+')?;
+    for _ in 0..100000 {
+        text.push(']')?;
+    }
+    let mut map = SourceMap::new(rt.alloc());
+    let stream = TokenStream::from_str(text.as_str(), &mut map)?;
+    assert_eq!(rt; stream.trees().len(), 1, "all stands in one group");
+    let printed = format!(in rt.alloc(); "{stream}")?;
+    assert!(rt; printed.as_str() == text.as_str(), "no level has a space");
+    Ok(())
+}
+
+#[test]
 fn raw_identifiers_and_lifetimes_are_read(rt: HostRuntime) -> Result<(), Fail> {
     for (text, want, trees) in [
         ("'a 'static 'r#gen", "'a 'static 'r#gen", 6),

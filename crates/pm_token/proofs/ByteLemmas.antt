@@ -88,7 +88,7 @@ each_unit (b ∷ rest) r are = (
 
 -- ---- literals
 
-byte_string_stands : (bytes r : List ℕ) → AreBytes bytes → EndsSuffix r → ByteStr (byte_string_text bytes) r
+pub byte_string_stands : (bytes r : List ℕ) → AreBytes bytes → EndsSuffix r → ByteStr (byte_string_text bytes) r
 byte_string_stands bytes r are ends = record {
   front = codes "b\"";
   back = content 34 written_byte bytes ++ codes "\"";
@@ -103,7 +103,7 @@ byte_string_stands bytes r are ends = record {
   };
 }
 
-byte_stands : (b : ℕ) (r : List ℕ) → b < 256 → EndsSuffix r → Byte (byte_text b) r
+pub byte_stands : (b : ℕ) (r : List ℕ) → b < 256 → EndsSuffix r → Byte (byte_text b) r
 byte_stands b r low ends = record {
   front = codes "b'";
   back = written 39 written_byte b [] ++ codes "'";

@@ -99,7 +99,7 @@ each_part (Byte b ∷ parts) bytes r are fit none =
       each_part parts behind r are.3 bytes_fit.1 zeros.1,
     )
 
-c_string_stands : (parts : List Part) (bytes r : List ℕ) → AreParts parts bytes → AreBytes bytes → has_no_zero bytes ≡ true → EndsSuffix r
+pub c_string_stands : (parts : List Part) (bytes r : List ℕ) → AreParts parts bytes → AreBytes bytes → has_no_zero bytes ≡ true → EndsSuffix r
     → CStr (codes "c\"" ++ (parts_text parts ++ codes "\"")) r
 c_string_stands parts bytes r are fit none ends = record {
   front = codes "c\"";

@@ -107,7 +107,8 @@ byte_as b low some = inl (record {
 })
 
 byte_bytes : (b : ℕ) → unit_bytes (byte_unit b) ≡ b ∷ []
-byte_bytes b = cond_both (nat_lt b 0x80) (units.Char b) (units.HighByte b) (λ u. unit_bytes u ≡ b ∷ []) (λ e. encode_ascii b (ltb-true b 0x80 e)) (λ e. refl)
+byte_bytes b = cond_both (nat_lt b 0x80) (units.Char b) (units.HighByte b) (λ u. unit_bytes u ≡ b ∷ [])
+    (λ e. encode_ascii b (ltb-true b 0x80 e)) (λ e. refl)
 
 -- ---- all parts
 

@@ -10,7 +10,7 @@ use Rattle.literal_escaper.specs.Escape.{closed, code_unit, coded, escape, is_co
 use Rattle.literal_escaper.specs.Kind.{Kind, character, string_kind}
 use Rattle.literal_escaper.specs.Text.{while_front, while_rest}
 use Rattle.pm_token.proofs.HexLemmas.{is_scalar-IsScalar, AreHex, digits_of, value_behind, coded as coded_as}
-use Rattle.pm_token.proofs.EscapeValueLemmas.{scalar_character}
+use Rattle.pm_token.proofs.UnicodeEscapeLemmas.{scalar_character}
 use Rattle.pm_token.proofs.ReadLemmas.{Escapes}
 
 -- ---- one digit
@@ -48,7 +48,8 @@ digits_count (d ∷ ds) = ap (λ n. suc n) (digits_count ds)
 digits_number : (n : ℕ) (ds : List ℕ) → AreHex ds → fold (λ m c. 16 * m + digit_value c) n (digits_of ds) ≡ value_behind n ds
 digits_number n [] all = refl
 digits_number n (d ∷ ds) all =
-    ap (λ v. fold (λ m c. 16 * m + digit_value c) (16 * n + v) (digits_of ds)) (digit_value-digit_char d (omega arith)) ∙ digits_number (16 * n + d) ds all.1
+    ap (λ v. fold (λ m c. 16 * m + digit_value c) (16 * n + v) (digits_of ds)) (digit_value-digit_char d (omega arith))
+    ∙ digits_number (16 * n + d) ds all.1
 
 -- ---- the character
 
@@ -72,7 +73,8 @@ coded_is kind unit c ds more all few value scalar is =
 -- behind `u`
 unicode_is : {U : Type 0} (kind : Kind U) (unit : U) (c first : ℕ) (others more : List ℕ) → AreHex (first ∷ others)
     → length others ≤ 5 → value_behind 0 (first ∷ others) ≡ c → IsScalar c
-    → kind.of_code (Ok c) ≡ Ok unit → escape kind (117 ∷ (123 ∷ ((digits_of (first ∷ others) ++ 125 ∷ []) ++ more))) ≡ record { unit = Ok unit; rest = more }
+    → kind.of_code (Ok c) ≡ Ok unit
+    → escape kind (117 ∷ (123 ∷ ((digits_of (first ∷ others) ++ 125 ∷ []) ++ more))) ≡ record { unit = Ok unit; rest = more }
 unfolding escape unicode_escape
 unicode_is kind unit c first others more all few value scalar is =
     cond-false _ _ _ (digit_no_line first all.0) ∙ (cond-false _ _ _ (digit_no_brace first all.0) ∙ (cond-true _ _ _ (digit_hex first all.0)

@@ -101,7 +101,8 @@ past_front false x y = refl
 -- both raw or both plain: by the names
 pub eq_alike : (a b : Name) (s t : List ℕ) (r : Bool) → IsNameOf a s → IsNameOf b t → a.raw ≡ b.raw → r ≡ pointwise nat_eq s t → r ≡ name_eq a b
 eq_alike a b s t r h k alike is =
-    is ∙ (sym (past_front b.raw s t) ∙ ap₂ (pointwise nat_eq) (ap (λ x. raw_front x ++ s) (sym alike) ∙ sym (written_bytes a s h)) (sym (written_bytes b t k)))
+    is ∙ (sym (past_front b.raw s t)
+    ∙ ap₂ (pointwise nat_eq) (ap (λ x. raw_front x ++ s) (sym alike) ∙ sym (written_bytes a s h)) (sym (written_bytes b t k)))
 
 -- one raw and one plain: apart
 pub eq_apart : (a b : Name) (s t : List ℕ) → IsNameOf a s → IsNameOf b t → a.raw ≢ b.raw → name_eq a b ≡ false
@@ -142,10 +143,12 @@ cmp_fronts : (a b : Name) (s t : List ℕ) (x y : Bool) → IsNameOf a s → IsN
 cmp_fronts a b s t x y h k p q = cmp_bytes a b s t h k ∙ ap₂ (λ u v. slice_cmp nat_cmp (raw_front u ++ s) (raw_front v ++ t)) p q
 
 -- raw and plain: the plain name is compared with `r#`
-pub cmp_raw_plain : (a b : Name) (s t : List ℕ) → IsNameOf a s → IsNameOf b t → a.raw ≡ true → b.raw ≡ false → slice_cmp nat_cmp (codes "r#") t ≡ name_cmp a b
+pub cmp_raw_plain : (a b : Name) (s t : List ℕ) → IsNameOf a s → IsNameOf b t
+    → a.raw ≡ true → b.raw ≡ false → slice_cmp nat_cmp (codes "r#") t ≡ name_cmp a b
 cmp_raw_plain a b s t h k p q = sym (cmp_fronts a b s t true false h k p q ∙ order_front (codes "r#") s t k.plain)
 
-pub cmp_plain_raw : (a b : Name) (s t : List ℕ) → IsNameOf a s → IsNameOf b t → a.raw ≡ false → b.raw ≡ true → slice_cmp nat_cmp s (codes "r#") ≡ name_cmp a b
+pub cmp_plain_raw : (a b : Name) (s t : List ℕ) → IsNameOf a s → IsNameOf b t
+    → a.raw ≡ false → b.raw ≡ true → slice_cmp nat_cmp s (codes "r#") ≡ name_cmp a b
 cmp_plain_raw a b s t h k p q = sym (cmp_fronts a b s t false true h k p q ∙ order_back (codes "r#") t s h.plain)
 
 -- both raw or both plain: by the names

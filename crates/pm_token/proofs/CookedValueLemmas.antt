@@ -101,7 +101,11 @@ module _ {U : Type 0} (kind : Kind U) (spell : U → List ℕ) (makes : Makes) (
   has_front : (text rest : List ℕ) (unit : U) (one more : List ℕ) → Begins kind end text unit rest → spell unit ≡ one → Has kind spell end rest more
       → Has kind spell end text (one ++ more)
   has_front text rest unit one more begins is has =
-      record { units = unit ∷ has.units; give = give_front kind end text unit rest has.units begins has.give; value_is = ap₂ (λ x y. x ++ y) is has.value_is }
+      record {
+        units = unit ∷ has.units;
+        give = give_front kind end text unit rest has.units begins has.give;
+        value_is = ap₂ (λ x y. x ++ y) is has.value_is;
+      }
 
   -- one or the other, as the test says
   has_chosen : (b : Bool) (text other value another : List ℕ) → Has kind spell end text value → Has kind spell end other another

@@ -90,7 +90,8 @@ unicode letters Pair allowed class c r scalar fits =
 
 -- one of these letters is one of all
 pub letter_of_all : (letter : ℕ) → is_one_of (codes "nrt\\'\"") letter ≡ true → is_one_of (codes "nrt\\0'\"") letter ≡ true
-letter_of_all letter is = any_of (λ d. is_one_of (codes "nrt\\0'\"") d ≡ true) (codes "nrt\\'\"") letter (refl, (refl, (refl, (refl, (refl, (refl, tt)))))) is
+letter_of_all letter is =
+    any_of (λ d. is_one_of (codes "nrt\\0'\"") d ≡ true) (codes "nrt\\'\"") letter (refl, (refl, (refl, (refl, (refl, (refl, tt)))))) is
 
 zeros_of_string : (r : List ℕ) → StringEscape (codes "0") r × StringEscape (codes "x00") r
 zeros_of_string r = (
@@ -191,7 +192,7 @@ unfolding IsWhole literals.Literal
 string_whole text all = inl (inl (inl (inl (string_before_stop text [] all refl))))
 
 -- what `character` writes is one
-character_stands : (c : ℕ) (r : List ℕ) → IsScalar c → EndsSuffix r → Character (character_text c) r
+pub character_stands : (c : ℕ) (r : List ℕ) → IsScalar c → EndsSuffix r → Character (character_text c) r
 character_stands c r scalar ends = record {
   front = codes "'";
   back = written 39 written_char c [] ++ codes "'";

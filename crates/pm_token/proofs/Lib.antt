@@ -2,8 +2,10 @@ pub mod CodeReadLemmas
 pub mod ContentLemmas
 pub mod CookedValueLemmas
 pub mod DraftLemmas
+pub mod HexEscapeLemmas
 pub mod HexLemmas
 pub mod IntegerLemmas
+pub mod KindLawLemmas
 pub mod EscapeValueLemmas
 pub mod EscapedLemmas
 pub mod ByteLemmas
@@ -17,6 +19,7 @@ pub mod NameLemmas
 pub mod RawValueLemmas
 pub mod ReadLemmas
 pub mod SuffixLemmas
+pub mod UnicodeEscapeLemmas
 pub mod UnitLemmas
 pub mod ValueLawLemmas
 pub mod WholeLemmas

@@ -36,7 +36,8 @@ body_same body content suffix r (inl name) same =
     let c = name.first.0 in
     let text : suffix ≡ c ∷ name.back = name.whole ∙ ap (λ x. x ++ name.back) name.first.1 in
     let ends : ends_with 34 (c ∷ name.back) ≡ true =
-    sym (ends_append 34 body 34 (c ∷ name.back)) ∙ (ap (λ s. ends_with 34 (body ++ (34 ∷ s))) (sym text) ∙ (ap (ends_with 34) same ∙ ends_back 34 content)) in
+    sym (ends_append 34 body 34 (c ∷ name.back))
+    ∙ (ap (λ s. ends_with 34 (body ++ (34 ∷ s))) (sym text) ∙ (ap (ends_with 34) same ∙ ends_back 34 content)) in
     absurd (name_plain c name.back name.first.2 name.second.each ends)
 
 -- the units of the content, which the quote follows

@@ -121,7 +121,8 @@ unfolding single
 single_stand kind c p is =
     ap (λ q. (single kind q).unit) is.whole
     ∙ ap (λ (x : Read ℕ). (only x.unit x.rest).unit) (cond-false _ _ _ is.no_backslash
-    ∙ ap (λ u. record { unit = u; rest = [] }) (cond-false _ _ _ (or_false is.no_line is.no_tab is.no_quote) ∙ (cond-false _ _ _ is.no_return ∙ is.unit_is)))
+    ∙ ap (λ u. record { unit = u; rest = [] }) (cond-false _ _ _ (or_false is.no_line is.no_tab is.no_quote)
+    ∙ (cond-false _ _ _ is.no_return ∙ is.unit_is)))
   where
     or_false : {a b d : Bool} → a ≡ false → b ≡ false → d ≡ false → (a || b || d) ≡ false
     or_false x y z = ap₂ (λ u v. u || v) (ap₂ (λ u v. u || v) x y) z

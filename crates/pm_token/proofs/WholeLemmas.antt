@@ -28,7 +28,8 @@ no_bytes [] e = refl
 no_bytes (c ∷ rest) e = absurd (omega (arith, length-le-encodes (c ∷ rest)))
 
 -- the literal at the front of a text is the whole text, or the text is none
-pub whole_literal : (text : List ℕ) (found : Option ℕ) → IsUtf8 text → IfSome found (IsAt Literal (chars text)) → IfNone found (HasNone Literal (chars text))
+pub whole_literal : (text : List ℕ) (found : Option ℕ) → IsUtf8 text
+    → IfSome found (IsAt Literal (chars text)) → IfNone found (HasNone Literal (chars text))
     → IsTrue (option_eq eqb found (Some (length text))) ↔ Literal (chars text) []
 whole_literal text None utf8 some none = (λ h. absurd (both_ways _ refl h), λ is. absurd (none (chars text) [] (sym (append-nil (chars text))) is))
 whole_literal text (Some n) utf8 at none = (from_all, to_all)

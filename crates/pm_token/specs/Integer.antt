@@ -1,4 +1,4 @@
--- What the literals of integers are.
+-- What the literals of integers are: an `integer-text` is std's `decimal` or `signed_decimal`, and then a suffix.
 use Rattle.std.specs.Prelude.{ℕ, List, [], codes}
 use Rattle.pm_token.specs.declared.literals.integers.Suffix.{Suffix}
 use Rattle.pm_token.specs.declared.literals.integers.Suffix.TheVariants.{Nothing, U8, U16, U32, U64, U128, Usize, I8, I16, I32, I64, I128, Isize}

@@ -1,3 +1,5 @@
+//! The delimiters of groups.
+
 /// How a group of trees is delimited.
 #[derive(Clone, Copy, Debug, PartialEq, Eq)]
 pub enum Delimiter {

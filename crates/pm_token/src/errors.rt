@@ -8,7 +8,7 @@ use std::error::Error;
 use std::fmt;
 use std::marker::Model;
 
-/// A text that is no list of token trees: its fault, by the place where it stands.
+/// A text that couldn't be read: its fault, by the place where it stands.
 #[derive(Debug, Drop)]
 pub struct LexError {
     span: Span,
@@ -29,8 +29,10 @@ impl LexError {
         LexError { span }
     }
 
-    /// Where the fault stands: an empty span before the character that can't be read, or before the
-    /// opener that no closer matches.
+    /// Where the fault stands, in characters. That of a token stream has an empty span, by the rule
+    /// `fault`: before the character that can't be read, before the closer that doesn't close the
+    /// innermost open group, or before the last opener that no closer matches. That of a literal has
+    /// the span 0..0, which tells no place.
     pub fn span(&self) -> Span
         ensures { result ≡ self.now }
     {
@@ -55,7 +57,7 @@ impl Error for LexError {}
 pub enum ParseError {
     /// The text has a fault. Its file stands in the map, so that the fault's place can be asked.
     Lex(LexError),
-    /// The text would end past the last position of the map, which is as before.
+    /// The text would end past the map's limit (`fits`). The map is as before.
     MapFull,
     /// Memory ran out. The map is as before.
     Memory(AllocError),

@@ -93,7 +93,7 @@ impl Ident {
 
     /// The raw identifier of this name, given without `r#`, which stands at this span.
     ///
-    /// Refused as [`new`](Ident::new) does, and then with `Reserved` where the name is `_`, `super`,
+    /// Refused as by [`new`](Ident::new), and then with `Reserved` where the name is `_`, `super`,
     /// `self`, `Self` or `crate`. `fn` makes `r#fn`.
     pub fn new_raw(alloc: Global, name: &str, span: Span) -> Result<Ident, IdentError>
         ensures ok { IfOk result (λ ident. ident ≡ record { name = chars name.now; raw = true; span = span }) }
@@ -110,7 +110,7 @@ impl Ident {
         Ident::checked(alloc, name, true, span)
     }
 
-    /// Whether the identifier is written so: a raw `a` is `r#a`, and isn't `a`.
+    /// Whether `text` is how the identifier is written: a raw `a` is `r#a`, and not `a`.
     pub fn eq_str(&self, text: &str) -> bool
         ensures { IsTrue result ↔ (name_text self.now ≡ chars text.now) }
     {
@@ -128,10 +128,11 @@ impl Ident {
     pub fn span(&self) -> Span
         ensures { result ≡ self.now.span }
     {
-        self.span
+        let Ident { span, .. } = self;
+        *span
     }
 
-    /// Says that it stands elsewhere.
+    /// Sets where it stands.
     pub fn set_span(&mut self, span: Span)
         ensures { self.new ≡ record self.old { span = span } }
     {
@@ -142,6 +143,7 @@ impl Ident {
     pub(crate) fn built(&self)
         ensures { IsBuiltToken (name_token self.now) }
     {
+        // It computes nothing: it hands the type's invariant to proofs.
         let _ = &self.name;
     }
 }
@@ -162,7 +164,7 @@ impl fmt::Display for Ident {
     }
 }
 
-/// Shows the identifier as it is written, and its span unless it stands in no file.
+/// Shows the identifier as it is written, and its span unless that is 0..0.
 impl fmt::Debug for Ident {
     fn fmt<W: fmt::Write>(&self, f: &mut fmt::Formatter<W>) -> fmt::Result {
         let mut debug = f.debug_struct("Ident");

@@ -1,6 +1,13 @@
 //! What is proved of literals and their values together. The functions compute nothing: their contracts
-//! are the laws, which `specs/ValueLaws.antt` states.
+//! are the laws, which `specs/KindLaws.antt` and `specs/ValueLaws.antt` state.
 
+ghost use Rattle.pm_token.specs.KindLaws.{
+  ByteStringsAreByteStrings,
+  BytesAreBytes,
+  CStringsAreCStrings,
+  CharactersAreCharacters,
+  StringsAreStrings,
+};
 ghost use Rattle.pm_token.specs.ValueLaws.{
   ByteStringsComeBack,
   ByteStringsHaveValues,
@@ -14,6 +21,17 @@ ghost use Rattle.pm_token.specs.ValueLaws.{
   StringsComeBack,
   StringsHaveValues,
 };
+
+/// A literal that was made is one of its kind, with nothing behind it: what `Literal::string` writes is a
+/// string, what `byte_string` and `c_string` write a byte string and a C string, and what `character` and
+/// `byte_character` write a character and a byte.
+pub fn made_literals()
+    ensures strings { StringsAreStrings }
+    ensures byte_strings { ByteStringsAreByteStrings }
+    ensures c_strings { CStringsAreCStrings }
+    ensures characters { CharactersAreCharacters }
+    ensures bytes { BytesAreBytes }
+{}
 
 /// The value of a literal that was made is what it was made of: that of `Literal::string` the text, that
 /// of `byte_string` the bytes, that of `c_string` the bytes and a zero byte. What stands between the

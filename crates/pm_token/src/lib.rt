@@ -9,7 +9,7 @@ pub mod laws;
 pub mod literals;
 pub mod marks;
 pub mod parts;
-pub mod symbols;
+mod symbols;
 
 pub use delimiters::Delimiter;
 pub use errors::{LexError, ParseError};

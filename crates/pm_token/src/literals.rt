@@ -66,6 +66,7 @@ impl Literal {
     pub(crate) fn built(&self)
         ensures { IsLiteralText self.now.text }
     {
+        // It computes nothing: it hands the type's invariant to proofs.
         let _ = &self.text;
     }
 }
@@ -83,7 +84,7 @@ impl fmt::Display for Literal {
     }
 }
 
-/// Shows the literal as it is written, and its span unless it stands in no file.
+/// Shows the literal as it is written, and its span unless that is 0..0.
 impl fmt::Debug for Literal {
     fn fmt<W: fmt::Write>(&self, f: &mut fmt::Formatter<W>) -> fmt::Result {
         let mut debug = f.debug_struct("Literal");

@@ -9,16 +9,17 @@ use pm_span::Span;
 use std::fmt;
 use std::marker::Model;
 
-/// Whether a mark and what follows it are one operator, as far as the text tells.
+/// Whether a mark goes together with what follows right after it, as far as the text tells.
 #[derive(Clone, Copy, Debug, PartialEq, Eq)]
 pub enum Spacing {
-    /// No mark follows right after it.
+    /// It doesn't. The marks that a doc comment gives are Alone too.
     Alone,
-    /// Another mark follows right after it.
+    /// One of the 22 mark characters follows, and no comment begins there (`joint`); or the mark is a
+    /// `'` with its identifier (`lone-quote`). At `+=` the `+` is Joint, and at `'a` the `'`.
     Joint,
 }
 
-/// A punctuation mark.
+/// A punctuation mark, which is one character, by the rule `marks`.
 #[derive(Drop)]
 pub struct Punct {
     mark: char,
@@ -57,7 +58,7 @@ impl Punct {
         self.mark
     }
 
-    /// Whether another mark follows right after it.
+    /// Whether it goes together with what follows right after it.
     pub fn spacing(&self) -> Spacing
         ensures { result ≡ self.now.spacing }
     {
@@ -75,6 +76,7 @@ impl Punct {
     pub(crate) fn built(&self)
         ensures { IsBuiltToken (mark_token self.now) }
     {
+        // It computes nothing: it hands the type's invariant to proofs.
         let _ = &self.mark;
     }
 }
@@ -93,7 +95,7 @@ impl fmt::Display for Punct {
     }
 }
 
-/// Shows the mark, its spacing, and its span unless it stands in no file.
+/// Shows the mark, its spacing, and its span unless that is 0..0.
 impl fmt::Debug for Punct {
     fn fmt<W: fmt::Write>(&self, f: &mut fmt::Formatter<W>) -> fmt::Result {
         let mut debug = f.debug_struct("Punct");

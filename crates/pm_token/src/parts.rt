@@ -17,7 +17,7 @@ use pm_span::parts::bounds;
 use std::alloc::{AllocError, Global};
 use std::fmt;
 
-/// The identifier of this name, which has no `r#`.
+/// The identifier of this name, which has no `r#` even if it is raw. Fails where memory runs out.
 pub fn ident(alloc: Global, name: &str, raw: bool, span: Span) -> Result<Ident, AllocError>
     requires { IsBuiltToken (tokens.Name raw (chars name.now)) }
     ensures ok { IfOk result (λ ident. ident ≡ record { name = chars name.now; raw = raw; span = span }) }
@@ -33,7 +33,7 @@ pub fn punct(mark: char, spacing: Spacing, span: Span) -> Punct
     Punct::from_parts(mark, spacing, span)
 }
 
-/// The literal that is written so, which is whole. Fails where memory runs out.
+/// The literal of this text, which is a whole one. Fails where memory runs out.
 pub fn literal(alloc: Global, text: &str, span: Span) -> Result<Literal, AllocError>
     requires { IsBuiltToken (tokens.Literal (chars text.now)) }
     ensures ok { IfOk result (λ literal. literal ≡ record { text = chars text.now; span = span }) }
@@ -49,7 +49,7 @@ pub fn string_literal(alloc: Global, text: &str, span: Span) -> Result<Literal, 
     Literal::string_at(alloc, text, span)
 }
 
-/// The fault that stands here.
+/// The fault that stands at this span.
 pub fn fault(span: Span) -> LexError
     ensures { result ≡ span }
 {
@@ -83,7 +83,7 @@ pub fn built_literal(literal: &Literal)
     bounds(literal.span());
 }
 
-/// Shows a token's span, unless it is that of what stands in no file.
+/// Shows a token's span, unless it is 0..0.
 pub fn show_span<W: fmt::Write>(debug: &mut fmt::DebugStruct<'_, W>, span: Span) {
     if bounds(span) != (0, 0) {
         debug.field("span", &span);

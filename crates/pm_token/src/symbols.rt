@@ -22,7 +22,7 @@ impl Symbol {
     ghost use Rattle.std.specs.Prelude.{◌≡◌, IfOk, string_bytes};
     ghost use Rattle.std.specs.Str.{chars};
 
-    /// Keeps a copy of the text.
+    /// Keeps a copy of the text. Fails where memory runs out.
     pub fn new(alloc: Global, text: &str) -> Result<Symbol, AllocError>
         ensures ok { IfOk result (λ symbol. symbol ≡ chars text.now) }
     {

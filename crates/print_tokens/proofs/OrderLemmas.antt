@@ -1,5 +1,6 @@
 -- What is left to read while groups are open.
-use Rattle.std.proofs.Common.{◌≡◌, ℕ, ◌+◌, ◌*◌, ◌<◌, length, List, [], ◌∷◌, ◌++◌, Bor, refl, sym, ap, ◌∙◌, append_assoc, arith}
+use Rattle.std.proofs.Common.{◌≡◌, ℕ, ◌+◌, ◌*◌, ◌<◌, List, [], ◌∷◌, ◌++◌, length, Bor}
+use Rattle.std.proofs.Common.{refl, sym, ap, ◌∙◌, append_assoc, arith}
 use Rattle.std.proofs.lemmas.List.{append-nil}
 use Rattle.proc_macro2.specs.Forest.{Forest}
 use Rattle.proc_macro2.specs.Level.{forest, alone}
@@ -37,7 +38,8 @@ pub outer_count-push : (outer : Rests) (after : Bor (List TokenTree))
 outer_count-push [] after = refl
 outer_count-push (x ∷ outer) after = omega (arith, outer_count-push outer after)
 
-pub trees_of-push : (trees : Found) (tree : Bor TokenTree) → trees_of (trees ++ tree ∷ []) ≡ trees_of trees ++ alone tree.now ∷ []
+pub trees_of-push : (trees : Found) (tree : Bor TokenTree)
+    → trees_of (trees ++ tree ∷ []) ≡ trees_of trees ++ alone tree.now ∷ []
 trees_of-push [] tree = refl
 trees_of-push (x ∷ trees) tree = ap (λ l. alone x.now ∷ l) (trees_of-push trees tree)
 
@@ -61,17 +63,20 @@ found_more : (found new : Found) (tree : Bor TokenTree) (left rest all : List Fo
     → left ≡ alone tree.now ∷ rest
     → trees_of found ++ left ≡ all → trees_of new ++ rest ≡ all
 found_more found new tree left rest all more is whole =
-    rw (more, trees_of-push found tree) (append_assoc (trees_of found) (alone tree.now ∷ []) rest ∙ ap (λ l. trees_of found ++ l) (sym is) ∙ whole)
+    let front = append_assoc (trees_of found) (alone tree.now ∷ []) rest in
+    rw (more, trees_of-push found tree) (front ∙ ap (λ l. trees_of found ++ l) (sym is) ∙ whole)
 
 -- after a token
-pub leaf_more : (found new : Found) (tree : Bor TokenTree) (left after : List TokenTree) (outer : Rests) (all : List Forest)
+pub leaf_more : (found new : Found) (tree : Bor TokenTree) (left after : List TokenTree) (outer : Rests)
+    (all : List Forest)
     → new ≡ found ++ tree ∷ [] → left ≡ tree.now ∷ after → ((g : Grouped) → tree.now ≡ Group g → ⊥)
     → trees_of found ++ left_order left outer ≡ all → trees_of new ++ left_order after outer ≡ all
 leaf_more found new tree left after outer all more is other whole =
     found_more found new tree (left_order left outer) (left_order after outer) all more
     (ap (λ l. left_order l outer) is ∙ leaf_order tree.now after outer other) whole
 
-leaf_count : (t : TokenTree) (after : List TokenTree) (outer : Rests) → left_count after outer < left_count (t ∷ after) outer
+leaf_count : (t : TokenTree) (after : List TokenTree) (outer : Rests)
+    → left_count after outer < left_count (t ∷ after) outer
 leaf_count (Group g) after outer = omega arith
 leaf_count (Ident i) after outer = omega arith
 leaf_count (Punct p) after outer = omega arith
@@ -81,10 +86,12 @@ pub leaf_less : (t : TokenTree) (left after : List TokenTree) (outer : Rests) �
     → left_count after outer < left_count left outer
 leaf_less t left after outer is = rw is (leaf_count t after outer)
 
-group_order : (t : TokenTree) (g : Grouped) (left inside : List TokenTree) (after : Bor (List TokenTree)) (outer new : Rests)
+group_order : (t : TokenTree) (g : Grouped) (left inside : List TokenTree) (after : Bor (List TokenTree))
+    (outer new : Rests)
     → left ≡ t ∷ after.now → t ≡ Group g → forest inside ≡ g.stream → new ≡ outer ++ after ∷ []
     → left_order left outer ≡ alone t ∷ left_order inside new
-group_order t g left inside after outer new whole is into p = rw (whole, is, into, p, outer_onto-push outer after []) refl
+group_order t g left inside after outer new whole is into p =
+    rw (whole, is, into, p, outer_onto-push outer after []) refl
 
 -- after a group's opener
 pub group_more : (found more : Found) (tree : Bor TokenTree) (g : Grouped) (left inside : List TokenTree)
@@ -100,7 +107,8 @@ group_count : (g : Grouped) (after : Bor (List TokenTree)) (outer : Rests)
     → 2 * count g.stream + outer_count (outer ++ after ∷ []) < left_count (Group g ∷ after.now) outer
 group_count g after outer = omega (arith, outer_count-push outer after)
 
-pub group_less : (t : TokenTree) (g : Grouped) (left inside : List TokenTree) (after : Bor (List TokenTree)) (outer new : Rests)
+pub group_less : (t : TokenTree) (g : Grouped) (left inside : List TokenTree) (after : Bor (List TokenTree))
+    (outer new : Rests)
     → left ≡ t ∷ after.now → t ≡ Group g → forest inside ≡ g.stream → new ≡ outer ++ after ∷ []
     → left_count inside new < left_count left outer
 group_less t g left inside after outer new whole is into p = rw (whole, is, into, p) (group_count g after outer)
@@ -109,7 +117,9 @@ group_less t g left inside after outer new whole is into p = rw (whole, is, into
 pub end_more : (left : List TokenTree) (after : Bor (List TokenTree)) (outer new : Rests) (done all : List Forest)
     → length left ≡ 0 → outer ≡ new ++ after ∷ []
     → done ++ left_order left outer ≡ all → done ++ left_order after.now new ≡ all
-end_more [] after outer new done all z p whole = ap (λ l. done ++ l) (sym (ap (λ o. outer_onto o []) p ∙ outer_onto-push new after [])) ∙ whole
+end_more [] after outer new done all z p whole =
+    let rests = ap (λ o. outer_onto o []) p ∙ outer_onto-push new after [] in
+    ap (λ l. done ++ l) (sym rests) ∙ whole
 end_more (t ∷ ts) after outer new done all z p whole = absurd (omega (arith, z))
 
 pub end_less : (left : List TokenTree) (after : Bor (List TokenTree)) (outer new : Rests) → outer ≡ new ++ after ∷ []

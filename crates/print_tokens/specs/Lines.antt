@@ -33,6 +33,10 @@ kind_text (Ident i) = codes "ident " ++ text_of (Ident i)
 kind_text (Punct p) = codes "punct " ++ (text_of (Punct p) ++ (codes " " ++ spacing_name p.spacing))
 kind_text (Literal l) = codes "literal " ++ text_of (Literal l)
 
+-- the kind of a tree, what stands for it, and the line's end
+abbrev pub kind_line : TokenTree → List ℕ
+kind_line tree = kind_text tree ++ codes "\n"
+
 -- the place is that where the span begins in the map
 abbrev pub IsStart : Files → Extent → LineColumn → Type 0
 IsStart files span place =
@@ -61,7 +65,7 @@ pub record Printed : Type 0 where
 pub record IsLine (files : Files) (tree : TokenTree) (line : List ℕ) : Type 0 where
   pub place : List ℕ
   pub is_place : IsPlaceText files (extent_of tree) place
-  pub writes : line ≡ place ++ (kind_text tree ++ codes "\n")
+  pub writes : line ≡ place ++ kind_line tree
 
 -- the line of the tree was written
 pub record WritesLine (files : Files) (tree : TokenTree) (old new : Option (List ℕ)) : Type 0 where
@@ -76,8 +80,12 @@ pub record WritesLines (files : Files) (stream : Forest) (old new : Option (List
   pub in_order : map (λ one. alone one.tree) lines ≡ order stream
   pub writes : Appends old new (flat_map (λ one. one.line) lines)
 
+-- what is written of a fault at the place
+abbrev pub fault_text : LineColumn → List ℕ
+fault_text place = codes "fault at " ++ (decimal place.line ++ (codes ":" ++ (decimal place.column ++ codes "\n")))
+
 -- the place of a fault was written
 pub record WritesFault (files : Files) (fault : Extent) (old new : Option (List ℕ)) : Type 0 where
   pub place : LineColumn
   pub start : IsStart files fault place
-  pub writes : Appends old new (codes "fault at " ++ (decimal place.line ++ (codes ":" ++ (decimal place.column ++ codes "\n"))))
+  pub writes : Appends old new (fault_text place)

@@ -2,7 +2,8 @@
 ghost use Rattle.std.specs.Prelude.{◌≡◌, OnOk};
 ghost use Rattle.proc_macro2.specs.Delimited.{opening};
 ghost use Rattle.proc_macro2.specs.Files.{Holds};
-ghost use Rattle.print_tokens.specs.Lines.{WritesFault, WritesLine, WritesLines, WritesPlace, spacing_name};
+ghost use Rattle.std.specs.Io.KnownBytes.{Appends};
+ghost use Rattle.print_tokens.specs.Lines.{WritesFault, WritesLine, WritesLines, WritesPlace, kind_line, spacing_name};
 
 use crate::order::reading_order;
 use proc_macro2::{Delimiter, SourceMap, Spacing, Span, TokenStream, TokenTree};
@@ -31,11 +32,20 @@ pub fn print_lines<W: Write>(
 }
 
 // Writes the tree's place, kind and text.
+#[tactic(auto, using(crate::proofs::LineLemmas::WritesLine_kind))]
 fn print_line<W: Write>(tree: &TokenTree, map: &SourceMap, writer: &mut W) -> io::Result<()>
     ensures { OnOk result (WritesLine map.now tree.now
         (W.contents writer.old) (W.contents writer.new)) }
 {
     print_place(tree.span(), map, writer)?;
+    print_kind(tree, writer)
+}
+
+// Writes the tree's kind, what stands for it, and the line's end.
+fn print_kind<W: Write>(tree: &TokenTree, writer: &mut W) -> io::Result<()>
+    ensures { OnOk result (Appends (W.contents writer.old) (W.contents writer.new)
+        (kind_line tree.now)) }
+{
     match tree {
         TokenTree::Group(group) => writeln!(writer, "group {}", opener(group.delimiter())),
         TokenTree::Ident(ident) => writeln!(writer, "ident {ident}"),
@@ -47,6 +57,7 @@ fn print_line<W: Write>(tree: &TokenTree, map: &SourceMap, writer: &mut W) -> io
 }
 
 // Where the span begins, as `1:0`; nothing of a span of another map.
+#[tactic(auto, using(crate::proofs::LineLemmas::WritesPlace_some, crate::proofs::LineLemmas::WritesPlace_none))]
 fn print_place<W: Write>(span: Span, map: &SourceMap, writer: &mut W) -> io::Result<()>
     ensures { OnOk result (WritesPlace map.now span
         (W.contents writer.old) (W.contents writer.new)) }
@@ -59,6 +70,7 @@ fn print_place<W: Write>(span: Span, map: &SourceMap, writer: &mut W) -> io::Res
 }
 
 /// Writes where the fault stands, as `fault at 1:0`.
+#[tactic(auto, using(crate::proofs::LineLemmas::WritesFault_start))]
 pub fn print_fault<W: Write>(fault: Span, map: &SourceMap, writer: &mut W) -> io::Result<()>
     requires { Holds map.now fault }
     ensures { OnOk result (WritesFault map.now fault

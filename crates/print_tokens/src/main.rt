@@ -2,14 +2,15 @@
 //! and its text.
 //!
 //! A group stands before its contents, with its opening delimiter. Lines count from 1, columns
-//! count characters from 0. A text that has a fault is refused with the place of the fault.
+//! count characters from 0. A text that has a fault is refused with the place of the fault, and
+//! the status 1.
 #![tactic(auto)]
 
+mod answer;
 mod lines;
 mod order;
 
-use lines::{print_fault, print_lines};
-use proc_macro2::{ParseError, SourceMap, TokenStream};
+use answer::print_text;
 use std::io;
 use std::io::{BufWriter, Write};
 use std::process::ExitCode;
@@ -17,21 +18,7 @@ use std::process::ExitCode;
 fn main(rt: HostRuntime) -> io::Result<ExitCode> {
     let text = io::read_to_string(rt.alloc(), rt.stdin())?;
     let mut writer = BufWriter::new(rt.alloc(), rt.stdout())?;
-    let mut map = SourceMap::new(rt.alloc());
-    let status = match TokenStream::from_str(text.as_str(), &mut map) {
-        Ok(stream) => {
-            print_lines(rt.alloc(), &stream, &map, &mut writer)?;
-            ExitCode::SUCCESS
-        }
-        Err(ParseError::Lex(error)) => {
-            print_fault(error.span(), &map, &mut writer)?;
-            ExitCode::FAILURE
-        }
-        Err(error) => {
-            writeln!(writer, "{error}")?;
-            ExitCode::FAILURE
-        }
-    };
+    let status = print_text(rt.alloc(), text.as_str(), &mut writer)?;
     writer.flush()?;
-    Ok(status)
+    Ok(ExitCode::from(status))
 }

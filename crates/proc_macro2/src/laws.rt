@@ -16,7 +16,7 @@ ghost use Rattle.proc_macro2.specs.Laws.{
   WellSpacedIsParsed,
 };
 
-pub use pm_token::laws::{cooked_values, raw_values, values_come_back};
+pub use pm_token::laws::{cooked_values, made_literals, raw_values, values_come_back};
 
 /// A source has at most one cover by pieces, and parses to at most one stream. It parses or has a fault,
 /// never both and never neither, and its fault has one place.
@@ -29,9 +29,10 @@ pub fn one_cover()
 {}
 
 /// A built stream comes back from its printed text, the same up to spans, exactly if it is well spaced.
-/// Every stream that a source parses to is well spaced, and is built. So the built streams that are well
-/// spaced are, up to spans, exactly those that some source parses to. Two of them are the same exactly if
-/// they print the same text, which so is the one text of these tokens.
+/// Every stream that a source parses to is well spaced, and is built if the source has Unicode characters
+/// only. So the built streams that are well spaced are, up to spans, exactly those that some source parses
+/// to. Two of them are the same up to spans exactly if they print the same text, so that this is the one
+/// text of these tokens.
 ///
 /// `+` Joint before the identifier `a` doesn't come back: it prints `+a`, which parses to `+` Alone and `a`.
 pub fn printed_comes_back()
@@ -42,8 +43,8 @@ pub fn printed_comes_back()
     ensures text { OneText }
 {}
 
-/// Two texts with a line's end between them parse to the streams of the two joined, up to spans, unless
-/// the second begins with U+FEFF.
+/// Two texts that parse, with an LF between them, parse to the streams of the two joined, up to spans,
+/// unless the second begins with U+FEFF.
 ///
 /// `x // c` and `y` give `x y`.
 pub fn joined_texts()

@@ -6,14 +6,14 @@ use Rattle.proc_macro2.specs.declared.LineColumn.{LineColumn}
 use Rattle.proc_macro2.specs.declared.ParseError.{ParseError}
 use Rattle.proc_macro2.specs.declared.ParseError.TheVariants.{Lex, MapFull, Memory}
 use Rattle.proc_macro2.specs.Extent.{Extent}
-use Rattle.proc_macro2.specs.Files.{Files, IsFile, next_lo, with_file}
+use Rattle.proc_macro2.specs.Files.{Files, IsFile, new_map, next_lo, with_file}
 use Rattle.proc_macro2.specs.Forest.{Forest}
 use Rattle.proc_macro2.specs.Outcome.{IfLex, was_read}
 use Rattle.proc_macro2.specs.Parsing.{FaultAt}
 use Rattle.proc_macro2.proofs.FaultLemmas.{fault_within}
 use Rattle.tokens.specs.declared.errors.RunError.{RunError}
 use Rattle.tokens.specs.declared.errors.RunError.TheVariants as run
-use Rattle.tokens.specs.Output.{new_map, HasFaultAt, StartsAt}
+use Rattle.tokens.specs.Output.{HasFaultAt, StartsAt}
 
 -- the one text that a map has read is its file at position 1
 first_file : (text : List ℕ) → IsFile (with_file new_map text) text 1

@@ -3,17 +3,13 @@ use Rattle.std.specs.Prelude.{ℕ, ◌+◌, ◌-◌, ◌≡◌, ◌≤◌, List,
 use Rattle.std.specs.Str.{chars, IsUtf8, encode_utf8_all}
 use Rattle.proc_macro2.specs.declared.LineColumn.{LineColumn}
 use Rattle.proc_macro2.specs.Extent.{Extent}
-use Rattle.proc_macro2.specs.Files.{Files, Fits, IsFile, next_lo}
+use Rattle.proc_macro2.specs.Files.{Files, Fits, IsFile, new_map, next_lo}
 use Rattle.proc_macro2.specs.Place.{line_column}
 use Rattle.proc_macro2.specs.Forest.{Forest}
 use Rattle.proc_macro2.specs.Parsing.{ParsesTo, FaultAt}
 use Rattle.proc_macro2.specs.Printed.{printed}
 use Rattle.tokens.specs.declared.mode.OutputMode.{OutputMode}
 use Rattle.tokens.specs.declared.mode.OutputMode.TheVariants.{Print}
-
--- a map that has read nothing, and has all positions to give
-abbrev pub new_map : Files
-new_map = record { texts = []; limit = 4294967295 }
 
 -- what is written of a stream, in bytes: for `print` its printed text and a line feed
 abbrev pub written : OutputMode → Forest → List ℕ

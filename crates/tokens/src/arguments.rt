@@ -9,22 +9,15 @@ use std::io;
 
 /// The words after the program's name, which is the first of its arguments.
 ///
-/// Arguments that are no text are no words, since they ask for nothing. It fails where memory ran
-/// out, for the arguments or for the list.
+/// Arguments that are no text are no words, since they ask for nothing. It fails where they weren't
+/// had for any other reason, which is taken for want of memory, and where there is none for the list.
 pub fn words(alloc: Global, arguments: io::Result<Args>) -> Result<Vec<String>, AllocError>
     ensures ok { IfOk result (λ list. words arguments ≡ Ok (map string_bytes list.items)) }
     ensures refused { IfErr arguments (λ error.
         (result ≡ Err alloc_error) ↔ IsFalse (is_no_text (error_kind error))) }
 {
     match arguments {
-        Ok(mut arguments) => {
-            let _name = arguments.next();
-            let mut words = Vec::new(alloc);
-            for word in arguments {
-                words.push(word)?;
-            }
-            Ok(words)
-        }
+        Ok(arguments) => arguments.skip(1).collect(alloc),
         Err(error) if is_no_text(error.kind()) => Ok(Vec::new(alloc)),
         Err(_) => Err(AllocError),
     }

@@ -1,5 +1,5 @@
 //! Sources and sinks over memory that move a few bytes a call, and fail. They are for tests.
-ghost use Rattle.std.specs.Prelude.{◌≡◌, ◌<◌, Some, false};
+ghost use Rattle.std.specs.Prelude.{◌<◌, Some};
 
 use crate::sinks::{ByteSink, MemorySink, is_refusal};
 use crate::sources::{ByteSource, MemorySource};

@@ -1,5 +1,5 @@
 //! Writes bytes to a sink.
-ghost use Rattle.std.specs.Prelude.{◌≡◌, ◌||◌, is_err, OnOk, OnErr, IfErr};
+ghost use Rattle.std.specs.Prelude.{◌≡◌, ◌||◌, is_err, OnOk, IfErr};
 ghost use Rattle.std.specs.Io.KnownBytes.{Appends};
 ghost use Rattle.tokens.specs.Known.{AppendsFront};
 

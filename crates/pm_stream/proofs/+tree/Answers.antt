@@ -6,7 +6,7 @@ use Rattle.pm_stream.specs.Size.{count}
 use Rattle.pm_stream.specs.declared.stream.TokenStream.TheDeep.{size-TokenTree}
 use Rattle.pm_stream.proofs.Levels.{IsBuilt-taken, count-not_nil, count-taken, shared_size_le}
 use Rattle.pm_stream.proofs.+tree.Goals as goal
-use Rattle.pm_stream.proofs.+tree.Goals.{stream::TokenStream::drop-in-Some-take_last-2+then-not-is_empty+in-Ok, stream::TokenStream::drop-in-Some-take_last-2+then-not-is_empty+in-Err, stream::TokenStream::drop-in-Some-take_last-2+else-not-is_empty, stream::TokenStream::drop-in_default-take_last-2+in-Some-take_last-3}
+use Rattle.pm_stream.proofs.+tree.Goals.{stream::TokenStream::drop-in-Ok, stream::TokenStream::drop-in-Err}
 
 pub stream::TokenStream::drop-drop-shared-requires : goal.stream::TokenStream::drop-drop-shared-requires
 stream::TokenStream::drop-drop-shared-requires t c κs =
@@ -36,14 +36,45 @@ stream::TokenStream::drop-drop-inside-requires t c =
     let into = ap count c.into_inside-inside.ensures in
     (omega (arith, taken, into, c.loop.invariant.here, c.decreases), tt)
 
+pub stream::TokenStream::drop-drop-inside-requires-in-Err-1 : goal.stream::TokenStream::drop-drop-inside-requires-in-Err-1
+stream::TokenStream::drop-drop-inside-requires-in-Err-1 t c =
+    let taken = count-taken _ _ c.in-Some-take_last-2.tree c.in-Some-take_last-2.ensures in
+    let into = ap count c.into_inside-inside.ensures in
+    (omega (arith, taken, into, c.loop.invariant.here, c.decreases), tt)
+
+-- the walk goes back to the group's list
+pub stream::TokenStream::drop-loop-preserved-in_default-take_last-2 : goal.stream::TokenStream::drop-loop-preserved-in_default-take_last-2
+stream::TokenStream::drop-loop-preserved-in_default-take_last-2 t c =
+    let was = c.loop.invariant in
+    let taken = count-taken _ _ c.in-Some-take_last-3.way c.in-Some-take_last-3.ensures in
+    let into = ap count c.into_inside-outer-in_default-take_last-2.ensures in
+    record {
+      here = omega (arith, was.outer, taken);
+      outer = omega (arith, was.outer, taken, into);
+      both = omega (arith, was.outer, taken, into);
+    }
+
+-- there is nothing inside the tree
+pub stream::TokenStream::drop-loop-preserved-then-is_empty : goal.stream::TokenStream::drop-loop-preserved-then-is_empty
+stream::TokenStream::drop-loop-preserved-then-is_empty t c =
+    let was = c.loop.invariant in
+    let taken = count-taken _ _ c.in-Some-take_last-2.tree c.in-Some-take_last-2.ensures in
+    record {
+      here = omega (arith, was.here, taken);
+      outer = omega (arith, was.outer);
+      both = omega (arith, was.both, taken);
+    }
+
+-- the walk goes into the tree, or its trees have another owner
 pub stream::TokenStream::drop-loop-preserved : goal.stream::TokenStream::drop-loop-preserved
 stream::TokenStream::drop-loop-preserved t c =
     let was = c.loop.invariant in
-    elim c.match-take_last-2.branch [
-      | stream::TokenStream::drop-in-Some-take_last-2+then-not-is_empty+in-Ok w ↦
-          let taken = count-taken _ _ w.in-Some-take_last-2.tree w.in-Some-take_last-2.ensures in
-          let into = ap count w.into_inside-inside.ensures in
-          let some : 0 < count w.into_inside-inside.result = count-not_nil _ (search (rules, w.is_empty.ensures, w.if-not-is_empty.true)) in
+    let taken = count-taken _ _ c.in-Some-take_last-2.tree c.in-Some-take_last-2.ensures in
+    elim c.match-put_way.branch [
+      | stream::TokenStream::drop-in-Ok w ↦
+          let into = ap count c.into_inside-inside.ensures in
+          let some : 0 < count c.into_inside-inside.result =
+          count-not_nil _ (search (rules, c.is_empty.ensures, c.if-is_empty.false)) in
           let here = ap count w.here-is in
           let outer = ap count w.outer-is in
           let put = w.in-Ok.ensures.ok in
@@ -52,32 +83,12 @@ stream::TokenStream::drop-loop-preserved t c =
             outer = omega (arith, was.both, taken, into, some, outer, put);
             both = omega (arith, was.both, taken, into, here, outer, put);
           }
-      | stream::TokenStream::drop-in-Some-take_last-2+then-not-is_empty+in-Err w ↦
-          let taken = count-taken _ _ w.in-Some-take_last-2.tree w.in-Some-take_last-2.ensures in
+      | stream::TokenStream::drop-in-Err w ↦
           let here = ap count (w.here-is ∙ w.in-Err.ensures.err.1) in
           let outer = ap count (w.outer-is ∙ w.in-Err.ensures.err.0) in
           record {
             here = omega (arith, was.here, taken, here);
             outer = omega (arith, was.outer, outer);
             both = omega (arith, was.both, taken, here, outer);
-          }
-      | stream::TokenStream::drop-in-Some-take_last-2+else-not-is_empty w ↦
-          let taken = count-taken _ _ w.in-Some-take_last-2.tree w.in-Some-take_last-2.ensures in
-          let here = ap count w.here-is in
-          let outer = ap count w.outer-is in
-          record {
-            here = omega (arith, was.here, taken, here);
-            outer = omega (arith, was.outer, outer);
-            both = omega (arith, was.both, taken, here, outer);
-          }
-      | stream::TokenStream::drop-in_default-take_last-2+in-Some-take_last-3 w ↦
-          let taken = count-taken _ _ w.in-Some-take_last-3.way w.in-Some-take_last-3.ensures in
-          let into = ap count w.into_inside-outer-in_default-take_last-2.ensures in
-          let here = ap count w.here-is in
-          let outer = ap count w.outer-is in
-          record {
-            here = omega (arith, was.outer, taken, here);
-            outer = omega (arith, was.outer, taken, into, outer);
-            both = omega (arith, was.outer, taken, into, here, outer);
           }
     ]

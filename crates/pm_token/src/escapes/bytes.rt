@@ -1,5 +1,5 @@
 //! How bytes are written between quotes.
-ghost use Rattle.std.specs.Prelude.{◌≡◌, ◌<◌, ◌∷◌, ◌++◌, ◌&&◌, [], codes, nat_le, nat_lt, true, OnOk};
+ghost use Rattle.std.specs.Prelude.{◌≡◌, ◌<◌, ◌++◌, ◌&&◌, codes, nat_le, nat_lt, true, OnOk};
 ghost use Rattle.std.specs.Fmt.{digit_glyph};
 ghost use Rattle.lexical.specs.Text.{first_passes};
 ghost use Rattle.lexical.specs.Quoted.{is_octal_digit};

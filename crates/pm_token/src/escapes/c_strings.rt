@@ -1,5 +1,5 @@
 //! How the bytes of a C string are written.
-ghost use Rattle.std.specs.Prelude.{◌≡◌, ◌<◌, ◌≢◌, ◌++◌, List, length, [], IfOk, IsTrue, OnOk};
+ghost use Rattle.std.specs.Prelude.{◌≡◌, ◌≢◌, ◌++◌, List, [], IfOk, IsTrue, OnOk};
 ghost use Rattle.pm_token.specs.CString.{AreParts, Part, WritesFront, has_no_zero, parts_text};
 
 use crate::escapes::Draft;

@@ -14,7 +14,8 @@ impl PartialEq for Ident {
 
     ghost laws = { on_per written (partial_equiv_from_equiv nat_list_eq_equiv) };
 
-    /// Whether both have the same name, and both are raw or both plain. Their spans don't count.
+    /// Whether both have the same name, and both are raw or both plain, by the rule
+    /// `identifier-equality`. Their spans don't count.
     fn eq(&self, other: &Ident) -> bool
         ensures value { result ≡ name_eq self.now other.now }
         ensures fields { IsTrue result ↔ ((self.now.name ≡ other.now.name) × (self.now.raw ≡ other.now.raw)) }
@@ -52,7 +53,8 @@ impl Ord for Ident {
 
     ghost matches_eq = { λ a b. texts_ties (written a) (written b) };
 
-    /// The order of the bytes that the identifiers are written with: `r`, then raw `a`, then `ra`.
+    /// The order of the bytes that the identifiers are written with, by the rule
+    /// `identifier-order`: `r`, then raw `a`, then `ra`.
     fn cmp(&self, other: &Ident) -> Ordering
         ensures value { result ≡ name_cmp self.now other.now }
         ensures equal { (result ≡ Ordering.Equal) ↔ (name_text self.now ≡ name_text other.now) }
@@ -76,7 +78,8 @@ impl Hash for Ident {
 
     ghost respects_eq = { fed_alike };
 
-    /// Feeds the hasher what the text of the identifier does, but `r#` in a write of its own.
+    /// Feeds the hasher what the text of the identifier does, but `r#` in a write of its own, by the
+    /// rule `identifier-hash`.
     fn hash<H: Hasher>(&self, state: &mut H)
         ensures value { state.new ≡ fold H.write state.old (fed_for (written self.now)) }
         ensures text { concat (fed_for (written self.now)) ≡ written self.now ++ 255 ∷ [] }

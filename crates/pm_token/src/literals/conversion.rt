@@ -8,8 +8,8 @@ use std::alloc::{AllocError, AllocFailed};
 /// Why the value of a literal was not answered.
 #[derive(Debug, Drop, PartialEq, Eq)]
 pub enum ConversionErrorKind {
-    /// The content has a fault, a warning not being one: the last of them, as `BareCarriageReturn`
-    /// for `"a` CR LF `b"`.
+    /// The last fault of the content, where a warning is none: `BareCarriageReturn` for `"a` CR LF
+    /// `b"`.
     FailedToUnescape(EscapeError),
     /// It isn't a string of the kind that was asked for, or it has a suffix: `1`, or `"a"s`.
     InvalidLiteralKind,

@@ -87,11 +87,13 @@ fn signed(alloc: Global, value: i128, suffix: Suffix) -> Result<Literal, AllocEr
     })
 }
 
-// Each has the span 0..0 and fails where memory runs out. Without a suffix the literal is the
-// decimal text of the number, by the rule `integer-text`, which is the same for a number of a wider
-// type, and with one the type's name follows it.
+/// The literals of integers.
+///
+/// Without a suffix the literal is the decimal text of the number, by the rule `integer-text`, which
+/// is the same for a number of a wider type; with one the type's name follows it.
 impl Literal {
-    /// The literal of the number, without its type. For 255 it is `255`.
+    /// The literal of the number, without its type, with the span 0..0. For 255 it is `255`.
+    /// Fails where memory runs out.
     pub fn u8_unsuffixed(alloc: Global, value: u8) -> Result<Literal, AllocError>
         ensures ok { IfOk result (λ literal.
             literal ≡ record { text = decimal value; span = nowhere }) }
@@ -99,7 +101,8 @@ impl Literal {
         Literal::u16_unsuffixed(alloc, u16::from(value))
     }
 
-    /// The literal of the number, without its type. For 65535 it is `65535`.
+    /// The literal of the number, without its type, with the span 0..0. For 65535 it is `65535`.
+    /// Fails where memory runs out.
     pub fn u16_unsuffixed(alloc: Global, value: u16) -> Result<Literal, AllocError>
         ensures ok { IfOk result (λ literal.
             literal ≡ record { text = decimal value; span = nowhere }) }
@@ -107,7 +110,8 @@ impl Literal {
         Literal::u32_unsuffixed(alloc, u32::from(value))
     }
 
-    /// The literal of the number, without its type. For 3 it is `3`.
+    /// The literal of the number, without its type, with the span 0..0. For 3 it is `3`.
+    /// Fails where memory runs out.
     pub fn u32_unsuffixed(alloc: Global, value: u32) -> Result<Literal, AllocError>
         ensures ok { IfOk result (λ literal.
             literal ≡ record { text = decimal value; span = nowhere }) }
@@ -115,7 +119,8 @@ impl Literal {
         Literal::u64_unsuffixed(alloc, u64::from(value))
     }
 
-    /// The literal of the number, without its type. For 10 it is `10`.
+    /// The literal of the number, without its type, with the span 0..0. For 10 it is `10`.
+    /// Fails where memory runs out.
     pub fn u64_unsuffixed(alloc: Global, value: u64) -> Result<Literal, AllocError>
         ensures ok { IfOk result (λ literal.
             literal ≡ record { text = decimal value; span = nowhere }) }
@@ -123,7 +128,8 @@ impl Literal {
         Literal::u128_unsuffixed(alloc, u128::from(value))
     }
 
-    /// The literal of the number, without its type. For 7 it is `7`.
+    /// The literal of the number, without its type, with the span 0..0. For 7 it is `7`.
+    /// Fails where memory runs out.
     pub fn u128_unsuffixed(alloc: Global, value: u128) -> Result<Literal, AllocError>
         ensures ok { IfOk result (λ literal.
             literal ≡ record { text = decimal value; span = nowhere }) }
@@ -131,7 +137,8 @@ impl Literal {
         unsigned(alloc, value, Suffix::Nothing)
     }
 
-    /// The literal of the number, without its type. For 0 it is `0`.
+    /// The literal of the number, without its type, with the span 0..0. For 0 it is `0`.
+    /// Fails where memory runs out.
     pub fn usize_unsuffixed(alloc: Global, value: usize) -> Result<Literal, AllocError>
         ensures ok { IfOk result (λ literal.
             literal ≡ record { text = decimal value; span = nowhere }) }
@@ -139,7 +146,8 @@ impl Literal {
         unsigned(alloc, value as u128, Suffix::Nothing)
     }
 
-    /// The literal of the number and `u8`. For 255 it is `255u8`.
+    /// The literal of the number and `u8`, with the span 0..0. For 255 it is `255u8`.
+    /// Fails where memory runs out.
     pub fn u8_suffixed(alloc: Global, value: u8) -> Result<Literal, AllocError>
         ensures ok { IfOk result (λ literal.
             literal ≡ record { text = decimal value ++ codes "u8"; span = nowhere }) }
@@ -147,7 +155,8 @@ impl Literal {
         unsigned(alloc, u128::from(value), Suffix::U8)
     }
 
-    /// The literal of the number and `u16`. For 65535 it is `65535u16`.
+    /// The literal of the number and `u16`, with the span 0..0. For 65535 it is `65535u16`.
+    /// Fails where memory runs out.
     pub fn u16_suffixed(alloc: Global, value: u16) -> Result<Literal, AllocError>
         ensures ok { IfOk result (λ literal.
             literal ≡ record { text = decimal value ++ codes "u16"; span = nowhere }) }
@@ -155,7 +164,8 @@ impl Literal {
         unsigned(alloc, u128::from(value), Suffix::U16)
     }
 
-    /// The literal of the number and `u32`. For 3 it is `3u32`.
+    /// The literal of the number and `u32`, with the span 0..0. For 3 it is `3u32`.
+    /// Fails where memory runs out.
     pub fn u32_suffixed(alloc: Global, value: u32) -> Result<Literal, AllocError>
         ensures ok { IfOk result (λ literal.
             literal ≡ record { text = decimal value ++ codes "u32"; span = nowhere }) }
@@ -163,7 +173,8 @@ impl Literal {
         unsigned(alloc, u128::from(value), Suffix::U32)
     }
 
-    /// The literal of the number and `u64`. For 10 it is `10u64`.
+    /// The literal of the number and `u64`, with the span 0..0. For 10 it is `10u64`.
+    /// Fails where memory runs out.
     pub fn u64_suffixed(alloc: Global, value: u64) -> Result<Literal, AllocError>
         ensures ok { IfOk result (λ literal.
             literal ≡ record { text = decimal value ++ codes "u64"; span = nowhere }) }
@@ -171,7 +182,8 @@ impl Literal {
         unsigned(alloc, u128::from(value), Suffix::U64)
     }
 
-    /// The literal of the number and `u128`. For 7 it is `7u128`.
+    /// The literal of the number and `u128`, with the span 0..0. For 7 it is `7u128`.
+    /// Fails where memory runs out.
     pub fn u128_suffixed(alloc: Global, value: u128) -> Result<Literal, AllocError>
         ensures ok { IfOk result (λ literal.
             literal ≡ record { text = decimal value ++ codes "u128"; span = nowhere }) }
@@ -179,7 +191,8 @@ impl Literal {
         unsigned(alloc, value, Suffix::U128)
     }
 
-    /// The literal of the number and `usize`. For 0 it is `0usize`.
+    /// The literal of the number and `usize`, with the span 0..0. For 0 it is `0usize`.
+    /// Fails where memory runs out.
     pub fn usize_suffixed(alloc: Global, value: usize) -> Result<Literal, AllocError>
         ensures ok { IfOk result (λ literal.
             literal ≡ record { text = decimal value ++ codes "usize"; span = nowhere }) }
@@ -187,7 +200,8 @@ impl Literal {
         unsigned(alloc, value as u128, Suffix::Usize)
     }
 
-    /// The literal of the number, without its type. For -128 it is `-128`.
+    /// The literal of the number, without its type, with the span 0..0. For -128 it is `-128`.
+    /// Fails where memory runs out.
     pub fn i8_unsuffixed(alloc: Global, value: i8) -> Result<Literal, AllocError>
         ensures ok { IfOk result (λ literal.
             literal ≡ record { text = signed_decimal value; span = nowhere }) }
@@ -195,7 +209,8 @@ impl Literal {
         Literal::i16_unsuffixed(alloc, i16::from(value))
     }
 
-    /// The literal of the number, without its type. For -3 it is `-3`.
+    /// The literal of the number, without its type, with the span 0..0. For -3 it is `-3`.
+    /// Fails where memory runs out.
     pub fn i16_unsuffixed(alloc: Global, value: i16) -> Result<Literal, AllocError>
         ensures ok { IfOk result (λ literal.
             literal ≡ record { text = signed_decimal value; span = nowhere }) }
@@ -203,7 +218,8 @@ impl Literal {
         Literal::i32_unsuffixed(alloc, i32::from(value))
     }
 
-    /// The literal of the number, without its type. For -3 it is `-3`.
+    /// The literal of the number, without its type, with the span 0..0. For -3 it is `-3`.
+    /// Fails where memory runs out.
     pub fn i32_unsuffixed(alloc: Global, value: i32) -> Result<Literal, AllocError>
         ensures ok { IfOk result (λ literal.
             literal ≡ record { text = signed_decimal value; span = nowhere }) }
@@ -211,7 +227,8 @@ impl Literal {
         Literal::i64_unsuffixed(alloc, i64::from(value))
     }
 
-    /// The literal of the number, without its type. For 12 it is `12`.
+    /// The literal of the number, without its type, with the span 0..0. For 12 it is `12`.
+    /// Fails where memory runs out.
     pub fn i64_unsuffixed(alloc: Global, value: i64) -> Result<Literal, AllocError>
         ensures ok { IfOk result (λ literal.
             literal ≡ record { text = signed_decimal value; span = nowhere }) }
@@ -219,7 +236,8 @@ impl Literal {
         Literal::i128_unsuffixed(alloc, i128::from(value))
     }
 
-    /// The literal of the number, without its type. For -1 it is `-1`.
+    /// The literal of the number, without its type, with the span 0..0. For -1 it is `-1`.
+    /// Fails where memory runs out.
     pub fn i128_unsuffixed(alloc: Global, value: i128) -> Result<Literal, AllocError>
         ensures ok { IfOk result (λ literal.
             literal ≡ record { text = signed_decimal value; span = nowhere }) }
@@ -227,7 +245,8 @@ impl Literal {
         signed(alloc, value, Suffix::Nothing)
     }
 
-    /// The literal of the number, without its type. For 0 it is `0`.
+    /// The literal of the number, without its type, with the span 0..0. For 0 it is `0`.
+    /// Fails where memory runs out.
     pub fn isize_unsuffixed(alloc: Global, value: isize) -> Result<Literal, AllocError>
         ensures ok { IfOk result (λ literal.
             literal ≡ record { text = signed_decimal value; span = nowhere }) }
@@ -235,7 +254,8 @@ impl Literal {
         signed(alloc, value as i128, Suffix::Nothing)
     }
 
-    /// The literal of the number and `i8`. For -128 it is `-128i8`.
+    /// The literal of the number and `i8`, with the span 0..0. For -128 it is `-128i8`.
+    /// Fails where memory runs out.
     pub fn i8_suffixed(alloc: Global, value: i8) -> Result<Literal, AllocError>
         ensures ok { IfOk result (λ literal.
             literal ≡ record { text = signed_decimal value ++ codes "i8"; span = nowhere }) }
@@ -243,7 +263,8 @@ impl Literal {
         signed(alloc, i128::from(value), Suffix::I8)
     }
 
-    /// The literal of the number and `i16`. For -3 it is `-3i16`.
+    /// The literal of the number and `i16`, with the span 0..0. For -3 it is `-3i16`.
+    /// Fails where memory runs out.
     pub fn i16_suffixed(alloc: Global, value: i16) -> Result<Literal, AllocError>
         ensures ok { IfOk result (λ literal.
             literal ≡ record { text = signed_decimal value ++ codes "i16"; span = nowhere }) }
@@ -251,7 +272,8 @@ impl Literal {
         signed(alloc, i128::from(value), Suffix::I16)
     }
 
-    /// The literal of the number and `i32`. For -3 it is `-3i32`.
+    /// The literal of the number and `i32`, with the span 0..0. For -3 it is `-3i32`.
+    /// Fails where memory runs out.
     pub fn i32_suffixed(alloc: Global, value: i32) -> Result<Literal, AllocError>
         ensures ok { IfOk result (λ literal.
             literal ≡ record { text = signed_decimal value ++ codes "i32"; span = nowhere }) }
@@ -259,7 +281,8 @@ impl Literal {
         signed(alloc, i128::from(value), Suffix::I32)
     }
 
-    /// The literal of the number and `i64`. For 12 it is `12i64`.
+    /// The literal of the number and `i64`, with the span 0..0. For 12 it is `12i64`.
+    /// Fails where memory runs out.
     pub fn i64_suffixed(alloc: Global, value: i64) -> Result<Literal, AllocError>
         ensures ok { IfOk result (λ literal.
             literal ≡ record { text = signed_decimal value ++ codes "i64"; span = nowhere }) }
@@ -267,7 +290,8 @@ impl Literal {
         signed(alloc, i128::from(value), Suffix::I64)
     }
 
-    /// The literal of the number and `i128`. For -1 it is `-1i128`.
+    /// The literal of the number and `i128`, with the span 0..0. For -1 it is `-1i128`.
+    /// Fails where memory runs out.
     pub fn i128_suffixed(alloc: Global, value: i128) -> Result<Literal, AllocError>
         ensures ok { IfOk result (λ literal.
             literal ≡ record { text = signed_decimal value ++ codes "i128"; span = nowhere }) }
@@ -275,7 +299,8 @@ impl Literal {
         signed(alloc, value, Suffix::I128)
     }
 
-    /// The literal of the number and `isize`. For 0 it is `0isize`.
+    /// The literal of the number and `isize`, with the span 0..0. For 0 it is `0isize`.
+    /// Fails where memory runs out.
     pub fn isize_suffixed(alloc: Global, value: isize) -> Result<Literal, AllocError>
         ensures ok { IfOk result (λ literal.
             literal ≡ record { text = signed_decimal value ++ codes "isize"; span = nowhere }) }

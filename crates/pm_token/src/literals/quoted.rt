@@ -10,10 +10,10 @@ use crate::literals::Literal;
 use pm_span::Span;
 use std::alloc::{AllocError, Global};
 
-// Each has the span 0..0, unless it is handed one, and fails where memory runs out.
+/// The literals of texts, characters and bytes.
 impl Literal {
-    /// The string literal of the text, by the rule `string-text`. For CR, a quote and U+0301 it is
-    /// `"\r\"\u{301}"`.
+    /// The string literal of the text, by the rule `string-text`, with the span 0..0. For CR, a quote
+    /// and U+0301 it is `"\r\"\u{301}"`. Fails where memory runs out.
     pub fn string(alloc: Global, text: &str) -> Result<Literal, AllocError>
         ensures ok { IfOk result (λ literal.
             literal ≡ record { text = string_text (chars text.now); span = nowhere }) }
@@ -21,7 +21,7 @@ impl Literal {
         Literal::string_at(alloc, text, Span::call_site())
     }
 
-    /// The string literal of the text, where it stands.
+    /// The string literal of the text, where it stands. Fails where memory runs out.
     pub(crate) fn string_at(alloc: Global, text: &str, span: Span) -> Result<Literal, AllocError>
         ensures ok { IfOk result (λ literal.
             literal ≡ record { text = string_text (chars text.now); span = span }) }
@@ -36,8 +36,8 @@ impl Literal {
         })
     }
 
-    /// The literal of the character, by the rule `character-text`. For `'` it is `'\''`, for `"` it
-    /// is `'"'`.
+    /// The literal of the character, by the rule `character-text`, with the span 0..0. For `'` it is
+    /// `'\''`, for `"` it is `'"'`. Fails where memory runs out.
     pub fn character(alloc: Global, c: char) -> Result<Literal, AllocError>
         ensures ok { IfOk result (λ literal.
             literal ≡ record { text = character_text c; span = nowhere }) }
@@ -52,7 +52,8 @@ impl Literal {
         })
     }
 
-    /// The literal of the byte, by the rule `byte-text`. For 0x1F it is `b'\x1F'`.
+    /// The literal of the byte, by the rule `byte-text`, with the span 0..0. For 0x1F it is
+    /// `b'\x1F'`. Fails where memory runs out.
     pub fn byte_character(alloc: Global, byte: u8) -> Result<Literal, AllocError>
         ensures ok { IfOk result (λ literal.
             literal ≡ record { text = byte_text byte; span = nowhere }) }
@@ -68,8 +69,8 @@ impl Literal {
         })
     }
 
-    /// The byte string literal of the bytes, by the rule `byte-string-text`. For `"`, 0 and `7` it
-    /// is `b"\"\x007"`.
+    /// The byte string literal of the bytes, by the rule `byte-string-text`, with the span 0..0. For
+    /// `"`, 0 and `7` it is `b"\"\x007"`. Fails where memory runs out.
     pub fn byte_string(alloc: Global, bytes: &[u8]) -> Result<Literal, AllocError>
         ensures ok { IfOk result (λ literal.
             literal ≡ record { text = byte_string_text bytes.now; span = nowhere }) }
@@ -86,8 +87,8 @@ impl Literal {
     }
 
     /// The C string literal of the bytes, none of which is zero, by the rule `c-string-text`: the
-    /// zero that ends a C string is no part of its literal. For 0x7F, 0xFF and the bytes of U+0333
-    /// it is `c"\u{7f}\xFF\u{333}"`.
+    /// zero that ends a C string is no part of its literal, whose span is 0..0. For 0x7F, 0xFF and
+    /// the bytes of U+0333 it is `c"\u{7f}\xFF\u{333}"`. Fails where memory runs out.
     pub fn c_string(alloc: Global, bytes: &[u8]) -> Result<Literal, AllocError>
         requires { IsTrue (has_no_zero bytes.now) }
         ensures ok { IfOk result (λ literal.

@@ -158,6 +158,7 @@ fn a_byte_a_call_is_enough(rt: HostRuntime) -> Result<(), Fail> {
     );
     assert_eq!(rt; status, 0);
     assert_eq!(rt; writer.bytes(), PRINTED);
+    assert_eq!(rt; errors.bytes(), b"".as_slice());
     Ok(())
 }
 

@@ -1,11 +1,13 @@
-use Rattle.std.proofs.Common.{◌≡◌, ◌+◌, ◌<◌, ◌++◌, [], get_or, ◌∷◌, ℕ, List, Some, None, length, drop, string_bytes, ap, sym, subst, ◌∙◌, arith}
+use Rattle.std.proofs.Common.{◌≡◌, ◌+◌, ◌<◌, ◌++◌, [], get_or, ◌∷◌, ℕ, List, Some}
+use Rattle.std.proofs.Common.{None, length, drop, string_bytes, ap, sym, subst, ◌∙◌, arith}
 use Rattle.std.specs.Str.{chars}
 use Rattle.std.proofs.lemmas.Iterator.{YieldsList-from_chars}
 use Rattle.std.proofs.lemmas.Iterator.Consumers.{YieldsList-turn, YieldsList-end}
 use Rattle.std.proofs.lemmas.List.{length_push, drop_more, drop_all}
 use Rattle.conformance.specs.declared.columns.State.{State}
 use Rattle.conformance.specs.Column.{step}
-use Rattle.conformance.proofs.ColumnLemmas.{IsReading, IsReading-start, IsReading-silent, IsReading-character, IsReading-wrong, IsReading-end, IsReading-open}
+use Rattle.conformance.proofs.ColumnLemmas.{IsReading, IsReading-start, IsReading-silent, IsReading-character}
+use Rattle.conformance.proofs.ColumnLemmas.{IsReading-wrong, IsReading-end, IsReading-open}
 use Rattle.conformance.proofs.columns.unescaped.Goals as goal
 use Rattle.conformance.proofs.columns.unescaped.Goals.{in-Plain, in_default-state}
 
@@ -33,7 +35,8 @@ loop-c-preserved-in_ok-push c =
     c.loop-c.yielded_by _ _ c.in-Some.c c.in-Some.is c.next.ensures.steps in
     let left = left_more (chars c.args.column.now) c.loop-c.yielded c.in-Some.c turn.0 turn.1 in
     let is : step c.loop-c.state c.in-Some.c ≡ Some (c.in-Some-step.next, Some c.in-Some-read.c) = cc in
-    IsReading-character _ _ _ _ _ _ _ _ is c.in_ok-push.ensures.bytes (subst (IsReading _ _ c.loop-c.state) left c.loop-c.invariant)
+    IsReading-character _ _ _ _ _ _ _ _ is c.in_ok-push.ensures.bytes
+    (subst (IsReading _ _ c.loop-c.state) left c.loop-c.invariant)
 
 pub loop-c-preserved : goal.loop-c-preserved
 loop-c-preserved c =

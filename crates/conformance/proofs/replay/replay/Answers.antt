@@ -5,12 +5,14 @@ use Rattle.conformance.proofs.replay.replay.Goals as goal
 
 pub loop-line-init : goal.loop-line-init
 loop-line-init g c =
-    IsReplaying-start _ _ _ _ (ap (lines_known_bytes g.R.Read.remaining) c.into_iter-line-iterator.ensures.into_iter_gives ∙ c.lines-line-items.ensures) refl
+    let fresh = ap (lines_known_bytes g.R.Read.remaining) c.into_iter-line-iterator.ensures.into_iter_gives in
+    IsReplaying-start _ _ _ _ (fresh ∙ c.lines-line-items.ensures) refl
 
 pub loop-line-preserved : goal.loop-line-preserved
 loop-line-preserved g c =
     let is : c.next.result ≡ Some (Ok c.in_ok-line.line) = c.in-Some.is ∙ ap Some c.in_ok-line.was in
-    IsReplaying-more string_bytes _ _ _ _ _ _ _ _ _ _ _ _ c.loop-line.invariant c.next.ensures.steps.1 is c.as_str.ensures.value c.in_ok-same.ensures
+    IsReplaying-more string_bytes _ _ _ _ _ _ _ _ _ _ _ _ c.loop-line.invariant c.next.ensures.steps.1 is
+    c.as_str.ensures.value c.in_ok-same.ensures
     c.with_answer-tally.ensures.answers c.with_answer-tally.ensures.differences
 
 pub returns : goal.returns

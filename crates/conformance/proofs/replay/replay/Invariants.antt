@@ -4,4 +4,5 @@ use Rattle.conformance.proofs.replay.replay.Given as goal
 
 abbrev pub invariant-loop-line : goal.invariant-loop-line
 invariant-loop-line g l =
-    IsReplaying (g.R.Read.remaining l.fn.reader) (lines_known_bytes g.R.Read.remaining l.line-iterator) l.tally (g.W.Write.contents l.fn.writer) (g.W.Write.contents l.writer)
+    IsReplaying (g.R.Read.remaining l.fn.reader) (lines_known_bytes g.R.Read.remaining l.line-iterator) l.tally
+    (g.W.Write.contents l.fn.writer) (g.W.Write.contents l.writer)

@@ -8,7 +8,8 @@ use Rattle.lexical.proofs.gaps.past_white.Goals.{else-loop-byte-test, then-loop-
 
 pub range_from-requires : goal.range_from-requires
 range_from-requires c =
-    λ _. white_boundary c.args.text.now c.loop-byte.white c.utf8.text (omega (arith, c.loop-byte.invariant.0, ap length c.as_bytes-byte-items.ensures.value))
+    λ _. white_boundary c.args.text.now c.loop-byte.white c.utf8.text
+    (omega (arith, c.loop-byte.invariant.0, ap length c.as_bytes-byte-items.ensures.value))
     (subst (λ n. list_all ascii_white (take n c.args.text.now) ≡ true) (sym c.loop-byte.invariant.0) c.loop-byte.invariant.1)
 
 pub returns-clause-passed : goal.returns-clause-passed

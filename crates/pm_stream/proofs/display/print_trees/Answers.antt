@@ -28,7 +28,9 @@ loop-tree-preserved-in_default-tree g c = λ plain.
     let spaced = c.in_ok-print_space.ensures now.1.plain (refl {a = true}) in
     let fronted = c.in_ok-print_front.ensures spaced.plain (refl {a = true}) in
     written_more _ _ _ _ _ _ _ _ now.1 (written_two _ _ _ _ _ _ spaced fronted)
-    (ap (λ l. now.0 ++ l) (leaf_more _ _ _ _ _ c.loop-tree.outer.items c.in-Some.ensures.cases.0 c.in_default-tree.not-Group c.gap_within-gap.ensures) ∙ now.2)
+    (ap (λ l. now.0 ++ l)
+    (leaf_more _ _ _ _ _ c.loop-tree.outer.items c.in-Some.ensures.cases.0
+    c.in_default-tree.not-Group c.gap_within-gap.ensures) ∙ now.2)
 
 pub loop-tree-smaller : goal.loop-tree-smaller
 loop-tree-smaller g c = end_less _ _ _ _ c.in-Some-pop.ensures.items

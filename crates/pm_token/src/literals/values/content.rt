@@ -1,5 +1,5 @@
 //! What stands between the quotes of a literal.
-ghost use Rattle.std.specs.Prelude.{◌≡◌, ◌∷◌, [], codes, IfSome, IsTrue, MatchOption, None, Some};
+ghost use Rattle.std.specs.Prelude.{◌≡◌, codes, IfSome, IsTrue, MatchOption, None, Some};
 ghost use Rattle.std.specs.Str.{IsUtf8, chars};
 ghost use Rattle.lexical.specs.Ascii.{all_ascii};
 ghost use Rattle.pm_token.specs.Content.{before, behind, cooked_content as cooked, hashed_content as hashed, raw_content as raw};

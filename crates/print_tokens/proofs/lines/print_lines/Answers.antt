@@ -8,8 +8,10 @@ loop-tree-init g c = HasWritten-none _ _ _ refl
 
 pub loop-tree-preserved : goal.loop-tree-preserved
 loop-tree-preserved g c =
-    HasWritten-more _ _ _ _ _ _ _ (trees_more _ _ _ c.loop-tree-test.true c.tree-item.is) c.loop-tree.invariant c.in_ok-print_line.ensures
+    let more = trees_more _ _ _ c.loop-tree-test.true c.tree-item.is in
+    HasWritten-more _ _ _ _ _ _ _ more c.loop-tree.invariant c.in_ok-print_line.ensures
 
 pub returns : goal.returns
 returns g c =
-    HasWritten-all _ _ _ _ _ _ c.loop-tree-test.false (ap trees_of c.as_slice-tree-items.ensures.value ∙ c.in_ok-trees.ensures) c.loop-tree.invariant
+    let all = ap trees_of c.as_slice-tree-items.ensures.value ∙ c.in_ok-trees.ensures in
+    HasWritten-all _ _ _ _ _ _ c.loop-tree-test.false all c.loop-tree.invariant

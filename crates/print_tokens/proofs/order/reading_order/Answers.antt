@@ -25,4 +25,5 @@ pub loop-tree-smaller : goal.loop-tree-smaller
 loop-tree-smaller c = end_less _ _ _ _ c.in-Some-pop.ensures.items
 
 pub loop-tree-preserved : goal.loop-tree-preserved
-loop-tree-preserved c = end_more _ _ _ _ _ _ c.in_default.ensures.cases c.in-Some-pop.ensures.items c.loop-tree.invariant
+loop-tree-preserved c =
+    end_more _ _ _ _ _ _ c.in_default.ensures.cases c.in-Some-pop.ensures.items c.loop-tree.invariant

@@ -21,7 +21,8 @@ pub range-requires-clause-end_boundary : goal.range-requires-clause-end_boundary
 range-requires-clause-end_boundary c = piece_boundary _ c.args.text.now c.args.piece c.utf8.text c.requires.stands.1
 
 pub push_literal-requires : goal.push_literal-requires
-push_literal-requires c = literal_found _ c.args.text.now c.range.result.now c.args.piece c.utf8.text c.requires.stands.1 c.in-Literal.is c.range.ensures.value
+push_literal-requires c = literal_found _ c.args.text.now c.range.result.now c.args.piece
+    c.utf8.text c.requires.stands.1 c.in-Literal.is c.range.ensures.value
 
 -- the events of a piece of this kind were written
 written_by : (old made new : Reading) (events : List Event) (kind is : PieceKind) (lo : ℕ) (front : List ℕ)

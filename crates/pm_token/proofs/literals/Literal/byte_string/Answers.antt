@@ -13,7 +13,8 @@ text c =
     ∙ ap (λ x. x ++ 34 ∷ []) (c.in_ok-push.ensures.ok ∙ ap (λ x. x ++ 98 ∷ []) c.new-draft.ensures))))
 
 pub invariant_of-result : goal.invariant_of-result
-invariant_of-result c = inl (subst IsWhole (sym (text c)) (byte_string_whole c.args.bytes.now (bytes_fit c.args.bytes.now (λ i. (c.type_inv.bytes i).fits))))
+invariant_of-result c = inl (subst IsWhole (sym (text c))
+    (byte_string_whole c.args.bytes.now (bytes_fit c.args.bytes.now (λ i. (c.type_inv.bytes i).fits))))
 
 pub returns : goal.returns
 returns c = record { ok = ap₂ (λ x s. record { text = x; span = s }) (text c) c.call_site.ensures }

@@ -18,7 +18,8 @@ text c =
     }
 
 pub invariant_of-result : goal.invariant_of-result
-invariant_of-result c = inl (c_string_whole c.args.bytes.now c.finish.result (text c) (bytes_fit c.args.bytes.now (λ i. (c.type_inv.bytes i).fits)) c.requires)
+invariant_of-result c = inl (c_string_whole c.args.bytes.now c.finish.result (text c)
+    (bytes_fit c.args.bytes.now (λ i. (c.type_inv.bytes i).fits)) c.requires)
 
 pub returns : goal.returns
 returns c = record { ok = (text c, c.call_site.ensures) }

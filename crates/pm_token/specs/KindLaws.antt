@@ -1,0 +1,30 @@
+-- Which kinds of literals those are that were made.
+use Rattle.std.specs.Prelude.{◌<◌, ℕ, List, [], IsTrue}
+use Rattle.std.specs.Char.{IsScalar}
+use Rattle.std.specs.List.{AllByRecursion}
+use Rattle.std.specs.Str.{all_scalars}
+use Rattle.lexical.specs.Quoted.{ByteStr, CStr, Str}
+use Rattle.lexical.specs.SingleQuoted.{Byte, Character}
+use Rattle.pm_token.specs.CString.{IsCStringText, has_no_zero}
+use Rattle.pm_token.specs.Escaped.{byte_string_text, byte_text, character_text, string_text}
+
+-- what is written for a text is a string by itself
+abbrev pub StringsAreStrings : Type 0
+StringsAreStrings = (text : List ℕ) → IsTrue (all_scalars text) → Str (string_text text) []
+
+-- for some bytes a byte string
+abbrev pub ByteStringsAreByteStrings : Type 0
+ByteStringsAreByteStrings = (bytes : List ℕ) → AllByRecursion (λ b. b < 256) bytes → ByteStr (byte_string_text bytes) []
+
+-- for some bytes, none of them zero, a C string
+abbrev pub CStringsAreCStrings : Type 0
+CStringsAreCStrings = (bytes text : List ℕ) → AllByRecursion (λ b. b < 256) bytes → IsTrue (has_no_zero bytes)
+    → IsCStringText bytes text → CStr text []
+
+-- for a character a character literal
+abbrev pub CharactersAreCharacters : Type 0
+CharactersAreCharacters = (c : ℕ) → IsScalar c → Character (character_text c) []
+
+-- for a byte a byte literal
+abbrev pub BytesAreBytes : Type 0
+BytesAreBytes = (b : ℕ) → b < 256 → Byte (byte_text b) []
