@@ -45,8 +45,8 @@ def build(crate: str, ident: str, out: pathlib.Path) -> dict[str, str]:
     """The programs, by name."""
     tokens = HERE.parent / "crates/tokens"
     with open(tokens / "stdin", "rb") as text:
-        subprocess.run(["rt", "run", "--", "print"], cwd=tokens, stdin=text, check=True, capture_output=True)
-    subprocess.run([HERE / "twin/build.sh", crate, ident, out], check=True, capture_output=True)
+        subprocess.run(["rt", "run", "--", "print"], cwd=tokens, stdin=text, check=True, stdout=subprocess.DEVNULL)
+    subprocess.run([HERE / "twin/build.sh", crate, ident, out], check=True, stdout=subprocess.DEVNULL)
     return {"tokens": str(tokens / "out/tokens"), "twin": str(out / "twin")}
 
 

@@ -5,20 +5,7 @@
 ghost use Rattle.std.specs.Prelude.{◌≡◌, ◌==◌, if◌then◌else◌, IfOk, OnOk};
 ghost use Rattle.std.specs.Io.KnownBytes.{Appends};
 ghost use Rattle.std.specs.Process.{exit_status};
-ghost use Rattle.conformance.specs.Replay.{IsRun, tally_text};
-
-mod answer;
-mod asked;
-mod columns;
-mod items;
-mod kind;
-#[cfg(test)]
-mod literal_rows;
-mod literals;
-mod replay;
-#[cfg(test)]
-mod rows;
-mod texts;
+ghost use Rattle.conformance.specs.Run.{IsRun, tally_text};
 
 use replay::{Tally, replay};
 use std::alloc::Global;

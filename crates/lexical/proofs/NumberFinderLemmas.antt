@@ -239,7 +239,3 @@ number_first p r (inr int) = let is = int.1 in first_of_then Integer End p r is 
 
 pub shows_digit : Shows is_ascii_digit Number
 shows_digit p r is = let at = number_first p r is in ap (λ q. first_passes is_ascii_digit (q ++ r)) at.2 ∙ at.3
-
--- at most one split of a text is a number
-pub one_number : (p q r s : List ℕ) → Number p r → Number q s → p ++ r ≡ q ++ s → (p ≡ q) × (r ≡ s)
-one_number = one_split find_number Number finds_number

@@ -1,5 +1,5 @@
 -- What a piece that stands somewhere gives to the crates above.
-use Rattle.std.proofs.Common.{◌≡◌, ℕ, ◌<◌, ◌⊎◌, inl, inr, Bool, true, false, not, ◌==◌, List, [], ◌∷◌, ◌++◌, codes, length, take, drop, refl, sym, ap, ◌∙◌, subst, arith, eqb-true, length-append}
+use Rattle.std.proofs.Common.{◌≡◌, ℕ, ◌<◌, inl, inr, Bool, true, false, not, ◌==◌, List, [], ◌∷◌, ◌++◌, codes, length, take, drop, refl, sym, ap, ◌∙◌, subst, arith, eqb-true, length-append}
 use Rattle.std.specs.List.{list_all}
 use Rattle.std.specs.Str.{chars, IsUtf8, IsCharBoundary}
 use Rattle.std.proofs.lemmas.Bool.{both_ways, and_parts, and_from, or_cases, not-true, false_from_ne_true}
@@ -15,7 +15,6 @@ use Rattle.lexical.specs.Piece.{Kind, FrontMark, Gap, Doc, Open, Close, Leaf, St
 use Rattle.lexical.specs.Found.{IsPieceAt}
 use Rattle.lexical.specs.declared.piece.Piece.{Piece}
 use Rattle.lexical.proofs.TextLemmas.{seam_boundary, seam_take, seam_drop}
-use Rattle.lexical.proofs.ClassLemmas.{any_of}
 use Rattle.lexical.proofs.CommentFinderLemmas.{comment_first}
 use Rattle.lexical.proofs.PieceLemmas.{passes_of}
 use Rattle.lexical.proofs.LiteralFinderLemmas.{literal_front}
@@ -62,14 +61,6 @@ pub piece_rest : (first : Bool) (text : List ℕ) (piece : Piece) → IsUtf8 tex
 piece_rest first text piece utf8 at = seam_drop text at.front at.rest piece.bytes utf8 at.whole at.bytes
 
 -- ---- delimiters and marks
-
--- one of `(`, `[`, `{`
-pub opener_is : (c : ℕ) → is_opener c ≡ true → (c ≡ 40) ⊎ ((c ≡ 91) ⊎ (c ≡ 123))
-opener_is c h = any_of (λ d. (d ≡ 40) ⊎ ((d ≡ 91) ⊎ (d ≡ 123))) (codes "([{") c (inl refl, (inr (inl refl), (inr (inr refl), tt))) h
-
--- one of `)`, `]`, `}`
-pub closer_is : (c : ℕ) → is_closer c ≡ true → (c ≡ 41) ⊎ ((c ≡ 93) ⊎ (c ≡ 125))
-closer_is c h = any_of (λ d. (d ≡ 41) ⊎ ((d ≡ 93) ⊎ (d ≡ 125))) (codes ")]}") c (inl refl, (inr (inl refl), (inr (inr refl), tt))) h
 
 pub open_is : (first : Bool) (c : ℕ) (p r : List ℕ) → IsPiece first (Open c) p r → (p ≡ c ∷ []) × (is_opener c ≡ true)
 open_is first c p r h = passes_of is_opener c p r h.0

@@ -1,5 +1,5 @@
 -- Strings before another rest, and how they begin.
-use Rattle.std.proofs.Common.{◌≡◌, ℕ, Bool, true, false, ◌||◌, ◌==◌, List, [], ◌∷◌, ◌++◌, codes, refl, sym, ap, ◌∙◌, subst, inl, inr}
+use Rattle.std.proofs.Common.{◌≡◌, ℕ, Bool, true, false, ◌||◌, ◌==◌, List, [], ◌∷◌, ◌++◌, codes, refl, ap, ◌∙◌, inl, inr}
 use Rattle.std.specs.List.{concat, list_any}
 use Rattle.std.specs.Char.{is_ascii_hexdigit}
 use Rattle.std.proofs.lemmas.Bool.{both_ways}
@@ -9,7 +9,7 @@ use Rattle.lexical.proofs.ClassLemmas.{any_of}
 use Rattle.lexical.specs.Text.{first_passes}
 use Rattle.lexical.specs.Form.{Form, HasNone, Then, Either, Exactly, One, Many, Each}
 use Rattle.lexical.specs.Identifier.{Name}
-use Rattle.lexical.specs.Quoted.{Simple, is_octal_digit, Hex, LowPair, Code, Unicode, StringEscape, Newline, Continuation, BodyUnit, is_string_plain, StringUnit, Suffix, Str}
+use Rattle.lexical.specs.Quoted.{Simple, is_octal_digit, Hex, LowPair, Code, Unicode, StringEscape, Newline, Continuation, BodyUnit}
 
 -- ---- forms that don't look at what follows
 
@@ -85,9 +85,6 @@ free_unit plain Escape free = free_either (One plain) (Either Newline (Then (Exa
     (free_then (Exactly (codes "\\")) (Either Continuation Escape) (free_text (codes "\\"))
     (free_either Continuation Escape (λ p r s is. is) free)))
 
-free_string_unit : Free StringUnit
-free_string_unit = free_unit is_string_plain StringEscape free_string_escape
-
 -- ---- suffixes
 
 -- where no identifier starts, no name stands
@@ -99,51 +96,6 @@ no_name r none p q whole is =
 pub record EndsSuffix (r : List ℕ) : Type 0 where
   pub start : first_passes is_ident_start r ≡ false
   pub continue : first_passes is_ident_continue r ≡ false
-
-pub suffix_before : (p r s : List ℕ) → EndsSuffix s → Suffix p r → Suffix p s
-suffix_before p r s ends is = elim is [
-  | inl name ↦ inl (record {
-    front = name.front;
-    back = name.back;
-    whole = name.whole;
-    first = name.first;
-    second = record { each = name.second.each; stops = ends.continue };
-  })
-  | inr none ↦ inr (subst (λ q. HasNone Name (q ++ s)) (sym none.1) (no_name s ends.start), none.1)
-]
-
--- ---- strings
-
-pub str_before : (p r s : List ℕ) → EndsSuffix s → Str p r → Str p s
-unfolding Str
-str_before p r s ends is =
-    let body = is.second in
-    let close = body.second in
-    record {
-      front = is.front;
-      back = is.back;
-      whole = is.whole;
-      first = is.first;
-      second = record {
-        front = body.front;
-        back = body.back;
-        whole = body.whole;
-        first = free_many StringUnit free_string_unit body.front (body.back ++ r) (body.back ++ s) body.first;
-        second =
-            record {
-              front = close.front;
-              back = close.back;
-              whole = close.whole;
-              first = close.first;
-              second = suffix_before close.back r s ends close.second;
-            };
-      };
-    }
-
--- it begins with a quote
-pub str_first : (p r : List ℕ) → Str p r → (more : List ℕ) × (p ≡ 34 ∷ more)
-unfolding Str
-str_first p r is = (is.back, is.whole ∙ ap (λ front. front ++ is.back) is.first)
 
 -- ---- stops
 
@@ -159,6 +111,3 @@ stop_ends (c ∷ r) e = record {
   start = any_of (λ d. is_ident_start d ≡ false) (codes " \n)]}") c (refl, (refl, (refl, (refl, (refl, tt))))) e;
   continue = any_of (λ d. is_ident_continue d ≡ false) (codes " \n)]}") c (refl, (refl, (refl, (refl, (refl, tt))))) e;
 }
-
-pub str_before_stop : (p r s : List ℕ) → stops s ≡ true → Str p r → Str p s
-str_before_stop p r s e is = str_before p r s (stop_ends s e) is

@@ -5,13 +5,13 @@ use Rattle.std.proofs.lemmas.Bool.{and_parts, or_from, both_ways, false_from_ne_
 use Rattle.lexical.specs.Text.{begins_with, begins_any}
 use Rattle.lexical.specs.Form.{Exactly}
 use Rattle.lexical.specs.Comment.{block_signs}
-use Rattle.lexical.specs.Finder.{Answer, Finder, behind, and_find, find_then, find_text}
+use Rattle.lexical.specs.Finder.{Answer, behind, find_text}
 use Rattle.lexical.specs.CommentFinder.{find_ends}
 use Rattle.lexical.specs.Reading.{Passes, Leads}
 use Rattle.lexical.specs.declared.cursor.Cursor.{Cursor}
 use Rattle.lexical.proofs.FinderLemmas.{finds_text, found_is, none_found}
 use Rattle.lexical.proofs.TextLemmas.{begins_splits, begins_front}
-use Rattle.lexical.proofs.BlockLemmas.{behind_nothing, behind_behind, at_none, at_nothing, at_close, at_open, at_other}
+use Rattle.lexical.proofs.BlockLemmas.{behind_behind, at_none, at_nothing, at_close, at_open, at_other}
 
 -- ---- a text
 
@@ -40,31 +40,10 @@ text_passed front at to h = (found_is (find_text front) (Exactly front) (finds_t
 pub past_text : (front : List ℕ) (at to : Cursor) → Passes (find_text front (chars at.rest.now)) at to → chars at.rest.now ≡ front ++ chars to.rest.now
 past_text front at to h = h.whole ∙ ap (λ x. x ++ chars to.rest.now) (text_passed front at to h)
 
--- ---- `Then`
-
-pub then_passes : (f g : Finder) (at mid to : Cursor) → Passes (f (chars at.rest.now)) at mid
-    → Passes (g (chars mid.rest.now)) mid to → Passes (find_then f g (chars at.rest.now)) at to
-then_passes f g at mid to h j = record {
-  front = h.front ++ j.front;
-  found = ap (and_find g) h.found ∙ ap (behind h.front) j.found;
-  whole = h.whole ∙ (ap (λ x. h.front ++ x) j.whole ∙ sym (append_assoc h.front j.front (chars to.rest.now)));
-  count = omega (arith, h.count, j.count, length-append h.front j.front);
-}
-
-pub then_fails : (f g : Finder) (text : List ℕ) → f text ≡ None → find_then f g text ≡ None
-then_fails f g text e = ap (and_find g) e
-
-pub then_fails_on : (f g : Finder) (at mid : Cursor) → Passes (f (chars at.rest.now)) at mid
-    → g (chars mid.rest.now) ≡ None → find_then f g (chars at.rest.now) ≡ None
-then_fails_on f g at mid h e = ap (and_find g) h.found ∙ ap (behind h.front) e
-
 -- ---- within block comments
 
 suc_of : (n : ℕ) → 0 < n → (m : ℕ) × (n ≡ suc m)
 suc_of n h = (n - 1, omega arith)
-
-pub leads_nowhere : (at : Cursor) (depth : ℕ) → depth ≤ at.chars_before → Leads at depth at depth
-leads_nowhere at depth fits = record { front = []; found = sym (behind_nothing _); whole = refl; count = omega arith; fits = fits }
 
 pub leads_on : (at mid to : Cursor) (depth between inside : ℕ) → Leads at depth mid between → Leads mid between to inside → Leads at depth to inside
 leads_on at mid to depth between inside h j = record {

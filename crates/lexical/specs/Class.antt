@@ -2,6 +2,7 @@
 use Rattle.std.specs.Prelude.{ℕ, Bool, not, ◌&&◌, ◌||◌, ◌==◌}
 use Rattle.std.specs.Char.{is_whitespace}
 use Rattle.unicode_ident.specs.Ident.{is_xid_start, is_xid_continue}
+use Rattle.lexical.specs.Character.{underscore}
 
 -- `white`: white space, and the two marks of direction
 abbrev pub is_white : ℕ → Bool
@@ -9,7 +10,7 @@ is_white c = is_whitespace c || (c == 0x200E) || (c == 0x200F)
 
 -- `identifier-start`: a character that may begin an identifier
 abbrev pub is_ident_start : ℕ → Bool
-is_ident_start c = ((c == 95) || is_xid_start c) && not (is_white c) && not (c == 0xFEFF)
+is_ident_start c = ((c == underscore) || is_xid_start c) && not (is_white c) && not (c == 0xFEFF)
 
 -- `identifier-continue`: a character that may go on with one
 abbrev pub is_ident_continue : ℕ → Bool

@@ -1,5 +1,6 @@
--- Comments and doc comments. CR is 13, and LF is 10.
+-- Comments and doc comments.
 use Rattle.std.specs.Prelude.{ℕ, Bool, false, not, ◌&&◌, ◌||◌, ◌==◌, ◌≡◌, List, [], ◌∷◌, ◌++◌, IsFalse, codes, length, if◌then◌else◌}
+use Rattle.lexical.specs.Character.{carriage_return, line_feed}
 use Rattle.lexical.specs.Text.{begins_with, begins_any, ends_with}
 use Rattle.lexical.specs.Form.{Form, Then, Where, Either, Exactly, Run}
 
@@ -7,7 +8,7 @@ use Rattle.lexical.specs.Form.{Form, Then, Where, Either, Exactly, Run}
 
 -- `line-comment`: `//` and all characters up to the next LF or the end, a CR before that LF among them
 abbrev pub LineComment : Form
-LineComment = Then (Exactly (codes "//")) (Run (λ c. not (c == 10)))
+LineComment = Then (Exactly (codes "//")) (Run (λ c. not (c == line_feed)))
 
 -- how a block comment begins and ends
 abbrev pub block_signs : List (List ℕ)
@@ -56,13 +57,13 @@ is_doc p = is_inner p || (begins_any outer_fronts p && not (begins_any plain_fro
 abbrev pub closing : List ℕ → List ℕ → List ℕ
 closing p r =
     if begins_with (codes "/*") p then codes "*/"
-    else if ends_with 13 p && begins_with (codes "\n") r then 13 ∷ []
+    else if ends_with carriage_return p && begins_with (codes "\n") r then carriage_return ∷ []
     else []
 
 -- whether a CR stands in the text that no LF follows there
 abbrev pub has_bare_return : List ℕ → Bool
 has_bare_return [] = false
-has_bare_return (c ∷ text) = ((c == 13) && not (begins_with (codes "\n") text)) || has_bare_return text
+has_bare_return (c ∷ text) = ((c == carriage_return) && not (begins_with (codes "\n") text)) || has_bare_return text
 
 -- `doc-text`: a doc comment, and what it says: all but its first three characters and what closes it
 pub record Doc (inner : Bool) (text p r : List ℕ) : Type 0 where

@@ -1,5 +1,6 @@
 -- The finders of comments, and what kind of piece a comment is.
 use Rattle.std.specs.Prelude.{ℕ, not, ◌-◌, ◌==◌, zero, suc, List, [], ◌∷◌, length, codes, cond, Option, Some, None, take, drop, if◌then◌else◌}
+use Rattle.lexical.specs.Character.{line_feed}
 use Rattle.lexical.specs.Text.{begins_with}
 use Rattle.lexical.specs.Comment.{is_inner, is_doc, closing, has_bare_return}
 use Rattle.lexical.specs.Piece.{Kind, Gap, Doc}
@@ -7,7 +8,7 @@ use Rattle.lexical.specs.Finder.{Finder, behind, find_then, find_else, find_run,
 
 -- `line-comment`
 abbrev pub find_line : Finder
-find_line = find_then (find_text (codes "//")) (find_run (λ c. not (c == 10)))
+find_line = find_then (find_text (codes "//")) (find_run (λ c. not (c == line_feed)))
 
 -- all up to where so many block comments end that are open
 unfoldable pub find_ends : ℕ → Finder

@@ -3,9 +3,11 @@ use Rattle.std.specs.Prelude.{ℕ, Bool, ◌&&◌, ◌==◌, List, [], ◌∷◌
 use Rattle.std.specs.List.{list_any}
 use Rattle.lexical.specs.Form.{Form, NotAt, One}
 
+-- one of the three openers
 abbrev pub is_opener : ℕ → Bool
 is_opener c = list_any (λ d. d == c) (codes "([{")
 
+-- one of the three closers
 abbrev pub is_closer : ℕ → Bool
 is_closer c = list_any (λ d. d == c) (codes ")]}")
 

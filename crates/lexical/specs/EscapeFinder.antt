@@ -1,6 +1,7 @@
 -- The finders of escapes, by the kind of string that they stand in.
 use Rattle.std.specs.Prelude.{ℕ, Bool, true, false, ◌||◌, ◌==◌, nat_lt, List, [], ◌∷◌, codes}
 use Rattle.std.specs.Char.{is_ascii_hexdigit}
+use Rattle.lexical.specs.Character.{underscore}
 use Rattle.lexical.specs.Finder.{Finder, find_then, find_else, find_not_at, find_where, find_one, find_run, find_text}
 use Rattle.lexical.specs.Quoted.{is_one_of, is_octal_digit, is_code}
 use Rattle.lexical.specs.declared.quoted.StringKind.{StringKind}
@@ -34,7 +35,7 @@ find_hex kind = find_then (find_text (codes "x")) (find_pair kind)
 
 -- a hex digit or `_`
 abbrev pub is_code_digit : ℕ → Bool
-is_code_digit c = is_ascii_hexdigit c || (c == 95)
+is_code_digit c = is_ascii_hexdigit c || (c == underscore)
 
 -- the digits of a character's code
 abbrev pub find_digits : Finder

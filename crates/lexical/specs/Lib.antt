@@ -1,3 +1,4 @@
+pub mod Character
 pub mod Class
 pub mod Text
 pub mod Form

@@ -1,6 +1,7 @@
 -- Marks.
 use Rattle.std.specs.Prelude.{ℕ, Bool, not, ◌&&◌, ◌||◌, ◌==◌, ◌≡◌, List, [], ◌∷◌, ◌++◌, IsFalse, codes}
 use Rattle.std.specs.List.{list_any}
+use Rattle.lexical.specs.Character.{hash_sign, single_quote}
 use Rattle.lexical.specs.Text.{begins_any, first_passes}
 use Rattle.lexical.specs.Form.{Form, NotAt, Exactly, One}
 use Rattle.lexical.specs.Token.{raw_front}
@@ -10,6 +11,7 @@ use Rattle.lexical.specs.Identifier.{Named}
 abbrev pub marks : List ℕ
 marks = codes "~!@#$%^&*-=+|;:,<.>/?'"
 
+-- one of the 22 marks
 abbrev pub is_mark : ℕ → Bool
 is_mark c = list_any (λ d. d == c) marks
 
@@ -19,7 +21,7 @@ comment_fronts = codes "//" ∷ codes "/*" ∷ []
 
 -- `mark`: one of the marks but `'`, where no comment begins
 abbrev pub Mark : Form
-Mark = NotAt comment_fronts (One (λ c. is_mark c && not (c == 39)))
+Mark = NotAt comment_fronts (One (λ c. is_mark c && not (c == single_quote)))
 
 -- `joint`: whether a mark before r is Joint, as a mark follows that begins no comment
 abbrev pub joint_before : List ℕ → Bool
@@ -27,7 +29,7 @@ joint_before r = first_passes is_mark r && not (begins_any comment_fronts r)
 
 -- whether the character bars a `'` before the identifier that it follows: `'`, and `#` behind a plain one
 abbrev pub bars_quote : Bool → ℕ → Bool
-bars_quote raw c = (c == 39) || ((c == 35) && not raw)
+bars_quote raw c = (c == single_quote) || ((c == hash_sign) && not raw)
 
 -- the text begins with an identifier, whatever literal begins there, and no character that bars a `'` follows that
 pub record FollowsQuote (r : List ℕ) : Type 0 where

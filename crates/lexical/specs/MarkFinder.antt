@@ -1,5 +1,6 @@
 -- The finders of marks and of lone quotes, and the kind of what they find.
 use Rattle.std.specs.Prelude.{ℕ, Bool, true, false, not, ◌&&◌, ◌==◌, cond, List, codes, Some, None}
+use Rattle.lexical.specs.Character.{single_quote}
 use Rattle.lexical.specs.Text.{begins_with, first_of, first_passes}
 use Rattle.lexical.specs.Token.{Mark}
 use Rattle.lexical.specs.Mark.{is_mark, comment_fronts, joint_before, bars_quote}
@@ -9,7 +10,7 @@ use Rattle.lexical.specs.IdentifierFinder.{find_name, find_raw_text}
 
 -- `mark`
 abbrev pub find_mark : Finder
-find_mark = find_not_at comment_fronts (find_one (λ c. is_mark c && not (c == 39)))
+find_mark = find_not_at comment_fronts (find_one (λ c. is_mark c && not (c == single_quote)))
 
 -- whether an identifier was found, and nothing that bars a `'` before it follows
 abbrev pub is_unbarred : Bool → Answer → Bool
@@ -33,4 +34,4 @@ mark_kind p r = Leaf (Mark (first_of p) (joint_before r))
 
 -- the kind of a lone quote
 abbrev pub quote_kind : List ℕ → List ℕ → Kind
-quote_kind p r = Leaf (Mark 39 true)
+quote_kind p r = Leaf (Mark single_quote true)

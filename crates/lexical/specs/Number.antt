@@ -1,13 +1,16 @@
 -- Numbers.
 use Rattle.std.specs.Prelude.{ℕ, Bool, ◌||◌, ◌==◌, List, [], ◌∷◌, codes}
 use Rattle.std.specs.Char.{is_ascii_digit, is_digit}
+use Rattle.lexical.specs.Character.{capital_e, dot, letter_e, minus_sign, plus_sign, underscore}
 use Rattle.lexical.specs.Class.{is_ident_start, is_ident_continue}
 use Rattle.lexical.specs.Form.{Form, Then, NotAt, NotBefore, Unless, Either, Perhaps, Exactly, One, Run}
 use Rattle.lexical.specs.Quoted.{Suffix}
 
+-- `_`
 abbrev pub is_underscore : ℕ → Bool
-is_underscore c = c == 95
+is_underscore c = c == underscore
 
+-- an ASCII digit or `_`
 abbrev pub is_digit_or_underscore : ℕ → Bool
 is_digit_or_underscore c = is_ascii_digit c || is_underscore c
 
@@ -23,17 +26,19 @@ End = NotBefore is_ident_continue Suffix
 
 -- whether a dot before the character is no dot of a number
 abbrev pub bars_dot : ℕ → Bool
-bars_dot c = (c == 46) || is_ident_start c
+bars_dot c = (c == dot) || is_ident_start c
 
 -- `dot`: before neither a dot nor what may begin an identifier
 abbrev pub Dot : Form
 Dot = NotBefore bars_dot (Exactly (codes "."))
 
+-- `e` or `E`
 abbrev pub is_exponent_letter : ℕ → Bool
-is_exponent_letter c = (c == 101) || (c == 69)
+is_exponent_letter c = (c == letter_e) || (c == capital_e)
 
+-- `+` or `-`
 abbrev pub is_sign : ℕ → Bool
-is_sign c = (c == 43) || (c == 45)
+is_sign c = (c == plus_sign) || (c == minus_sign)
 
 -- `exponent`: `e` or `E`, one sign at most with `_` on both sides, and digits
 abbrev pub Exponent : Form
@@ -67,6 +72,7 @@ base_prefixes = codes "0x" ∷ codes "0o" ∷ codes "0b" ∷ []
 abbrev pub Decimal : Form
 Decimal = NotAt base_prefixes Digits
 
+-- a digit of the base or `_`
 abbrev pub is_digit_or_underscore_in : ℕ → ℕ → Bool
 is_digit_or_underscore_in base c = is_digit c base || is_underscore c
 

@@ -1,6 +1,7 @@
 -- Which piece is found at the front of a text, and its kind.
 use Rattle.std.specs.Prelude.{ℕ, Bool, ◌==◌, cond, List, [], ◌∷◌, codes, Option, Some, None, if◌then◌else◌}
 use Rattle.std.specs.Char.{is_ascii_digit}
+use Rattle.lexical.specs.Character.{double_quote, single_quote, slash}
 use Rattle.lexical.specs.Text.{begins_with, begins_any}
 use Rattle.lexical.specs.Class.{is_white, is_ident_start}
 use Rattle.lexical.specs.Token.{Literal}
@@ -79,9 +80,9 @@ start c =
     else if is_ascii_digit c then starts.Digit
     else if is_opener c then starts.Opener
     else if is_closer c then starts.Closer
-    else if c == 47 then starts.Slash
-    else if c == 39 then starts.Quote
-    else if c == 34 then starts.DoubleQuote
+    else if c == slash then starts.Slash
+    else if c == single_quote then starts.Quote
+    else if c == double_quote then starts.DoubleQuote
     else if c == 0xFEFF then starts.FrontMark
     else starts.Other
 

@@ -2,9 +2,11 @@
 use Rattle.std.specs.Prelude.{ℕ, Bool, true, false, not, ◌&&◌, ◌||◌, ◌==◌, ◌+◌, ◌*◌, List, [], ◌∷◌, codes, nat_lt, nat_le, cond, length, filter}
 use Rattle.std.specs.List.{list_any, fold}
 use Rattle.std.specs.Char.{is_ascii, is_digit, is_ascii_hexdigit, digit_value}
+use Rattle.lexical.specs.Character.{underscore}
 use Rattle.lexical.specs.Form.{Form, Then, NotAt, Where, Either, Perhaps, Many, Exactly, One, Run}
 use Rattle.lexical.specs.Identifier.{Name}
 
+-- whether the character is one of these
 abbrev pub is_one_of : List ℕ → ℕ → Bool
 is_one_of characters c = list_any (λ d. d == c) characters
 
@@ -14,6 +16,7 @@ is_one_of characters c = list_any (λ d. d == c) characters
 abbrev pub Simple : List ℕ → Form
 Simple letters = One (is_one_of letters)
 
+-- a digit from 0 to 7
 abbrev pub is_octal_digit : ℕ → Bool
 is_octal_digit c = is_digit c 8
 
@@ -35,7 +38,7 @@ Hex Pair = Then (Exactly (codes "x")) Pair
 
 -- the number that hex digits write, whatever `_` stand between them
 abbrev pub hex_value : List ℕ → ℕ
-hex_value digits = fold (λ n c. cond (c == 95) n (16 * n + digit_value c)) 0 digits
+hex_value digits = fold (λ n c. cond (c == underscore) n (16 * n + digit_value c)) 0 digits
 
 -- whether the number is a character's
 abbrev pub is_scalar : ℕ → Bool
@@ -47,7 +50,7 @@ is_code allowed p = nat_le (length (filter is_ascii_hexdigit p)) 6 && (is_scalar
 
 -- a hex digit and all the hex digits and `_` that follow, where they write a character
 abbrev pub Code : (ℕ → Bool) → Form
-Code allowed = Where (is_code allowed) (Then (One is_ascii_hexdigit) (Run (λ c. is_ascii_hexdigit c || (c == 95))))
+Code allowed = Where (is_code allowed) (Then (One is_ascii_hexdigit) (Run (λ c. is_ascii_hexdigit c || (c == underscore))))
 
 -- `unicode-escape`: `u{`, a character's code and `}`
 abbrev pub Unicode : (ℕ → Bool) → Form

@@ -1,6 +1,7 @@
 -- The finders of quoted literals.
 use Rattle.std.specs.Prelude.{ℕ, Bool, true, not, ◌&&◌, ◌==◌, nat_le, List, [], ◌∷◌, codes, length}
 use Rattle.std.specs.Char.{is_ascii}
+use Rattle.lexical.specs.Character.{carriage_return, double_quote, hash_sign}
 use Rattle.lexical.specs.Class.{is_ident_start, is_ident_continue}
 use Rattle.lexical.specs.Finder.{Finder, find_then, find_next, find_else, find_not_at, find_where, find_one, find_run, find_text, find_nothing, find_many}
 use Rattle.lexical.specs.EscapeFinder.{find_escape}
@@ -64,17 +65,17 @@ raw_front C = codes "cr"
 
 -- `raw-hashes`
 abbrev pub find_hashes : Finder
-find_hashes = find_where (λ hashes r. nat_le (length hashes) 255) (find_run (λ c. c == 35))
+find_hashes = find_where (λ hashes r. nat_le (length hashes) 255) (find_run (λ c. c == hash_sign))
 
 -- `raw-unit`
 abbrev pub find_raw_unit : StringKind → List ℕ → Finder
 find_raw_unit kind close =
-    find_not_at (close ∷ []) (find_else (find_one (λ c. is_raw kind c && not (c == 13))) find_newline)
+    find_not_at (close ∷ []) (find_else (find_one (λ c. is_raw kind c && not (c == carriage_return))) find_newline)
 
 -- a raw string from its first quote on
 abbrev pub find_raw_quotes : StringKind → List ℕ → Finder
 find_raw_quotes kind hashes =
-    find_then (find_text (codes "\"")) (find_body (find_raw_unit kind (34 ∷ hashes)) (34 ∷ hashes))
+    find_then (find_text (codes "\"")) (find_body (find_raw_unit kind (double_quote ∷ hashes)) (double_quote ∷ hashes))
 
 -- a raw string
 abbrev pub find_raw_string : StringKind → Finder

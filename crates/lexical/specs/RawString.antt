@@ -1,6 +1,7 @@
 -- Strings without escapes.
 use Rattle.std.specs.Prelude.{ℕ, Bool, true, not, ◌&&◌, ◌==◌, ◌≡◌, List, [], ◌∷◌, ◌++◌, codes, nat_le, length}
 use Rattle.std.specs.Char.{is_ascii}
+use Rattle.lexical.specs.Character.{carriage_return, double_quote, hash_sign}
 use Rattle.lexical.specs.Form.{Form, Then, NotAt, Where, Either, Exactly, One, Run}
 use Rattle.lexical.specs.Quoted.{Newline, Body}
 
@@ -14,15 +15,15 @@ pub record Next (A : Form) (B : List ℕ → Form) (p r : List ℕ) : Type 0 whe
 
 -- `raw-hashes`: all the hash signs, 255 at most
 abbrev pub Hashes : Form
-Hashes = Where (λ hashes. nat_le (length hashes) 255) (Run (λ c. c == 35))
+Hashes = Where (λ hashes. nat_le (length hashes) 255) (Run (λ c. c == hash_sign))
 
 -- `raw-unit`: a character that is allowed, or CR LF, where what closes the string doesn't begin
 abbrev pub RawUnit : (ℕ → Bool) → List ℕ → Form
-RawUnit allowed close = NotAt (close ∷ []) (Either (One (λ c. allowed c && not (c == 13))) Newline)
+RawUnit allowed close = NotAt (close ∷ []) (Either (One (λ c. allowed c && not (c == carriage_return))) Newline)
 
 -- behind the hash signs: a quote, and the units up to the first quote with those signs behind it
 abbrev pub RawQuotes : (ℕ → Bool) → List ℕ → Form
-RawQuotes allowed hashes = Then (Exactly (codes "\"")) (Body (RawUnit allowed (34 ∷ hashes)) (34 ∷ hashes))
+RawQuotes allowed hashes = Then (Exactly (codes "\"")) (Body (RawUnit allowed (double_quote ∷ hashes)) (double_quote ∷ hashes))
 
 -- what opens it, hash signs, and the string between its quotes
 abbrev pub Raw : List ℕ → (ℕ → Bool) → Form

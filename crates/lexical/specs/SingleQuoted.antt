@@ -1,6 +1,7 @@
 -- Characters and bytes.
 use Rattle.std.specs.Prelude.{ℕ, Bool, not, ◌&&◌, ◌==◌, List, codes}
 use Rattle.std.specs.Char.{is_ascii}
+use Rattle.lexical.specs.Character.{backslash}
 use Rattle.lexical.specs.Form.{Form, Then, Either, Exactly, One}
 use Rattle.lexical.specs.Quoted.{StringEscape, ByteEscape, Suffix}
 
@@ -14,7 +15,7 @@ SingleQuoted front plain Escape = Then (Exactly front) (Then (SingleUnit plain E
 
 -- any character but `\`, also `'` and the line ends
 abbrev pub is_char_plain : ℕ → Bool
-is_char_plain c = not (c == 92)
+is_char_plain c = not (c == backslash)
 
 -- and as a byte only ASCII
 abbrev pub is_byte_char_plain : ℕ → Bool

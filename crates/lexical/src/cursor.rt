@@ -19,8 +19,7 @@ pub struct Cursor<'a> {
 }
 
 impl<'a> Cursor<'a> {
-    ghost use Rattle.std.specs.Prelude.{◌∷◌, ◌++◌, [], List, ℕ, MatchOption};
-    ghost use Rattle.std.specs.Prelude.{IsTrue};
+    ghost use Rattle.std.specs.Prelude.{◌∷◌, ◌++◌, [], IsTrue, List, ℕ, MatchOption};
     ghost use Rattle.std.specs.Str.{encode_utf8_all};
     ghost use Rattle.lexical.specs.Ascii.{all_ascii};
     ghost use Rattle.lexical.specs.Finder.{find_text};

@@ -101,6 +101,9 @@ fn allows(kind: StringKind, value: u32) -> bool
     }
 }
 
+/// How many hex digits a character's code may have at most.
+const MOST_DIGITS: u32 = 6;
+
 /// Whether the hex digits, six at most, write a character that is allowed.
 fn writes_character(text: &str, kind: StringKind) -> bool
     requires { IsTrue (list_all is_code_digit (chars text.now)) }
@@ -115,7 +118,7 @@ fn writes_character(text: &str, kind: StringKind) -> bool
             value = 16 * value + digit;
             count += 1;
         }
-        if count > 6 || value > 0x10_FFFF {
+        if count > MOST_DIGITS || value > 0x10_FFFF {
             return false;
         }
     }

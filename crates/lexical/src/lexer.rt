@@ -2,6 +2,7 @@
 
 ghost use Rattle.std.specs.Prelude.{◌≡◌, ◌∷◌, IfNone, IfSome, IsTrue};
 ghost use Rattle.std.specs.Str.{chars};
+ghost use Rattle.lexical.specs.Character.{single_quote};
 ghost use Rattle.lexical.specs.Class.{is_ident_start};
 ghost use Rattle.lexical.specs.Delimiter.{is_opener};
 ghost use Rattle.lexical.specs.Form.{HasNone};
@@ -53,7 +54,7 @@ fn letter<'a>(text: &'a str, first: char, after: Cursor<'a>) -> Option<Piece<'a>
 /// The mark at the front of a text that begins with `'`, or else the literal. The place is that
 /// after the first character.
 fn quote<'a>(text: &'a str, after: Cursor<'a>) -> Option<Piece<'a>>
-    requires split { chars text.now ≡ 39 ∷ chars after.rest.now }
+    requires split { chars text.now ≡ single_quote ∷ chars after.rest.now }
     requires one { after.chars_before ≡ 1 }
     ensures { Answers (found_at_quote (chars text.now)) result }
 {
@@ -100,8 +101,9 @@ fn find_piece(text: &str, at_front: bool) -> Option<Piece<'_>>
 /// The piece of the grammar that stands at the front of `text`, which is all that follows some
 /// place of a source. `first` says whether that is place 0.
 ///
-/// It answers `None` where no piece stands: at the end of the source, and where the source has a
-/// fault. At most one piece stands at a place, as [`one_piece`](crate::laws::one_piece) says.
+/// It answers `None` where no piece stands: at the end of the source, and where what follows begins
+/// no piece, as at an unclosed string. A closer that matches nothing is a piece. At most one piece
+/// stands at a place, as [`one_piece`](crate::laws::one_piece) says.
 /// At `+=` the mark `+` stands, Joint, of 1 byte and 1 character. At `/* /* */` none stands, as one
 /// comment is open at the end.
 pub fn piece_at(text: &str, first: bool) -> Option<Piece<'_>>
@@ -135,6 +137,3 @@ pub fn name_at(text: &str) -> Option<usize>
     let end = name(Cursor::new(text))?;
     Some(end.bytes_in(text))
 }
-
-#[cfg(test)]
-mod tests;

@@ -99,6 +99,3 @@ pub fn error_literal(text: &str) -> Option<Piece<'_>>
     let end = Cursor::new(text).past("(/*ERROR*/)")?;
     Some(end.piece_from(text, PieceKind::Literal))
 }
-
-#[cfg(test)]
-mod tests;

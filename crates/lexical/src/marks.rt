@@ -2,6 +2,7 @@
 
 ghost use Rattle.std.specs.Prelude.{◌≡◌, ◌∷◌, not};
 ghost use Rattle.std.specs.Str.{chars};
+ghost use Rattle.lexical.specs.Character.{single_quote};
 ghost use Rattle.lexical.specs.Mark.{is_mark as is_one_of_marks, bars_quote, comment_fronts, joint_before};
 ghost use Rattle.lexical.specs.MarkFinder.{find_lone_quote, find_mark, follows_quote as follows, mark_kind, quote_kind};
 ghost use Rattle.lexical.specs.PieceFinder.{tagged};
@@ -104,7 +105,7 @@ fn follows_quote(at: Cursor<'_>) -> bool
 
 /// The mark `'` at the front of the text, by the rule `lone-quote`. The place is that after it.
 pub fn lone_quote<'a>(text: &'a str, after: Cursor<'a>) -> Option<Piece<'a>>
-    requires split { chars text.now ≡ 39 ∷ chars after.rest.now }
+    requires split { chars text.now ≡ single_quote ∷ chars after.rest.now }
     requires one { after.chars_before ≡ 1 }
     ensures { Answers (tagged quote_kind (find_lone_quote (chars text.now))) result }
 {

@@ -6,7 +6,9 @@ ghost use Rattle.std.specs.Str.{chars};
 ghost use Rattle.lexical.specs.Ascii.{all_ascii};
 ghost use Rattle.lexical.specs.Finder.{find_one, find_run, find_text, find_then};
 ghost use Rattle.lexical.specs.Number.{base_prefixes, is_digit_or_underscore, is_digit_or_underscore_in, is_underscore};
-ghost use Rattle.lexical.specs.NumberFinder.{find_base_digits, find_based, find_decimal, find_digits, find_digits_in, find_dot, find_end, find_exponent, find_float_tail, find_fraction, find_number, find_octal_or_binary, find_perhaps_exponent, find_power, find_sign, find_tail};
+ghost use Rattle.lexical.specs.NumberFinder.{find_base_digits, find_based, find_decimal, find_digits, find_digits_in, find_octal_or_binary};
+ghost use Rattle.lexical.specs.NumberFinder.{find_dot, find_end, find_exponent, find_float_tail, find_fraction, find_number};
+ghost use Rattle.lexical.specs.NumberFinder.{find_perhaps_exponent, find_power, find_sign, find_tail};
 ghost use Rattle.lexical.specs.Reading.{Passes, Reads};
 ghost use Rattle.lexical.specs.Text.{begins_any};
 

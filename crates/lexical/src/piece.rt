@@ -1,9 +1,11 @@
+//! The pieces of the grammar, as the lexer answers them.
+
 /// What kind of piece it is, by the rules of the lexical grammar.
 #[derive(Clone, Copy, Debug, PartialEq, Eq)]
 pub enum PieceKind<'a> {
     /// The mark U+FEFF at the very front of a source, by the rule `front-mark`.
     FrontMark,
-    /// One white character, or a comment that isn't a doc comment.
+    /// One white character, or a comment that isn't a doc comment, by the rule `gap`.
     Gap,
     /// A doc comment, by the rule `doc-comment`.
     Doc {
@@ -13,13 +15,13 @@ pub enum PieceKind<'a> {
         /// block and the CR before a line's LF. The comment `/// a` says ` a`.
         text: &'a str,
     },
-    /// One of `(`, `[`, `{`.
+    /// One of `(`, `[`, `{`, by the rule `opener`.
     Opener(char),
-    /// One of `)`, `]`, `}`.
+    /// One of `)`, `]`, `}`, by the rule `closer`.
     Closer(char),
-    /// A literal, suffix and all.
+    /// A literal, suffix and all, by the rule `literal` or `error-literal`.
     Literal,
-    /// A punctuation mark.
+    /// A punctuation mark, by the rule `mark` or `lone-quote`.
     Mark {
         /// The mark's character.
         mark: char,
@@ -27,7 +29,7 @@ pub enum PieceKind<'a> {
         /// after it, and by the rule `lone-quote` always as the `'` before an identifier.
         joint: bool,
     },
-    /// An identifier.
+    /// An identifier, by the rule `identifier`.
     Name {
         /// Whether it is written with `r#`.
         raw: bool,

@@ -3,6 +3,7 @@
 ghost use Rattle.std.specs.Prelude.{◌≡◌, ◌==◌, ◌∷◌, IsTrue};
 ghost use Rattle.std.specs.Str.{chars};
 ghost use Rattle.lexical.specs.Ascii.{all_ascii};
+ghost use Rattle.lexical.specs.Character.{double_quote, hash_sign};
 ghost use Rattle.lexical.specs.Finder.{find_many, find_next, find_run, find_text, find_then};
 ghost use Rattle.lexical.specs.QuotedFinder.{find_body, find_hashes, find_raw_string, find_raw_quotes, find_raw_unit, find_suffix, is_raw, raw_front};
 ghost use Rattle.lexical.specs.Reading.{Passes, Reads, ReadsText};
@@ -17,7 +18,7 @@ const MOST_HASHES: usize = 255;
 
 /// The place after all the hash signs.
 fn skip_hashes(at: Cursor<'_>) -> Cursor<'_>
-    ensures { Passes (find_run (λ c. c == 35) (chars at.entry.rest.now)) at.entry result }
+    ensures { Passes (find_run (λ c. c == hash_sign) (chars at.entry.rest.now)) at.entry result }
 {
     skip_while(at, |c| c == '#')
 }
@@ -49,7 +50,7 @@ fn may_stand(c: char, kind: StringKind) -> bool
 /// The place after a unit of a raw string with these hash signs, by the rule `raw-unit`.
 fn raw_unit<'a>(at: Cursor<'a>, kind: StringKind, hashes: &str) -> Option<Cursor<'a>>
     requires { IsTrue (all_ascii hashes.now) }
-    ensures { Reads (find_raw_unit kind (34 ∷ hashes.now) (chars at.entry.rest.now)) at.entry result }
+    ensures { Reads (find_raw_unit kind (double_quote ∷ hashes.now) (chars at.entry.rest.now)) at.entry result }
 {
     let (c, after) = at.advance()?;
     if c == '"' && begins(after.rest, hashes) {
@@ -68,7 +69,7 @@ fn raw_unit<'a>(at: Cursor<'a>, kind: StringKind, hashes: &str) -> Option<Cursor
 /// The place after all the units from the place on.
 fn raw_units<'a>(at: Cursor<'a>, kind: StringKind, hashes: &str) -> Cursor<'a>
     requires { IsTrue (all_ascii hashes.now) }
-    ensures { Passes (find_many (find_raw_unit kind (34 ∷ hashes.now)) (chars at.entry.rest.now)) at.entry result }
+    ensures { Passes (find_many (find_raw_unit kind (double_quote ∷ hashes.now)) (chars at.entry.rest.now)) at.entry result }
 {
     let mut end = at;
     while let Some(after) = raw_unit(end, kind, hashes) {
@@ -80,7 +81,7 @@ fn raw_units<'a>(at: Cursor<'a>, kind: StringKind, hashes: &str) -> Cursor<'a>
 /// The place after the closing quote with its hash signs.
 fn closing<'a>(at: Cursor<'a>, hashes: &str) -> Option<Cursor<'a>>
     requires { IsTrue (all_ascii hashes.now) }
-    ensures { Reads (find_text (34 ∷ hashes.now) (chars at.entry.rest.now)) at.entry result }
+    ensures { Reads (find_text (double_quote ∷ hashes.now) (chars at.entry.rest.now)) at.entry result }
 {
     at.past("\"")?.past(hashes)
 }
@@ -88,7 +89,7 @@ fn closing<'a>(at: Cursor<'a>, hashes: &str) -> Option<Cursor<'a>>
 /// The place after the closing quote with its hash signs, and the suffix.
 fn close<'a>(at: Cursor<'a>, hashes: &str) -> Option<Cursor<'a>>
     requires { IsTrue (all_ascii hashes.now) }
-    ensures { Reads (find_then (find_text (34 ∷ hashes.now)) find_suffix (chars at.entry.rest.now)) at.entry result }
+    ensures { Reads (find_then (find_text (double_quote ∷ hashes.now)) find_suffix (chars at.entry.rest.now)) at.entry result }
 {
     Some(suffix(closing(at, hashes)?))
 }
@@ -97,7 +98,7 @@ fn close<'a>(at: Cursor<'a>, hashes: &str) -> Option<Cursor<'a>>
 fn body<'a>(at: Cursor<'a>, kind: StringKind, hashes: &str) -> Option<Cursor<'a>>
     requires { IsTrue (all_ascii hashes.now) }
     ensures { Reads
-        (find_body (find_raw_unit kind (34 ∷ hashes.now)) (34 ∷ hashes.now) (chars at.entry.rest.now))
+        (find_body (find_raw_unit kind (double_quote ∷ hashes.now)) (double_quote ∷ hashes.now) (chars at.entry.rest.now))
         at.entry result }
 {
     close(raw_units(at, kind, hashes), hashes)

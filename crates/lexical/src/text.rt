@@ -4,6 +4,7 @@ ghost use Rattle.std.specs.Prelude.{◌≡◌, ◌∷◌, ◌++◌, [], List, �
 ghost use Rattle.std.specs.Cmp.Lexicographic.{pointwise};
 ghost use Rattle.std.specs.Str.{IsUtf8, chars};
 ghost use Rattle.lexical.specs.Ascii.{all_ascii};
+ghost use Rattle.lexical.specs.Character.{carriage_return};
 ghost use Rattle.lexical.specs.Text.{begins_with, ends_with};
 
 /// The first character of a text, and the text after it.
@@ -53,7 +54,8 @@ pub fn strip<'a>(text: &'a str, front: &str) -> Option<&'a str>
 
 /// The text without the CR at its end, if one stands there.
 pub fn without_return(text: &str) -> &str
-    ensures { chars text.now ≡ chars result.now ++ (if ends_with 13 (chars text.now) then 13 ∷ [] else []) }
+    ensures { chars text.now
+        ≡ chars result.now ++ (if ends_with carriage_return (chars text.now) then carriage_return ∷ [] else []) }
 {
     match text.strip_suffix('\r') {
         Some(front) => front,

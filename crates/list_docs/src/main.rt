@@ -2,7 +2,7 @@
 //! and the literal of its text.
 //!
 //! Lines count from 1, columns count characters from 0. Of a text that has a fault the place of the
-//! fault is printed, and the status is 1.
+//! fault is written to standard output, and the status is 1.
 #![tactic(auto)]
 
 mod answer;

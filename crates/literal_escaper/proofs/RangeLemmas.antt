@@ -23,9 +23,6 @@ split_scalars (c ∷ p) r h =
 bytes-append : (p r : List ℕ) → bytes (p ++ r) ≡ bytes p + bytes r
 bytes-append p r = ap length (encodes-append p r) ∙ length-append (encode_utf8_all p) (encode_utf8_all r)
 
-pub bytes_content : (content : List ℕ) → IsUtf8 content → bytes (chars content) ≡ length content
-bytes_content content t = ap length (encodes-chars content t)
-
 -- what stands before an end
 before_end : (content text : List ℕ) (e : EndsIn content text) → offset (bytes (chars content)) text ≡ bytes e.is_end.0
 before_end content text e =

@@ -3,8 +3,12 @@ use Rattle.std.specs.Prelude.{ℕ, ◌+◌, ◌*◌, Bool, ◌||◌, ◌==◌, n
 use Rattle.std.specs.List.{fold}
 use Rattle.std.specs.Char.{digit_value, is_digit}
 use Rattle.literal_escaper.specs.declared.errors.EscapeError.{EscapeError}
-use Rattle.literal_escaper.specs.declared.errors.EscapeError.TheVariants.{EmptyUnicodeEscape, InvalidCharInHexEscape, InvalidCharInUnicodeEscape, InvalidEscape, LeadingUnderscoreUnicodeEscape, LoneSlash, NoBraceInUnicodeEscape, OverlongUnicodeEscape, TooShortHexEscape, UnclosedUnicodeEscape}
-use Rattle.literal_escaper.specs.Character.{backslash, carriage_return, close_brace, digit_0, double_quote, letter_n, letter_r, letter_t, letter_u, letter_x, line_feed, open_brace, quote, tab, underscore}
+use Rattle.literal_escaper.specs.declared.errors.EscapeError.TheVariants.{InvalidCharInHexEscape, InvalidEscape, LoneSlash, TooShortHexEscape}
+use Rattle.literal_escaper.specs.declared.errors.EscapeError.TheVariants.{EmptyUnicodeEscape, InvalidCharInUnicodeEscape}
+use Rattle.literal_escaper.specs.declared.errors.EscapeError.TheVariants.{LeadingUnderscoreUnicodeEscape, NoBraceInUnicodeEscape}
+use Rattle.literal_escaper.specs.declared.errors.EscapeError.TheVariants.{OverlongUnicodeEscape, UnclosedUnicodeEscape}
+use Rattle.literal_escaper.specs.Character.{backslash, carriage_return, close_brace, double_quote, line_feed, open_brace}
+use Rattle.literal_escaper.specs.Character.{digit_0, letter_n, letter_r, letter_t, letter_u, letter_x, quote, tab, underscore}
 use Rattle.literal_escaper.specs.Kind.{Kind, character}
 use Rattle.literal_escaper.specs.Text.{while_front, while_rest}
 

@@ -63,10 +63,9 @@ pub struct CheckForErrors<'a> {
 impl<'a> Model for CheckForErrors<'a> {
     ghost use Rattle.std.specs.Prelude.{List};
     ghost use Rattle.literal_escaper.specs.Errors.{Error};
+    ghost use Rattle.literal_escaper.specs.Left.{errors_left};
 
     ghost Value = { List Error };
-
-    ghost use Rattle.literal_escaper.specs.Left.{errors_left};
 
     ghost view = { λ it. errors_left it.mode it.single it.content };
 }

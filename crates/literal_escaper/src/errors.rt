@@ -14,7 +14,7 @@ pub enum EscapeError {
     LoneSlash,
     /// A backslash before a character that begins no escape: `\z`, or `\` before a CR.
     InvalidEscape,
-    /// A CR by itself in a content with escapes: `a` CR.
+    /// A CR that no backslash stands before in a content with escapes, also before LF: `a` CR LF.
     BareCarriageReturn,
     /// A CR in a raw content: `a` CR.
     BareCarriageReturnInRawString,

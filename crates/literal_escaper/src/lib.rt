@@ -17,8 +17,6 @@ mod num;
 mod place;
 mod raw;
 mod single;
-#[cfg(test)]
-mod tests;
 mod unescape;
 
 pub use crate::check::{CheckForErrors, check_for_errors};

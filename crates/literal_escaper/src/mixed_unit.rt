@@ -6,7 +6,7 @@ use crate::num::{NonZeroChar, NonZeroU8};
 /// A unit of a C string: a character, or a byte past ASCII.
 #[derive(Clone, Copy, Debug, PartialEq, Eq)]
 pub enum MixedUnit {
-    /// A character, which stands for its bytes in UTF-8: `é`, `\u{E9}`, and `\x41` up to `\x7F`.
+    /// A character, which stands for its bytes in UTF-8: `é`, `\u{E9}`, and `\x01` to `\x7F`.
     Char(NonZeroChar),
     /// A byte past ASCII: `\x80`.
     HighByte(NonZeroU8),

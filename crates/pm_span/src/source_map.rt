@@ -157,6 +157,3 @@ impl Span {
         map.line_column(lo)
     }
 }
-
-#[cfg(test)]
-mod tests;

@@ -1,6 +1,7 @@
 //! Where tokens stand.
 ghost use Rattle.std.specs.Prelude.{◌≡◌, ◌≤◌, ◌↔◌, IsTrue};
 ghost use Rattle.pm_span.specs.Extent.{nowhere};
+ghost use Rattle.pm_span.specs.Files.{Files, Holds};
 
 use std::fmt;
 use std::marker::Model;
@@ -26,9 +27,10 @@ impl Model for Span {
 }
 
 impl Span {
-    /// The span 0..0, in the empty file 0: that of what was read from no text.
+    /// The span 0..0, in the empty file 0, which every map holds: that of what was read from no text.
     pub fn call_site() -> Span
-        ensures { result ≡ nowhere }
+        ensures value { result ≡ nowhere }
+        ensures held { (map : Files) → Holds map result }
     {
         Span { lo: 0, hi: 0 }
     }

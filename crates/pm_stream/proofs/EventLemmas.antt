@@ -25,19 +25,6 @@ flat_balanced (group d lo hi inside rest) {es} h =
 pub flattening_balanced : (forest : Forest) → Balanced (flattening forest)
 flattening_balanced forest = flat_balanced forest events.nothing
 
--- balanced events are those of a forest
-pub balanced_flat : {es : List Event} → Balanced es → (forest : Forest) × (flattening forest ≡ es)
-balanced_flat events.nothing = (nil, refl)
-balanced_flat (events.leaf token lo hi h) =
-    let more = balanced_flat h in (leaf token lo hi more.0, ap (λ xs. One token lo hi ∷ xs) more.1)
-balanced_flat (events.group d lo hi {inside} {events = es} h k) =
-    let deep = balanced_flat h in
-    let more = balanced_flat k in (
-      group d lo hi deep.0 more.0,
-      ap (λ xs. Opens d lo ∷ xs) (ap (λ xs. flat_onto deep.0 (Closes d hi ∷ xs)) more.1
-          ∙ (flat-append deep.0 [] (Closes d hi ∷ es) ∙ ap (λ xs. xs ++ (Closes d hi ∷ es)) deep.1)),
-    )
-
 -- ---- what is written while groups stay open
 
 pub written-append : (groups : List Opened) (trees : Forest) (es fs : List Event)

@@ -1,5 +1,5 @@
 -- Lists of trees and the forests that they make.
-use Rattle.std.proofs.Common.{Result, Ok, Err, OnOk, IfErr, Option, Some, None, ◌≡◌, ℕ, ◌+◌, ◌*◌, ◌<◌, ◌≤◌, get_or, arith, false, List, [], ◌∷◌, ◌++◌, length, nat_eq, refl, sym, ap, subst, ◌∙◌, rules}
+use Rattle.std.proofs.Common.{Option, Some, None, ◌≡◌, ℕ, ◌+◌, ◌*◌, ◌<◌, ◌≤◌, get_or, arith, false, List, [], ◌∷◌, ◌++◌, length, nat_eq, refl, sym, ap, subst, ◌∙◌, rules}
 use Rattle.pm_stream.specs.Events.{Event, One, Opens, Closes}
 use Rattle.pm_stream.specs.Forest.{Forest, nil, leaf, group, flat_onto, flattening, joined, IsBuilt}
 use Rattle.std.proofs.lemmas.List.{append-nil}
@@ -23,16 +23,6 @@ pub is_nil-forest : (ts : List TokenTree) → is_nil (forest ts) ≡ nat_eq (len
 is_nil-forest [] = refl
 is_nil-forest (t ∷ ts) = is_nil-before t (forest ts) ∙ search rules
 
-pub joined-nil : (f : Forest) → joined f nil ≡ f
-joined-nil nil = refl
-joined-nil (leaf t lo hi f) = ap (leaf t lo hi) (joined-nil f)
-joined-nil (group d lo hi f g) = ap (group d lo hi f) (joined-nil g)
-
-pub joined-assoc : (f g h : Forest) → joined (joined f g) h ≡ joined f (joined g h)
-joined-assoc nil g h = refl
-joined-assoc (leaf t lo hi f) g h = ap (leaf t lo hi) (joined-assoc f g h)
-joined-assoc (group d lo hi f k) g h = ap (group d lo hi f) (joined-assoc k g h)
-
 pub joined-before : (t : TokenTree) (f k : Forest) → joined (before t f) k ≡ before t (joined f k)
 joined-before (Group g) f k = refl
 joined-before (Ident i) f k = refl
@@ -49,20 +39,11 @@ IsBuilt-joined nil k p q = q
 IsBuilt-joined (leaf t lo hi f) k p q = (p.0, p.1, IsBuilt-joined f k p.2 q)
 IsBuilt-joined (group d lo hi f g) k p q = (p.0, p.1, IsBuilt-joined g k p.2 q)
 
--- one tree more
-pub IsBuilt-push : (ts : List TokenTree) (t : TokenTree) → IsBuilt (forest ts) → IsBuilt (alone t) → IsBuilt (forest (ts ++ t ∷ []))
-IsBuilt-push ts t p q = subst IsBuilt (sym (forest-push ts t)) (IsBuilt-joined (forest ts) (alone t) p q)
-
--- each of two forests is built if they are together
+-- the first of two forests is built if they are together
 pub IsBuilt-front : (f k : Forest) → IsBuilt (joined f k) → IsBuilt f
 IsBuilt-front nil k p = tt
 IsBuilt-front (leaf t lo hi f) k p = (p.0, p.1, IsBuilt-front f k p.2)
 IsBuilt-front (group d lo hi f g) k p = (p.0, p.1, IsBuilt-front g k p.2)
-
-pub IsBuilt-back : (f k : Forest) → IsBuilt (joined f k) → IsBuilt k
-IsBuilt-back nil k p = p
-IsBuilt-back (leaf t lo hi f) k p = IsBuilt-back f k p.2
-IsBuilt-back (group d lo hi f g) k p = IsBuilt-back g k p.2
 
 -- the events of two forests together
 pub flat_onto-joined : (f g : Forest) (es : List Event) → flat_onto (joined f g) es ≡ flat_onto f (flat_onto g es)
@@ -79,11 +60,6 @@ flat_onto-append (group d lo hi f g) es more =
 
 pub flattening-joined : (f g : Forest) → flattening (joined f g) ≡ flattening f ++ flattening g
 flattening-joined f g = flat_onto-joined f g [] ∙ sym (flat_onto-append f [] (flattening g))
-
--- the events of one tree more
-pub flat_onto-push : (ts : List TokenTree) (t : TokenTree) (es : List Event)
-    → flat_onto (forest (ts ++ t ∷ [])) es ≡ flat_onto (forest ts) (flat_onto (alone t) es)
-flat_onto-push ts t es = ap (λ f. flat_onto f es) (forest-push ts t) ∙ flat_onto-joined (forest ts) (alone t) es
 
 -- the measures of the trees of a list are below that of the stream
 most_size_le : (ts : List TokenTree) → most size-TokenTree ts ≤ 3 * count (forest ts) + 2
@@ -117,13 +93,6 @@ count-taken old new t p = omega (arith, ap count p, count-joined new (alone t), 
 pub IsBuilt-taken : (old new : Forest) (r : Option TokenTree) → TakesLast old r new → IsBuilt old → IsBuilt new
 IsBuilt-taken old new None p q = subst IsBuilt (sym p) q
 IsBuilt-taken old new (Some t) p q = IsBuilt-front new (alone t) (subst IsBuilt p q)
-
--- with a tree put behind the others, or not
-pub IsBuilt-put : (old new : Forest) (t : TokenTree) (r : Result (Unit {0}) TokenTree)
-    → OnOk r (new ≡ joined old (alone t)) → IfErr r (λ back. (back ≡ t) × (new ≡ old))
-    → IsBuilt old → IsBuilt (alone t) → IsBuilt new
-IsBuilt-put old new t (Ok u) ok err p q = subst IsBuilt (sym ok) (IsBuilt-joined old (alone t) p q)
-IsBuilt-put old new t (Err back) ok err p q = subst IsBuilt (sym err.1) p
 
 -- what a shared list holds is below the stream
 pub shared_size_le : (ts : List TokenTree) (f : Forest) → forest ts ≡ f → most size-TokenTree ts ≤ 3 * count f + 2

@@ -13,7 +13,6 @@ use Rattle.lexical.proofs.LiteralLemmas.{literal_whole}
 use Rattle.pm_span.specs.Extent.{Extent}
 use Rattle.pm_token.specs.Built.{IsBuiltToken}
 use Rattle.pm_token.specs.Leaf as leaves
-use Rattle.pm_token.specs.Leaf.{is_joint}
 use Rattle.pm_stream.specs.Events.{One}
 use Rattle.pm_stream.specs.Forest.{flat_onto}
 use Rattle.pm_stream.specs.Level.{alone}

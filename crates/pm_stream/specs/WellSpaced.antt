@@ -1,5 +1,6 @@
 -- When the printed text of a stream can be read back.
 use Rattle.std.specs.Prelude.{ℕ, Bool, true, false, not, ◌&&◌, ◌==◌, Option, Some, None, [], ◌∷◌, IsTrue, if◌then◌else◌}
+use Rattle.lexical.specs.Character.{single_quote}
 use Rattle.lexical.specs.Text.{begins_any, first_passes}
 use Rattle.lexical.specs.Mark.{comment_fronts, quotable_fronts}
 use Rattle.lexical.specs.Token.{Token, Name, Mark, Literal}
@@ -18,13 +19,13 @@ abbrev pub follows_joint : ℕ → Option Token → Bool
 follows_joint c None = false
 follows_joint c (Some (Name raw name)) = false
 follows_joint c (Some (Mark d joint)) = not (begins_any comment_fronts (c ∷ d ∷ []))
-follows_joint c (Some (Literal text)) = first_passes (λ d. d == 39) text
+follows_joint c (Some (Literal text)) = first_passes (λ d. d == single_quote) text
 
 -- the token may be there, by the next tree of its list where that is a token. `'` is always Joint
 abbrev pub fits : Token → Option Token → Bool
 fits (Name raw name) next = true
-fits (Mark c false) next = not (c == 39)
-fits (Mark c true) next = if c == 39 then follows_quote next else follows_joint c next
+fits (Mark c false) next = not (c == single_quote)
+fits (Mark c true) next = if c == single_quote then follows_quote next else follows_joint c next
 fits (Literal text) next = true
 
 -- the first tree, where it is a token

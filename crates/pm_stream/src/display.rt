@@ -138,7 +138,6 @@ fn gap_within(tree: &TokenTree) -> bool
 /// are being printed is refused; the text may be written in part then.
 impl Display for TokenStream {
     ghost use Rattle.std.specs.Prelude.{Some};
-    ghost use Rattle.std.specs.Str.{encode_utf8_all};
     ghost use Rattle.pm_stream.specs.Printed.{printed};
 
     ghost output = { λ stream. Some (encode_utf8_all (printed stream)) };
@@ -151,7 +150,6 @@ impl Display for TokenStream {
 /// A token, or a group with its delimiters, by the rule `printed`.
 impl Display for TokenTree {
     ghost use Rattle.std.specs.Prelude.{Some};
-    ghost use Rattle.std.specs.Str.{encode_utf8_all};
     ghost use Rattle.pm_stream.specs.Level.{alone};
     ghost use Rattle.pm_stream.specs.Printed.{printed};
 
@@ -171,7 +169,6 @@ impl Display for TokenTree {
 /// alone. Fails as a stream does.
 impl Display for Group {
     ghost use Rattle.std.specs.Prelude.{Some};
-    ghost use Rattle.std.specs.Str.{encode_utf8_all};
     ghost use Rattle.pm_stream.specs.PrintedTree.{group_text};
 
     ghost output = { λ group. Some (encode_utf8_all (group_text group)) };

@@ -298,6 +298,3 @@ fn fault_at(position: u32) -> ParseError
 {
     ParseError::Lex(fault(span_of(position, position)))
 }
-
-#[cfg(test)]
-mod tests;

@@ -1,5 +1,5 @@
 -- The value of a C string literal that was made.
-use Rattle.std.proofs.Common.{◌≡◌, ℕ, ◌*◌, ◌+◌, ◌/◌, ◌%◌, ◌<◌, true, false, not, ◌&&◌, ◌==◌, nat_eq, nat_lt, List, [], ◌∷◌, ◌++◌, codes, Some, Ok, refl, sym, ap, ap₂, ◌∙◌, subst, arith, inl, inr, eqb-true, ltb-true}
+use Rattle.std.proofs.Common.{◌≡◌, ℕ, ◌*◌, ◌+◌, ◌/◌, ◌%◌, ◌<◌, true, false, not, ◌&&◌, ◌==◌, nat_eq, List, [], ◌∷◌, ◌++◌, codes, Some, Ok, refl, sym, ap, ap₂, ◌∙◌, subst, arith, inl, inr, eqb-true}
 use Rattle.std.specs.Prelude.{encode_utf8}
 use Rattle.std.specs.List.{flat_map, AllByRecursion}
 use Rattle.std.specs.Char.{IsScalar, digit_value}
@@ -8,7 +8,6 @@ use Rattle.std.specs.Fmt.{digit_glyph}
 use Rattle.std.specs.Option.{option_map}
 use Rattle.std.specs.Str.{encode_utf8_all}
 use Rattle.std.proofs.lemmas.Bool.{agree_below_at, and_parts, cond_both, cond-true, cond-false, both_ways, not-true}
-use Rattle.std.proofs.lemmas.Str.{encode_ascii}
 use Rattle.lexical.specs.Text.{first_passes}
 use Rattle.lexical.specs.Quoted.{is_octal_digit}
 use Rattle.literal_escaper.specs.declared.mixed_unit.MixedUnit.{MixedUnit}
@@ -27,6 +26,7 @@ use Rattle.pm_token.proofs.ContentLemmas.{between_within}
 use Rattle.pm_token.proofs.CodeReadLemmas.{code_escapes_as}
 use Rattle.pm_token.proofs.CStringLemmas.{char_some, no_zero_behind}
 use Rattle.pm_token.proofs.ReadLemmas.{Escapes, Give, WrittenAs, begins_written, give_front, give_none, given_value}
+use Rattle.pm_token.proofs.UnitLemmas.{byte_bytes}
 
 -- ---- characters
 
@@ -105,10 +105,6 @@ byte_as b low some = inl (record {
   gives = λ more. let sum : 16 * (b / 16) + b % 16 ≡ b = omega arith in
       pair_read (b / 16) (b % 16) more (omega arith) (omega arith) ∙ ap (λ u. record { unit = u; rest = more }) (ap c_byte sum ∙ cond-false _ _ _ some);
 })
-
-byte_bytes : (b : ℕ) → unit_bytes (byte_unit b) ≡ b ∷ []
-byte_bytes b = cond_both (nat_lt b 0x80) (units.Char b) (units.HighByte b) (λ u. unit_bytes u ≡ b ∷ [])
-    (λ e. encode_ascii b (ltb-true b 0x80 e)) (λ e. refl)
 
 -- ---- all parts
 

@@ -135,9 +135,6 @@ more_signs signs content h =
     ∙ (ap (λ xs. (signs ++ codes "\"") ++ xs) (sym (append_assoc content (34 ∷ signs) (codes "#")))
     ∙ sym (append_assoc (signs ++ codes "\"") (content ++ (34 ∷ signs)) (codes "#")))
 
-first_sign : (c : ℕ) (text rest : List ℕ) → 35 ∷ text ≡ c ∷ rest → text ≡ rest
-first_sign c text rest e = ap (drop 1) e
-
 behind_sign : (signs text content : List ℕ) → list_all is_hash signs ≡ true → 35 ∷ text ≡ (signs ++ codes "\"") ++ (content ++ (codes "\"" ++ signs))
     → (fewer : List ℕ) × (list_all is_hash fewer ≡ true) × (text ≡ ((fewer ++ codes "\"") ++ (content ++ (codes "\"" ++ fewer))) ++ codes "#")
 behind_sign [] text content h e = absurd (both_ways true (ap (first_passes is_hash) e) refl)

@@ -214,7 +214,3 @@ character_whole c scalar = inl (inl (inr (inl (character_stands c [] scalar (sto
 -- what stands for a doc comment is built
 pub doc_built : (text : List ℕ) → all_scalars text ≡ true → IsBuiltToken (Literal (string_text text))
 doc_built text all = string_whole text all
-
--- its first character is the quote
-pub string_first : (text : List ℕ) → (more : List ℕ) × (string_text text ≡ 34 ∷ more)
-string_first text = (content 34 written_char text ++ codes "\"", refl)

@@ -3,16 +3,14 @@ use Rattle.std.proofs.Common.{◌≡◌, ℕ, ◌*◌, ◌+◌, ◌<◌, ◌≤�
 use Rattle.std.specs.Char.{digit_value, is_ascii_hexdigit}
 use Rattle.std.specs.Int.{is_in_range}
 use Rattle.std.proofs.lemmas.Bool.{agree_below_at, and_from, and_parts, both_ways, cond_both, cond-false, cond-true, false_from_ne_true, lt-ltb, ltb-false, not-true, or_cases}
-use Rattle.std.proofs.lemmas.Str.{encode_ascii}
 use Rattle.lexical.specs.Text.{begins_any}
 use Rattle.lexical.specs.Quoted.{is_octal_digit, hex_value, Hex, HexPair, LowPair, NonzeroPair}
 use Rattle.literal_escaper.specs.Escape.{escape, hex_escape, is_hex}
 use Rattle.literal_escaper.specs.Kind.{Kind, byte_kind, c_kind, string_kind}
 use Rattle.literal_escaper.specs.Units.{byte_unit}
-use Rattle.literal_escaper.specs.declared.mixed_unit.MixedUnit.TheVariants.{Char, HighByte}
 use Rattle.pm_token.specs.Joined.{Makes, escape_value, number_in, numbers, utf8}
 use Rattle.pm_token.specs.Value.{unit_bytes}
-use Rattle.pm_token.proofs.UnitLemmas.{EscapesAs, Gives, one}
+use Rattle.pm_token.proofs.UnitLemmas.{EscapesAs, Gives, byte_bytes, one}
 
 pub hex_low : (c : ℕ) → is_ascii_hexdigit c ≡ true → c < 128
 hex_low c h = elim (or_cases (is_in_range 48 57 c || is_in_range 65 70 c) (is_in_range 97 102 c) h) [
@@ -110,11 +108,6 @@ zero_digit c h zero =
     agree_below_at (λ x. is_ascii_hexdigit x && (digit_value x == 0)) (λ x. is_ascii_hexdigit x && (x == 48))
     128 c refl (hex_low c h) in
     eqb-true c 48 (sym (ap (λ b. b && (c == 48)) h) ∙ (sym agree ∙ and_from _ _ h (ap (λ n. n == 0) zero)))
-
--- a byte is one byte, also where it is a character
-byte_bytes : (n : ℕ) → unit_bytes (byte_unit n) ≡ n ∷ []
-byte_bytes n = cond_both (nat_lt n 128) (Char n) (HighByte n) (λ u. unit_bytes u ≡ n ∷ [])
-    (λ e. encode_ascii n (ltb-true n 128 e)) (λ e. refl)
 
 pub nonzero_pair : (back r : List ℕ) → Hex NonzeroPair back r → EscapesAs c_kind unit_bytes (92 ∷ back) (escape_value utf8 back)
 nonzero_pair back r is =

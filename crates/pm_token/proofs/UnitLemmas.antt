@@ -1,11 +1,12 @@
 -- The units that are read of characters and of escapes, and what these give.
-use Rattle.std.proofs.Common.{◌≡◌, ℕ, Bool, true, not, ◌==◌, List, [], ◌∷◌, Result, Ok, refl}
+use Rattle.std.proofs.Common.{◌≡◌, ℕ, Bool, true, not, ◌==◌, nat_lt, List, [], ◌∷◌, Result, Ok, refl, ltb-true}
 use Rattle.std.specs.Char.{is_ascii}
-use Rattle.std.proofs.lemmas.Bool.{cond-false, cond-true, not-true}
+use Rattle.std.proofs.lemmas.Bool.{cond_both, cond-false, cond-true, not-true}
+use Rattle.std.proofs.lemmas.Str.{encode_ascii}
 use Rattle.literal_escaper.specs.declared.errors.EscapeError.{EscapeError}
-use Rattle.literal_escaper.specs.declared.mixed_unit.MixedUnit.TheVariants.{Char}
+use Rattle.literal_escaper.specs.declared.mixed_unit.MixedUnit.TheVariants.{Char, HighByte}
 use Rattle.literal_escaper.specs.Kind.{Kind, byte_kind, string_kind}
-use Rattle.literal_escaper.specs.Units.{c_char}
+use Rattle.literal_escaper.specs.Units.{byte_unit, c_char}
 use Rattle.pm_token.specs.Joined.{numbers, utf8}
 use Rattle.pm_token.specs.Value.{unit_bytes}
 use Rattle.pm_token.proofs.ReadLemmas.{Escapes}
@@ -38,3 +39,8 @@ byte_chars c ascii = record { unit = c; is = cond-true _ _ _ ascii; value_is = r
 
 pub c_chars : Spells unit_bytes c_char utf8.of_char (λ c. not (c == 0))
 c_chars c some = record { unit = Char c; is = cond-false _ _ _ (not-true _ some); value_is = refl }
+
+-- a byte of a C string gives itself, be it a character or not
+pub byte_bytes : (b : ℕ) → unit_bytes (byte_unit b) ≡ b ∷ []
+byte_bytes b = cond_both (nat_lt b 128) (Char b) (HighByte b) (λ u. unit_bytes u ≡ b ∷ [])
+    (λ e. encode_ascii b (ltb-true b 128 e)) (λ e. refl)

@@ -1,5 +1,5 @@
 -- Literals by themselves.
-use Rattle.std.proofs.Common.{◌≡◌, ◌≢◌, ◌↔◌, ℕ, Bool, true, false, ◌==◌, List, [], ◌∷◌, ◌++◌, length, Option, Some, None, IfSome, IfNone, MatchOption, Bor, IsTrue, eqb, refl, sym, ap, ◌∙◌, subst, arith, inl, inr, drop, append-nil, length-append, eqb-true}
+use Rattle.std.proofs.Common.{◌≡◌, ◌≢◌, ◌↔◌, ℕ, Bool, true, false, ◌==◌, Result, Ok, Err, IfErr, List, [], ◌∷◌, ◌++◌, length, Option, Some, None, IfSome, IfNone, MatchOption, Bor, IsTrue, eqb, refl, sym, ap, ◌∙◌, subst, arith, inl, inr, drop, append-nil, length-append, eqb-true}
 use Rattle.std.specs.Option.{option_eq}
 use Rattle.std.specs.Char.{is_ascii_digit}
 use Rattle.std.specs.Str.{chars, IsUtf8, encode_utf8_all}
@@ -13,13 +13,27 @@ use Rattle.lexical.specs.Text.{first_passes}
 use Rattle.lexical.specs.PieceFinder.{find_literal}
 use Rattle.lexical.proofs.FinderLemmas.{one_split}
 use Rattle.lexical.proofs.LiteralFinderLemmas.{finds_literal, literal_front, literal_fronts}
+use Rattle.pm_span.specs.Files.{Files, Holds}
+use Rattle.pm_span.proofs.FileLemmas.{holds_nowhere}
+use Rattle.pm_token.specs.Leaf.{Text}
 use Rattle.pm_token.specs.LiteralText.{IsByItself, IsLiteralText}
+use Rattle.pm_token.specs.Outcome.{IfLex, IsRefusalOf}
+use Rattle.pm_token.specs.declared.errors.ParseError.{ParseError}
+use Rattle.pm_token.specs.declared.errors.ParseError.TheVariants.{Lex, MapFull, Memory}
 
 -- what stands by itself may be the text of a literal
 pub literal_text : (text : List ℕ) → IsByItself text → IsLiteralText text
 unfolding IsWhole
 literal_text text (inl literal) = inl (inl literal)
 literal_text text (inr negative) = inr negative
+
+-- every map holds the place of the fault of a text that isn't whole
+pub refused_held : (map : Files) (whole : Type 0) (result : Result Text ParseError)
+    → IfErr result (IsRefusalOf whole) → IfErr result (λ error. IfLex error (Holds map))
+refused_held map whole (Ok literal) h = tt
+refused_held map whole (Err (Lex fault)) h = subst (Holds map) (sym h.0) (holds_nowhere map)
+refused_held map whole (Err MapFull) h = tt
+refused_held map whole (Err (Memory error)) h = tt
 
 -- ---- a literal that is the whole text
 

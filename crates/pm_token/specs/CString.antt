@@ -2,6 +2,7 @@
 use Rattle.std.specs.Prelude.{ℕ, Bool, not, ◌==◌, ◌≡◌, ◌<◌, List, [], ◌∷◌, ◌++◌, length, codes, encode_utf8}
 use Rattle.std.specs.Char.{IsScalar}
 use Rattle.std.specs.List.{list_all}
+use Rattle.literal_escaper.specs.Character.{double_quote}
 use Rattle.pm_token.specs.Escaped.{hex_pair, written, written_char}
 
 -- the bytes of a C string come in characters, and in bytes that begin none
@@ -21,7 +22,7 @@ AreParts (Byte b ∷ parts) bytes = BeginsNone bytes × (rest : List ℕ) × (by
 
 -- a character is written as in a string, and a byte by its number
 abbrev pub part_text : Part → List ℕ
-part_text (Char c) = written 34 written_char c []
+part_text (Char c) = written double_quote written_char c []
 part_text (Byte b) = codes "\\x" ++ hex_pair b
 
 abbrev pub parts_text : List Part → List ℕ

@@ -4,6 +4,7 @@ use Rattle.std.specs.Fmt.{digit_glyph}
 use Rattle.std.specs.Char.Escape.{escape_unicode}
 use Rattle.lexical.specs.Text.{first_passes}
 use Rattle.lexical.specs.Quoted.{is_octal_digit}
+use Rattle.literal_escaper.specs.Character.{backslash, carriage_return, double_quote, line_feed, quote as single_quote, tab}
 use Rattle.ucd_category.specs.GeneralCategory.{general_category}
 use Rattle.ucd_category.specs.declared.GeneralCategory.{GeneralCategory}
 use Rattle.ucd_category.specs.declared.GeneralCategory.TheVariants.{NonspacingMark, EnclosingMark, SpaceSeparator, LineSeparator, ParagraphSeparator, Control, Format, PrivateUse, Unassigned}
@@ -52,12 +53,12 @@ written quote plain c rest =
     if (c == 0) && first_passes is_octal_digit rest then codes "\\x00"
     -- the short escapes
     else if c == 0 then codes "\\0"
-    else if c == 9 then codes "\\t"
-    else if c == 13 then codes "\\r"
-    else if c == 10 then codes "\\n"
+    else if c == tab then codes "\\t"
+    else if c == carriage_return then codes "\\r"
+    else if c == line_feed then codes "\\n"
     -- the sign that begins an escape, and the quote that would end the literal
-    else if c == 92 then codes "\\\\"
-    else if c == quote then 92 ∷ quote ∷ []
+    else if c == backslash then codes "\\\\"
+    else if c == quote then backslash ∷ quote ∷ []
     else plain c
 
 -- `content`: the characters one after another
@@ -67,16 +68,16 @@ content quote plain (c ∷ rest) = written quote plain c rest ++ content quote p
 
 -- `string-text`: the string literal of a text
 abbrev pub string_text : List ℕ → List ℕ
-string_text text = codes "\"" ++ (content 34 written_char text ++ codes "\"")
+string_text text = codes "\"" ++ (content double_quote written_char text ++ codes "\"")
 
 -- `character-text`: the literal of a character
 abbrev pub character_text : ℕ → List ℕ
-character_text c = codes "'" ++ (written 39 written_char c [] ++ codes "'")
+character_text c = codes "'" ++ (written single_quote written_char c [] ++ codes "'")
 
 -- `byte-text`: the literal of a byte
 abbrev pub byte_text : ℕ → List ℕ
-byte_text b = codes "b'" ++ (written 39 written_byte b [] ++ codes "'")
+byte_text b = codes "b'" ++ (written single_quote written_byte b [] ++ codes "'")
 
 -- `byte-string-text`: the literal of some bytes
 abbrev pub byte_string_text : List ℕ → List ℕ
-byte_string_text bytes = codes "b\"" ++ (content 34 written_byte bytes ++ codes "\"")
+byte_string_text bytes = codes "b\"" ++ (content double_quote written_byte bytes ++ codes "\"")

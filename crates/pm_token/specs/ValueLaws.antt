@@ -5,6 +5,7 @@ use Rattle.std.specs.List.{AllByRecursion, list_all}
 use Rattle.std.specs.Str.{all_scalars, encode_utf8_all}
 use Rattle.lexical.specs.Form.{Form, Many}
 use Rattle.lexical.specs.Quoted.{ByteStr, ByteUnit, CStr, CUnit, Str, StringUnit}
+use Rattle.literal_escaper.specs.Character.{carriage_return}
 use Rattle.literal_escaper.specs.Kind.{byte_kind, string_kind}
 use Rattle.literal_escaper.specs.Single.{single}
 use Rattle.pm_token.specs.declared.literals.conversion.ConversionErrorKind.{ConversionErrorKind}
@@ -60,7 +61,7 @@ RawCStringsHaveBodies = (signs body : List ℕ) → IsTrue (list_all is_hash sig
 
 -- no CR stands in the text
 abbrev pub has_no_return : List ℕ → Bool
-has_no_return text = list_all (λ c. not (c == 13)) text
+has_no_return text = list_all (λ c. not (c == carriage_return)) text
 
 -- a literal with escapes and without a suffix
 abbrev pub cooked_text : List ℕ → List ℕ → List ℕ

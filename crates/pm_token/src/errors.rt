@@ -55,7 +55,8 @@ impl Error for LexError {}
 /// Why a text was not parsed.
 #[derive(Debug, Drop)]
 pub enum ParseError {
-    /// The text has a fault. Its file stands in the map, so that the fault's place can be asked.
+    /// The text has a fault, and is a file of the map. The fault of a stream says its place there;
+    /// that of a literal is 0..0.
     Lex(LexError),
     /// The text would end past the map's limit (`fits`). The map is as before.
     MapFull,
@@ -89,8 +90,7 @@ impl From<AllocError> for ParseError {
 }
 
 impl<T: Drop> From<AllocFailed<T>> for ParseError {
-    ghost use Rattle.std.specs.Prelude.{◌≡◌, alloc_error};
-    ghost use Rattle.pm_token.specs.declared.errors.ParseError.TheVariants.{Memory};
+    ghost use Rattle.std.specs.Prelude.{alloc_error};
 
     ghost from_gives = { λ _ result. result ≡ Memory alloc_error };
 

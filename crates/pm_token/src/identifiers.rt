@@ -173,6 +173,3 @@ impl fmt::Debug for Ident {
         debug.finish()
     }
 }
-
-#[cfg(test)]
-mod tests;

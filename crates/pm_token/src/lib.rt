@@ -16,6 +16,3 @@ pub use errors::{LexError, ParseError};
 pub use identifiers::{Ident, IdentError};
 pub use literals::{ConversionErrorKind, Literal};
 pub use marks::{Punct, Spacing};
-
-#[cfg(test)]
-mod tests;

@@ -48,7 +48,7 @@ impl Literal {
         })
     }
 
-    /// The literal as it is written, with its quotes and its suffix.
+    /// The literal as it is written, with its quotes, its suffix and the `-` that may stand before it.
     pub fn text(&self) -> &str
         ensures { chars result.now ≡ self.now.text }
     {

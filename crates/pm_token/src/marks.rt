@@ -85,7 +85,6 @@ impl fmt::Display for Punct {
     ghost use Rattle.std.specs.Prelude.{Some};
     ghost use Rattle.std.specs.Str.{encode_utf8_all};
     ghost use Rattle.lexical.specs.Token.{token_text};
-    ghost use Rattle.pm_token.specs.Leaf.{mark_token};
 
     ghost output = { λ punct. Some (encode_utf8_all (token_text (mark_token punct))) };
 

@@ -2,8 +2,8 @@
 //! and its text.
 //!
 //! A group stands before its contents, with its opening delimiter. Lines count from 1, columns
-//! count characters from 0. A text that has a fault is refused with the place of the fault, and
-//! the status 1.
+//! count characters from 0. Of a text that has a fault the place of the fault is written to
+//! standard output, and the status is 1.
 #![tactic(auto)]
 
 mod answer;

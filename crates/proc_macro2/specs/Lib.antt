@@ -2,6 +2,7 @@ pub mod Laws
 pub use Rattle.lexical.specs.Cover
 pub use Rattle.lexical.specs.Piece
 pub use Rattle.lexical.specs.Quiet
+pub use Rattle.lexical.specs.Token
 pub use Rattle.literal_escaper.specs.Errors
 pub use Rattle.literal_escaper.specs.Items
 pub use Rattle.literal_escaper.specs.Kind
@@ -13,6 +14,7 @@ pub use Rattle.literal_escaper.specs.Within
 pub use Rattle.pm_span.specs.Extent
 pub use Rattle.pm_span.specs.Files
 pub use Rattle.pm_span.specs.Place
+pub use Rattle.pm_token.specs.Built
 pub use Rattle.pm_token.specs.CString
 pub use Rattle.pm_token.specs.Content
 pub use Rattle.pm_token.specs.Escaped
@@ -33,6 +35,8 @@ pub use Rattle.pm_stream.specs.Forest
 pub use Rattle.pm_stream.specs.Level
 pub use Rattle.pm_stream.specs.Parsing
 pub use Rattle.pm_stream.specs.Printed
+pub use Rattle.pm_stream.specs.PrintedTree
+pub use Rattle.pm_stream.specs.Rule
 pub use Rattle.pm_stream.specs.Same
 pub use Rattle.pm_stream.specs.Size
 pub use Rattle.pm_stream.specs.TreeSpan

@@ -16,6 +16,7 @@ ghost use Rattle.proc_macro2.specs.Laws.{
   WellSpacedIsParsed,
 };
 
+pub use pm_stream::laws::printed_by_the_rule;
 pub use pm_token::laws::{cooked_values, made_literals, raw_values, values_come_back};
 
 /// A source has at most one cover by pieces, and parses to at most one stream. It parses or has a fault,
@@ -58,6 +59,3 @@ pub fn joined_texts()
 pub fn broken_line()
     ensures { BrokenLine }
 {}
-
-#[cfg(test)]
-mod tests;

@@ -3,7 +3,7 @@
 
 pub mod laws;
 
-pub use literal_escaper::EscapeError;
+pub use literal_escaper::{EscapeError, NonZeroChar, NonZeroU8};
 pub use pm_span::{LineColumn, SourceMap, Span};
 pub use pm_stream::{Group, TokenStream, TokenTree};
 pub use pm_token::{

@@ -11,7 +11,6 @@ use std::alloc::AllocError;
 impl Draft {
     /// Writes the bytes between these quotes, each by the rules `escaped` and `written-byte`.
     pub(crate) fn push_bytes(&mut self, quote: u8, bytes: &[u8]) -> Result<(), AllocError>
-        requires { quote < 128 }
         ensures ok { OnOk result (self.new ≡ self.old ++ content quote written_byte bytes.now) }
     {
         let mut left = bytes;
@@ -24,7 +23,6 @@ impl Draft {
 
     /// Writes the byte between these quotes, where the rest of the content follows.
     pub(crate) fn push_byte(&mut self, quote: u8, byte: u8, rest: &[u8]) -> Result<(), AllocError>
-        requires { quote < 128 }
         ensures ok { OnOk result (self.new ≡ self.old ++ written quote written_byte byte rest.now) }
     {
         match byte {

@@ -44,7 +44,6 @@ impl fmt::Display for IdentError {
 impl Error for IdentError {}
 
 impl From<AllocError> for IdentError {
-    ghost use Rattle.std.specs.Prelude.{◌≡◌};
     ghost use Rattle.pm_token.specs.declared.identifiers.faults.IdentError.TheVariants.{Memory};
 
     ghost from_gives = { λ error result. result ≡ Memory error };

@@ -308,6 +308,3 @@ impl Literal {
         signed(alloc, value as i128, Suffix::Isize)
     }
 }
-
-#[cfg(test)]
-mod tests;

@@ -105,6 +105,3 @@ impl Literal {
         })
     }
 }
-
-#[cfg(test)]
-mod tests;

@@ -4,8 +4,6 @@ ghost use Rattle.pm_token.specs.Value.{Answers, byte_str_value, bytes_of, cstr_v
 
 mod content;
 mod raw;
-#[cfg(test)]
-mod tests;
 mod unescaped;
 
 use crate::literals::Literal;

@@ -5,7 +5,7 @@ ghost use Rattle.std.specs.Str.{chars, IsUtf8};
 ghost use Rattle.lexical.specs.Literal as literals;
 ghost use Rattle.lexical.specs.Text.{first_passes};
 ghost use Rattle.pm_span.specs.Extent.{nowhere};
-ghost use Rattle.pm_span.specs.Files.{Fits, next_lo, with_file};
+ghost use Rattle.pm_span.specs.Files.{Fits, Holds, next_lo, with_file};
 ghost use Rattle.pm_token.specs.LiteralText.{IsByItself};
 ghost use Rattle.pm_token.specs.Outcome.{IfLex, IsRefusalOf, was_read};
 
@@ -17,8 +17,9 @@ use pm_span::{SourceMap, Span};
 use std::alloc::{AllocError, Global};
 
 impl Literal {
-    /// The literal that the whole text is (`literal-by-itself`), or `-` and one that begins with a
-    /// digit. The text becomes the next file of the map, and the literal's span is all of it.
+    /// The literal that the whole text is, or `-` and one that begins with a digit
+    /// (`literal-by-itself`). The text becomes the next file of the map, and the literal's span is all
+    /// of it.
     ///
     /// Nothing may stand before or behind the literal, not even white space. Any other text is
     /// refused as `Lex` with the span 0..0, and is a file of the map then too. `MapFull` is answered
@@ -36,6 +37,7 @@ impl Literal {
 
         ensures lex { IfErr result (λ error. IfLex error (λ fault.
             (fault ≡ nowhere) × (IsByItself (chars text.now) → ⊥))) }
+        ensures held { IfErr result (λ error. IfLex error (Holds map.new)) }
         ensures map_full { (result ≡ Err ParseError.MapFull)
             ↔ (Fits map.old (length (chars text.now)) → ⊥) }
 
@@ -75,7 +77,7 @@ impl Literal {
         Literal::from_parts(alloc, text, Span::call_site())
     }
 
-    /// Whether the text is a literal (`literal-by-itself`), or `-` and one that begins with a digit:
+    /// Whether the text is a literal, or `-` and one that begins with a digit (`literal-by-itself`):
     /// the texts that `from_str` accepts. It is so of `1u8`, `-0.1` and `"a"`, and not of `- 1`,
     /// `1 ` or `-""`.
     pub fn is_whole(text: &str) -> bool
@@ -114,6 +116,3 @@ fn is_literal(text: &str) -> bool
 {
     literal_at(text) == Some(text.len())
 }
-
-#[cfg(test)]
-mod tests;

@@ -3,10 +3,11 @@ use Rattle.std.specs.Str.{chars}
 use Rattle.lexical.specs.EscapeFinder.{allows_code}
 use Rattle.lexical.proofs.CodeLemmas.{CountsTo, reads_digit, reads_line, digits_tail, no_code_long, no_code_great}
 use Rattle.lexical.proofs.escapes.writes_character.Goals as goal
-use Rattle.lexical.proofs.escapes.writes_character.Goals.{in-Some-to_digit, in_default-to_digit, then-count-gt6-via-then-count-gt6, then-count-gt6-via-else-count-gt6+then-value-gt1114111}
+use Rattle.lexical.proofs.escapes.writes_character.Goals.{in-Some-to_digit, in_default-to_digit}
+use Rattle.lexical.proofs.escapes.writes_character.Goals.{then-count-gt-MOST_DIGITS-via-then-count-gt-MOST_DIGITS, then-count-gt-MOST_DIGITS-via-else-count-gt-MOST_DIGITS+then-value-gt1114111}
 
-pub returns-then-count-gt6 : goal.returns-then-count-gt6
-returns-then-count-gt6 c =
+pub returns-then-count-gt-MOST_DIGITS : goal.returns-then-count-gt-MOST_DIGITS
+returns-then-count-gt-MOST_DIGITS c =
     let after : List ℕ = chars c.in-Some.after.now in
     let text : List ℕ = chars c.args.text.now in
     let split = c.in-Some.ensures.split in
@@ -19,9 +20,9 @@ returns-then-count-gt6 c =
     ] in
     let value : ℕ = c.match-to_digit.value in
     let count : ℕ = c.match-to_digit.count in
-    sym (elim c.then-count-gt6.branch [
-      | then-count-gt6-via-then-count-gt6 w ↦ no_code_long (allows_code c.args.kind) value count after text counts w.if-count-gt6.true
-      | then-count-gt6-via-else-count-gt6+then-value-gt1114111 w ↦
+    sym (elim c.then-count-gt-MOST_DIGITS.branch [
+      | then-count-gt-MOST_DIGITS-via-then-count-gt-MOST_DIGITS w ↦ no_code_long (allows_code c.args.kind) value count after text counts w.if-count-gt-MOST_DIGITS.true
+      | then-count-gt-MOST_DIGITS-via-else-count-gt-MOST_DIGITS+then-value-gt1114111 w ↦
           no_code_great (allows_code c.args.kind) value count after text counts w.if-value-gt1114111.true
     ])
 
@@ -37,4 +38,4 @@ loop-c-preserved c =
       | in_default-to_digit w ↦ reads_line _ _ _ _ c.in-Some.c after _ text split tail.0 c.loop-c.invariant.2
           w.in_default-to_digit.ensures.value w.value-is w.count-is
     ] in
-    (c.in-Some.ensures.utf8, tail.1, counts, c.if-count-gt6.false, c.if-value-gt1114111.false)
+    (c.in-Some.ensures.utf8, tail.1, counts, c.if-count-gt-MOST_DIGITS.false, c.if-value-gt1114111.false)

@@ -29,7 +29,8 @@ pub fn raw_bytes(alloc: Global, content: &str) -> Result<Vec<u8>, AllocError>
 pub fn raw_c_string(alloc: Global, content: &str) -> Result<Vec<u8>, AllocError>
     ensures { IfOk result (λ value. bytes_of value ≡ ended (encode_utf8_all (chars content.now))) }
 {
-    let mut value = raw_bytes(alloc, content)?;
+    let mut value = Vec::with_capacity(alloc, content.len().saturating_add(1))?;
+    value.extend_from_slice(content.as_bytes())?;
     value.push(0)?;
     Ok(value)
 }

@@ -82,7 +82,7 @@ fn push_unit(bytes: &mut Vec<u8>, unit: MixedUnit) -> Result<(), AllocError>
 pub fn unescaped_c_string(alloc: Global, content: &str) -> Result<Vec<u8>, ConversionErrorKind>
     ensures { Answers bytes_of (value_from (Some (c_bytes (units c_kind (chars content.now)))) None) result }
 {
-    let mut value = Vec::new(alloc);
+    let mut value = Vec::with_capacity(alloc, content.len().saturating_add(1))?;
     let mut fault = None;
     for (_, unit) in unescape_c_str(content) {
         match unit {

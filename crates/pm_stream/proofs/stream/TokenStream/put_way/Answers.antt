@@ -7,7 +7,7 @@ use Rattle.pm_stream.proofs.stream.TokenStream.put_way.Goals as goal
 
 pub invariant_of-self-2 : goal.invariant_of-self-2
 invariant_of-self-2 c =
-    let ordered : c.call_site.result.lo ≤ c.call_site.result.hi = rw c.call_site.ensures (omega arith) in
+    let ordered : c.call_site.result.lo ≤ c.call_site.result.hi = rw c.call_site.ensures.value (omega arith) in
     let before = subst IsBuilt (ap held c.in-Some.is) c.self.invariant in
     subst IsBuilt (sym c.in_default-put_last.ensures.ok) (IsBuilt-joined _ _ before (ordered, c.built.ensures, tt))
 

@@ -17,4 +17,4 @@ invariant_of-result c = inl (subst IsWhole (sym (text c))
     (byte_string_whole c.args.bytes.now (bytes_fit c.args.bytes.now (λ i. (c.type_inv.bytes i).fits))))
 
 pub returns : goal.returns
-returns c = record { ok = ap₂ (λ x s. record { text = x; span = s }) (text c) c.call_site.ensures }
+returns c = record { ok = ap₂ (λ x s. record { text = x; span = s }) (text c) c.call_site.ensures.value }

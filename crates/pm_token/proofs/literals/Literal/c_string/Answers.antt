@@ -22,4 +22,4 @@ invariant_of-result c = inl (c_string_whole c.args.bytes.now c.finish.result (te
     (bytes_fit c.args.bytes.now (λ i. (c.type_inv.bytes i).fits)) c.requires)
 
 pub returns : goal.returns
-returns c = record { ok = (text c, c.call_site.ensures) }
+returns c = record { ok = (text c, c.call_site.ensures.value) }

@@ -16,4 +16,4 @@ pub invariant_of-result : goal.invariant_of-result
 invariant_of-result c = inl (subst IsWhole (sym (text c)) (character_whole c.args.c c.ranges.c.0))
 
 pub returns : goal.returns
-returns c = record { ok = ap₂ (λ x s. record { text = x; span = s }) (text c) c.call_site.ensures }
+returns c = record { ok = ap₂ (λ x s. record { text = x; span = s }) (text c) c.call_site.ensures.value }

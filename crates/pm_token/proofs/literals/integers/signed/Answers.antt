@@ -26,5 +26,5 @@ invariant_of-result c = subst IsLiteralText (sym (text c)) (literal_text _ (sign
 pub returns : goal.returns
 returns c = record {
   ok = ap (λ x. record { text = x; span = c.call_site.result }) (text c)
-      ∙ ap (λ x. record { text = signed_decimal c.args.value ++ suffix_text c.args.suffix; span = x }) c.call_site.ensures;
+      ∙ ap (λ x. record { text = signed_decimal c.args.value ++ suffix_text c.args.suffix; span = x }) c.call_site.ensures.value;
 }

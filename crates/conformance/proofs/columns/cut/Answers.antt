@@ -1,8 +1,0 @@
-use Rattle.std.proofs.Common.{lit<}
-use Rattle.std.proofs.lemmas.Str.Pattern.{split_parts}
-use Rattle.conformance.specs.Column.{tab}
-use Rattle.conformance.proofs.LineLemmas.{IsCut-split}
-use Rattle.conformance.proofs.columns.cut.Goals as goal
-
-pub returns : goal.returns
-returns c = IsCut-split _ _ (split_parts tab _ _ c.split_once.ensures.cases (lit< tt))

@@ -1,0 +1,11 @@
+//! Tests of the lexer and of the items of contents: texts and answers from outside.
+//!
+//! They stand in a crate of their own, since a crate that has tests is proved once more with them.
+#![tactic(auto)]
+
+#[cfg(test)]
+mod escapes;
+#[cfg(test)]
+mod lexer;
+#[cfg(test)]
+mod lexer_literals;

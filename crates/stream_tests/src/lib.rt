@@ -1,0 +1,17 @@
+//! Tests of streams, and of what crosses the libraries: texts and answers from outside.
+//!
+//! They stand in a crate of their own, since a crate that has tests is proved once more with them.
+#![tactic(auto)]
+
+#[cfg(test)]
+mod doc_comments;
+#[cfg(test)]
+mod laws;
+#[cfg(test)]
+mod literal_rows;
+#[cfg(test)]
+mod parsing;
+#[cfg(test)]
+mod rows;
+#[cfg(test)]
+mod streams;

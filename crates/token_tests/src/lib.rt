@@ -1,0 +1,19 @@
+//! Tests of the source map, of identifiers and of literals: texts and answers from outside.
+//!
+//! They stand in a crate of their own, since a crate that has tests is proved once more with them.
+#![tactic(auto)]
+
+#[cfg(test)]
+mod identifiers;
+#[cfg(test)]
+mod integers;
+#[cfg(test)]
+mod quoted;
+#[cfg(test)]
+mod shown_tokens;
+#[cfg(test)]
+mod source_map;
+#[cfg(test)]
+mod values;
+#[cfg(test)]
+mod whole_literals;
