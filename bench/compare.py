@@ -3,9 +3,9 @@
 
 Usage: bench/compare.py CRATE IDENT SOURCES [RUNS]
 CRATE and IDENT are the folders of the Rust crates proc-macro2 and unicode-ident (each with src/lib.rs), and SOURCES is
-a folder of Rust files. Builds the program and the twin, runs them in turn, and prints the least user time, the least of
-user and system time, and the most memory of each, with the ratios and the growth from the half to the whole. Ends with
-an error where a run fails, or where the last outputs of the two on the half or on the whole differ.
+a folder of Rust files. Builds the program and the twin, runs them in turn, and prints the least user time, the least
+processor time (user and system time together), and the most memory of each, with the ratios and the growth from the half
+to the whole. Ends with an error where a run fails, or where the last outputs of the two on the half or on the whole differ.
 """
 import os
 import pathlib
@@ -51,7 +51,7 @@ def build(crate: str, ident: str, out: pathlib.Path) -> dict[str, str]:
 
 
 def measured(program: str, text: pathlib.Path, output: pathlib.Path) -> tuple[float, float, int]:
-    """User time and all processor time in milliseconds, and peak memory in KB."""
+    """User time and processor time in milliseconds, and peak memory in KB."""
     with open(text, "rb") as source, open(output, "wb") as sink:
         child = subprocess.Popen([program, "print"], stdin=source, stdout=sink)
         _, status, used = os.wait4(child.pid, 0)
@@ -89,11 +89,12 @@ def report(best: dict, half: int, whole: int, runs: int) -> None:
     for name, size in (("half", half), ("whole", whole)):
         ours, twin = best["tokens", name], best["twin", name]
         print(f"{name}, {size} bytes")
-        for label, i, unit in (("user time", 0, "ms"), ("user and system", 1, "ms"), ("peak memory", 2, "KB")):
+        for label, i, unit in (("user time", 0, "ms"), ("processor time", 1, "ms"), ("peak memory", 2, "KB")):
             print(f"  {label}: tokens {ours[i]:.0f} {unit}, twin {twin[i]:.0f} {unit}, ratio {ours[i] / twin[i]:.2f}")
     for program in ("tokens", "twin"):
-        growth = best[program, "whole"][0] / best[program, "half"][0]
-        print(f"growth of {program} from half to whole: {growth:.2f} (text {whole / half:.2f})")
+        user, both = (best[program, "whole"][i] / best[program, "half"][i] for i in (0, 1))
+        print(f"growth of {program} from half to whole: processor time {both:.2f}, of it user time {user:.2f}")
+    print(f"growth of the text: {whole / half:.2f}")
 
 
 if __name__ == "__main__":

@@ -56,3 +56,6 @@ fn status(tally: Tally) -> ExitCode
         ExitCode::FAILURE
     }
 }
+
+#[cfg(test)]
+mod tests;

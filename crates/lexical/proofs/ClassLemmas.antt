@@ -2,7 +2,7 @@
 use Rattle.std.proofs.Common.{◌≡◌, ℕ, ◌<◌, ◌≤◌, nat_le, ◌⊎◌, Bool, true, false, cond, ◌||◌, ◌&&◌, ◌==◌, List, [], ◌∷◌, codes, refl, sym, ap, arith, ◌∙◌, subst, inl, inr, eqb-true, eq-eqb}
 use Rattle.std.specs.List.{list_any, AllByRecursion}
 use Rattle.std.specs.Char.{is_ascii_alphabetic, is_ascii_alphanumeric, is_ascii_digit}
-use Rattle.std.proofs.lemmas.Bool.{both_ways, and_parts, or_cases, or_parts, leb-true, not-true, agree_below_at, cond-true, cond-false}
+use Rattle.std.proofs.lemmas.Bool.{both_ways, and_parts, or_cases, or_parts, leb-true, not-true, agree_below_at, cond-true, cond-false, cond_both}
 use Rattle.unicode_ident.proofs.Computing.{unicode_ident}
 use Rattle.unicode_ident.proofs.IdentLemmas.{is_xid_continue-ascii}
 use Rattle.lexical.specs.Class.{is_white, is_ident_start, is_ident_continue}
@@ -137,3 +137,34 @@ pub front_mark_is : (c : ℕ) → start c ≡ starts.FrontMark → c ≡ 0xFEFF
 front_mark_is c h =
     let mark = past_classes c starts.FrontMark h (λ e. cc) (λ e. cc) (λ e. cc) (λ e. cc) (λ e. cc) (λ e. cc) in
     eqb-true c 0xFEFF (chosen (c == 0xFEFF) _ _ _ (past (c == 34) (λ e. cc) (past (c == 39) (λ e. cc) mark)) (λ e. cc))
+
+-- of which class the character is, at four of the starts
+abbrev pub is_of : Start → ℕ → Bool
+is_of starts.White c = is_white c
+is_of starts.Letter c = is_ident_start c
+is_of starts.Opener c = is_opener c
+is_of starts.Closer c = is_closer c
+is_of s c = true
+
+of_choice : (c : ℕ) (b : Bool) (x y : Start) → (b ≡ true → is_of x c ≡ true) → is_of y c ≡ true → is_of (cond b x y) c ≡ true
+of_choice c b x y here there = cond_both b x y (λ s. is_of s c ≡ true) here (λ _. there)
+
+pub start_is_of : (c : ℕ) → is_of (start c) c ≡ true
+start_is_of c =
+    of_choice c (is_white c) _ _ (λ h. h) (of_choice c (is_ident_start c) _ _ (λ h. h)
+    (of_choice c (is_ascii_digit c) _ _ (λ _. refl) (of_choice c (is_opener c) _ _ (λ h. h)
+    (of_choice c (is_closer c) _ _ (λ h. h) (of_choice c (c == 47) _ _ (λ _. refl)
+    (of_choice c (c == 39) _ _ (λ _. refl) (of_choice c (c == 34) _ _ (λ _. refl)
+    (of_choice c (c == 0xFEFF) _ _ (λ _. refl) refl))))))))
+
+pub white_is : (c : ℕ) → start c ≡ starts.White → is_white c ≡ true
+white_is c h = subst (λ s. is_of s c ≡ true) h (start_is_of c)
+
+pub letter_is : (c : ℕ) → start c ≡ starts.Letter → is_ident_start c ≡ true
+letter_is c h = subst (λ s. is_of s c ≡ true) h (start_is_of c)
+
+pub opener_is : (c : ℕ) → start c ≡ starts.Opener → is_opener c ≡ true
+opener_is c h = subst (λ s. is_of s c ≡ true) h (start_is_of c)
+
+pub closer_is : (c : ℕ) → start c ≡ starts.Closer → is_closer c ≡ true
+closer_is c h = subst (λ s. is_of s c ≡ true) h (start_is_of c)

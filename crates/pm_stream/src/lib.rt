@@ -6,9 +6,7 @@ mod display;
 mod doc;
 pub mod laws;
 mod parse;
+pub mod parts;
 mod stream;
 
 pub use stream::{Group, TokenStream, TokenTree};
-
-#[cfg(test)]
-mod tests;

@@ -12,6 +12,3 @@ mod literals;
 mod texts;
 
 pub use lines::{Tally, replay};
-
-#[cfg(test)]
-mod tests;

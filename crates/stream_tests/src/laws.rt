@@ -1,63 +1,51 @@
+use crate::checks::{check_printed, check_printed_twice};
 use proc_macro2::{ParseError, SourceMap, TokenStream};
-use std::alloc::Global;
-use std::test::Fail;
 
-fn printed(alloc: Global, text: &str) -> Result<String, Fail> {
-    let mut map = SourceMap::new(alloc);
-    let stream = TokenStream::from_str(text, &mut map)?;
-    Ok(format!(in alloc; "{stream}")?)
+#[test]
+fn a_parsed_stream_comes_back_from_its_printed_text(rt: HostRuntime) {
+    check_printed_twice(&rt, "", "");
+    check_printed_twice(&rt, "fn f(x) { x + y }", "fn f (x) { x + y }");
+    check_printed_twice(&rt, "a+'b'", "a +'b'");
+    check_printed_twice(&rt, "'b\"x\"", "'b\"x\"");
+    check_printed_twice(&rt, "&'b\"x\"", "&'b\"x\"");
+    check_printed_twice(&rt, "1..2", "1 .. 2");
+    check_printed_twice(&rt, "1.f32", "1 . f32");
+    check_printed_twice(&rt, "1.", "1.");
+    check_printed_twice(&rt, "0E--0", "0E -- 0");
+    check_printed_twice(&rt, "tuple.0.0", "tuple . 0.0");
+    check_printed_twice(&rt, "1e5\u{301}", "1e5\u{301}");
+    check_printed_twice(&rt, "0o0A", "0o0A");
+    check_printed_twice(&rt, "/// d\r\n", "# [doc = \" d\"]");
+    check_printed_twice(&rt, "//! doc", "# ! [doc = \" doc\"]");
+    check_printed_twice(&rt, "/***/x", "x");
+    check_printed_twice(&rt, "(/*ERROR*/)", "(/*ERROR*/)");
+    check_printed_twice(&rt, "\u{FEFF}foo", "foo");
+    check_printed_twice(&rt, "'''", "'''");
+    check_printed_twice(&rt, "'r#prefix#lifetime", "'r#prefix # lifetime");
+    check_printed_twice(&rt, "'a 'static 'r#gen", "'a 'static 'r#gen");
+    check_printed_twice(&rt, "<<=", "<<=");
+    check_printed_twice(&rt, "+/**/-", "+ -");
+    check_printed_twice(&rt, "~// c", "~");
+    check_printed_twice(&rt, "{}{x}[x](x)", "{ } { x } [x] (x)");
+    check_printed_twice(&rt, "a+=b", "a += b");
+    check_printed_twice(
+        &rt,
+        "r#\"a\"#r cr##\"Hello \"world\"!\"## b'x' c\"\\x80\"",
+        "r#\"a\"#r cr##\"Hello \"world\"!\"## b'x' c\"\\x80\"",
+    );
+    check_printed_twice(&rt, "'\\u{10__FFFF}'", "'\\u{10__FFFF}'");
+    check_printed_twice(
+        &rt,
+        "1.0e+-5 999r#u256 0x1e+5",
+        "1.0e +- 5 999r # u256 0x1e + 5",
+    );
 }
 
 #[test]
-fn a_parsed_stream_comes_back_from_its_printed_text(rt: HostRuntime) -> Result<(), Fail> {
-    for (text, want) in [
-        ("", ""),
-        ("fn f(x) { x + y }", "fn f (x) { x + y }"),
-        ("a+'b'", "a +'b'"),
-        ("'b\"x\"", "'b\"x\""),
-        ("&'b\"x\"", "&'b\"x\""),
-        ("1..2", "1 .. 2"),
-        ("1.f32", "1 . f32"),
-        ("1.", "1."),
-        ("0E--0", "0E -- 0"),
-        ("tuple.0.0", "tuple . 0.0"),
-        ("1e5\u{301}", "1e5\u{301}"),
-        ("0o0A", "0o0A"),
-        ("/// d\r\n", "# [doc = \" d\"]"),
-        ("//! doc", "# ! [doc = \" doc\"]"),
-        ("/***/x", "x"),
-        ("(/*ERROR*/)", "(/*ERROR*/)"),
-        ("\u{FEFF}foo", "foo"),
-        ("'''", "'''"),
-        ("'r#prefix#lifetime", "'r#prefix # lifetime"),
-        ("'a 'static 'r#gen", "'a 'static 'r#gen"),
-        ("<<=", "<<="),
-        ("+/**/-", "+ -"),
-        ("~// c", "~"),
-        ("{}{x}[x](x)", "{ } { x } [x] (x)"),
-        ("a+=b", "a += b"),
-        (
-            "r#\"a\"#r cr##\"Hello \"world\"!\"## b'x' c\"\\x80\"",
-            "r#\"a\"#r cr##\"Hello \"world\"!\"## b'x' c\"\\x80\"",
-        ),
-        ("'\\u{10__FFFF}'", "'\\u{10__FFFF}'"),
-        ("1.0e+-5 999r#u256 0x1e+5", "1.0e +- 5 999r # u256 0x1e + 5"),
-    ] {
-        let once = printed(rt.alloc(), text)?;
-        assert_eq!(rt; once.as_str(), want, "of {text:?}");
-        let twice = printed(rt.alloc(), once.as_str())?;
-        assert_eq!(rt; twice.as_str(), once.as_str(), "of {text:?}");
-    }
-    Ok(())
-}
-
-#[test]
-fn joined_texts_are_read_one_after_the_other(rt: HostRuntime) -> Result<(), Fail> {
-    for (text, want) in [("x // c\ny", "x y"), ("+\n+", "+ +"), ("//\r\ny", "y")] {
-        let found = printed(rt.alloc(), text)?;
-        assert_eq!(rt; found.as_str(), want, "of {text:?}");
-    }
-    Ok(())
+fn joined_texts_are_read_one_after_the_other(rt: HostRuntime) {
+    check_printed(&rt, "x // c\ny", "x y");
+    check_printed(&rt, "+\n+", "+ +");
+    check_printed(&rt, "//\r\ny", "y");
 }
 
 #[test]
@@ -73,36 +61,21 @@ fn a_front_mark_in_the_second_text_is_a_fault(rt: HostRuntime) {
 }
 
 #[test]
-fn a_line_is_broken_behind_a_piece(rt: HostRuntime) -> Result<(), Fail> {
-    for (text, broken, want) in [
-        ("a+=b", "a\n+=b", "a += b"),
-        ("/// d\nx", "/// d\n\nx", "# [doc = \" d\"] x"),
-        ("(a)\"b\"c", "(\na\n)\n\"b\"c", "(a) \"b\"c"),
-    ] {
-        let whole = printed(rt.alloc(), text)?;
-        assert_eq!(rt; whole.as_str(), want, "of {text:?}");
-        let found = printed(rt.alloc(), broken)?;
-        assert_eq!(rt; found.as_str(), want, "of {broken:?}");
-    }
-    Ok(())
+fn a_line_is_broken_behind_a_piece(rt: HostRuntime) {
+    check_printed(&rt, "a+=b", "a += b");
+    check_printed(&rt, "a\n+=b", "a += b");
+    check_printed(&rt, "/// d\nx", "# [doc = \" d\"] x");
+    check_printed(&rt, "/// d\n\nx", "# [doc = \" d\"] x");
+    check_printed(&rt, "(a)\"b\"c", "(a) \"b\"c");
+    check_printed(&rt, "(\na\n)\n\"b\"c", "(a) \"b\"c");
 }
 
 #[test]
-fn behind_a_mark_or_a_number_it_may_be_read_otherwise(rt: HostRuntime) -> Result<(), Fail> {
-    for (text, want, broken, other) in [
-        ("a+=b", "a += b", "a+\n=b", "a + = b"),
-        ("1.f32", "1 . f32", "1.\nf32", "1. f32"),
-        (
-            "1.0e+_5\u{301}",
-            "1 . 0e + _5\u{301}",
-            "1.0e\n+_5\u{301}",
-            "1.0e + _5\u{301}",
-        ),
-    ] {
-        let whole = printed(rt.alloc(), text)?;
-        assert_eq!(rt; whole.as_str(), want, "of {text:?}");
-        let found = printed(rt.alloc(), broken)?;
-        assert_eq!(rt; found.as_str(), other, "of {broken:?}");
-    }
-    Ok(())
+fn behind_a_mark_or_a_number_it_may_be_read_otherwise(rt: HostRuntime) {
+    check_printed(&rt, "a+=b", "a += b");
+    check_printed(&rt, "a+\n=b", "a + = b");
+    check_printed(&rt, "1.f32", "1 . f32");
+    check_printed(&rt, "1.\nf32", "1. f32");
+    check_printed(&rt, "1.0e+_5\u{301}", "1 . 0e + _5\u{301}");
+    check_printed(&rt, "1.0e\n+_5\u{301}", "1.0e + _5\u{301}");
 }

@@ -4,6 +4,10 @@
 #![tactic(auto)]
 
 #[cfg(test)]
+mod built_streams;
+#[cfg(test)]
+mod checks;
+#[cfg(test)]
 mod doc_comments;
 #[cfg(test)]
 mod laws;

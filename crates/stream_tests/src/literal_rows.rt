@@ -1,6 +1,7 @@
 // What crosses crates in the calls on literals.
 use proc_macro2::{Literal, ParseError, SourceMap, Span};
 use std::alloc::Global;
+use std::process::Abort;
 use std::test::Fail;
 
 // The literal of the whole text in a new map, as it is shown.
@@ -21,6 +22,11 @@ fn is_refused(alloc: Global, text: &str) -> bool {
     }
 }
 
+/// Asserts that the text is refused with the span 0..0, and that it is no whole literal.
+fn check_refused(rt: &(impl Abort + AllocGlobal), text: &str) {
+    assert!(rt; is_refused(rt.alloc(), text), "of {text:?}");
+}
+
 // The text of the C string literal of U+007F, the byte FF, the byte FE, and U+0333.
 fn c_string_of_mixed_bytes(alloc: Global) -> Result<String, ParseError> {
     let literal = Literal::c_string(alloc, b"\x7f\xff\xfe\xcc\xb3")?;
@@ -31,9 +37,11 @@ fn c_string_of_mixed_bytes(alloc: Global) -> Result<String, ParseError> {
 fn a_negative_literal_stands_behind_the_first_position(rt: HostRuntime) -> Result<(), Fail> {
     let found = shown(rt.alloc(), "-1u12")?;
     assert_eq!(rt; found.as_str(), "Literal { lit: -1u12, span: bytes(1..6) }");
-    for text in ["- 1", "-\"\"", "1 ", "", "--1"] {
-        assert!(rt; is_refused(rt.alloc(), text), "of {text:?}");
-    }
+    check_refused(&rt, "- 1");
+    check_refused(&rt, "-\"\"");
+    check_refused(&rt, "1 ");
+    check_refused(&rt, "");
+    check_refused(&rt, "--1");
     Ok(())
 }
 

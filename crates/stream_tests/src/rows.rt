@@ -1,99 +1,84 @@
 // What no recorded answer shows: several texts in one map, printed text that is read again, and
 // the differences from the Rust crate that are meant.
+use crate::checks::{check_printed, check_printed_twice, check_shown};
 use proc_macro2::{ParseError, SourceMap, TokenStream};
 use std::alloc::Global;
-use std::test::Fail;
+use std::process::Abort;
 
-fn shown(alloc: Global, map: &mut SourceMap, text: &str) -> Result<String, ParseError> {
-    let stream = TokenStream::from_str(text, map)?;
-    Ok(format!(in alloc; "{stream:?}")?)
+/// Asserts whether `text` fits into the map, whose limit is `limit`.
+fn check_fits(rt: &impl Abort, map: &mut SourceMap, limit: u32, text: &str, fits: bool) {
+    let full = matches!(TokenStream::from_str(text, map), Err(ParseError::MapFull));
+    assert_eq!(rt; full, !fits, "of {text:?} with the limit {limit}");
 }
 
-fn printed(alloc: Global, text: &str) -> Result<String, ParseError> {
+/// Asserts whether `z` and then the empty text fit behind `abcd`, which stands at 1..5.
+fn check_limit(rt: &(impl Abort + AllocGlobal), limit: u32, z: bool, empty: bool) {
+    let mut map = SourceMap::with_limit(rt.alloc(), limit);
+    let abcd = TokenStream::from_str("abcd", &mut map).is_ok();
+    assert!(rt; abcd, "with the limit {limit}");
+    check_fits(rt, &mut map, limit, "z", z);
+    check_fits(rt, &mut map, limit, "", empty);
+}
+
+// The column of the fault that the text has.
+fn column_of_fault(alloc: Global, text: &str) -> Option<usize> {
     let mut map = SourceMap::new(alloc);
-    let stream = TokenStream::from_str(text, &mut map)?;
-    Ok(format!(in alloc; "{stream}")?)
-}
-
-#[test]
-fn the_empty_text_has_a_position_of_its_own(rt: HostRuntime) -> Result<(), Fail> {
-    let mut map = SourceMap::new(rt.alloc());
-    let rows = [
-        ("", "TokenStream []"),
-        ("x", "TokenStream [Ident { sym: x, span: bytes(2..3) }]"),
-        ("y", "TokenStream [Ident { sym: y, span: bytes(4..5) }]"),
-    ];
-    for (text, want) in rows {
-        let found = shown(rt.alloc(), &mut map, text)?;
-        assert_eq!(rt; found.as_str(), want, "of {text:?}");
-    }
-    Ok(())
-}
-
-#[test]
-fn a_text_past_the_limit_leaves_the_map_as_it_was(rt: HostRuntime) -> Result<(), Fail> {
-    // The limit, and whether `z` and the empty text fit behind `abcd`, which stands at 1..5.
-    for (limit, z, empty) in [
-        (5, false, false),
-        (6, false, true),
-        (7, true, false),
-        (9, true, true),
-    ] {
-        let mut map = SourceMap::with_limit(rt.alloc(), limit);
-        TokenStream::from_str("abcd", &mut map)?;
-        for (text, fits) in [("z", z), ("", empty)] {
-            let answer = TokenStream::from_str(text, &mut map);
-            let full = matches!(&answer, Err(ParseError::MapFull));
-            assert_eq!(rt; full, !fits, "of {text:?} with the limit {limit}");
-        }
-    }
-    Ok(())
-}
-
-#[test]
-fn printed_text_is_read_as_the_same_trees(rt: HostRuntime) -> Result<(), Fail> {
-    for (text, want) in [
-        ("fn f(x) { x + y }", "fn f (x) { x + y }"),
-        ("a+'b'", "a +'b'"),
-        ("'b\"x\"", "'b\"x\""),
-        ("1..2", "1 .. 2"),
-        ("/// d\r\n", "# [doc = \" d\"]"),
-        ("<<=", "<<="),
-        ("&'a r#b", "&'a r#b"),
-    ] {
-        let first = printed(rt.alloc(), text)?;
-        assert_eq!(rt; first.as_str(), want, "of {text:?}");
-        let again = printed(rt.alloc(), first.as_str())?;
-        assert_eq!(rt; again.as_str(), first.as_str(), "of {text:?}");
-    }
-    Ok(())
-}
-
-#[test]
-fn newer_tables_have_more_letters(rt: HostRuntime) -> Result<(), Fail> {
-    for text in ["\u{11f04}", "a\u{200d}", "a\u{30fb}b", "'a\u{200c}"] {
-        let found = printed(rt.alloc(), text)?;
-        assert_eq!(rt; found.as_str(), text, "of {text:?}");
-    }
-    let mut map = SourceMap::new(rt.alloc());
-    let parsed = TokenStream::from_str("1\u{200d}", &mut map);
-    let column = match &parsed {
+    match TokenStream::from_str(text, &mut map) {
         Err(ParseError::Lex(fault)) => Some(fault.span().start(&map).column),
         _ => None,
-    };
-    assert_eq!(rt; column, Some(0), "no number ends there");
-    Ok(())
+    }
 }
 
 #[test]
-fn characters_of_docs_are_escaped_by_their_categories(rt: HostRuntime) -> Result<(), Fail> {
-    for (text, want) in [
-        ("///\u{ff9e}", "# [doc = \"\u{ff9e}\"]"),
-        ("///\u{9be}", "# [doc = \"\u{9be}\"]"),
-        ("///\u{301}", "# [doc = \"\\u{301}\"]"),
-    ] {
-        let found = printed(rt.alloc(), text)?;
-        assert_eq!(rt; found.as_str(), want, "of {text:?}");
-    }
-    Ok(())
+fn the_empty_text_has_a_position_of_its_own(rt: HostRuntime) {
+    let map = &mut SourceMap::new(rt.alloc());
+    check_shown(&rt, map, "", "TokenStream []");
+    check_shown(
+        &rt,
+        map,
+        "x",
+        "TokenStream [Ident { sym: x, span: bytes(2..3) }]",
+    );
+    check_shown(
+        &rt,
+        map,
+        "y",
+        "TokenStream [Ident { sym: y, span: bytes(4..5) }]",
+    );
+}
+
+#[test]
+fn a_text_past_the_limit_leaves_the_map_as_it_was(rt: HostRuntime) {
+    check_limit(&rt, 5, false, false);
+    check_limit(&rt, 6, false, true);
+    check_limit(&rt, 7, true, false);
+    check_limit(&rt, 9, true, true);
+}
+
+#[test]
+fn printed_text_is_read_as_the_same_trees(rt: HostRuntime) {
+    check_printed_twice(&rt, "fn f(x) { x + y }", "fn f (x) { x + y }");
+    check_printed_twice(&rt, "a+'b'", "a +'b'");
+    check_printed_twice(&rt, "'b\"x\"", "'b\"x\"");
+    check_printed_twice(&rt, "1..2", "1 .. 2");
+    check_printed_twice(&rt, "/// d\r\n", "# [doc = \" d\"]");
+    check_printed_twice(&rt, "<<=", "<<=");
+    check_printed_twice(&rt, "&'a r#b", "&'a r#b");
+}
+
+#[test]
+fn newer_tables_have_more_letters(rt: HostRuntime) {
+    check_printed(&rt, "\u{11f04}", "\u{11f04}");
+    check_printed(&rt, "a\u{200d}", "a\u{200d}");
+    check_printed(&rt, "a\u{30fb}b", "a\u{30fb}b");
+    check_printed(&rt, "'a\u{200c}", "'a\u{200c}");
+    let column = column_of_fault(rt.alloc(), "1\u{200d}");
+    assert_eq!(rt; column, Some(0), "no number ends there");
+}
+
+#[test]
+fn characters_of_docs_are_escaped_by_their_categories(rt: HostRuntime) {
+    check_printed(&rt, "///\u{ff9e}", "# [doc = \"\u{ff9e}\"]");
+    check_printed(&rt, "///\u{9be}", "# [doc = \"\u{9be}\"]");
+    check_printed(&rt, "///\u{301}", "# [doc = \"\\u{301}\"]");
 }

@@ -1,8 +1,10 @@
+use crate::checks::{check_same, displays, shows};
 use pm_span::Span;
 use pm_span::parts::{bounds, span_of};
 use pm_token::{Ident, IdentError};
 use std::alloc::Global;
 use std::collections::{BTreeMap, HashMap};
+use std::process::Abort;
 use std::test::Fail;
 
 /// An identifier that stands in no file.
@@ -25,9 +27,94 @@ fn refusal(outcome: Result<Ident, IdentError>) -> &'static str {
     }
 }
 
+/// Asserts how each name is answered, as a plain identifier and as a raw one.
+fn are_answered(rt: &impl Abort, alloc: Global, rows: &[(&str, &str, &str)]) {
+    for &(name, plain, raw) in rows {
+        let as_plain = refusal(made(alloc, name, false));
+        let as_raw = refusal(made(alloc, name, true));
+        check_same(rt, name, &(as_plain, as_raw), &(plain, raw));
+    }
+}
+
+/// Asserts that the identifier of the name, which is answered, is displayed as this text.
+fn displayed(
+    rt: &impl Abort,
+    alloc: Global,
+    name: &str,
+    raw: bool,
+    want: &str,
+) -> Result<Ident, Fail> {
+    let ident = made(alloc, name, raw)?;
+    displays(rt, alloc, &ident, want)?;
+    Ok(ident)
+}
+
+/// Asserts that the identifier is equal to the plain one of the name that stands in no file.
+fn is_equal(rt: &impl Abort, alloc: Global, ident: &Ident, name: &str) -> Result<(), Fail> {
+    let other = made(alloc, name, false)?;
+    check_same(rt, name, ident, &other);
+    Ok(())
+}
+
+/// Asserts of each text whether the raw identifier and the plain one are written as it.
+fn stand_for(rt: &impl Abort, raw: &Ident, plain: &Ident, rows: &[(&str, bool, bool)]) {
+    for &(text, is_raw, is_plain) in rows {
+        let answers = (raw.eq_str(text), plain.eq_str(text));
+        check_same(rt, text, &answers, &(is_raw, is_plain));
+    }
+}
+
+/// The identifiers of the names in their order.
+fn sorted(alloc: Global, rows: &[(&str, bool)]) -> Result<Vec<Ident>, Fail> {
+    let mut idents = Vec::new(alloc);
+    for &(name, raw) in rows {
+        idents.push(made(alloc, name, raw)?)?;
+    }
+    idents.sort()?;
+    Ok(idents)
+}
+
+/// Asserts that the identifiers are written as these texts.
+fn are_written(rt: &impl Abort, idents: &[Ident], texts: &[&str]) {
+    check_same(rt, "the number", &idents.len(), &texts.len());
+    for (ident, text) in idents.iter().zip(texts) {
+        check_same(rt, text, &ident.eq_str(text), &true);
+    }
+}
+
+/// Puts the values of the rows into both maps.
+fn fill(
+    alloc: Global,
+    hashed: &mut HashMap<Ident, i32>,
+    ordered: &mut BTreeMap<Ident, i32>,
+    rows: &[(&str, bool, i32)],
+) -> Result<(), Fail> {
+    for &(name, raw, value) in rows {
+        hashed.insert(made(alloc, name, raw)?, value)?;
+        ordered.insert(made(alloc, name, raw)?, value)?;
+    }
+    Ok(())
+}
+
+/// Asserts what both maps, the hashed one first, have at the keys, which are raw or not.
+fn values_are(
+    rt: &impl Abort,
+    alloc: Global,
+    hashed: &HashMap<Ident, i32>,
+    ordered: &BTreeMap<Ident, i32>,
+    rows: &[(&str, bool, Option<i32>)],
+) -> Result<(), Fail> {
+    for &(name, raw, want) in rows {
+        let key = made(alloc, name, raw)?;
+        let values = (raw, hashed.get(&key).copied(), ordered.get(&key).copied());
+        check_same(rt, name, &values, &(raw, want, want));
+    }
+    Ok(())
+}
+
 #[test]
 fn the_first_fault_of_a_name_is_answered(rt: HostRuntime) {
-    for (name, plain, raw) in [
+    let rows = &[
         ("", "empty", "empty"),
         ("7", "number", "number"),
         ("255", "number", "number"),
@@ -45,46 +132,29 @@ fn the_first_fault_of_a_name_is_answered(rt: HostRuntime) {
         ("_1", "made", "made"),
         ("fn", "made", "made"),
         ("\u{E9}t\u{E9}", "made", "made"),
-    ] {
-        assert_eq!(rt;
-            refusal(made(rt.alloc(), name, false)),
-            plain,
-            "plain {name:?}"
-        );
-        assert_eq!(rt; refusal(made(rt.alloc(), name, true)), raw, "raw {name:?}");
-    }
+    ];
+    are_answered(&rt, rt.alloc(), rows);
 }
 
 #[test]
 fn an_identifier_is_written_with_its_front(rt: HostRuntime) -> Result<(), Fail> {
-    let raw = made(rt.alloc(), "fn", true)?;
-    assert_eq!(rt; format!(in rt.alloc(); "{raw}")?.as_str(), "r#fn");
-    let plain = made(rt.alloc(), "fn", false)?;
-    assert_eq!(rt; format!(in rt.alloc(); "{plain}")?.as_str(), "fn");
-    for (text, is_raw, is_plain) in [
+    let raw = displayed(&rt, rt.alloc(), "fn", true, "r#fn")?;
+    let plain = displayed(&rt, rt.alloc(), "fn", false, "fn")?;
+    let rows = &[
         ("r#fn", true, false),
         ("fn", false, true),
         ("r#", false, false),
         ("r#fnn", false, false),
         ("", false, false),
-    ] {
-        assert_eq!(rt; raw.eq_str(text), is_raw, "raw, at {text:?}");
-        assert_eq!(rt; plain.eq_str(text), is_plain, "plain, at {text:?}");
-    }
+    ];
+    stand_for(&rt, &raw, &plain, rows);
     Ok(())
 }
 
 #[test]
 fn identifiers_are_ordered_as_they_are_written(rt: HostRuntime) -> Result<(), Fail> {
-    let mut idents = Vec::new(rt.alloc());
-    for (name, raw) in [("a", true), ("ra", false), ("r", false)] {
-        idents.push(made(rt.alloc(), name, raw)?)?;
-    }
-    idents.sort()?;
-    assert_eq!(rt; idents.len(), 3);
-    for (ident, text) in idents.iter().zip(["r", "r#a", "ra"]) {
-        assert!(rt; ident.eq_str(text), "{ident} stands for {text}");
-    }
+    let idents = sorted(rt.alloc(), &[("a", true), ("ra", false), ("r", false)])?;
+    are_written(&rt, idents.as_slice(), &["r", "r#a", "ra"]);
     Ok(())
 }
 
@@ -92,37 +162,28 @@ fn identifiers_are_ordered_as_they_are_written(rt: HostRuntime) -> Result<(), Fa
 fn a_map_keeps_raw_and_plain_keys_apart(rt: HostRuntime) -> Result<(), Fail> {
     let mut hashed = HashMap::new(rt.alloc());
     let mut ordered = BTreeMap::new(rt.alloc());
-    for (name, raw, value) in [
+    let rows = &[
         ("a", false, 1),
         ("a", true, 2),
         ("b", false, 3),
         ("a", false, 4),
-    ] {
-        hashed.insert(made(rt.alloc(), name, raw)?, value)?;
-        ordered.insert(made(rt.alloc(), name, raw)?, value)?;
-    }
-    for (name, raw, value) in [
+    ];
+    fill(rt.alloc(), &mut hashed, &mut ordered, rows)?;
+    let rows = &[
         ("a", false, Some(4)),
         ("a", true, Some(2)),
         ("b", false, Some(3)),
         ("b", true, None),
-    ] {
-        let key = made(rt.alloc(), name, raw)?;
-        assert_eq!(rt; hashed.get(&key).copied(), value, "at {key}");
-        assert_eq!(rt; ordered.get(&key).copied(), value, "at {key}");
-    }
-    Ok(())
+    ];
+    values_are(&rt, rt.alloc(), &hashed, &ordered, rows)
 }
 
 #[test]
 fn a_span_is_set_and_does_not_count(rt: HostRuntime) -> Result<(), Fail> {
     let mut ident = Ident::new(rt.alloc(), "a", span_of(1, 2))?;
-    assert_eq!(rt;
-        format!(in rt.alloc(); "{ident:?}")?.as_str(),
-        "Ident { sym: a, span: bytes(1..2) }"
-    );
+    let want = "Ident { sym: a, span: bytes(1..2) }";
+    shows(&rt, rt.alloc(), &ident, want)?;
     ident.set_span(span_of(3, 5));
-    assert_eq!(rt; bounds(ident.span()), (3, 5));
-    assert!(rt; ident == made(rt.alloc(), "a", false)?, "at another span");
-    Ok(())
+    check_same(&rt, want, &bounds(ident.span()), &(3, 5));
+    is_equal(&rt, rt.alloc(), &ident, "a")
 }

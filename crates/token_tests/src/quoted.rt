@@ -1,8 +1,8 @@
+use crate::checks::is_written;
 use pm_token::Literal;
-use std::alloc::AllocError;
 
 #[test]
-fn a_string_is_written_with_escapes(rt: HostRuntime) -> Result<(), AllocError> {
+fn a_string_is_written_with_escapes(rt: HostRuntime) {
     let cases = [
         ("", "\"\""),
         ("a\0b", "\"a\\0b\""),
@@ -17,14 +17,12 @@ fn a_string_is_written_with_escapes(rt: HostRuntime) -> Result<(), AllocError> {
         ("\u{1F600}\u{10FFFF}", "\"\u{1F600}\\u{10ffff}\""),
     ];
     for (text, want) in cases {
-        let literal = Literal::string(rt.alloc(), text)?;
-        assert_eq!(rt; literal.text(), want, "at {text:?}");
+        is_written(&rt, Literal::string(rt.alloc(), text), want);
     }
-    Ok(())
 }
 
 #[test]
-fn a_character_is_written_with_escapes(rt: HostRuntime) -> Result<(), AllocError> {
+fn a_character_is_written_with_escapes(rt: HostRuntime) {
     for (c, want) in [
         ('a', "'a'"),
         ('\'', "'\\''"),
@@ -36,14 +34,12 @@ fn a_character_is_written_with_escapes(rt: HostRuntime) -> Result<(), AllocError
         ('\u{E9}', "'\u{E9}'"),
         ('\u{301}', "'\\u{301}'"),
     ] {
-        let literal = Literal::character(rt.alloc(), c)?;
-        assert_eq!(rt; literal.text(), want, "of {c:?}");
+        is_written(&rt, Literal::character(rt.alloc(), c), want);
     }
-    Ok(())
 }
 
 #[test]
-fn a_byte_is_written_with_escapes(rt: HostRuntime) -> Result<(), AllocError> {
+fn a_byte_is_written_with_escapes(rt: HostRuntime) {
     for (byte, want) in [
         (0u8, "b'\\0'"),
         (b'\t', "b'\\t'"),
@@ -57,14 +53,12 @@ fn a_byte_is_written_with_escapes(rt: HostRuntime) -> Result<(), AllocError> {
         (0x7F, "b'\\x7F'"),
         (0xAB, "b'\\xAB'"),
     ] {
-        let literal = Literal::byte_character(rt.alloc(), byte)?;
-        assert_eq!(rt; literal.text(), want, "of {byte}");
+        is_written(&rt, Literal::byte_character(rt.alloc(), byte), want);
     }
-    Ok(())
 }
 
 #[test]
-fn a_byte_string_is_written_with_escapes(rt: HostRuntime) -> Result<(), AllocError> {
+fn a_byte_string_is_written_with_escapes(rt: HostRuntime) {
     let cases: [(&[u8], &str); 4] = [
         (b"", "b\"\""),
         (b"a\0b\x007\08", "b\"a\\0b\\x007\\08\""),
@@ -72,14 +66,12 @@ fn a_byte_string_is_written_with_escapes(rt: HostRuntime) -> Result<(), AllocErr
         (b"\x1F ~\x7F\x80\xFF", "b\"\\x1F ~\\x7F\\x80\\xFF\""),
     ];
     for (bytes, want) in cases {
-        let literal = Literal::byte_string(rt.alloc(), bytes)?;
-        assert_eq!(rt; literal.text(), want);
+        is_written(&rt, Literal::byte_string(rt.alloc(), bytes), want);
     }
-    Ok(())
 }
 
 #[test]
-fn a_c_string_is_written_with_escapes(rt: HostRuntime) -> Result<(), AllocError> {
+fn a_c_string_is_written_with_escapes(rt: HostRuntime) {
     let cases: [(&[u8], &str); 5] = [
         (b"", "c\"\""),
         (b"\x7F\xFF\xFE\xCC\xB3", "c\"\\u{7f}\\xFF\\xFE\\u{333}\""),
@@ -88,8 +80,6 @@ fn a_c_string_is_written_with_escapes(rt: HostRuntime) -> Result<(), AllocError>
         (b"\xC3\xA9\x80\xC0\x80", "c\"\u{E9}\\x80\\xC0\\x80\""),
     ];
     for (bytes, want) in cases {
-        let literal = Literal::c_string(rt.alloc(), bytes)?;
-        assert_eq!(rt; literal.text(), want);
+        is_written(&rt, Literal::c_string(rt.alloc(), bytes), want);
     }
-    Ok(())
 }

@@ -1,8 +1,10 @@
+use crate::checks::{displays, shows};
 use pm_span::Span;
 use pm_span::parts::span_of;
 use pm_token::parts::{fault, ident, punct};
 use pm_token::{Ident, ParseError, Spacing};
 use std::alloc::{AllocError, Global};
+use std::process::Abort;
 
 fn low_line(alloc: Global, span: Span) -> Result<Ident, AllocError> {
     ident(alloc, "_", false, span)
@@ -12,31 +14,32 @@ fn low_line(alloc: Global, span: Span) -> Result<Ident, AllocError> {
 fn errors_say_what_is_wrong(rt: HostRuntime) -> Result<(), AllocError> {
     let alloc = rt.alloc();
     let error = fault(span_of(1, 1));
-    let shown = format!(in alloc; "{error:?}")?;
-    assert_eq!(rt; shown.as_str(), "LexError { span: bytes(1..1) }");
+    shows(&rt, alloc, &error, "LexError { span: bytes(1..1) }")?;
     let error = ParseError::Lex(error);
-    let shown = format!(in alloc; "{error}")?;
-    assert_eq!(rt; shown.as_str(), "cannot parse string into token stream");
-    let error = ParseError::MapFull;
-    let shown = format!(in alloc; "{error}")?;
-    assert_eq!(rt; shown.as_str(), "map full");
-    Ok(())
+    displays(&rt, alloc, &error, "cannot parse string into token stream")?;
+    displays(&rt, alloc, &ParseError::MapFull, "map full")
+}
+
+/// Asserts that `_` with this span is displayed, and shows its parts as this text.
+fn low_line_shows(
+    rt: &impl Abort,
+    alloc: Global,
+    span: Span,
+    want: &str,
+) -> Result<(), AllocError> {
+    let name = low_line(alloc, span)?;
+    displays(rt, alloc, &name, "_")?;
+    shows(rt, alloc, &name, want)
 }
 
 #[test]
 fn tokens_show_their_parts_and_spans(rt: HostRuntime) -> Result<(), AllocError> {
     let alloc = rt.alloc();
-    let name = low_line(alloc, span_of(1, 2))?;
-    let shown = format!(in alloc; "{name} {name:?}")?;
-    assert_eq!(rt; shown.as_str(), "_ Ident { sym: _, span: bytes(1..2) }");
-    let name = low_line(alloc, Span::call_site())?;
-    let shown = format!(in alloc; "{name:?}")?;
-    assert_eq!(rt; shown.as_str(), "Ident { sym: _ }");
+    let want = "Ident { sym: _, span: bytes(1..2) }";
+    low_line_shows(&rt, alloc, span_of(1, 2), want)?;
+    low_line_shows(&rt, alloc, Span::call_site(), "Ident { sym: _ }")?;
     let mark = punct('+', Spacing::Joint, span_of(3, 4));
-    let shown = format!(in alloc; "{mark} {mark:?}")?;
-    assert_eq!(rt;
-        shown.as_str(),
-        "+ Punct { char: '+', spacing: Joint, span: bytes(3..4) }"
-    );
-    Ok(())
+    displays(&rt, alloc, &mark, "+")?;
+    let want = "Punct { char: '+', spacing: Joint, span: bytes(3..4) }";
+    shows(&rt, alloc, &mark, want)
 }

@@ -1,6 +1,8 @@
+use crate::checks::{check_same, shows};
 use pm_span::parts::{add_file, fits, span_of};
 use pm_span::{LineColumn, SourceMap, Span};
-use std::alloc::AllocError;
+use std::alloc::{AllocError, Global};
+use std::process::Abort;
 use std::test::Fail;
 
 /// Adds the text if it fits, and says where it begins.
@@ -14,12 +16,56 @@ fn add(map: &mut SourceMap, text: &str) -> Result<Option<u32>, AllocError> {
     }
 }
 
+/// Asserts that the text begins here when it is added.
+fn is_added(rt: &impl Abort, map: &mut SourceMap, text: &str, lo: u32) -> Result<(), AllocError> {
+    check_same(rt, text, &add(map, text)?, &Some(lo));
+    Ok(())
+}
+
+/// Asserts where an empty text begins that is added behind `abcd`, under the limit.
+fn second_is(
+    rt: &impl Abort,
+    alloc: Global,
+    limit: u32,
+    second: Option<u32>,
+) -> Result<(), AllocError> {
+    let mut map = SourceMap::with_limit(alloc, limit);
+    is_added(rt, &mut map, "abcd", 1)?;
+    let place = (limit, add(&mut map, "")?);
+    check_same(rt, "limit and place", &place, &(limit, second));
+    Ok(())
+}
+
+/// Where the span starts, if the map holds it.
+fn start(map: &SourceMap, span: Span) -> Option<LineColumn> {
+    if map.holds(span) {
+        Some(span.start(map))
+    } else {
+        None
+    }
+}
+
+/// Asserts that the map holds the empty span at each `lo`, which starts at the line and the column.
+fn start_at(rt: &impl Abort, map: &SourceMap, rows: &[(u32, usize, usize)]) {
+    for &(lo, line, column) in rows {
+        let place = (lo, start(map, span_of(lo, lo)));
+        let want = (lo, Some(LineColumn { line, column }));
+        check_same(rt, "an empty span", &place, &want);
+    }
+}
+
+/// Asserts whether the map holds each span, from `lo` to `hi`.
+fn are_held(rt: &impl Abort, map: &SourceMap, rows: &[(u32, u32, bool)]) {
+    for &(lo, hi, held) in rows {
+        let answers = (lo, hi, lo <= hi && map.holds(span_of(lo, hi)));
+        check_same(rt, "a span", &answers, &(lo, hi, held));
+    }
+}
+
 #[test]
 fn a_file_fits_up_to_the_limit(rt: HostRuntime) -> Result<(), Fail> {
     for (limit, second) in [(5, None), (6, Some(6))] {
-        let mut map = SourceMap::with_limit(rt.alloc(), limit);
-        assert_eq!(rt; add(&mut map, "abcd")?, Some(1), "at the limit {limit}");
-        assert_eq!(rt; add(&mut map, "")?, second, "at the limit {limit}");
+        second_is(&rt, rt.alloc(), limit, second)?;
     }
     Ok(())
 }
@@ -27,9 +73,9 @@ fn a_file_fits_up_to_the_limit(rt: HostRuntime) -> Result<(), Fail> {
 #[test]
 fn a_span_starts_at_a_line_and_a_column(rt: HostRuntime) -> Result<(), Fail> {
     let mut map = SourceMap::new(rt.alloc());
-    assert_eq!(rt; add(&mut map, "aaa\nbbb")?, Some(1));
-    assert_eq!(rt; add(&mut map, "é\r𓀕\nz\n")?, Some(9));
-    for (lo, line, column) in [
+    is_added(&rt, &mut map, "aaa\nbbb", 1)?;
+    is_added(&rt, &mut map, "é\r𓀕\nz\n", 9)?;
+    let rows = &[
         (0, 1, 0),
         (1, 1, 0),
         (4, 1, 3),
@@ -41,20 +87,17 @@ fn a_span_starts_at_a_line_and_a_column(rt: HostRuntime) -> Result<(), Fail> {
         (13, 2, 0),
         (14, 2, 1),
         (15, 3, 0),
-    ] {
-        let span = span_of(lo, lo);
-        assert!(rt; map.holds(span), "at {lo}");
-        assert_eq!(rt; span.start(&map), LineColumn { line, column }, "at {lo}");
-    }
+    ];
+    start_at(&rt, &map, rows);
     Ok(())
 }
 
 #[test]
 fn a_held_span_lies_in_one_file(rt: HostRuntime) -> Result<(), Fail> {
     let mut map = SourceMap::new(rt.alloc());
-    assert_eq!(rt; add(&mut map, "aaa\nbbb")?, Some(1));
-    assert_eq!(rt; add(&mut map, "ccc\nddd")?, Some(9));
-    for (lo, hi, held) in [
+    is_added(&rt, &mut map, "aaa\nbbb", 1)?;
+    is_added(&rt, &mut map, "ccc\nddd", 9)?;
+    let rows = &[
         (0, 0, true),
         (0, 1, false),
         (1, 8, true),
@@ -64,23 +107,25 @@ fn a_held_span_lies_in_one_file(rt: HostRuntime) -> Result<(), Fail> {
         (9, 16, true),
         (16, 17, false),
         (17, 17, false),
-    ] {
-        assert_eq!(rt; map.holds(span_of(lo, hi)), held, "at {lo}..{hi}");
-    }
+    ];
+    are_held(&rt, &map, rows);
     Ok(())
 }
 
 #[test]
 fn a_call_site_starts_at_the_first_line(rt: HostRuntime) {
     let map = SourceMap::new(rt.alloc());
-    let span = Span::call_site();
-    assert!(rt; map.holds(span));
-    assert_eq!(rt; span.start(&map), LineColumn { line: 1, column: 0 });
+    let want = LineColumn { line: 1, column: 0 };
+    check_same(
+        &rt,
+        "call site",
+        &start(&map, Span::call_site()),
+        &Some(want),
+    );
 }
 
 #[test]
 fn a_span_shows_its_positions(rt: HostRuntime) -> Result<(), Fail> {
-    let shown = format!(in rt.alloc(); "{:?}", span_of(1, 2))?;
-    assert_eq!(rt; shown.as_str(), "bytes(1..2)");
+    shows(&rt, rt.alloc(), &span_of(1, 2), "bytes(1..2)")?;
     Ok(())
 }

@@ -1,7 +1,9 @@
+use crate::checks::check_same;
 use literal_escaper::EscapeError;
 use pm_span::SourceMap;
 use pm_token::{ConversionErrorKind, Literal};
 use std::alloc::Global;
+use std::process::Abort;
 use std::test::Fail;
 
 /// The literal of the text.
@@ -10,9 +12,105 @@ fn literal(alloc: Global, text: &str) -> Result<Literal, Fail> {
     Ok(Literal::from_str(text, &mut map)?)
 }
 
+/// Asserts that the string of the text has this value.
+fn str_value_is(rt: &impl Abort, alloc: Global, text: &str, want: &str) -> Result<(), Fail> {
+    let value = literal(alloc, text)?.str_value(alloc)?;
+    check_same(rt, text, &value.as_str(), &want);
+    Ok(())
+}
+
+/// Asserts that the strings of the texts have these values.
+fn str_values_are(rt: &impl Abort, alloc: Global, rows: &[(&str, &str)]) -> Result<(), Fail> {
+    for &(text, want) in rows {
+        str_value_is(rt, alloc, text, want)?;
+    }
+    Ok(())
+}
+
+/// Asserts that the byte string of the text has this value.
+fn byte_str_value_is(rt: &impl Abort, alloc: Global, text: &str, want: &[u8]) -> Result<(), Fail> {
+    let value = literal(alloc, text)?.byte_str_value(alloc)?;
+    check_same(rt, text, &value.as_slice(), &want);
+    Ok(())
+}
+
+/// Asserts that the C string of the text has this value.
+fn cstr_value_is(rt: &impl Abort, alloc: Global, text: &str, want: &[u8]) -> Result<(), Fail> {
+    let value = literal(alloc, text)?.cstr_value(alloc)?;
+    check_same(rt, text, &value.as_slice(), &want);
+    Ok(())
+}
+
+/// Asserts that the literal of the text is refused by `str_value` for this fault.
+fn str_is_refused(
+    rt: &impl Abort,
+    alloc: Global,
+    text: &str,
+    fault: EscapeError,
+) -> Result<(), Fail> {
+    let refused = literal(alloc, text)?.str_value(alloc).err();
+    is_refused(rt, refused, fault, text);
+    Ok(())
+}
+
+/// Asserts that the literal of the text is refused by `cstr_value` for this fault.
+fn cstr_is_refused(
+    rt: &impl Abort,
+    alloc: Global,
+    text: &str,
+    fault: EscapeError,
+) -> Result<(), Fail> {
+    let refused = literal(alloc, text)?.cstr_value(alloc).err();
+    is_refused(rt, refused, fault, text);
+    Ok(())
+}
+
+/// Asserts that the content of the row was refused for this fault.
+fn is_refused(
+    rt: &impl Abort,
+    refused: Option<ConversionErrorKind>,
+    fault: EscapeError,
+    row: &str,
+) {
+    let want = Some(ConversionErrorKind::FailedToUnescape(fault));
+    check_same(rt, row, &refused, &want);
+}
+
+/// Whether the value was not refused because the literal is of another kind.
+fn is_of_kind<T: Drop>(value: Result<T, ConversionErrorKind>) -> bool {
+    !matches!(value, Err(ConversionErrorKind::InvalidLiteralKind))
+}
+
+/// Asserts whether the literal of the text is a string, a byte string and a C string.
+fn kind_is(
+    rt: &impl Abort,
+    alloc: Global,
+    text: &str,
+    want: (bool, bool, bool),
+) -> Result<(), Fail> {
+    let literal = literal(alloc, text)?;
+    let string = is_of_kind(literal.str_value(alloc));
+    let bytes = is_of_kind(literal.byte_str_value(alloc));
+    let c_string = is_of_kind(literal.cstr_value(alloc));
+    check_same(rt, text, &(string, bytes, c_string), &want);
+    Ok(())
+}
+
+/// Asserts of each text whether its literal is a string, a byte string and a C string.
+fn kinds_are(
+    rt: &impl Abort,
+    alloc: Global,
+    rows: &[(&str, bool, bool, bool)],
+) -> Result<(), Fail> {
+    for &(text, string, bytes, c_string) in rows {
+        kind_is(rt, alloc, text, (string, bytes, c_string))?;
+    }
+    Ok(())
+}
+
 #[test]
 fn a_string_has_the_characters_of_its_items(rt: HostRuntime) -> Result<(), Fail> {
-    for (text, want) in [
+    let rows = &[
         ("\"\"", ""),
         ("\"a\\tb\"", "a\tb"),
         ("\"\\x7F\\u{e9}\u{E9}\\'\\\"\"", "\x7F\u{E9}\u{E9}'\""),
@@ -21,11 +119,8 @@ fn a_string_has_the_characters_of_its_items(rt: HostRuntime) -> Result<(), Fail>
         ("r\"\"", ""),
         ("r\"\\t\r\n\"", "\\t\r\n"),
         ("r##\"a\"#\u{E9}\"##", "a\"#\u{E9}"),
-    ] {
-        let value = literal(rt.alloc(), text)?.str_value(rt.alloc())?;
-        assert_eq!(rt; value.as_str(), want, "at {text:?}");
-    }
-    Ok(())
+    ];
+    str_values_are(&rt, rt.alloc(), rows)
 }
 
 #[test]
@@ -37,8 +132,7 @@ fn a_byte_string_has_the_bytes_of_its_items(rt: HostRuntime) -> Result<(), Fail>
         ("br#\"\"\"#", b"\""),
     ];
     for (text, want) in rows {
-        let value = literal(rt.alloc(), text)?.byte_str_value(rt.alloc())?;
-        assert_eq!(rt; value.as_slice(), want, "at {text:?}");
+        byte_str_value_is(&rt, rt.alloc(), text, want)?;
     }
     Ok(())
 }
@@ -52,8 +146,7 @@ fn a_zero_byte_ends_a_c_string(rt: HostRuntime) -> Result<(), Fail> {
         ("cr#\"\\x80\u{E9}\"#", b"\\x80\xC3\xA9\0"),
     ];
     for (text, want) in rows {
-        let value = literal(rt.alloc(), text)?.cstr_value(rt.alloc())?;
-        assert_eq!(rt; value.as_slice(), want, "at {text:?}");
+        cstr_value_is(&rt, rt.alloc(), text, want)?;
     }
     Ok(())
 }
@@ -66,24 +159,19 @@ fn the_last_fault_of_a_content_is_answered(rt: HostRuntime) -> Result<(), Fail> 
         ("\"\\\r\na\r\n\"", EscapeError::BareCarriageReturn),
         ("\"\r\n\\\r\n\\\n\n\"", EscapeError::InvalidEscape),
     ] {
-        let refused = literal(rt.alloc(), text)?.str_value(rt.alloc()).err();
-        assert_eq!(rt;
-            refused,
-            Some(ConversionErrorKind::FailedToUnescape(fault)),
-            "at {text:?}"
-        );
+        str_is_refused(&rt, rt.alloc(), text, fault)?;
     }
-    let refused = literal(rt.alloc(), "c\"\r\n\"")?
-        .cstr_value(rt.alloc())
-        .err();
-    let fault = EscapeError::BareCarriageReturn;
-    assert_eq!(rt; refused, Some(ConversionErrorKind::FailedToUnescape(fault)));
-    Ok(())
+    cstr_is_refused(
+        &rt,
+        rt.alloc(),
+        "c\"\r\n\"",
+        EscapeError::BareCarriageReturn,
+    )
 }
 
 #[test]
 fn a_literal_of_another_kind_has_no_value(rt: HostRuntime) -> Result<(), Fail> {
-    for (text, is_string, is_bytes, is_c_string) in [
+    let rows = &[
         ("\"a\"", true, false, false),
         ("r\"a\"", true, false, false),
         ("b\"a\"", false, true, false),
@@ -98,24 +186,6 @@ fn a_literal_of_another_kind_has_no_value(rt: HostRuntime) -> Result<(), Fail> {
         ("b'\"'", false, false, false),
         ("1", false, false, false),
         ("-0.1", false, false, false),
-    ] {
-        let none = Some(ConversionErrorKind::InvalidLiteralKind);
-        let literal = literal(rt.alloc(), text)?;
-        assert_eq!(rt;
-            literal.str_value(rt.alloc()).err() == none,
-            !is_string,
-            "at {text:?}"
-        );
-        assert_eq!(rt;
-            literal.byte_str_value(rt.alloc()).err() == none,
-            !is_bytes,
-            "at {text:?}"
-        );
-        assert_eq!(rt;
-            literal.cstr_value(rt.alloc()).err() == none,
-            !is_c_string,
-            "at {text:?}"
-        );
-    }
-    Ok(())
+    ];
+    kinds_are(&rt, rt.alloc(), rows)
 }

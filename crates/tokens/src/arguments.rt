@@ -33,6 +33,7 @@ fn is_no_text(kind: io::ErrorKind) -> bool
 #[cfg(test)]
 mod tests {
     use super::*;
+    use std::process::Abort;
     use std::test::Fail;
 
     // How many words the arguments have.
@@ -58,15 +59,16 @@ mod tests {
         Ok(())
     }
 
+    /// Asserts how many words there are where the arguments weren't had.
+    fn check_kind(rt: &(impl Abort + AllocGlobal), kind: io::ErrorKind, want: Option<usize>) {
+        let had = count(rt.alloc(), Err(io::Error::from(kind)));
+        assert_eq!(rt; had, want, "at {kind:?}");
+    }
+
     #[test]
     fn arguments_that_are_no_text_are_no_words(rt: HostRuntime) {
-        for (kind, want) in [
-            (io::ErrorKind::InvalidData, Some(0)),
-            (io::ErrorKind::OutOfMemory, None),
-            (io::ErrorKind::Other, None),
-        ] {
-            let had = count(rt.alloc(), Err(io::Error::from(kind)));
-            assert_eq!(rt; had, want, "at {kind:?}");
-        }
+        check_kind(&rt, io::ErrorKind::InvalidData, Some(0));
+        check_kind(&rt, io::ErrorKind::OutOfMemory, None);
+        check_kind(&rt, io::ErrorKind::Other, None);
     }
 }

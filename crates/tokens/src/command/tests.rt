@@ -3,6 +3,8 @@ use crate::failing::{FailingSink, FailingSource};
 use crate::sinks::MemorySink;
 use crate::sources::MemorySource;
 use proc_macro2::LineColumn;
+use std::fmt::Debug;
+use std::process::Abort;
 use std::test::Fail;
 
 const ROW: &[u8] = b"fn f(x) { x + y }";
@@ -17,58 +19,82 @@ fn one_word(alloc: Global, word: &str) -> Result<Vec<String>, AllocError> {
     Ok(words)
 }
 
-#[test]
-fn each_input_has_its_output_message_and_status(rt: HostRuntime) -> Result<(), Fail> {
-    let rows: [(&[u8], &[u8], &[u8], u8); 8] = [
-        (ROW, PRINTED, b"", 0),
-        (b"", b"\n", b"", 0),
-        (b"a+b", b"a + b\n", b"", 0),
-        (b"a += b", b"a += b\n", b"", 0),
-        (b"a\n(", b"", b"fault 2:0\n", 1),
-        (b"(]", b"", b"fault 1:1\n", 1),
-        (b"\xC3\xA9 \"", b"", b"fault 1:2\n", 1),
-        (b"a\xFF", b"", b"not utf-8\n", 2),
-    ];
-    for (input, output, said, status) in rows {
-        let words = one_word(rt.alloc(), "print")?;
-        let mut writer = MemorySink::new(rt.alloc());
-        let mut errors = MemorySink::new(rt.alloc());
-        let answer = command(
-            rt.alloc(),
-            words.as_slice(),
-            &mut MemorySource::new(input),
-            &mut writer,
-            &mut errors,
-        );
-        assert_eq!(rt; answer, status, "at {input:?}");
-        assert_eq!(rt; writer.bytes(), output, "at {input:?}");
-        assert_eq!(rt; errors.bytes(), said, "at {input:?}");
-    }
-    Ok(())
+/// Asserts that a status is the wanted one, of the row that `at` shows.
+fn check_status(rt: &impl Abort, at: &impl Debug, found: u8, want: u8) {
+    assert_eq!(rt; found, want, "at {at:?}");
+}
+
+/// Asserts that bytes are the wanted ones, of the row that `at` shows.
+fn check_bytes(rt: &impl Abort, at: &impl Debug, found: &[u8], want: &[u8]) {
+    assert_eq!(rt; found, want, "at {at:?}");
+}
+
+/// Asserts the status, the output and the messages of a call, of the row that `at` shows.
+fn check_command(
+    rt: &(impl Abort + AllocGlobal),
+    at: &impl Debug,
+    words: &[String],
+    reader: &mut impl ByteSource,
+    status: u8,
+    output: &[u8],
+    said: &[u8],
+) {
+    let mut writer = MemorySink::new(rt.alloc());
+    let mut errors = MemorySink::new(rt.alloc());
+    let answer = command(rt.alloc(), words, reader, &mut writer, &mut errors);
+    check_status(rt, at, answer, status);
+    check_bytes(rt, at, writer.bytes(), output);
+    check_bytes(rt, at, errors.bytes(), said);
+}
+
+/// Asserts what `print` writes, says and answers of an input.
+fn check_input(
+    rt: &(impl Abort + AllocGlobal),
+    input: &[u8],
+    output: &[u8],
+    said: &[u8],
+    status: u8,
+) {
+    let words = one_word(rt.alloc(), "print").expect(rt, "no memory");
+    let reader = &mut MemorySource::new(input);
+    check_command(rt, &input, words.as_slice(), reader, status, output, said);
 }
 
 #[test]
-fn words_that_ask_for_nothing_are_told_the_usage(rt: HostRuntime) -> Result<(), Fail> {
-    for words in ["", "spans", "Print", "print print"] {
-        let mut list = Vec::new(rt.alloc());
-        for word in words.split_whitespace() {
-            list.push(String::from_str(rt.alloc(), word)?)?;
-        }
-        let mut writer = MemorySink::new(rt.alloc());
-        let mut errors = MemorySink::new(rt.alloc());
-        let status = command(
-            rt.alloc(),
-            list.as_slice(),
-            &mut MemorySource::new(ROW),
-            &mut writer,
-            &mut errors,
-        );
-        assert_eq!(rt; status, 2, "at {words:?}");
-        assert_eq!(rt; writer.bytes(), b"".as_slice(), "at {words:?}");
-        let said = b"usage: tokens print|spans\n".as_slice();
-        assert_eq!(rt; errors.bytes(), said, "at {words:?}");
+fn each_input_has_its_output_message_and_status(rt: HostRuntime) {
+    check_input(&rt, ROW, PRINTED, b"", 0);
+    check_input(&rt, b"", b"\n", b"", 0);
+    check_input(&rt, b"a+b", b"a + b\n", b"", 0);
+    check_input(&rt, b"a += b", b"a += b\n", b"", 0);
+    check_input(&rt, b"a\n(", b"", b"fault 2:0\n", 1);
+    check_input(&rt, b"(]", b"", b"fault 1:1\n", 1);
+    check_input(&rt, b"\xC3\xA9 \"", b"", b"fault 1:2\n", 1);
+    check_input(&rt, b"a\xFF", b"", b"not utf-8\n", 2);
+}
+
+// The words of the text.
+fn words_of(alloc: Global, text: &str) -> Result<Vec<String>, AllocError> {
+    let mut words = Vec::new(alloc);
+    for word in text.split_whitespace() {
+        words.push(String::from_str(alloc, word)?)?;
     }
-    Ok(())
+    Ok(words)
+}
+
+/// Asserts that the words of the text are told the usage, and write nothing.
+fn check_usage(rt: &(impl Abort + AllocGlobal), text: &str) {
+    let words = words_of(rt.alloc(), text).expect(rt, text);
+    let reader = &mut MemorySource::new(ROW);
+    let usage = b"usage: tokens print|spans\n";
+    check_command(rt, &text, words.as_slice(), reader, 2, b"", usage);
+}
+
+#[test]
+fn words_that_ask_for_nothing_are_told_the_usage(rt: HostRuntime) {
+    check_usage(&rt, "");
+    check_usage(&rt, "spans");
+    check_usage(&rt, "Print");
+    check_usage(&rt, "print print");
 }
 
 #[test]
@@ -82,66 +108,50 @@ fn words_without_memory_move_no_byte(rt: HostRuntime) {
         &mut writer,
         &mut errors,
     );
-    assert_eq!(rt; status, 2);
-    assert_eq!(rt; writer.bytes(), b"".as_slice());
-    assert_eq!(rt; errors.bytes(), b"no memory\n".as_slice());
+    let at = &"words without memory";
+    check_status(&rt, at, status, 2);
+    check_bytes(&rt, at, writer.bytes(), b"");
+    check_bytes(&rt, at, errors.bytes(), b"no memory\n");
 }
 
 #[test]
 fn a_read_that_fails_writes_nothing(rt: HostRuntime) -> Result<(), Fail> {
     let words = one_word(rt.alloc(), "print")?;
     for reads in 0..6 {
-        let mut writer = MemorySink::new(rt.alloc());
-        let mut errors = MemorySink::new(rt.alloc());
-        let status = command(
-            rt.alloc(),
-            words.as_slice(),
-            &mut FailingSource::new(ROW, 4, reads),
-            &mut writer,
-            &mut errors,
-        );
         // Five reads give the 17 bytes, and one more their end.
-        assert_eq!(rt; status, 2, "after {reads} reads");
-        assert_eq!(rt; writer.bytes(), b"".as_slice(), "after {reads} reads");
-        assert_eq!(rt; errors.bytes(), FAILED, "after {reads} reads");
+        let reader = &mut FailingSource::new(ROW, 4, reads);
+        check_command(&rt, &reads, words.as_slice(), reader, 2, b"", FAILED);
     }
     Ok(())
 }
 
+/// Asserts what stands after so many writes of at most so many bytes, where the next one fails.
+fn check_front(rt: &(impl Abort + AllocGlobal), most: usize, writes: usize, front: &[u8]) {
+    let words = one_word(rt.alloc(), "print").expect(rt, "no memory");
+    let mut writer = FailingSink::new(rt.alloc(), most, writes);
+    let mut errors = MemorySink::new(rt.alloc());
+    let reader = &mut FailingSource::new(ROW, 1, usize::MAX);
+    let status = command(
+        rt.alloc(),
+        words.as_slice(),
+        reader,
+        &mut writer,
+        &mut errors,
+    );
+    let at = (most, writes);
+    check_status(rt, &at, status, 2);
+    check_bytes(rt, &at, writer.bytes(), front);
+    check_bytes(rt, &at, errors.bytes(), FAILED);
+}
+
 #[test]
-fn a_write_that_fails_leaves_a_beginning(rt: HostRuntime) -> Result<(), Fail> {
-    let words = one_word(rt.alloc(), "print")?;
+fn a_write_that_fails_leaves_a_beginning(rt: HostRuntime) {
     // How many bytes a write takes, how many writes there are, and what then stands.
-    let rows: [(usize, usize, &[u8]); 5] = [
-        (4, 0, b""),
-        (4, 1, b"fn f"),
-        (4, 4, b"fn f (x) { x + y"),
-        (1, 18, b"fn f (x) { x + y }"),
-        (0, 9, b""),
-    ];
-    for (most, writes, front) in rows {
-        let mut writer = FailingSink::new(rt.alloc(), most, writes);
-        let mut errors = MemorySink::new(rt.alloc());
-        let status = command(
-            rt.alloc(),
-            words.as_slice(),
-            &mut FailingSource::new(ROW, 1, usize::MAX),
-            &mut writer,
-            &mut errors,
-        );
-        assert_eq!(rt; status, 2, "after {writes} writes of {most} bytes");
-        assert_eq!(rt;
-            writer.bytes(),
-            front,
-            "after {writes} writes of {most} bytes"
-        );
-        assert_eq!(rt;
-            errors.bytes(),
-            FAILED,
-            "after {writes} writes of {most} bytes"
-        );
-    }
-    Ok(())
+    check_front(&rt, 4, 0, b"");
+    check_front(&rt, 4, 1, b"fn f");
+    check_front(&rt, 4, 4, b"fn f (x) { x + y");
+    check_front(&rt, 1, 18, b"fn f (x) { x + y }");
+    check_front(&rt, 0, 9, b"");
 }
 
 #[test]
@@ -156,10 +166,24 @@ fn a_byte_a_call_is_enough(rt: HostRuntime) -> Result<(), Fail> {
         &mut writer,
         &mut errors,
     );
-    assert_eq!(rt; status, 0);
-    assert_eq!(rt; writer.bytes(), PRINTED);
-    assert_eq!(rt; errors.bytes(), b"".as_slice());
+    let at = &"a byte a call";
+    check_status(&rt, at, status, 0);
+    check_bytes(&rt, at, writer.bytes(), PRINTED);
+    check_bytes(&rt, at, errors.bytes(), b"");
     Ok(())
+}
+
+/// Asserts the message and the status of a refusal, and that a message that can't be written
+/// changes no status.
+fn check_refusal(rt: &(impl Abort + AllocGlobal), error: RunError, said: &[u8], status: u8) {
+    let mut errors = MemorySink::new(rt.alloc());
+    check_status(rt, &error, conclude(Err(error), &mut errors), status);
+    check_bytes(rt, &error, errors.bytes(), said);
+
+    let mut errors = FailingSink::new(rt.alloc(), 3, 2);
+    check_status(rt, &error, conclude(Err(error), &mut errors), status);
+    let held = errors.bytes().len();
+    assert_eq!(rt; held, 6, "at {error:?}");
 }
 
 #[test]
@@ -168,21 +192,9 @@ fn each_refusal_has_its_message_and_status(rt: HostRuntime) {
         line: 12,
         column: 0,
     };
-    let rows: [(RunError, &[u8], u8); 5] = [
-        (RunError::Io, FAILED, 2),
-        (RunError::NotUtf8, b"not utf-8\n", 2),
-        (RunError::MapFull, b"map full\n", 2),
-        (RunError::Lex(place), b"fault 12:0\n", 1),
-        (RunError::Memory(AllocError), b"no memory\n", 2),
-    ];
-    for (error, said, status) in rows {
-        let mut errors = MemorySink::new(rt.alloc());
-        assert_eq!(rt; conclude(Err(error), &mut errors), status, "at {error:?}");
-        assert_eq!(rt; errors.bytes(), said, "at {error:?}");
-
-        // A message that can't be written changes no status.
-        let mut errors = FailingSink::new(rt.alloc(), 3, 2);
-        assert_eq!(rt; conclude(Err(error), &mut errors), status, "at {error:?}");
-        assert_eq!(rt; errors.bytes().len(), 6, "at {error:?}");
-    }
+    check_refusal(&rt, RunError::Io, FAILED, 2);
+    check_refusal(&rt, RunError::NotUtf8, b"not utf-8\n", 2);
+    check_refusal(&rt, RunError::MapFull, b"map full\n", 2);
+    check_refusal(&rt, RunError::Lex(place), b"fault 12:0\n", 1);
+    check_refusal(&rt, RunError::Memory(AllocError), b"no memory\n", 2);
 }

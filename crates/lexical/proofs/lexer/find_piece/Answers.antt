@@ -2,7 +2,7 @@ use Rattle.std.proofs.Common.{rules, ◌∷◌, sym, ap, ◌∙◌, subst}
 use Rattle.std.specs.Str.{chars}
 use Rattle.lexical.specs.Reading.{Answers, IsFound}
 use Rattle.lexical.specs.declared.class.Start.TheVariants as starts
-use Rattle.lexical.proofs.ClassLemmas.{quote_is, front_mark_is}
+use Rattle.lexical.proofs.ClassLemmas.{white_is, letter_is, opener_is, closer_is, quote_is, front_mark_is}
 use Rattle.lexical.proofs.PieceLemmas.{found_end, from_start}
 use Rattle.lexical.proofs.lexer.find_piece.Goals as goal
 
@@ -76,3 +76,15 @@ pub front_mark-requires-clause-split : goal.front_mark-requires-clause-split
 front_mark-requires-clause-split c =
     let split = ap chars (sym c.new.ensures.rest) ∙ c.in_ok-first.ensures.0 in
     split ∙ ap (λ d. d ∷ chars c.in_ok-first.after.rest.now) (front_mark_is c.in_ok-first.first (sym c.in-FrontMark.ensures))
+
+pub white-requires-clause-is_white : goal.white-requires-clause-is_white
+white-requires-clause-is_white c = white_is c.in_ok-first.first (sym c.in-White.ensures)
+
+pub letter-requires-clause-starts : goal.letter-requires-clause-starts
+letter-requires-clause-starts c = letter_is c.in_ok-first.first (sym c.in-Letter.ensures)
+
+pub opener_or_error-requires-clause-opens : goal.opener_or_error-requires-clause-opens
+opener_or_error-requires-clause-opens c = opener_is c.in_ok-first.first (sym c.in-Opener.ensures)
+
+pub closer-requires-clause-closes : goal.closer-requires-clause-closes
+closer-requires-clause-closes c = closer_is c.in_ok-first.first (sym c.in-Closer.ensures)

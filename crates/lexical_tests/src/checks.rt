@@ -1,0 +1,35 @@
+//! What several tests assert, each in a function of its own, so that it is proved once.
+
+use lexical::{Piece, PieceKind, literal_at, piece_at};
+use std::fmt::Debug;
+use std::process::Abort;
+
+/// Asserts that the answer at a row of a test, which is printed if it fails, is the wanted one.
+pub fn check_same<T: PartialEq + Debug>(rt: &impl Abort, row: &str, answer: &T, want: &T) {
+    assert_eq!(rt; answer, want, "at {row:?}");
+}
+
+/// Asserts which piece the text begins with, where it stands at no place 0.
+pub fn check_piece(rt: &impl Abort, text: &str, want: Option<Piece<'_>>) {
+    check_same(rt, text, &piece_at(text, false), &want);
+}
+
+/// Asserts how many bytes the literal has that the text begins with.
+pub fn check_literal_length(rt: &impl Abort, text: &str, want: Option<usize>) {
+    check_same(rt, text, &literal_at(text), &want);
+}
+
+/// Asserts that each text begins with a piece of this kind and of so many bytes and characters.
+pub fn check_pieces(rt: &impl Abort, kind: PieceKind<'_>, rows: &[(&str, usize, usize)]) {
+    for &(text, bytes, chars) in rows {
+        check_piece(rt, text, Some(Piece { kind, bytes, chars }));
+    }
+}
+
+/// Asserts that each text begins with no piece, and with no literal.
+pub fn check_no_pieces(rt: &impl Abort, texts: &[&str]) {
+    for text in texts {
+        check_piece(rt, text, None);
+        check_literal_length(rt, text, None);
+    }
+}

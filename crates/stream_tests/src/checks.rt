@@ -1,0 +1,69 @@
+//! Assertions that the rows of the tests share, each about one text that is parsed.
+//!
+//! They stand in functions of their own, since a long function is dear to prove.
+use pm_span::parts::bounds;
+use proc_macro2::{ParseError, SourceMap, TokenStream};
+use std::alloc::Global;
+use std::process::Abort;
+
+/// Asserts that `text` parses in a new map, and is printed as `want`.
+pub fn check_printed(rt: &(impl Abort + AllocGlobal), text: &str, want: &str) {
+    let found = printed(rt.alloc(), text).expect(rt, text);
+    assert_eq!(rt; found.as_str(), want, "of {text:?}");
+}
+
+/// Asserts that `text` is printed as `want`, and that this text is printed as itself.
+pub fn check_printed_twice(rt: &(impl Abort + AllocGlobal), text: &str, want: &str) {
+    check_printed(rt, text, want);
+    check_printed(rt, want, want);
+}
+
+/// Asserts that `text` parses to so many trees, and is printed as `want`.
+pub fn check_trees(rt: &(impl Abort + AllocGlobal), text: &str, want: &str, trees: usize) {
+    let found = count_trees(rt.alloc(), text);
+    assert_eq!(rt; found, Some(trees), "of {text:?}");
+    check_printed(rt, text, want);
+}
+
+/// Asserts that the stream of `text`, as the next text of the map, is shown as `want`.
+pub fn check_shown(rt: &(impl Abort + AllocGlobal), map: &mut SourceMap, text: &str, want: &str) {
+    let found = shown(rt.alloc(), map, text).expect(rt, text);
+    assert_eq!(rt; found.as_str(), want, "of {text:?}");
+}
+
+/// Asserts that `text`, in a new map, has a fault that begins and ends at the position `at`.
+pub fn check_fault(rt: &(impl Abort + AllocGlobal), text: &str, at: u32) {
+    let found = fault_bounds(rt.alloc(), text);
+    assert_eq!(rt; found, (at, at), "of {text:?}");
+}
+
+/// The text that the stream of `text`, parsed in a new map, is printed as.
+pub fn printed(alloc: Global, text: &str) -> Result<String, ParseError> {
+    let mut map = SourceMap::new(alloc);
+    let stream = TokenStream::from_str(text, &mut map)?;
+    Ok(format!(in alloc; "{stream}")?)
+}
+
+// The text that the stream of `text` is shown as.
+fn shown(alloc: Global, map: &mut SourceMap, text: &str) -> Result<String, ParseError> {
+    let stream = TokenStream::from_str(text, map)?;
+    Ok(format!(in alloc; "{stream:?}")?)
+}
+
+/// How many trees the stream of `text` has.
+pub fn count_trees(alloc: Global, text: &str) -> Option<usize> {
+    let mut map = SourceMap::new(alloc);
+    match TokenStream::from_str(text, &mut map) {
+        Ok(stream) => Some(stream.trees().len()),
+        Err(_) => None,
+    }
+}
+
+// The bounds of the fault of `text`, or 0 and 0 where it has none.
+fn fault_bounds(alloc: Global, text: &str) -> (u32, u32) {
+    let mut map = SourceMap::new(alloc);
+    match TokenStream::from_str(text, &mut map) {
+        Err(ParseError::Lex(fault)) => bounds(fault.span()),
+        _ => (0, 0),
+    }
+}

@@ -1,0 +1,47 @@
+//! The assertions that the tests share.
+use pm_token::Literal;
+use std::alloc::{AllocError, Global};
+use std::fmt::{Debug, Display};
+use std::process::Abort;
+
+/// Asserts that the answer at a row of a test, which is printed if it fails, is the wanted one.
+pub fn check_same<T: PartialEq + Debug>(rt: &impl Abort, row: &str, answer: &T, want: &T) {
+    assert_eq!(rt; answer, want, "at {row:?}");
+}
+
+/// The text of the literal, if it was made.
+fn text_of(literal: &Result<Literal, AllocError>) -> Option<&str> {
+    match literal {
+        Ok(literal) => Some(literal.text()),
+        Err(_) => None,
+    }
+}
+
+/// Asserts that the literal was made, and is written as this text.
+pub fn is_written(rt: &impl Abort, literal: Result<Literal, AllocError>, want: &str) {
+    check_same(rt, want, &text_of(&literal), &Some(want));
+}
+
+/// Asserts that the value is displayed as this text.
+pub fn displays<T: Display>(
+    rt: &impl Abort,
+    alloc: Global,
+    value: &T,
+    want: &str,
+) -> Result<(), AllocError> {
+    let shown = format!(in alloc; "{value}")?;
+    check_same(rt, want, &shown.as_str(), &want);
+    Ok(())
+}
+
+/// Asserts that the value shows its parts as this text.
+pub fn shows<T: Debug>(
+    rt: &impl Abort,
+    alloc: Global,
+    value: &T,
+    want: &str,
+) -> Result<(), AllocError> {
+    let shown = format!(in alloc; "{value:?}")?;
+    check_same(rt, want, &shown.as_str(), &want);
+    Ok(())
+}
