@@ -1,0 +1,232 @@
+#!/usr/bin/env python3
+"""Tries edits that plant bugs: the prover must refuse each.
+
+An edit is a file as those of `bugs/CRATE` and of `crates/CRATE/must-fail`. Name a crate for its edits in bugs/, a folder
+for those in it, or single files; with no name all of bugs/ are tried. Each edit is tried in a copy of its crate over what
+`rt check` keeps in out/, so that only what the edit changes is proved. A crate that was not checked since it changed is
+proved first, in the copy.
+
+One line an edit: `refused`; `refused for a name alone`, where all that failed is a proof file that cites what the edit
+took away, so that it says little of a contract; `NOT REFUSED`; or `BAD EDIT`, which tried no contract. The status is 0
+where every edit is refused.
+"""
+import argparse
+import os
+import re
+import shutil
+import subprocess
+import sys
+import tempfile
+import time
+from concurrent.futures import ThreadPoolExecutor, as_completed
+from pathlib import Path
+from queue import Queue
+
+TOP = Path(__file__).resolve().parent.parent
+PARTS = ("src", "specs", "proofs")
+REFUSED, BY_NAME, PASSED, BAD = "refused", "refused for a name alone", "NOT REFUSED", "BAD EDIT"
+
+# What the prover says where a proof file cites what is no longer there.
+NAME_GONE = re.compile(r"(\./)?proofs/.*(has no field|is not in scope|has no `|was not admitted)")
+# What it says of a text that it can't read, where no statement was tried.
+UNREADABLE = re.compile(r"is not in scope|has no field|is no name|operand is missing|expected the end|cannot continue")
+PLACE = re.compile(r"(?:note: )?(?:\./)?(\S+?):\d+:\d+: ")
+ERROR = re.compile(r"(?:\./)?(\S+?):\d+:\d+: error: (?:(`[^`]*`): )?(.*)")
+
+
+class BadEdit(Exception):
+    """Says why an edit can't be applied."""
+
+
+# ---- the edits
+
+
+def crate_of(path):
+    """The crate of an edit's file, by the folder that it lies in."""
+    return path.parent.parent.name if path.parent.name == "must-fail" else path.parent.name
+
+
+def edits_named(names):
+    """The files of the edits that the words of the command line name, by their crates."""
+    files = []
+    for name in names or sorted(it.name for it in (TOP / "bugs").iterdir() if it.is_dir()):
+        path = Path(name) if name.endswith(".edit") or "/" in name else TOP / "bugs" / name
+        files += [path] if path.is_file() else sorted(path.glob("*.edit"))
+        if not path.exists():
+            sys.exit(f"there is no edit and no folder {path}")
+    by_crate = {}
+    for file in files:
+        by_crate.setdefault(crate_of(file.resolve()), []).append(file)
+    return by_crate
+
+
+def replacements(text):
+    """The steps of an edit: a file of the crate, the text that stands in it once, and what takes its place."""
+    steps, file, old = [], None, None
+    for line in text.split("\n"):
+        word, _, rest = line.partition(" ")
+        if word == "file:":
+            file = rest.strip()
+        elif word == "old:":
+            old = rest
+        elif word == "new:":
+            if not file or not old:
+                raise BadEdit("a line 'new:' stands before any 'file:' or 'old:'")
+            steps.append((file, old, rest))
+            old = None
+    if not steps:
+        raise BadEdit("it has no lines 'old:' and 'new:'")
+    return steps
+
+
+def apply(edit, crate):
+    """Changes the files of the copied crate as the edit says, and returns their paths in it."""
+    steps = replacements(edit.read_text(encoding="utf-8"))
+    for name, old, new in steps:
+        file = crate / name
+        if not name.startswith(PARTS) or not file.is_file():
+            raise BadEdit(f"there is no file {name}")
+        text = file.read_text(encoding="utf-8")
+        if text.count(old) != 1:
+            raise BadEdit(f"{name} has the text of a line 'old:' {text.count(old)} times, and not once: {old.strip()}")
+        # A new file, so that what the other copies share stays as it was.
+        file.unlink()
+        file.write_text(text.replace(old, new), encoding="utf-8")
+    return {name for name, _, _ in steps}
+
+
+# ---- copies of the repository
+
+
+def libraries():
+    """The repository's libraries that each crate stands on, by crates.txt."""
+    uses = {}
+    for line in (TOP / "crates.txt").read_text().splitlines():
+        name, colon, deps = line.partition("#")[0].partition(":")
+        if colon:
+            uses[name.split()[0]] = deps.split()
+    return {name: [dep for dep in deps if dep in uses] for name, deps in uses.items()}
+
+
+def below(crate, uses):
+    """The repository's libraries below a crate."""
+    found = set(uses[crate])
+    for dep in uses[crate]:
+        found |= below(dep, uses)
+    return found
+
+
+def copy_repository(crate, to):
+    """Copies the crates, the kept work of one of them, and the libraries below it as they were built."""
+    shutil.copy(TOP / "crates.txt", to)
+    uses = libraries()
+    kept = {dep: "out/rlib" for dep in below(crate, uses)} | {crate: "out/incremental"}
+    for name in uses:
+        for part in (*PARTS, *([kept[name]] if name in kept else [])):
+            if (TOP / "crates" / name / part).is_dir():
+                shutil.copytree(TOP / "crates" / name / part, to / "crates" / name / part)
+
+
+def clone(folder, to):
+    """Copies a folder by hard links, in place of what is there. The prover replaces files, and writes into none."""
+    shutil.rmtree(to, ignore_errors=True)
+    shutil.copytree(folder, to, copy_function=os.link)
+
+
+def check(repository, crate, jobs=1):
+    """Checks the crate of a copied repository, and returns the status and what was said."""
+    command = ["rt", "check", "--jobs", str(jobs)]
+    how = {"stdin": subprocess.DEVNULL, "stdout": subprocess.PIPE, "stderr": subprocess.STDOUT}
+    ran = subprocess.run(command, cwd=repository / "crates" / crate, text=True, errors="replace", **how)
+    return ran.returncode, ran.stdout
+
+
+# ---- what a check says of an edit
+
+
+def unreadable(line, changed):
+    """Whether the prover couldn't read a text that the edit changed or that the crate is made of."""
+    error = ERROR.match(line)
+    if not error or not (error[1] in changed or error[1].startswith(("src/", "specs/"))):
+        return False
+    return not error[2] or bool(UNREADABLE.search(re.sub(r"`[^`]*`", "", error[3])))
+
+
+def verdict(status, said, changed):
+    """What came of an edit, and the line that shows it."""
+    lines = said.splitlines()
+    if status == 0:
+        return PASSED, "the crate is still proved with it"
+    for line in lines:
+        if unreadable(line, changed):
+            return BAD, f"the prover cannot read the edited text: {line}"
+    if not any(line.startswith("logic=not-proved") for line in lines):
+        errors = [line for line in lines if "error" in line]
+        return BAD, f"it did not reach the prover: {(errors or lines or ['it said nothing'])[0]}"
+    told = [line for line in lines if PLACE.match(line) and (": error" in line or line.startswith("note: "))]
+    telling = [line for line in told if not NAME_GONE.match(line)]
+    if told and not telling:
+        return BY_NAME, told[0]
+    return REFUSED, telling[0] if telling else ""
+
+
+def try_edit(edit, crate, base, repository):
+    """Tries one edit in a copied repository, over the kept work of the base."""
+    copied = repository / "crates" / crate
+    clone(base / "crates" / crate, copied)
+    try:
+        changed = apply(edit, copied)
+    except BadEdit as error:
+        return BAD, str(error)
+    return verdict(*check(repository, crate), changed)
+
+
+def try_crate(crate, edits, lanes, room):
+    """Tries the edits of one crate, as many at a time as there are lanes, and returns what came of each."""
+    base = Path(tempfile.mkdtemp(prefix=f"{crate}-", dir=room))
+    copy_repository(crate, base)
+    status, said = check(base, crate, lanes)
+    if status:
+        print(f"{crate} itself is not proved, so none of its {len(edits)} edits was tried:\n{said[-2000:]}", flush=True)
+        return [BAD] * len(edits)
+    free = Queue()
+    for number in range(min(lanes, len(edits))):
+        clone(base, room / f"{crate}-lane-{number}")
+        free.put(room / f"{crate}-lane-{number}")
+
+    def work(edit):
+        repository, began = free.get(), time.monotonic()
+        try:
+            found = try_edit(edit, crate, base, repository)
+        finally:
+            free.put(repository)
+        return edit, found, time.monotonic() - began
+
+    results = []
+    with ThreadPoolExecutor(lanes) as pool:
+        for done in as_completed([pool.submit(work, edit) for edit in edits]):
+            edit, (result, why), seconds = done.result()
+            print(f"{result}: {crate}/{edit.name} ({seconds:.0f} s): {why[:200]}", flush=True)
+            results.append(result)
+    for folder in room.iterdir():
+        shutil.rmtree(folder)
+    return results
+
+
+def main():
+    form = argparse.RawDescriptionHelpFormatter
+    words = argparse.ArgumentParser(prog="bugs/try.sh", description=__doc__, formatter_class=form)
+    words.add_argument("-j", "--lanes", type=int, default=1, metavar="N", help="how many edits to try at a time (1)")
+    words.add_argument("names", nargs="*", metavar="CRATE | FOLDER | FILE.edit")
+    given = words.parse_args()
+    results = []
+    with tempfile.TemporaryDirectory(prefix="bugs-") as room:
+        for crate, edits in edits_named(given.names).items():
+            results += try_crate(crate, edits, max(1, given.lanes), Path(room))
+    counts = {kind: results.count(kind) for kind in (REFUSED, BY_NAME, PASSED, BAD)}
+    print(", ".join(f"{count} {kind}" for kind, count in counts.items() if count) or "no edits")
+    return 0 if counts[REFUSED] + counts[BY_NAME] == len(results) else 1
+
+
+if __name__ == "__main__":
+    sys.exit(main())
