@@ -18,6 +18,19 @@ ArePlaced-push position [] file h e = (omega arith, tt)
 ArePlaced-push position (f ∷ files) file h e =
     (h.0, ArePlaced-push (position + (length f.text + 1)) files file h.1 (omega (arith, positions-cons f.text (texts_of files))))
 
+-- a file more takes one position more than it has characters
+pub positions-push :
+    (files : List PlacedText) (file : PlacedText)
+    → positions (texts_of (files ++ file ∷ [])) ≡ positions (texts_of files) + (length file.text + 1)
+positions-push [] file = omega (arith, positions-cons file.text [])
+positions-push (f ∷ files) file =
+    omega (
+      arith,
+      positions-push files file,
+      positions-cons f.text (texts_of files),
+      positions-cons f.text (texts_of (files ++ file ∷ [])),
+    )
+
 -- each file stands where the files before it end
 pub placed_at :
     (position : ℕ) (files : List PlacedText) (i : ℕ) (d : PlacedText) → ArePlaced position files

@@ -4,3 +4,4 @@ pub mod Extent
 pub mod FileInfo
 pub mod Files
 pub mod Placed
+pub mod Lookup

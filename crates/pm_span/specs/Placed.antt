@@ -1,7 +1,7 @@
 -- How the files of a source map stand one after the other.
-use Rattle.std.specs.Prelude.{ℕ, ◌+◌, ◌≤◌, ◌≡◌, List, [], ◌∷◌, length}
+use Rattle.std.specs.Prelude.{ℕ, ◌+◌, ◌≤◌, ◌≡◌, List, [], ◌∷◌, length, map}
 use Rattle.pm_span.specs.FileInfo.{PlacedText}
-use Rattle.pm_span.specs.Files.{Files, IsFile}
+use Rattle.pm_span.specs.Files.{Files, positions, IsFile}
 
 -- what file 0 is seen as
 abbrev pub file_0 : PlacedText
@@ -11,6 +11,11 @@ file_0 = record { text = []; lo = 0 }
 abbrev pub ArePlaced : ℕ → List PlacedText → Type 0
 ArePlaced position [] = Unit {0}
 ArePlaced position (file ∷ files) = (file.lo ≡ position) × ArePlaced (position + (length file.text + 1)) files
+
+-- the files from 1 on stand one after the other, and the last position is at most the limit
+pub record AreWithin (limit : ℕ) (files : List PlacedText) : Type 0 where
+  pub placed : ArePlaced 1 files
+  pub within : positions (map (λ file. file.text) files) ≤ limit
 
 -- a file of the map that begins at or before the position, and the only one that may have it
 pub record IsFileOf (map : Files) (position : ℕ) (file : PlacedText) : Type 0 where

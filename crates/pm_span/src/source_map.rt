@@ -1,9 +1,9 @@
 //! The map of the texts that were read.
-ghost use Rattle.std.specs.Prelude.{◌≡◌, ◌≤◌, ◌↔◌, ◌+◌, ◌-◌, ◌^◌, ◌<◌, ℕ, List, [], length, IfSome, IsTrue, OnOk, OnErr, SomeIff};
+ghost use Rattle.std.specs.Prelude.{◌≡◌, ◌≤◌, ◌↔◌, ◌+◌, ◌^◌, ◌<◌, [], length, IfSome, IsTrue, OnOk, OnErr, SomeIff};
 ghost use Rattle.std.specs.Option.{unwrap_or, option_copied};
 ghost use Rattle.std.specs.Str.{chars};
-ghost use Rattle.pm_span.specs.Files.{Files, next_lo, Fits, IsFile, Holds, new_map, with_file};
-ghost use Rattle.pm_span.specs.Place.{line_column};
+ghost use Rattle.pm_span.specs.Files.{Files, next_lo, Fits, Holds, new_map, with_file};
+ghost use Rattle.pm_span.specs.Lookup.{StartsAt};
 ghost use Rattle.pm_span.specs.Placed.{file_0, IsFileOf};
 
 use crate::file_info::FileInfo;
@@ -30,7 +30,7 @@ pub struct SourceMap {
 impl Model for SourceMap {
     ghost use Rattle.std.specs.Prelude.{map};
     ghost use Rattle.pm_span.specs.Files.{Files};
-    ghost use Rattle.pm_span.specs.Placed.{ArePlaced};
+    ghost use Rattle.pm_span.specs.Placed.{AreWithin};
 
     ghost Value = { Files };
 
@@ -39,7 +39,7 @@ impl Model for SourceMap {
       limit = source_map.limit;
     } };
 
-    ghost invariant = { λ source_map. ArePlaced 1 source_map.files.items };
+    ghost invariant = { λ source_map. AreWithin source_map.limit source_map.files.items };
 }
 
 impl SourceMap {
@@ -92,7 +92,8 @@ impl SourceMap {
 
     /// The last position of the last file.
     fn last_hi(&self) -> u32
-        ensures { result + 1 ≡ next_lo self.now }
+        ensures value { result + 1 ≡ next_lo self.now }
+        ensures within { result ≤ self.now.limit }
     {
         match self.files.last() {
             None => 0,
@@ -103,8 +104,7 @@ impl SourceMap {
     /// The line and column of a position of the map.
     fn line_column(&self, position: u32) -> LineColumn
         requires { Holds self.now (record { lo = position; hi = position }) }
-        ensures { (text : List ℕ) (lo : ℕ) → IsFile self.now text lo → lo ≤ position
-            → position ≤ lo + length text → result ≡ line_column text (position - lo) }
+        ensures { StartsAt self.now (record { lo = position; hi = position }) result }
     {
         match self.file_of(position) {
             None => LineColumn { line: 1, column: 0 },
@@ -150,8 +150,7 @@ impl Span {
     /// `aaa` LF `bbb` at 1..8, the span 6..8 starts at line 2, column 1.
     pub fn start(self, map: &SourceMap) -> LineColumn
         requires { Holds map.now self }
-        ensures { (text : List ℕ) (lo : ℕ) → IsFile map.now text lo → lo ≤ self.lo
-            → self.hi ≤ lo + length text → result ≡ line_column text (self.lo - lo) }
+        ensures { StartsAt map.now self result }
     {
         let (lo, _) = self.bounds();
         map.line_column(lo)

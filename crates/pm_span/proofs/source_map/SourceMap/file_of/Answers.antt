@@ -27,7 +27,7 @@ found map files slice limit position n file view e placed bound point is =
 pub returns-then-number-eq0 : goal.returns-then-number-eq0
 returns-then-number-eq0 c =
     found c.args.self.now c.self.inside.files.items c.deref.result.now c.self.inside.limit c.args.position
-    c.partition_point-number.result file_0 c.self.view_is c.deref.ensures.value c.self.invariant
+    c.partition_point-number.result file_0 c.self.view_is c.deref.ensures.value c.self.invariant.placed
     c.partition_point-number.ensures.bound
     (λ k. IsPartitionPoint-from_clause (λ f. leb f.lo c.args.position) _ _
     c.partition_point-number.ensures.partitioned k (λ a r f q. search rules))
@@ -38,7 +38,7 @@ returns-else-number-eq0 c =
     let bound : c.partition_point-number.result ≤ length c.self.inside.files.items
     = omega (arith, c.partition_point-number.ensures.bound, ap length c.deref.ensures.value) in
     found c.args.self.now c.self.inside.files.items c.deref.result.now c.self.inside.limit c.args.position
-    c.partition_point-number.result c.index.result.now c.self.view_is c.deref.ensures.value c.self.invariant
+    c.partition_point-number.result c.index.result.now c.self.view_is c.deref.ensures.value c.self.invariant.placed
     c.partition_point-number.ensures.bound
     (λ k. IsPartitionPoint-from_clause (λ f. leb f.lo c.args.position) _ _
     c.partition_point-number.ensures.partitioned k (λ a r f q. search rules))
