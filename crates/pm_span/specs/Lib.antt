@@ -5,3 +5,4 @@ pub mod FileInfo
 pub mod Files
 pub mod Placed
 pub mod Lookup
+pub mod Order

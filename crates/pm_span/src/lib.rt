@@ -2,6 +2,7 @@
 #![tactic(auto)]
 
 mod file_info;
+pub mod laws;
 pub mod location;
 pub mod parts;
 pub mod source_map;

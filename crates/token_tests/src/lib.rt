@@ -10,6 +10,8 @@ mod identifiers;
 #[cfg(test)]
 mod integers;
 #[cfg(test)]
+mod places;
+#[cfg(test)]
 mod quoted;
 #[cfg(test)]
 mod shown_tokens;
