@@ -2,6 +2,7 @@ pub mod CoverLemmas
 pub mod DocLemmas
 pub mod PieceLemmas
 pub mod Levels
+pub mod InOrderLemmas
 pub mod PrintLemmas
 pub mod EventLemmas
 pub mod WrittenLemmas

@@ -15,3 +15,4 @@ pub mod Same
 pub mod Parsing
 pub mod Written
 pub mod Progress
+pub mod InOrder

@@ -32,6 +32,7 @@ pub use Rattle.pm_token.specs.Written
 pub use Rattle.pm_stream.specs.Delimited
 pub use Rattle.pm_stream.specs.Events
 pub use Rattle.pm_stream.specs.Forest
+pub use Rattle.pm_stream.specs.InOrder
 pub use Rattle.pm_stream.specs.Level
 pub use Rattle.pm_stream.specs.Parsing
 pub use Rattle.pm_stream.specs.Printed
