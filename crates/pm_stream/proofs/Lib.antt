@@ -3,6 +3,7 @@ pub mod DocLemmas
 pub mod PieceLemmas
 pub mod Levels
 pub mod InOrderLemmas
+pub mod WalkLemmas
 pub mod PrintLemmas
 pub mod EventLemmas
 pub mod WrittenLemmas

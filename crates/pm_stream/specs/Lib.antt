@@ -16,3 +16,4 @@ pub mod Parsing
 pub mod Written
 pub mod Progress
 pub mod InOrder
+pub mod Walk

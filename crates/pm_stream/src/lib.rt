@@ -8,5 +8,7 @@ pub mod laws;
 mod parse;
 pub mod parts;
 mod stream;
+mod walk;
 
 pub use stream::{Group, TokenStream, TokenTree};
+pub use walk::Walk;

@@ -21,7 +21,8 @@ pub mod rustc_literal_escaper {
     };
 }
 
-/// The stream of trees, under the module that also has its iterator in the Rust crate.
+/// The stream of trees and the walk over all of them, under the module that also has the stream's
+/// iterator in the Rust crate.
 pub mod token_stream {
-    pub use pm_stream::TokenStream;
+    pub use pm_stream::{TokenStream, Walk};
 }
