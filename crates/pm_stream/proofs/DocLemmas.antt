@@ -1,6 +1,6 @@
 -- The tokens of a doc comment.
 use Rattle.std.proofs.Common.{◌≡◌, ℕ, ◌≤◌, Bool, true, false, List, [], ◌∷◌, codes, refl, arith}
-use Rattle.std.specs.Str.{chars, all_scalars}
+use Rattle.std.specs.Str.{chars}
 use Rattle.std.specs.List.{list_all}
 use Rattle.std.proofs.lemmas.Bool.{and_from}
 use Rattle.lexical.specs.Class.{is_ident_start, is_ident_continue}
@@ -11,6 +11,7 @@ use Rattle.pm_token.specs.Escaped.{string_text}
 use Rattle.pm_token.specs.declared.delimiters.Delimiter.TheVariants.{Bracket}
 use Rattle.pm_token.proofs.EscapedLemmas as escaped
 use Rattle.pm_token.specs.Leaf as leaves
+use Rattle.pm_token.specs.Text.{IsText}
 use Rattle.pm_token.specs.declared.marks.Spacing.TheVariants.{Alone}
 use Rattle.pm_span.specs.Extent.{Extent}
 use Rattle.pm_stream.specs.Events.{Event, hash, bang, equals, doc_group_onto, doc_onto}
@@ -38,6 +39,7 @@ doc_name_built = (
     second = record { each = ends_doc; stops = refl };
   },
   refl,
+  refl,
 )
 
 -- its bytes are its characters
@@ -60,12 +62,13 @@ pub doc_trees-events : (lo hi : ℕ) (inner : Bool) (text : List ℕ) (events : 
 doc_trees-events lo hi true text events = refl
 doc_trees-events lo hi false text events = refl
 
-doc_group_built : (lo hi : ℕ) (text : List ℕ) → lo ≤ hi → all_scalars text ≡ true → IsBuilt (doc_group lo hi text)
+doc_group_built : (lo hi : ℕ) (text : List ℕ) → lo ≤ hi → IsText text → IsBuilt (doc_group lo hi text)
 doc_group_built lo hi text within all =
     (within, (doc_name_built, within, (refl, within, (escaped.doc_built text all, within, tt))), tt)
 
 -- they are built where the text is one
-pub doc_built : (lo hi : ℕ) (inner : Bool) (text : List ℕ) → lo ≤ hi → all_scalars text ≡ true → IsBuilt (doc_trees lo hi inner text)
+pub doc_built : (lo hi : ℕ) (inner : Bool) (text : List ℕ) → lo ≤ hi → IsText text
+    → IsBuilt (doc_trees lo hi inner text)
 doc_built lo hi true text within all = (refl, within, (refl, within, doc_group_built lo hi text within all))
 doc_built lo hi false text within all = (refl, within, doc_group_built lo hi text within all)
 

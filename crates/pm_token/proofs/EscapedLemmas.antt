@@ -2,7 +2,6 @@
 use Rattle.std.proofs.Common.{◌≡◌, ℕ, ◌≤◌, Bool, true, false, not, ◌&&◌, ◌==◌, List, [], ◌∷◌, ◌++◌, codes, length, refl, sym, ap, ne_eqb, ◌∙◌, subst, arith, inl, inr, append-nil}
 use Rattle.std.specs.Prelude.{filter}
 use Rattle.std.specs.List.{concat}
-use Rattle.std.specs.Str.{all_scalars}
 use Rattle.std.specs.Char.{IsScalar, digit_char, is_ascii_hexdigit}
 use Rattle.std.specs.Char.Escape.{escape_unicode}
 use Rattle.std.proofs.lemmas.Bool.{cond_both, and_from, and_parts, or_from, not-true, eqb-false, le-leb}
@@ -17,7 +16,9 @@ use Rattle.pm_token.specs.Built.{IsBuiltToken}
 use Rattle.lexical.proofs.ClassLemmas.{any_of}
 use Rattle.lexical.proofs.QuotedLemmas.{EndsSuffix, no_name, stops, stop_ends}
 use Rattle.pm_token.specs.Escaped.{is_bare, written_char, written, content, string_text, character_text}
+use Rattle.pm_token.specs.Text.{IsText}
 use Rattle.pm_token.proofs.HexLemmas.{digits_of, IsCoded, coded, hex_digit, hex_digits, length_digits, hex_value-digits, is_scalar-IsScalar}
+use Rattle.pm_token.proofs.TextLemmas.{text_literal}
 
 -- ---- one character
 
@@ -146,7 +147,7 @@ pub content_units : (quote : ℕ) (plain : ℕ → List ℕ) (text : List ℕ) �
 content_units quote plain [] = refl
 content_units quote plain (c ∷ rest) = ap (λ p. written quote plain c rest ++ p) (content_units quote plain rest)
 
-each_unit : (text r : List ℕ) → all_scalars text ≡ true → Each StringUnit (units_of 34 written_char text) r
+each_unit : (text r : List ℕ) → IsText text → Each StringUnit (units_of 34 written_char text) r
 each_unit [] r all = tt
 each_unit (c ∷ rest) r all =
     let parts = and_parts _ _ all in (
@@ -157,7 +158,7 @@ each_unit (c ∷ rest) r all =
       each_unit rest r parts.1,
     )
 
-string_body : (text r : List ℕ) → all_scalars text ≡ true → Many StringUnit (content 34 written_char text) r
+string_body : (text r : List ℕ) → IsText text → Many StringUnit (content 34 written_char text) r
 string_body text r all = record { units = units_of 34 written_char text; whole = content_units 34 written_char text; each = each_unit text r all }
 
 -- ---- literals
@@ -167,7 +168,7 @@ pub closed : (close r : List ℕ) → EndsSuffix r → Then (Exactly close) Suff
 closed close r ends = record { front = close; back = []; whole = sym (append-nil close); first = refl; second = inr (no_name r ends.start, refl) }
 
 -- the text stands before whatever doesn't go on with a suffix
-pub string_stands : (text r : List ℕ) → all_scalars text ≡ true → EndsSuffix r → Str (string_text text) r
+pub string_stands : (text r : List ℕ) → IsText text → EndsSuffix r → Str (string_text text) r
 unfolding Str
 string_stands text r all ends = record {
   front = codes "\"";
@@ -183,11 +184,11 @@ string_stands text r all ends = record {
   };
 }
 
-pub string_before_stop : (text r : List ℕ) → all_scalars text ≡ true → stops r ≡ true → Str (string_text text) r
+pub string_before_stop : (text r : List ℕ) → IsText text → stops r ≡ true → Str (string_text text) r
 string_before_stop text r all stop = string_stands text r all (stop_ends r stop)
 
 -- what `string` writes is a whole literal
-pub string_whole : (text : List ℕ) → all_scalars text ≡ true → IsWhole (string_text text)
+pub string_whole : (text : List ℕ) → IsText text → IsWhole (string_text text)
 unfolding IsWhole literals.Literal
 string_whole text all = inl (inl (inl (inl (string_before_stop text [] all refl))))
 
@@ -212,5 +213,5 @@ unfolding IsWhole literals.Literal
 character_whole c scalar = inl (inl (inr (inl (character_stands c [] scalar (stop_ends [] refl)))))
 
 -- what stands for a doc comment is built
-pub doc_built : (text : List ℕ) → all_scalars text ≡ true → IsBuiltToken (Literal (string_text text))
-doc_built text all = string_whole text all
+pub doc_built : (text : List ℕ) → IsText text → IsBuiltToken (Literal (string_text text))
+doc_built text all = (string_whole text all, text_literal text all)

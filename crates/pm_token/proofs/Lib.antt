@@ -19,6 +19,7 @@ pub mod NameLemmas
 pub mod RawValueLemmas
 pub mod ReadLemmas
 pub mod SuffixLemmas
+pub mod TextLemmas
 pub mod UnicodeEscapeLemmas
 pub mod UnitLemmas
 pub mod ValueLawLemmas

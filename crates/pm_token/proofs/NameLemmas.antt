@@ -19,6 +19,7 @@ use Rattle.lexical.proofs.PieceFacts.{name_continues}
 use Rattle.lexical.proofs.TextLemmas.{encode_all_ascii}
 use Rattle.pm_token.specs.Built.{IsBuiltToken}
 use Rattle.pm_token.specs.IdentFault.{is_name, is_number, ident_fault}
+use Rattle.pm_token.specs.Text.{IsText}
 use Rattle.pm_token.specs.declared.identifiers.faults.IdentError.{IdentError}
 use Rattle.pm_token.specs.declared.identifiers.faults.IdentError.TheVariants.{Empty, Number, Invalid, Reserved}
 
@@ -123,14 +124,15 @@ whole_name text (Some n) utf8 at none =
 
 -- ---- faults
 
--- a name without a fault is one that is allowed
-pub built_from : (raw : Bool) (name : List ℕ) → ident_fault raw name ≡ None → IsBuiltToken (tokens.Name raw name)
-built_from raw name h =
+-- a text without a fault is a name that is allowed
+pub built_from : (raw : Bool) (name : List ℕ) → IsText name → ident_fault raw name ≡ None
+    → IsBuiltToken (tokens.Name raw name)
+built_from raw name text h =
     let full = past (length name == 0) Empty _ h in
     let number = past (is_number name) Number _ full.1 in
     let invalid = past (not (is_name name)) Invalid _ number.1 in
     let reserved = past (not (is_allowed raw name)) Reserved None invalid.1 in
-    (is_name-Name name (not-false _ invalid.0), not-false _ reserved.0)
+    (is_name-Name name (not-false _ invalid.0), not-false _ reserved.0, text)
   where
     past : (test : Bool) (error : IdentError) (more : Option IdentError) → cond test (Some error) more ≡ None → (test ≡ false) × (more ≡ None)
     past true error more e = absurd (none-some error (sym e))

@@ -5,7 +5,7 @@ use Rattle.std.specs.Char.Escape.{escape_unicode}
 use Rattle.std.specs.Fmt.{digit_glyph}
 use Rattle.std.specs.List.{AllByRecursion}
 use Rattle.std.specs.Option.{option_map}
-use Rattle.std.specs.Str.{all_scalars, encode_utf8_all}
+use Rattle.std.specs.Str.{encode_utf8_all}
 use Rattle.std.proofs.lemmas.Bool.{agree_below_at, and_parts, cond_both, cond-false, cond-true, lt-ltb}
 use Rattle.literal_escaper.specs.Escape.{Read, escape, hex_escape, is_hex}
 use Rattle.literal_escaper.specs.Items.{items, items_from}
@@ -14,6 +14,7 @@ use Rattle.literal_escaper.specs.Single.{only, single}
 use Rattle.literal_escaper.specs.Text.{bytes}
 use Rattle.pm_token.specs.Content.{raw_content}
 use Rattle.pm_token.specs.Escaped.{is_bare, written_char, written_byte, written, content, hex_pair, string_text, byte_string_text}
+use Rattle.pm_token.specs.Text.{IsText}
 use Rattle.pm_token.specs.Value.{units, value_from}
 use Rattle.pm_token.specs.ValueLaws.{ByteStringsComeBack, BytesComeBack, CharactersComeBack, StringsComeBack}
 use Rattle.pm_token.proofs.ContentLemmas.{between_within}
@@ -33,7 +34,8 @@ char_as quote c scalar tab return line backslash other =
     (λ e. inr (record { whole = refl; unit_is = refl; no_tab = tab; no_return = return; no_line = line; no_backslash = backslash; no_quote = other }))
     (λ e. inl (code_escapes c scalar))
 
-string_units : (end : ℕ) (text : List ℕ) → all_scalars text ≡ true → Give (items_from string_kind end (content 34 written_char text)) text
+string_units : (end : ℕ) (text : List ℕ) → IsText text
+    → Give (items_from string_kind end (content 34 written_char text)) text
 string_units end [] all = give_none string_kind end
 string_units end (c ∷ rest) all =
     let parts = and_parts _ _ all in

@@ -18,14 +18,15 @@ use Rattle.pm_span.proofs.FileLemmas.{holds_nowhere}
 use Rattle.pm_token.specs.Leaf.{Text}
 use Rattle.pm_token.specs.LiteralText.{IsByItself, IsLiteralText}
 use Rattle.pm_token.specs.Outcome.{IfLex, IsRefusalOf}
+use Rattle.pm_token.specs.Text.{IsText}
 use Rattle.pm_token.specs.declared.errors.ParseError.{ParseError}
 use Rattle.pm_token.specs.declared.errors.ParseError.TheVariants.{Lex, MapFull, Memory}
 
 -- what stands by itself may be the text of a literal
-pub literal_text : (text : List ℕ) → IsByItself text → IsLiteralText text
+pub literal_text : (text : List ℕ) → IsText text → IsByItself text → IsLiteralText text
 unfolding IsWhole
-literal_text text (inl literal) = inl (inl literal)
-literal_text text (inr negative) = inr negative
+literal_text text all (inl literal) = (inl (inl literal), all)
+literal_text text all (inr negative) = (inr negative, all)
 
 -- every map holds the place of the fault of a text that isn't whole
 pub refused_held : (map : Files) (whole : Type 0) (result : Result Text ParseError)

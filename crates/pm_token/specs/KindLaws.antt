@@ -2,15 +2,15 @@
 use Rattle.std.specs.Prelude.{◌<◌, ℕ, List, [], IsTrue}
 use Rattle.std.specs.Char.{IsScalar}
 use Rattle.std.specs.List.{AllByRecursion}
-use Rattle.std.specs.Str.{all_scalars}
 use Rattle.lexical.specs.Quoted.{ByteStr, CStr, Str}
 use Rattle.lexical.specs.SingleQuoted.{Byte, Character}
 use Rattle.pm_token.specs.CString.{IsCStringText, has_no_zero}
 use Rattle.pm_token.specs.Escaped.{byte_string_text, byte_text, character_text, string_text}
+use Rattle.pm_token.specs.Text.{IsText}
 
 -- what is written for a text is a string by itself
 abbrev pub StringsAreStrings : Type 0
-StringsAreStrings = (text : List ℕ) → IsTrue (all_scalars text) → Str (string_text text) []
+StringsAreStrings = (text : List ℕ) → IsText text → Str (string_text text) []
 
 -- for some bytes a byte string
 abbrev pub ByteStringsAreByteStrings : Type 0

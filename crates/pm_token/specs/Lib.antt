@@ -10,6 +10,7 @@ pub mod Leaf
 pub mod LiteralText
 pub mod Message
 pub mod Outcome
+pub mod Text
 pub mod Value
 pub mod ValueLaws
 pub mod Written

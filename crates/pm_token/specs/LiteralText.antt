@@ -3,6 +3,7 @@ use Rattle.std.specs.Prelude.{◌⊎◌, ◌≡◌, ℕ, List, [], ◌++◌, cod
 use Rattle.std.specs.Char.{is_ascii_digit}
 use Rattle.lexical.specs.Text.{first_passes}
 use Rattle.lexical.specs.Literal.{Literal, IsWhole}
+use Rattle.pm_token.specs.Text.{IsText}
 
 -- `negative-literal`: `-` and a whole literal that begins with a digit
 pub record IsNegative (text : List ℕ) : Type 0 where
@@ -15,6 +16,6 @@ pub record IsNegative (text : List ℕ) : Type 0 where
 abbrev pub IsByItself : List ℕ → Type 0
 IsByItself text = Literal text [] ⊎ IsNegative text
 
--- what the text of every literal is: one that may stand in a stream, or a negative one, which may not
+-- what the text of every literal is: a text that may stand in a stream, or a negative one, which may not
 abbrev pub IsLiteralText : List ℕ → Type 0
-IsLiteralText text = IsWhole text ⊎ IsNegative text
+IsLiteralText text = (IsWhole text ⊎ IsNegative text) × IsText text

@@ -2,7 +2,7 @@
 use Rattle.std.specs.Prelude.{Bool, not, ◌==◌, ◌≡◌, ◌<◌, ℕ, List, [], ◌++◌, codes, IsTrue, Result, Ok}
 use Rattle.std.specs.Char.{IsScalar}
 use Rattle.std.specs.List.{AllByRecursion, list_all}
-use Rattle.std.specs.Str.{all_scalars, encode_utf8_all}
+use Rattle.std.specs.Str.{encode_utf8_all}
 use Rattle.lexical.specs.Form.{Form, Many}
 use Rattle.lexical.specs.Quoted.{ByteStr, ByteUnit, CStr, CUnit, Str, StringUnit}
 use Rattle.literal_escaper.specs.Character.{carriage_return}
@@ -13,11 +13,12 @@ use Rattle.pm_token.specs.CString.{IsCStringText, has_no_zero}
 use Rattle.pm_token.specs.Content.{is_hash}
 use Rattle.pm_token.specs.Escaped.{byte_string_text, byte_text, character_text, string_text}
 use Rattle.pm_token.specs.Joined.{c_joined, string_joined}
+use Rattle.pm_token.specs.Text.{IsText}
 use Rattle.pm_token.specs.Value.{byte_str_value, cstr_value, ended, str_value}
 
 -- the value of the string literal of a text is the text
 abbrev pub StringsComeBack : Type 0
-StringsComeBack = (text : List ℕ) → IsTrue (all_scalars text) → str_value (string_text text) ≡ Ok text
+StringsComeBack = (text : List ℕ) → IsText text → str_value (string_text text) ≡ Ok text
 
 -- that of the byte string literal of some bytes the bytes
 abbrev pub ByteStringsComeBack : Type 0

@@ -5,6 +5,7 @@ ghost use Rattle.std.specs.Char.Escape.{escape_unicode};
 ghost use Rattle.lexical.specs.Text.{first_passes};
 ghost use Rattle.lexical.specs.Quoted.{is_octal_digit};
 ghost use Rattle.pm_token.specs.Escaped.{is_hidden, is_bare as bare, written_char, written, content};
+ghost use Rattle.pm_token.specs.Text.{IsText};
 
 mod bytes;
 mod c_strings;
@@ -41,7 +42,8 @@ impl Draft {
 
     /// What is written, as the text of a token.
     pub(crate) fn finish(self) -> Symbol
-        ensures { result ≡ self }
+        ensures value { result ≡ self }
+        ensures text { IsText result }
     {
         Symbol::from_string(self.text)
     }

@@ -21,6 +21,7 @@ impl Model for Symbol {
 impl Symbol {
     ghost use Rattle.std.specs.Prelude.{◌≡◌, IfOk, string_bytes};
     ghost use Rattle.std.specs.Str.{chars};
+    ghost use Rattle.pm_token.specs.Text.{IsText};
 
     /// Keeps a copy of the text. Fails where memory runs out.
     pub fn new(alloc: Global, text: &str) -> Result<Symbol, AllocError>
@@ -33,7 +34,8 @@ impl Symbol {
 
     /// Keeps the text.
     pub fn from_string(text: String) -> Symbol
-        ensures { result ≡ chars (string_bytes text) }
+        ensures value { result ≡ chars (string_bytes text) }
+        ensures text { IsText result }
     {
         Symbol { text }
     }

@@ -223,7 +223,7 @@ built_identifier true name h =
     let n = h.0 in
     let text : name ++ [] ≡ n.first.0 ∷ (n.back ++ []) = ap (λ x. x ++ []) (n.whole ∙ ap (λ x. x ++ n.back) n.first.1) in
     let sign = continue_no_sign n.first.0 (start_continues n.first.0 n.first.2) in
-    (h, ap (λ x. begins_any literal_prefixes (codes "r#" ++ x)) text ∙ raw_plain n.first.0 (n.back ++ []) sign)
+    ((h.0, h.1), ap (λ x. begins_any literal_prefixes (codes "r#" ++ x)) text ∙ raw_plain n.first.0 (n.back ++ []) sign)
 built_identifier false name h =
     let all = no_signs name (name_continues name [] h.0) in (
       (h.0, ap (begins_any (codes "r#" ∷ [])) (append-nil name) ∙ none_begins no_sign (codes "r#" ∷ []) name refl all),
@@ -247,7 +247,7 @@ joint_stands c b k p r m other h j plain = inl (((c, refl, plain_mark c m other)
 
 whole_any : (text : List ℕ) → IsBuiltToken (Literal text) → AnyLiteral text []
 unfolding literals.IsWhole
-whole_any text is = is
+whole_any text is = is.0
 
 pub literal_stands : (text s : List ℕ) → IsBuiltToken (Literal text) → stops s ≡ true → Stands (Literal text) s
 literal_stands text s h e = literal_before_stop text [] s e (whole_any text h)

@@ -1,10 +1,11 @@
--- The laws of covers, parsed streams and printed texts. A source, and every text, is the list of its characters.
+-- The laws of covers, parsed streams and printed texts. A source is the list of its characters. Where a law says that
+-- it is a text, these are Unicode scalars, as those of every `&str` are; the other laws hold of all lists of numbers.
 use Rattle.std.specs.Prelude.{ℕ, ◌≡◌, ◌⊎◌, ◌↔◌, List, [], ◌∷◌, ◌++◌, IsTrue, IsFalse, codes}
-use Rattle.std.specs.Str.{all_scalars}
 use Rattle.lexical.specs.Text.{begins_with}
 use Rattle.lexical.specs.Piece.{Piece}
 use Rattle.lexical.specs.Quiet.{ends_quiet}
 use Rattle.lexical.specs.Cover.{onto, IsCover}
+use Rattle.pm_token.specs.Text.{IsText}
 use Rattle.pm_stream.specs.Forest.{Forest, IsBuilt, joined}
 use Rattle.pm_stream.specs.Parsing.{ParsesTo, FaultAt}
 use Rattle.pm_stream.specs.Printed.{printed}
@@ -49,15 +50,19 @@ ComesBack = (base : ℕ) (stream : Forest) → IsBuilt stream → Gives base (pr
 abbrev pub ParsedIsWellSpaced : Type 0
 ParsedIsWellSpaced = (base : ℕ) (source : List ℕ) (stream : Forest) → ParsesTo base source stream → IsWellSpaced stream
 
--- and is built, where the source has Unicode scalars only
+-- and every one that a text parses to is built
 abbrev pub ParsedIsBuilt : Type 0
 ParsedIsBuilt = (base : ℕ) (source : List ℕ) (stream : Forest)
-    → IsTrue (all_scalars source) → ParsesTo base source stream → IsBuilt stream
+    → IsText source → ParsesTo base source stream → IsBuilt stream
 
--- a built stream is well spaced exactly if some source gives it
+-- what is printed of a built stream is a text
+abbrev pub PrintedIsText : Type 0
+PrintedIsText = (stream : Forest) → IsBuilt stream → IsText (printed stream)
+
+-- a built stream is well spaced exactly if some text gives it
 abbrev pub WellSpacedIsParsed : Type 0
 WellSpacedIsParsed = (stream : Forest) → IsBuilt stream
-    → ((base : ℕ) × (source : List ℕ) × Gives base source stream) ↔ IsWellSpaced stream
+    → ((base : ℕ) × (source : List ℕ) × IsText source × Gives base source stream) ↔ IsWellSpaced stream
 
 -- well spaced streams are the same exactly if they print the same text
 abbrev pub OneText : Type 0

@@ -26,6 +26,7 @@ pub use Rattle.pm_token.specs.Leaf
 pub use Rattle.pm_token.specs.LiteralText
 pub use Rattle.pm_token.specs.Message
 pub use Rattle.pm_token.specs.Outcome
+pub use Rattle.pm_token.specs.Text
 pub use Rattle.pm_token.specs.Value
 pub use Rattle.pm_token.specs.ValueLaws
 pub use Rattle.pm_token.specs.Written

@@ -13,6 +13,7 @@ ghost use Rattle.proc_macro2.specs.Laws.{
   ParsedIsBuilt,
   ParsedIsWellSpaced,
   ParsesOrFails,
+  PrintedIsText,
   WellSpacedIsParsed,
 };
 
@@ -30,16 +31,17 @@ pub fn one_cover()
 {}
 
 /// A built stream comes back from its printed text, the same up to spans, exactly if it is well spaced.
-/// Every stream that a source parses to is well spaced, and is built if the source has Unicode characters
-/// only. So the built streams that are well spaced are, up to spans, exactly those that some source parses
-/// to. Two of them are the same up to spans exactly if they print the same text, so that this is the one
-/// text of these tokens.
+/// Every stream that a text parses to is well spaced and built, and what a built stream prints is a text.
+/// So the built streams that are well spaced are, up to spans, exactly those that some text parses to. Two
+/// of them are the same up to spans exactly if they print the same text, so that this is the one text of
+/// these tokens.
 ///
 /// `+` Joint before the identifier `a` doesn't come back: it prints `+a`, which parses to `+` Alone and `a`.
 pub fn printed_comes_back()
     ensures back { ComesBack }
     ensures parsed { ParsedIsWellSpaced }
     ensures built { ParsedIsBuilt }
+    ensures printed { PrintedIsText }
     ensures exactly { WellSpacedIsParsed }
     ensures text { OneText }
 {}

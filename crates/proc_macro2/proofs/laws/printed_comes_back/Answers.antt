@@ -1,6 +1,6 @@
 use Rattle.pm_stream.specs.Printed.{printed}
 use Rattle.proc_macro2.proofs.Returns.{comes_back, given_spaced, parsed_spaced, same_printed, one_text}
-use Rattle.proc_macro2.proofs.BuiltLemmas.{parsed_built}
+use Rattle.proc_macro2.proofs.BuiltLemmas.{parsed_built, printed_text}
 use Rattle.proc_macro2.proofs.laws.printed_comes_back.Goals as goal
 
 pub returns : goal.returns
@@ -8,6 +8,10 @@ returns c = record {
   back = λ base s built. (λ h. given_spaced base (printed s) s h.0 h.1 h.2, comes_back base s built);
   parsed = parsed_spaced;
   built = parsed_built;
-  exactly = λ s built. (λ h. given_spaced h.0 h.1 s h.2.0 h.2.1 h.2.2, λ w. (0, printed s, comes_back 0 s built w));
+  printed = printed_text;
+  exactly = λ s built. (
+    λ h. given_spaced h.0 h.1 s h.3.0 h.3.1 h.3.2,
+    λ w. (0, printed s, printed_text s built, comes_back 0 s built w),
+  );
   text = λ s t bs bt ws wt. (same_printed s t, one_text s t bs bt ws wt);
 }

@@ -1,5 +1,6 @@
 use Rattle.std.proofs.Common.{◌≡◌, ℕ, ◌+◌, List, [], ◌∷◌, length, sym, ap, ap₂, ◌∙◌, subst, arith, inl, inr}
 use Rattle.std.specs.Str.{chars}
+use Rattle.std.proofs.lemmas.Str.{scalars-chars}
 use Rattle.lexical.specs.Found.{kind_of}
 use Rattle.lexical.specs.Token.{Mark, Literal}
 use Rattle.lexical.specs.declared.piece.PieceKind.{PieceKind}
@@ -15,7 +16,9 @@ use Rattle.pm_stream.proofs.parse.Reading.take.Goals as goal
 use Rattle.pm_stream.proofs.parse.Reading.take.Goals.{in-Opener+in_ok-open-in-Opener, in-Closer+in_ok-close-in-Closer, in-Doc+in_ok-push_doc-in-Doc, in-Mark+in_ok-push_mark-in-Mark, in-Name+in_ok-name-in-Name+in_ok-push-in-Name, in-Literal+in_ok-push_literal-in-Literal, in-FrontMark}
 
 pub ident-requires : goal.ident-requires
-ident-requires c = name_found _ _ c.args.piece c.in-Name.raw c.in-Name.name c.requires.stands.1 c.in-Name.is
+ident-requires c =
+    name_found _ _ c.args.piece c.in-Name.raw c.in-Name.name (scalars-chars c.args.text.now c.utf8.text)
+    c.requires.stands.1 c.in-Name.is
 
 pub range-requires-clause-end_boundary : goal.range-requires-clause-end_boundary
 range-requires-clause-end_boundary c = piece_boundary _ c.args.text.now c.args.piece c.utf8.text c.requires.stands.1

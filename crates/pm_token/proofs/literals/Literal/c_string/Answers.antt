@@ -11,15 +11,18 @@ text c =
     record {
       parts = all.0;
       reads = all.1;
-      whole = c.finish.ensures ∙ (c.in_ok-push-3.ensures.ok
+      whole = c.finish.ensures.value ∙ (c.in_ok-push-3.ensures.ok
           ∙ ap (λ x. x ++ 34 ∷ []) (all.2
           ∙ ap (λ x. x ++ parts_text all.0) (c.in_ok-push-2.ensures.ok
           ∙ ap (λ x. x ++ 34 ∷ []) (c.in_ok-push.ensures.ok ∙ ap (λ x. x ++ 99 ∷ []) c.new-draft.ensures))));
     }
 
 pub invariant_of-result : goal.invariant_of-result
-invariant_of-result c = inl (c_string_whole c.args.bytes.now c.finish.result (text c)
-    (bytes_fit c.args.bytes.now (λ i. (c.type_inv.bytes i).fits)) c.requires)
+invariant_of-result c = (
+  inl (c_string_whole c.args.bytes.now c.finish.result (text c)
+      (bytes_fit c.args.bytes.now (λ i. (c.type_inv.bytes i).fits)) c.requires),
+  c.finish.ensures.text,
+)
 
 pub returns : goal.returns
 returns c = record { ok = (text c, c.call_site.ensures.value) }

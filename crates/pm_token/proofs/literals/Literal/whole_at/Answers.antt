@@ -1,6 +1,9 @@
 use Rattle.std.specs.Str.{chars}
+use Rattle.std.proofs.lemmas.Str.{scalars-chars}
 use Rattle.pm_token.proofs.WholeLemmas.{literal_text}
 use Rattle.pm_token.proofs.literals.Literal.whole_at.Goals as goal
 
 pub from_parts-requires : goal.from_parts-requires
-from_parts-requires c = literal_text (chars c.args.text.now) (c.is_whole.ensures.0 c.if-not-is_whole.false)
+from_parts-requires c =
+    literal_text (chars c.args.text.now) (scalars-chars c.args.text.now c.utf8.text)
+    (c.is_whole.ensures.0 c.if-not-is_whole.false)

@@ -4,7 +4,7 @@ use Rattle.std.proofs.lemmas.Int.{to_z-of_z}
 use Rattle.std.specs.Fmt.{signed_decimal}
 use Rattle.std.specs.Str.{chars}
 use Rattle.pm_token.specs.Integer.{suffix_text}
-use Rattle.pm_token.specs.LiteralText.{IsLiteralText}
+use Rattle.pm_token.specs.LiteralText.{IsByItself}
 use Rattle.pm_token.proofs.IntegerLemmas.{chars_signed, signed_by_itself}
 use Rattle.pm_token.proofs.WholeLemmas.{literal_text}
 use Rattle.pm_token.proofs.literals.integers.signed.Goals as goal
@@ -16,12 +16,14 @@ text c =
     let written =
     c.in_ok-format.ensures.ok ∙ ap (λ z. signed_decimal z ++ c.name-suffix.result.now) (to_z-of_z w128 c.args.value c.ranges.value)
     ∙ ap (λ xs. signed_decimal c.args.value ++ xs) c.name-suffix.ensures in
-    c.from_string.ensures
+    c.from_string.ensures.value
     ∙ (ap chars written
     ∙ chars_signed c.args.value c.args.suffix c.ranges.value)
 
 pub invariant_of-result : goal.invariant_of-result
-invariant_of-result c = subst IsLiteralText (sym (text c)) (literal_text _ (signed_by_itself c.args.value c.args.suffix c.ranges.value))
+invariant_of-result c =
+    let is = signed_by_itself c.args.value c.args.suffix c.ranges.value in
+    literal_text _ c.from_string.ensures.text (subst IsByItself (sym (text c)) is)
 
 pub returns : goal.returns
 returns c = record {

@@ -2,7 +2,7 @@ use Rattle.std.proofs.Common.{◌≡◌, ◌++◌, sym, ap, ◌∙◌, subst}
 use Rattle.std.specs.Fmt.{decimal}
 use Rattle.std.specs.Str.{chars}
 use Rattle.pm_token.specs.Integer.{suffix_text}
-use Rattle.pm_token.specs.LiteralText.{IsLiteralText}
+use Rattle.pm_token.specs.LiteralText.{IsByItself}
 use Rattle.pm_token.proofs.IntegerLemmas.{chars_unsigned, unsigned_by_itself}
 use Rattle.pm_token.proofs.WholeLemmas.{literal_text}
 use Rattle.pm_token.proofs.literals.integers.unsigned.Goals as goal
@@ -11,12 +11,14 @@ use Rattle.pm_token.proofs.literals.integers.unsigned.Goals.{After-call_site}
 -- the characters of what was written
 text : (c : After-call_site) → c.from_string.result ≡ decimal c.args.value ++ suffix_text c.args.suffix
 text c =
-    c.from_string.ensures
+    c.from_string.ensures.value
     ∙ (ap chars (c.in_ok-format.ensures.ok ∙ ap (λ xs. decimal c.args.value ++ xs) c.name-suffix.ensures)
     ∙ chars_unsigned c.args.value c.args.suffix c.ranges.value.fits)
 
 pub invariant_of-result : goal.invariant_of-result
-invariant_of-result c = subst IsLiteralText (sym (text c)) (literal_text _ (unsigned_by_itself c.args.value c.args.suffix c.ranges.value.fits))
+invariant_of-result c =
+    let is = unsigned_by_itself c.args.value c.args.suffix c.ranges.value.fits in
+    literal_text _ c.from_string.ensures.text (subst IsByItself (sym (text c)) is)
 
 pub returns : goal.returns
 returns c = record {
