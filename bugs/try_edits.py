@@ -1,10 +1,10 @@
 #!/usr/bin/env python3
 """Tries edits that plant bugs: the prover must refuse each.
 
-An edit is a file as those of `bugs/CRATE` and of `crates/CRATE/must-fail`. Name a crate for its edits in bugs/, a folder
-for those in it, or single files; with no name all of bugs/ are tried. Each edit is tried in a copy of its crate over what
-`rt check` keeps in out/, so that only what the edit changes is proved. A crate that was not checked since it changed is
-proved first, in the copy.
+An edit is a file as those of `bugs/CRATE` and of `crates/CRATE/must-fail`. Name a crate for its edits in bugs/, a
+folder for those in it, or single files; with no name all of bugs/ are tried. Each edit is tried in a copy of its crate
+over what `rt check` keeps in out/, so that only what the edit changes is proved. A crate that was not checked since it
+changed is proved first, in the copy.
 
 One line an edit: `refused`; `refused for a name alone`, where all that failed is a proof file that cites what the edit
 took away, so that it says little of a contract; `NOT REFUSED`; or `BAD EDIT`, which tried no contract. The status is 0
@@ -54,9 +54,12 @@ def edits_named(names):
         files += [path] if path.is_file() else sorted(path.glob("*.edit"))
         if not path.exists():
             sys.exit(f"there is no edit and no folder {path}")
-    by_crate = {}
+    by_crate, known = {}, libraries()
     for file in files:
-        by_crate.setdefault(crate_of(file.resolve()), []).append(file)
+        crate = crate_of(file.resolve())
+        if crate not in known:
+            sys.exit(f"{file}: crates.txt has no crate {crate}")
+        by_crate.setdefault(crate, []).append(file)
     return by_crate
 
 
@@ -116,11 +119,13 @@ def below(crate, uses):
     return found
 
 
-def copy_repository(crate, to):
-    """Copies the crates, the kept work of one of them, and the libraries below it as they were built."""
+def copy_repository(crate, to, keeps=True):
+    """Copies the crates, the kept work of one of them if asked for, and the libraries below it as they were built."""
     shutil.copy(TOP / "crates.txt", to)
     uses = libraries()
-    kept = {dep: "out/rlib" for dep in below(crate, uses)} | {crate: "out/incremental"}
+    kept = {dep: "out/rlib" for dep in below(crate, uses)}
+    if keeps:
+        kept[crate] = "out/incremental"
     for name in uses:
         for part in (*PARTS, *([kept[name]] if name in kept else [])):
             if (TOP / "crates" / name / part).is_dir():

@@ -1,0 +1,75 @@
+#!/usr/bin/env python3
+"""Says which functions take the prover longest.
+
+Usage: bench/function_cost.py [--test] [-n COUNT] CRATE ..
+Proves each crate from nothing in a copy, over the libraries below it as `rt check` last built them, and prints the
+slowest functions with the processor seconds between the line `checked FUNCTION` before theirs and their own. With
+--test the crate's tests are proved with it. A file of lemmas counts for the first function that needs it, and what every check
+has to load counts for the crate alone.
+"""
+import argparse
+import os
+import re
+import subprocess
+import sys
+import tempfile
+from pathlib import Path
+
+TOP = Path(__file__).resolve().parent.parent
+sys.path.insert(0, str(TOP / "bugs"))
+from try_edits import copy_repository  # noqa: E402
+
+TICK = os.sysconf("SC_CLK_TCK")
+
+
+def time_of_provers(folder):
+    """The processor seconds so far of the processes that prove in the folder."""
+    seconds = 0.0
+    for pid in filter(str.isdigit, os.listdir("/proc")):
+        try:
+            if os.readlink(f"/proc/{pid}/cwd") == str(folder) and os.readlink(f"/proc/{pid}/exe").endswith("/rattle"):
+                stat = Path(f"/proc/{pid}/stat").read_text()
+                seconds += sum(map(int, stat[stat.rindex(")") + 2 :].split()[11:13])) / TICK
+        except OSError:
+            pass
+    return seconds
+
+
+def times_of(crate, tests):
+    """The seconds of each function of the crate, and those of the whole check."""
+    with tempfile.TemporaryDirectory(prefix="functions-") as room:
+        copy_repository(crate, Path(room), keeps=False)
+        folder = Path(room).resolve() / "crates" / crate
+        command = ["rt", "check", "--jobs", "1", *["--test"] * tests]
+        found, last = {}, 0.0
+        with subprocess.Popen(command, cwd=folder, stdout=subprocess.PIPE, stderr=subprocess.STDOUT, text=True) as ran:
+            for line in ran.stdout:
+                now = max(time_of_provers(folder), last)
+                checked = re.match(r"checked (\S+), \d+ of \d+$", line)
+                if checked:
+                    found[checked[1]] = now - last
+                if checked or line.startswith("so far:"):
+                    last = now
+        if ran.returncode:
+            sys.exit(f"{crate} is not proved: see `rt check` there")
+        return found, now
+
+
+def main():
+    form = argparse.RawDescriptionHelpFormatter
+    words = argparse.ArgumentParser(prog="bench/function_cost.py", description=__doc__, formatter_class=form)
+    words.add_argument("--test", action="store_true", help="proves the tests of the crates too")
+    words.add_argument("-n", "--count", type=int, default=20, help="how many functions to print (20)")
+    words.add_argument("crates", nargs="+", metavar="CRATE")
+    given = words.parse_args()
+    all_times = {}
+    for crate in given.crates:
+        found, whole = times_of(crate, given.test)
+        print(f"{crate}: {whole:.0f} s for {len(found)} functions", flush=True)
+        all_times |= found
+    for name in sorted(all_times, key=all_times.get, reverse=True)[: given.count]:
+        print(f"{all_times[name]:6.1f} s  {name}")
+
+
+if __name__ == "__main__":
+    main()
