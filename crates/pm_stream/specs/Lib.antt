@@ -1,4 +1,5 @@
 pub mod Delimited
+pub mod DelimSpan
 pub mod Events
 pub mod Forest
 pub mod Size

@@ -9,3 +9,10 @@ extent_of (Group g) = g.span
 extent_of (Ident i) = i.span
 extent_of (Punct p) = p.span
 extent_of (Literal l) = l.span
+
+-- the tree with this span, and nothing else changed: what is in a group keeps its spans
+abbrev pub with_span : TokenTree → Extent → TokenTree
+with_span (Group g) span = Group (record g { span = span })
+with_span (Ident i) span = Ident (record i { span = span })
+with_span (Punct p) span = Punct (record p { span = span })
+with_span (Literal l) span = Literal (record l { span = span })

@@ -4,6 +4,7 @@
 mod debug;
 mod display;
 mod doc;
+pub mod extra;
 pub mod laws;
 mod parse;
 pub mod parts;

@@ -3,7 +3,7 @@ ghost use Rattle.std.specs.Prelude.{◌≡◌, ◌+◌, IfOk, IfErr, OnOk};
 ghost use Rattle.pm_stream.specs.Forest.{Forest, nil, joined, IsBuilt};
 ghost use Rattle.pm_stream.specs.Level.{forest, held, alone, inside, GoesInside, TakesLast};
 ghost use Rattle.pm_stream.specs.Size.{is_nil, count};
-ghost use Rattle.pm_stream.specs.TreeSpan.{extent_of};
+ghost use Rattle.pm_stream.specs.TreeSpan.{extent_of, with_span};
 
 use pm_span::Span;
 use pm_span::parts::bounds;
@@ -244,6 +244,18 @@ impl TokenTree {
         }
     }
 
+    /// Sets where the tree stands, and changes nothing else. The trees in a group keep their spans.
+    pub fn set_span(&mut self, span: Span)
+        ensures { self.new ≡ with_span self.old span }
+    {
+        match self {
+            TokenTree::Group(group) => group.set_span(span),
+            TokenTree::Ident(ident) => ident.set_span(span),
+            TokenTree::Punct(punct) => punct.set_span(span),
+            TokenTree::Literal(literal) => literal.set_span(span),
+        }
+    }
+
     // The trees within a group, and none of a token.
     fn into_inside(self, alloc: Global) -> TokenStream
         ensures { result ≡ inside self }
@@ -303,6 +315,13 @@ impl Group {
         ensures { result ≡ self.now.span }
     {
         self.span
+    }
+
+    /// Sets where the group stands, and changes nothing else. The trees in it keep their spans.
+    pub fn set_span(&mut self, span: Span)
+        ensures { self.new ≡ record self.old { span = span } }
+    {
+        self.span = span;
     }
 
     /// What is true of every group.

@@ -11,6 +11,7 @@ pub mod LiteralText
 pub mod Message
 pub mod Outcome
 pub mod Text
+pub mod Subspan
 pub mod Value
 pub mod ValueLaws
 pub mod Written

@@ -5,6 +5,7 @@ ghost use Rattle.std.specs.Str.{chars};
 mod conversion;
 mod integers;
 mod quoted;
+mod subspan;
 mod values;
 mod whole;
 
@@ -60,6 +61,13 @@ impl Literal {
         ensures { result ≡ self.now.span }
     {
         self.span
+    }
+
+    /// Sets where it stands, and changes nothing else.
+    pub fn set_span(&mut self, span: Span)
+        ensures { self.new ≡ record self.old { span = span } }
+    {
+        self.span = span;
     }
 
     /// What is true of every literal.

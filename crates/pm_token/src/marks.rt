@@ -72,6 +72,13 @@ impl Punct {
         self.span
     }
 
+    /// Sets where it stands, and changes nothing else.
+    pub fn set_span(&mut self, span: Span)
+        ensures { self.new ≡ record self.old { span = span } }
+    {
+        self.span = span;
+    }
+
     /// What is true of every mark.
     pub(crate) fn built(&self)
         ensures { IsBuiltToken (mark_token self.now) }

@@ -27,10 +27,12 @@ pub use Rattle.pm_token.specs.LiteralText
 pub use Rattle.pm_token.specs.Message
 pub use Rattle.pm_token.specs.Outcome
 pub use Rattle.pm_token.specs.Text
+pub use Rattle.pm_token.specs.Subspan
 pub use Rattle.pm_token.specs.Value
 pub use Rattle.pm_token.specs.ValueLaws
 pub use Rattle.pm_token.specs.Written
 pub use Rattle.pm_stream.specs.Delimited
+pub use Rattle.pm_stream.specs.DelimSpan
 pub use Rattle.pm_stream.specs.Events
 pub use Rattle.pm_stream.specs.Forest
 pub use Rattle.pm_stream.specs.InOrder

@@ -11,6 +11,11 @@ pub use pm_token::{
     Spacing,
 };
 
+/// The span of a group, together with those of its delimiters.
+pub mod extra {
+    pub use pm_stream::extra::DelimSpan;
+}
+
 /// What the contents of literals stand for, item by item.
 pub mod rustc_literal_escaper {
     pub use literal_escaper::{

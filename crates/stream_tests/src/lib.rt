@@ -10,6 +10,8 @@ mod checks;
 #[cfg(test)]
 mod doc_comments;
 #[cfg(test)]
+mod group_spans;
+#[cfg(test)]
 mod laws;
 #[cfg(test)]
 mod literal_rows;

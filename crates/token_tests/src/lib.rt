@@ -18,6 +18,8 @@ mod shown_tokens;
 #[cfg(test)]
 mod source_map;
 #[cfg(test)]
+mod subspans;
+#[cfg(test)]
 mod values;
 #[cfg(test)]
 mod whole_literals;
