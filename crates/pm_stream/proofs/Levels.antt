@@ -1,14 +1,15 @@
 -- Lists of trees and the forests that they make.
-use Rattle.std.proofs.Common.{Option, Some, None, ◌≡◌, ℕ, ◌+◌, ◌*◌, ◌<◌, ◌≤◌, get_or, arith, false, List, [], ◌∷◌, ◌++◌, length, nat_eq, refl, sym, ap, subst, ◌∙◌, rules}
+use Rattle.std.proofs.Common.{All, Option, Some, None, ◌≡◌, ℕ, ◌+◌, ◌*◌, ◌<◌, ◌≤◌, get_or, arith, false, List, [], ◌∷◌, ◌++◌, length, nat_eq, refl, sym, ap, subst, ◌∙◌, rules}
 use Rattle.pm_stream.specs.Events.{Event, One, Opens, Closes}
 use Rattle.pm_stream.specs.Forest.{Forest, nil, leaf, group, flat_onto, flattening, joined, IsBuilt}
 use Rattle.std.proofs.lemmas.List.{append-nil}
+use Rattle.std.proofs.lemmas.List.Elements.{All-nil, All-cons}
 use Rattle.std.specs.Option.{option_to_list}
 use denote.Param.Weighed.{most, at_most}
 use Rattle.pm_stream.specs.Falls.{deep_le-before}
 use Rattle.pm_stream.specs.Size.{is_nil, count}
 use Rattle.pm_stream.specs.declared.stream.TokenStream.TheDeep.{size-TokenTree}
-use Rattle.pm_stream.specs.Level.{before, forest, alone, inside, TakesLast}
+use Rattle.pm_stream.specs.Level.{before, forest, alone, inside, GoesInside, TakesLast}
 use Rattle.pm_stream.specs.declared.stream.Group.{Group as Grouped}
 use Rattle.pm_stream.specs.declared.stream.TokenTree.{TokenTree}
 use Rattle.pm_stream.specs.declared.stream.TokenTree.TheVariants.{Group, Ident, Punct, Literal}
@@ -44,6 +45,14 @@ pub IsBuilt-front : (f k : Forest) → IsBuilt (joined f k) → IsBuilt f
 IsBuilt-front nil k p = tt
 IsBuilt-front (leaf t lo hi f) k p = (p.0, p.1, IsBuilt-front f k p.2)
 IsBuilt-front (group d lo hi f g) k p = (p.0, p.1, IsBuilt-front g k p.2)
+
+-- each tree of a list that is built may be put into a stream
+pub built_inside : (ts : List TokenTree) → IsBuilt (forest ts) → All GoesInside ts
+built_inside [] h = All-nil GoesInside
+built_inside (Group g ∷ ts) h = All-cons GoesInside (Group g) ts tt (built_inside ts h.2)
+built_inside (Ident i ∷ ts) h = All-cons GoesInside (Ident i) ts tt (built_inside ts h.2)
+built_inside (Punct p ∷ ts) h = All-cons GoesInside (Punct p) ts tt (built_inside ts h.2)
+built_inside (Literal l ∷ ts) h = All-cons GoesInside (Literal l) ts h.0.0 (built_inside ts h.2)
 
 -- the events of two forests together
 pub flat_onto-joined : (f g : Forest) (es : List Event) → flat_onto (joined f g) es ≡ flat_onto f (flat_onto g es)

@@ -27,7 +27,8 @@ use std::alloc::{AllocError, Global};
 use std::mem;
 
 impl TokenStream {
-    /// The token trees of a text, which becomes the next file of the map (`parses-to`).
+    /// The token trees of a text, which becomes the next file of the map (`parses-to`). The stream is
+    /// `built`.
     ///
     /// Spans count characters, from the position on where the file begins. A fault (`fault`) has an
     /// empty span: where no piece of the grammar stands, before a closer that doesn't close the
@@ -40,6 +41,7 @@ impl TokenStream {
     /// `(]` is 2..2, that of `a ( b` is 3..3.
     pub fn from_str(text: &str, map: &mut SourceMap) -> Result<TokenStream, ParseError>
         ensures ok { IfOk result (λ stream. ParsesTo (next_lo map.old) (chars text.now) stream) }
+        ensures built { IfOk result IsBuilt }
         ensures within { IsTrue (was_read result) → Fits map.old (length (chars text.now)) }
 
         // The fault has one place, and the map holds it.
@@ -68,6 +70,7 @@ impl TokenStream {
 fn parse(alloc: Global, base: u32, text: &str) -> Result<TokenStream, ParseError>
     requires { base + length (chars text.now) < 2 ^ 32 }
     ensures ok { IfOk result (λ stream. ParsesTo base (chars text.now) stream) }
+    ensures built { IfOk result IsBuilt }
     ensures lex { IfErr result (IsFault base (chars text.now)) }
 {
     let mut reading = Reading::new(alloc);
@@ -157,7 +160,8 @@ impl Reading {
             → written self.new events ≡ written self.old (flat_onto (alone tree) events)) }
         ensures built { OnOk result ((at : ℕ) → IsBuiltTo at self.old → IsBuiltTo at self.new) }
     {
-        tree.built();
+        // Proofs learn by it that the tree is built.
+        let _ = tree.span();
         self.trees.push(tree)?;
         Ok(())
     }
@@ -242,6 +246,7 @@ impl Reading {
         requires { IsBuilt (trees self) }
         ensures ok { IfOk result (λ stream.
             (chars rest.now ≡ []) × (groups self ≡ []) × (stream ≡ trees self)) }
+        ensures built { IfOk result IsBuilt }
         ensures stuck { chars rest.now ≢ [] → IfErr result (IsFaultFor at (Unit {0})) }
         ensures stays_open { chars rest.now ≡ [] → IfErr result (IsOpenFault (groups self)) }
     {
@@ -256,6 +261,7 @@ impl Reading {
     fn finish(self) -> Result<TokenStream, ParseError>
         requires { IsBuilt (trees self) }
         ensures ok { IfOk result (λ stream. (groups self ≡ []) × (stream ≡ trees self)) }
+        ensures built { IfOk result IsBuilt }
         ensures stays_open { IfErr result (IsOpenFault (groups self)) }
     {
         let Reading {

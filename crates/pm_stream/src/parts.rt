@@ -1,7 +1,7 @@
 //! What the crates above make streams of, and users don't.
 ghost use Rattle.std.specs.Prelude.{◌≡◌, IfOk};
 ghost use Rattle.pm_stream.specs.Forest.{IsBuilt};
-ghost use Rattle.pm_stream.specs.Level.{forest, alone, GoesInside};
+ghost use Rattle.pm_stream.specs.Level.{forest};
 
 use crate::stream::{Group, TokenStream, TokenTree};
 use pm_span::Span;
@@ -21,12 +21,4 @@ pub fn stream(alloc: Global, trees: Vec<TokenTree>) -> Result<TokenStream, Alloc
     ensures ok { IfOk result (λ stream. stream ≡ forest trees.items) }
 {
     TokenStream::from_trees(alloc, trees)
-}
-
-/// What is true of every tree that may be put into a stream.
-pub fn built_tree(tree: &TokenTree)
-    requires { GoesInside tree.now }
-    ensures { IsBuilt (alone tree.now) }
-{
-    tree.built();
 }

@@ -1,5 +1,5 @@
 //! Streams of token trees.
-ghost use Rattle.std.specs.Prelude.{◌≡◌, ◌+◌, IfOk, IfErr, OnOk};
+ghost use Rattle.std.specs.Prelude.{◌≡◌, ◌≤◌, ◌+◌, All, IfOk, IfErr, OnOk};
 ghost use Rattle.pm_stream.specs.Forest.{Forest, nil, joined, IsBuilt};
 ghost use Rattle.pm_stream.specs.Level.{forest, held, alone, inside, GoesInside, TakesLast};
 ghost use Rattle.pm_stream.specs.Size.{is_nil, count};
@@ -7,7 +7,6 @@ ghost use Rattle.pm_stream.specs.TreeSpan.{extent_of, with_span};
 
 use pm_span::Span;
 use pm_span::parts::bounds;
-use pm_token::parts::{built_ident, built_literal, built_punct};
 use pm_token::{Delimiter, Ident, Literal, Punct};
 use std::alloc::{AllocError, Global};
 use std::marker::Model;
@@ -170,9 +169,12 @@ impl TokenStream {
         self.trees().is_empty()
     }
 
-    /// Its trees, in order.
+    /// Its trees, in order. Proofs learn by it what every stream is (`built`), and that each of its
+    /// trees may be put into a stream again.
     pub fn trees(&self) -> &[TokenTree]
-        ensures { forest result.now ≡ self.now }
+        ensures value { forest result.now ≡ self.now }
+        ensures built { IsBuilt self.now }
+        ensures inside { All GoesInside result.now }
     {
         listed(&self.trees)
     }
@@ -213,11 +215,10 @@ impl TokenStream {
         self.alloc
     }
 
-    /// What is true of every stream.
-    pub(crate) fn built(&self)
+    // What is true of every stream. It computes nothing: it hands the type's invariant to proofs.
+    fn built(&self)
         ensures { IsBuilt self.now }
     {
-        // It computes nothing: it hands the type's invariant to proofs.
         let _ = &self.trees;
     }
 }
@@ -232,12 +233,13 @@ fn listed(trees: &Option<Rc<Vec<TokenTree>>>) -> &[TokenTree]
 }
 
 impl TokenTree {
-    /// Where it stands.
+    /// Where it stands. Proofs learn by it that a tree that may be put into a stream is `built`.
     pub fn span(&self) -> Span
-        ensures { result ≡ extent_of self.now }
+        ensures value { result ≡ extent_of self.now }
+        ensures built { GoesInside self.now → IsBuilt (alone self.now) }
     {
         match self {
-            TokenTree::Group(group) => group.span,
+            TokenTree::Group(group) => group.span(),
             TokenTree::Ident(ident) => ident.span(),
             TokenTree::Punct(punct) => punct.span(),
             TokenTree::Literal(literal) => literal.span(),
@@ -267,19 +269,6 @@ impl TokenTree {
             ),
         }
     }
-
-    /// What is true of every tree that may be put into a stream.
-    pub(crate) fn built(&self)
-        requires { GoesInside self.now }
-        ensures { IsBuilt (alone self.now) }
-    {
-        match self {
-            TokenTree::Group(group) => group.built(),
-            TokenTree::Ident(ident) => built_ident(ident),
-            TokenTree::Punct(punct) => built_punct(punct),
-            TokenTree::Literal(literal) => built_literal(literal),
-        }
-    }
 }
 
 impl Group {
@@ -303,17 +292,23 @@ impl Group {
         self.delimiter
     }
 
-    /// Its trees, without the delimiters.
+    /// Its trees, without the delimiters. They are `built`, as those of every stream.
     pub fn stream_ref(&self) -> &TokenStream
-        ensures { result.now ≡ self.now.stream }
+        ensures value { result.now ≡ self.now.stream }
+        ensures built { IsBuilt result.now }
     {
+        self.stream.built();
         &self.stream
     }
 
-    /// Where it stands, delimiters and all.
+    /// Where it stands, delimiters and all. Proofs learn by it what every group is (`built`).
     pub fn span(&self) -> Span
-        ensures { result ≡ self.now.span }
+        ensures value { result ≡ self.now.span }
+        ensures built { IsBuilt (alone (GroupTree self.now)) }
     {
+        // They compute nothing: proofs learn what is inside, and that the span is in order.
+        self.stream.built();
+        bounds(self.span);
         self.span
     }
 
@@ -322,13 +317,5 @@ impl Group {
         ensures { self.new ≡ record self.old { span = span } }
     {
         self.span = span;
-    }
-
-    /// What is true of every group.
-    fn built(&self)
-        ensures { IsBuilt (alone (GroupTree self.now)) }
-    {
-        self.stream.built();
-        bounds(self.span);
     }
 }

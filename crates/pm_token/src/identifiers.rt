@@ -1,5 +1,5 @@
 //! Identifiers.
-ghost use Rattle.std.specs.Prelude.{◌≡◌, IfOk};
+ghost use Rattle.std.specs.Prelude.{◌≡◌, ◌≤◌, IfOk};
 
 mod comparisons;
 mod faults;
@@ -9,6 +9,7 @@ use crate::symbols::Symbol;
 pub use faults::IdentError;
 use faults::fault;
 use pm_span::Span;
+use pm_span::parts::bounds;
 use std::alloc::{AllocError, Global};
 use std::fmt;
 use std::marker::Model;
@@ -124,11 +125,15 @@ impl Ident {
         }
     }
 
-    /// Where it stands.
+    /// Where it stands. Proofs learn by it what every identifier is (`built`).
     pub fn span(&self) -> Span
-        ensures { result ≡ self.now.span }
+        ensures value { result ≡ self.now.span }
+        ensures built { IsBuiltToken (name_token self.now) }
+        ensures ordered { self.now.span.lo ≤ self.now.span.hi }
     {
         let Ident { span, .. } = self;
+        // It computes nothing: proofs learn that the span is in order.
+        bounds(*span);
         *span
     }
 
@@ -137,14 +142,6 @@ impl Ident {
         ensures { self.new ≡ record self.old { span = span } }
     {
         self.span = span;
-    }
-
-    /// What is true of every identifier.
-    pub(crate) fn built(&self)
-        ensures { IsBuiltToken (name_token self.now) }
-    {
-        // It computes nothing: it hands the type's invariant to proofs.
-        let _ = &self.name;
     }
 }
 

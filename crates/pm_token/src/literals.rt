@@ -1,5 +1,5 @@
 //! Literals.
-ghost use Rattle.std.specs.Prelude.{◌≡◌, IfOk};
+ghost use Rattle.std.specs.Prelude.{◌≡◌, ◌≤◌, IfOk};
 ghost use Rattle.std.specs.Str.{chars};
 
 mod conversion;
@@ -13,6 +13,7 @@ pub use crate::literals::conversion::ConversionErrorKind;
 use crate::parts::show_span;
 use crate::symbols::Symbol;
 use pm_span::Span;
+use pm_span::parts::bounds;
 use std::alloc::{AllocError, Global};
 use std::fmt;
 use std::marker::Model;
@@ -56,10 +57,15 @@ impl Literal {
         self.text.as_str()
     }
 
-    /// Where it stands.
+    /// Where it stands. Proofs learn by it what the text of every literal is: a `whole-literal` or,
+    /// outside of streams, a `negative-literal`.
     pub fn span(&self) -> Span
-        ensures { result ≡ self.now.span }
+        ensures value { result ≡ self.now.span }
+        ensures built { IsLiteralText self.now.text }
+        ensures ordered { self.now.span.lo ≤ self.now.span.hi }
     {
+        // It computes nothing: proofs learn that the span is in order.
+        bounds(self.span);
         self.span
     }
 
@@ -68,14 +74,6 @@ impl Literal {
         ensures { self.new ≡ record self.old { span = span } }
     {
         self.span = span;
-    }
-
-    /// What is true of every literal.
-    pub(crate) fn built(&self)
-        ensures { IsLiteralText self.now.text }
-    {
-        // It computes nothing: it hands the type's invariant to proofs.
-        let _ = &self.text;
     }
 }
 

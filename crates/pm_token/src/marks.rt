@@ -1,11 +1,12 @@
 //! Punctuation marks.
-ghost use Rattle.std.specs.Prelude.{◌≡◌, IsTrue};
+ghost use Rattle.std.specs.Prelude.{◌≡◌, ◌≤◌, IsTrue};
 ghost use Rattle.lexical.specs.Mark.{is_mark};
 ghost use Rattle.pm_token.specs.Built.{IsBuiltToken};
 ghost use Rattle.pm_token.specs.Leaf.{mark_token};
 
 use crate::parts::show_span;
 use pm_span::Span;
+use pm_span::parts::bounds;
 use std::fmt;
 use std::marker::Model;
 
@@ -65,10 +66,14 @@ impl Punct {
         self.spacing
     }
 
-    /// Where it stands.
+    /// Where it stands. Proofs learn by it what every mark is (`built`).
     pub fn span(&self) -> Span
-        ensures { result ≡ self.now.span }
+        ensures value { result ≡ self.now.span }
+        ensures built { IsBuiltToken (mark_token self.now) }
+        ensures ordered { self.now.span.lo ≤ self.now.span.hi }
     {
+        // It computes nothing: proofs learn that the span is in order.
+        bounds(self.span);
         self.span
     }
 
@@ -77,14 +82,6 @@ impl Punct {
         ensures { self.new ≡ record self.old { span = span } }
     {
         self.span = span;
-    }
-
-    /// What is true of every mark.
-    pub(crate) fn built(&self)
-        ensures { IsBuiltToken (mark_token self.now) }
-    {
-        // It computes nothing: it hands the type's invariant to proofs.
-        let _ = &self.mark;
     }
 }
 

@@ -1,12 +1,10 @@
 //! What the crates above make tokens of, and users don't.
-ghost use Rattle.std.specs.Prelude.{◌≡◌, ◌≤◌, IfOk, IsTrue};
+ghost use Rattle.std.specs.Prelude.{◌≡◌, IfOk, IsTrue};
 ghost use Rattle.std.specs.Str.{chars};
 ghost use Rattle.lexical.specs.Mark.{is_mark};
 ghost use Rattle.lexical.specs.Token as tokens;
 ghost use Rattle.pm_token.specs.Built.{IsBuiltToken};
 ghost use Rattle.pm_token.specs.Escaped.{string_text};
-ghost use Rattle.pm_token.specs.Leaf.{name_token, mark_token};
-ghost use Rattle.pm_token.specs.LiteralText.{IsLiteralText};
 
 use crate::errors::LexError;
 use crate::identifiers::Ident;
@@ -54,33 +52,6 @@ pub fn fault(span: Span) -> LexError
     ensures { result ≡ span }
 {
     LexError::at(span)
-}
-
-/// What is true of every identifier.
-pub fn built_ident(ident: &Ident)
-    ensures token { IsBuiltToken (name_token ident.now) }
-    ensures ordered { ident.now.span.lo ≤ ident.now.span.hi }
-{
-    ident.built();
-    bounds(ident.span());
-}
-
-/// What is true of every mark.
-pub fn built_punct(punct: &Punct)
-    ensures token { IsBuiltToken (mark_token punct.now) }
-    ensures ordered { punct.now.span.lo ≤ punct.now.span.hi }
-{
-    punct.built();
-    bounds(punct.span());
-}
-
-/// What is true of every literal: one with `-` before it may stand outside a stream.
-pub fn built_literal(literal: &Literal)
-    ensures text { IsLiteralText literal.now.text }
-    ensures ordered { literal.now.span.lo ≤ literal.now.span.hi }
-{
-    literal.built();
-    bounds(literal.span());
 }
 
 /// Shows a token's span, unless it is 0..0.

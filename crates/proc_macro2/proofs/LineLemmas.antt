@@ -8,10 +8,10 @@ use Rattle.lexical.specs.Cover.{onto, StandBefore, IsCover}
 use Rattle.lexical.proofs.LeafLaws.{onto_split}
 use Rattle.pm_stream.specs.Forest.{Forest, joined, flattening}
 use Rattle.pm_stream.specs.Parsing.{ParsesTo}
-use Rattle.pm_stream.specs.Same.{Same}
 use Rattle.pm_stream.proofs.CoverLemmas.{onto-append}
 use Rattle.pm_stream.proofs.LawLemmas.{one_cover}
 use Rattle.pm_stream.proofs.Levels.{flattening-joined}
+use Rattle.proc_macro2.specs.Laws.{Gives}
 use Rattle.proc_macro2.proofs.Places.{bare, bare-append, said, said-append, said_parsed, same_from_said}
 use Rattle.proc_macro2.proofs.CutLemmas.{MayBreak, stand_cut}
 
@@ -43,7 +43,7 @@ stand_later ((Leaf t, p) ∷ ps) r e h = h
 
 -- pieces, a line's end, and pieces
 line_between : (at : ℕ) (s : Forest) (us vs : List Piece) (v : List ℕ) → MayBreak us v → StandBefore true us v → StandBefore false vs []
-    → said us ++ said vs ≡ bare (flattening s) → (t : Forest) × ParsesTo at (onto us (10 ∷ onto vs [])) t × Same s t
+    → said us ++ said vs ≡ bare (flattening s) → Gives at (onto us (10 ∷ onto vs [])) s
 line_between at s us vs v may front back says =
     let line : List Piece = (Gap, 10 ∷ []) ∷ vs in
     let x = same_from_said at s (us ++ line) (said-append us line ∙ says) in
@@ -51,10 +51,10 @@ line_between at s us vs v may front back says =
       whole = sym (onto-append us line []);
       stand = stand-append true us line [] (stand_cut true us v (onto vs []) may front) (λ c. (inl (10, refl, refl), back));
     } in
-    (x.0, record { pieces = us ++ line; covers = covers; expands = x.1 }, x.2)
+    record { parsed = x.0; parses = record { pieces = us ++ line; covers = covers; expands = x.1 }; same = x.2 }
 
 pub joined_texts : (base first second : ℕ) (a b : List ℕ) (s t : Forest) → ParsesTo first a s → ParsesTo second b t
-    → begins_with (0xFEFF ∷ []) b ≡ false → (u : Forest) × ParsesTo base (a ++ (10 ∷ b)) u × Same (joined s t) u
+    → begins_with (0xFEFF ∷ []) b ≡ false → Gives base (a ++ (10 ∷ b)) (joined s t)
 joined_texts base first second a b s t g h e =
     let says : said g.pieces ++ said h.pieces ≡ bare (flattening (joined s t)) =
     ap₂ (λ xs ys. xs ++ ys) (said_parsed first a s g) (said_parsed second b t h)
@@ -63,10 +63,10 @@ joined_texts base first second a b s t g h e =
     let x = line_between base (joined s t) g.pieces h.pieces [] (inl refl) g.covers.stand later says in
     let text : onto g.pieces (10 ∷ onto h.pieces []) ≡ a ++ (10 ∷ b) =
     onto_split g.pieces (10 ∷ onto h.pieces []) ∙ sym (ap₂ (λ p q. p ++ (10 ∷ q)) g.covers.whole h.covers.whole) in
-    (x.0, subst (λ r. ParsesTo base r x.0) text x.1, x.2)
+    subst (λ p. Gives base p (joined s t)) text x
 
 pub broken_line : (base first : ℕ) (source : List ℕ) (s : Forest) (us vs : List Piece) → ParsesTo first source s
-    → IsCover (us ++ vs) source → ends_quiet us ≡ true → (t : Forest) × ParsesTo base (onto us (10 ∷ onto vs [])) t × Same s t
+    → IsCover (us ++ vs) source → ends_quiet us ≡ true → Gives base (onto us (10 ∷ onto vs [])) s
 broken_line base first source s us vs h cover quiet =
     let says : said us ++ said vs ≡ bare (flattening s) =
     sym (said-append us vs) ∙ (ap said (one_cover source (us ++ vs) h.pieces cover h.covers) ∙ said_parsed first source s h) in

@@ -20,13 +20,14 @@ use Rattle.pm_stream.specs.Same.{erased, Same}
 use Rattle.pm_stream.specs.Shown.{is_shown}
 use Rattle.pm_stream.specs.WellSpaced.{follows_quote, follows_joint, fits, next_token, well_spaced, IsWellSpaced}
 use Rattle.pm_stream.proofs.LawLemmas.{one_parse}
+use Rattle.proc_macro2.specs.Laws.{Gives}
 use Rattle.proc_macro2.proofs.Places.{bare, bare-expansion, said, said_onto, same_from_said}
 use Rattle.proc_macro2.proofs.PieceStarts.{joins, quotes, joint_by, quoted_by}
 use Rattle.proc_macro2.proofs.PrintedCover.{pieces_onto, onto_printed, stand_printed, said_printed}
 
 -- ---- what is printed of a well spaced stream
 
-pub comes_back : (base : ℕ) (s : Forest) → IsBuilt s → IsWellSpaced s → (t : Forest) × ParsesTo base (printed s) t × Same s t
+pub comes_back : (base : ℕ) (s : Forest) → IsBuilt s → IsWellSpaced s → Gives base (printed s) s
 comes_back base s built w =
     let ps = pieces_onto false s [] in
     let x = same_from_said base s ps (said_printed false s [] [] w refl) in
@@ -34,7 +35,7 @@ comes_back base s built w =
       whole = sym (onto_printed false s [] [] ∙ append-nil (printed s));
       stand = stand_printed false true s [] [] built w refl (λ c. tt);
     } in
-    (x.0, record { pieces = ps; covers = covers; expands = x.1 }, x.2)
+    record { parsed = x.0; parses = record { pieces = ps; covers = covers; expands = x.1 }; same = x.2 }
 
 -- ---- what parses is well spaced
 
@@ -175,8 +176,9 @@ pub one_text : (s t : Forest) → IsBuilt s → IsBuilt t → IsWellSpaced s →
 one_text s t bs bt ws wt e =
     let x = comes_back 0 s bs ws in
     let y = comes_back 0 t bt wt in
-    x.2 ∙ (ap erased (one_parse 0 (printed t) x.0 y.0 (subst (λ r. ParsesTo 0 r x.0) e x.1) y.1) ∙ sym y.2)
+    let parses = subst (λ text. ParsesTo 0 text x.parsed) e x.parses in
+    x.same ∙ (ap erased (one_parse 0 (printed t) x.parsed y.parsed parses y.parses) ∙ sym y.same)
 
 -- what a source gives is well spaced
-pub given_spaced : (base : ℕ) (source : List ℕ) (s t : Forest) → ParsesTo base source t → Same s t → IsWellSpaced s
-given_spaced base source s t h e = same_spaced s t e (parsed_spaced base source t h)
+pub given_spaced : (base : ℕ) (source : List ℕ) (s : Forest) → Gives base source s → IsWellSpaced s
+given_spaced base source s h = same_spaced s h.parsed h.same (parsed_spaced base source h.parsed h.parses)

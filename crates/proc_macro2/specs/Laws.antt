@@ -39,8 +39,10 @@ OneFault = (base : ℕ) (source : List ℕ) (j k : ℕ) → FaultAt base source 
 -- ---- printed streams
 
 -- the text parses to the stream, up to spans
-abbrev pub Gives : ℕ → List ℕ → Forest → Type 0
-Gives base text stream = (t : Forest) × ParsesTo base text t × Same stream t
+pub record Gives (base : ℕ) (text : List ℕ) (stream : Forest) : Type 0 where
+  pub parsed : Forest
+  pub parses : ParsesTo base text parsed
+  pub same : Same stream parsed
 
 -- a built stream comes back from its printed text exactly if it is well spaced
 abbrev pub ComesBack : Type 0

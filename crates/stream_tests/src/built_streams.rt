@@ -4,7 +4,7 @@ ghost use Rattle.pm_stream.specs.Level.{GoesInside};
 
 use pm_span::Span;
 use pm_span::parts::span_of;
-use pm_stream::parts::{built_tree, group, stream};
+use pm_stream::parts::{group, stream};
 use pm_stream::{TokenStream, TokenTree};
 use pm_token::parts::{ident, punct};
 use pm_token::{Delimiter, Spacing};
@@ -33,7 +33,7 @@ fn grouped(delimiter: Delimiter, stream: TokenStream, span: Span) -> TokenTree
 fn one(alloc: Global, tree: TokenTree) -> Result<TokenStream, AllocError>
     requires { GoesInside tree }
 {
-    built_tree(&tree);
+    let _ = tree.span();
     stream(alloc, vec![in alloc; tree]?)
 }
 
@@ -47,9 +47,9 @@ fn three(
     requires second { GoesInside second }
     requires third { GoesInside third }
 {
-    built_tree(&first);
-    built_tree(&second);
-    built_tree(&third);
+    let _ = first.span();
+    let _ = second.span();
+    let _ = third.span();
     stream(alloc, vec![in alloc; first, second, third]?)
 }
 

@@ -8,6 +8,8 @@ mod built_streams;
 #[cfg(test)]
 mod checks;
 #[cfg(test)]
+mod cited_laws;
+#[cfg(test)]
 mod doc_comments;
 #[cfg(test)]
 mod group_spans;

@@ -9,7 +9,7 @@ use Rattle.list_docs.proofs.docs.doc_texts.Goals.{in-Some-doc_text+in_ok-push, i
 pub loop-tree-smaller-in-Group : goal.loop-tree-smaller-in-Group
 loop-tree-smaller-in-Group c =
     group_less _ _ _ _ c.in-Some.after _ _ c.in-Some.ensures.cases.0 c.in-Group.is
-    (c.trees-left-in-Group.ensures ∙ c.stream_ref.ensures) c.in_ok-push-2.ensures.items
+    (c.trees-left-in-Group.ensures.value ∙ c.stream_ref.ensures.value) c.in_ok-push-2.ensures.items
 
 pub loop-tree-preserved-in-Group : goal.loop-tree-preserved-in-Group
 loop-tree-preserved-in-Group c =
@@ -22,7 +22,8 @@ loop-tree-preserved-in-Group c =
     ] in
     group_more _ _ _ c.doc_text.result _ _ _ _ _ c.in-Some.after _ _ c.in-Some.ensures.cases.0 c.in-Group.is
     c.doc_text.ensures.value.1 c.doc_text.ensures.value.2
-    added (c.trees-left-in-Group.ensures ∙ c.stream_ref.ensures) c.in_ok-push-2.ensures.items c.loop-tree.invariant
+    added (c.trees-left-in-Group.ensures.value ∙ c.stream_ref.ensures.value) c.in_ok-push-2.ensures.items
+    c.loop-tree.invariant
 
 pub loop-tree-smaller-in_default-tree : goal.loop-tree-smaller-in_default-tree
 loop-tree-smaller-in_default-tree c = leaf_less _ _ _ _ c.in-Some.ensures.cases.0

@@ -9,7 +9,7 @@ TokenStreamDebug::fmt-entry-requires g t c κs within =
     omega (
       arith,
       item_size_le c.trees-tree-items.result.now c.loop-tree.tree-index c.tree-item.result _
-          (omega arith) c.tree-item.is c.trees-tree-items.ensures,
+          (omega arith) c.tree-item.is c.trees-tree-items.ensures.value,
       c.decreases,
     ) in
     search (rules, below, within)

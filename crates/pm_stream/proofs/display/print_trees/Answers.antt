@@ -9,7 +9,8 @@ loop-tree-init g c = λ plain. let e = c.new-outer.ensures.items in ([], search 
 pub loop-tree-smaller-in-Group : goal.loop-tree-smaller-in-Group
 loop-tree-smaller-in-Group g c =
     let more = pushed _ _ _ _ _ c.is_err.ensures.value c.if-is_err.false c.push.ensures.items in
-    group_less _ _ _ _ _ _ _ c.in-Some.ensures.cases.0 c.in-Group.is (c.trees-left.ensures ∙ c.stream_ref.ensures) more
+    group_less _ _ _ _ _ _ _ c.in-Some.ensures.cases.0 c.in-Group.is
+    (c.trees-left.ensures.value ∙ c.stream_ref.ensures.value) more
 
 pub loop-tree-preserved-in-Group : goal.loop-tree-preserved-in-Group
 loop-tree-preserved-in-Group g c = λ plain.
@@ -19,7 +20,8 @@ loop-tree-preserved-in-Group g c = λ plain.
     let more = pushed _ _ _ _ _ c.is_err.ensures.value c.if-is_err.false c.push.ensures.items in
     written_more _ _ _ _ _ _ _ _ now.1 (written_two _ _ _ _ _ _ spaced fronted)
     (ap (λ l. now.0 ++ l) (group_more _ _ _ _ _ _ _ _ _ c.in-Some.ensures.cases.0 c.in-Group.is
-    c.gap_within-gap.ensures c.delimiter-delimiter.ensures (c.trees-left.ensures ∙ c.stream_ref.ensures) more)
+    c.gap_within-gap.ensures c.delimiter-delimiter.ensures
+    (c.trees-left.ensures.value ∙ c.stream_ref.ensures.value) more)
     ∙ now.2)
 
 pub loop-tree-preserved-in_default-tree : goal.loop-tree-preserved-in_default-tree

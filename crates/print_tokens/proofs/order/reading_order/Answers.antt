@@ -5,12 +5,12 @@ use Rattle.print_tokens.proofs.order.reading_order.Goals as goal
 pub loop-tree-smaller-in-Group : goal.loop-tree-smaller-in-Group
 loop-tree-smaller-in-Group c =
     group_less _ _ _ _ c.in-Some.after _ _ c.in-Some.ensures.cases.0 c.in-Group.is
-    (c.trees-left-in-Group.ensures ∙ c.stream_ref.ensures) c.in_ok-push-2.ensures.items
+    (c.trees-left-in-Group.ensures.value ∙ c.stream_ref.ensures.value) c.in_ok-push-2.ensures.items
 
 pub loop-tree-preserved-in-Group : goal.loop-tree-preserved-in-Group
 loop-tree-preserved-in-Group c =
     group_more _ _ c.in-Some.tree _ _ _ c.in-Some.after _ _ _ c.in_ok-push.ensures.items c.in-Some.ensures.cases.0
-    c.in-Group.is (c.trees-left-in-Group.ensures ∙ c.stream_ref.ensures)
+    c.in-Group.is (c.trees-left-in-Group.ensures.value ∙ c.stream_ref.ensures.value)
     c.in_ok-push-2.ensures.items c.loop-tree.invariant
 
 pub loop-tree-smaller-in_default-tree : goal.loop-tree-smaller-in_default-tree

@@ -8,4 +8,4 @@ returns-clause-writes g c = λ plain ok.
     let inside = c.in_ok-print_trees.ensures opened.plain (refl {a = true}) in
     let ended = c.print_ending.ensures inside.plain ok in
     group_written _ _ _ _ _ c.args.self.now _ _ _ c.delimiter-delimiter.ensures c.is_brace.ensures
-    (c.trees.ensures ∙ c.stream_ref-stream.ensures) opened inside ended
+    (c.trees.ensures.value ∙ c.stream_ref-stream.ensures.value) opened inside ended

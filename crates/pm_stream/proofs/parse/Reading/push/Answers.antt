@@ -15,4 +15,4 @@ pub returns-clause-built : goal.returns-clause-built
 returns-clause-built c = λ at h.
     let open_groups = groups c.args.self.now in
     subst (λ ts. IsBuiltUpTo at open_groups (forest ts)) (sym c.in_ok-push.ensures.items)
-    (built_push at open_groups c.args.self.now.trees.items c.args.tree h c.built.ensures)
+    (built_push at open_groups c.args.self.now.trees.items c.args.tree h (c.span.ensures.built c.requires))

@@ -4,4 +4,4 @@ use Rattle.pm_stream.proofs.Levels.{is_nil-forest}
 use Rattle.pm_stream.proofs.stream.TokenStream.is_empty.Goals as goal
 
 pub returns : goal.returns
-returns c = let e = is_nil-forest c.trees.result.now in search (rules, e, ap is_nil c.trees.ensures)
+returns c = let e = is_nil-forest c.trees.result.now in search (rules, e, ap is_nil c.trees.ensures.value)

@@ -1,0 +1,7 @@
+use Rattle.std.proofs.Common.{sym, subst}
+use Rattle.pm_stream.specs.Forest.{IsBuilt}
+use Rattle.pm_stream.proofs.Levels.{built_inside}
+use Rattle.pm_stream.proofs.stream.TokenStream.trees.Goals as goal
+
+pub returns-clause-inside : goal.returns-clause-inside
+returns-clause-inside c = built_inside _ (subst IsBuilt (sym c.listed.ensures) c.self.invariant)

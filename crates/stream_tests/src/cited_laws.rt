@@ -1,0 +1,106 @@
+// What callers prove of streams by public items alone: by what the readers promise, and by the laws. None of
+// these functions has a proof file.
+ghost use Rattle.std.specs.Prelude.{◌≤◌, IfOk};
+ghost use Rattle.proc_macro2.specs.Built.{IsBuiltToken};
+ghost use Rattle.proc_macro2.specs.Forest.{IsBuilt};
+ghost use Rattle.proc_macro2.specs.Laws.{Gives};
+ghost use Rattle.proc_macro2.specs.Leaf.{mark_token, name_token};
+ghost use Rattle.proc_macro2.specs.Level.{GoesInside, alone};
+ghost use Rattle.proc_macro2.specs.LiteralText.{IsLiteralText};
+ghost use Rattle.proc_macro2.specs.Printed.{printed};
+ghost use Rattle.proc_macro2.specs.Text.{IsText};
+ghost use Rattle.proc_macro2.specs.WellSpaced.{IsWellSpaced};
+
+use crate::checks::check_printed_twice;
+use proc_macro2::{
+    Group, Ident, Literal, ParseError, Punct, SourceMap, TokenStream, TokenTree, laws,
+};
+use std::test::Fail;
+
+/// The stream of a text. It comes back from its printed text.
+fn read(text: &str, map: &mut SourceMap) -> Result<TokenStream, ParseError>
+    ensures { IfOk result (λ stream. Gives 0 (printed stream) stream) }
+{
+    let stream = TokenStream::from_str(text, map)?;
+    laws::printed_comes_back();
+    Ok(stream)
+}
+
+/// Whoever made the stream, it comes back where it is well spaced, and prints a text.
+fn comes_back(stream: &TokenStream)
+    ensures back { IsWellSpaced stream.now → Gives 0 (printed stream.now) stream.now }
+    ensures text { IsText (printed stream.now) }
+{
+    let _ = stream.trees();
+    laws::printed_comes_back();
+}
+
+/// So does the stream of a group.
+fn inside_comes_back(group: &Group)
+    ensures { IsWellSpaced group.now.stream → Gives 0 (printed group.now.stream) group.now.stream }
+{
+    let _ = group.stream_ref();
+    laws::printed_comes_back();
+}
+
+/// A tree that may be put into a stream is built.
+fn is_built(tree: &TokenTree)
+    requires { GoesInside tree.now }
+    ensures { IsBuilt (alone tree.now) }
+{
+    let _ = tree.span();
+}
+
+/// Each tree that a stream has may be put into a stream again.
+fn each_is_built(stream: &TokenStream) {
+    for tree in stream.trees() {
+        is_built(tree);
+    }
+}
+
+/// What an identifier is.
+fn ident_is_built(ident: &Ident)
+    ensures token { IsBuiltToken (name_token ident.now) }
+    ensures ordered { ident.now.span.lo ≤ ident.now.span.hi }
+{
+    let _ = ident.span();
+}
+
+/// What a mark is.
+fn punct_is_built(punct: &Punct)
+    ensures token { IsBuiltToken (mark_token punct.now) }
+    ensures ordered { punct.now.span.lo ≤ punct.now.span.hi }
+{
+    let _ = punct.span();
+}
+
+/// What a literal is.
+fn literal_is_built(literal: &Literal)
+    ensures text { IsLiteralText literal.now.text }
+    ensures ordered { literal.now.span.lo ≤ literal.now.span.hi }
+{
+    let _ = literal.span();
+}
+
+/// What the tree is, by its kind.
+fn kind_is_built(tree: &TokenTree) {
+    match tree {
+        TokenTree::Group(group) => inside_comes_back(group),
+        TokenTree::Ident(ident) => ident_is_built(ident),
+        TokenTree::Punct(punct) => punct_is_built(punct),
+        TokenTree::Literal(literal) => literal_is_built(literal),
+    }
+}
+
+#[test]
+fn what_laws_say_of_a_stream_is_seen_in_its_printed_text(rt: HostRuntime) -> Result<(), Fail> {
+    let mut map = SourceMap::new(rt.alloc());
+    let stream = read("a+=(1)", &mut map)?;
+    comes_back(&stream);
+    each_is_built(&stream);
+    for tree in stream.trees() {
+        kind_is_built(tree);
+    }
+    check_printed_twice(&rt, "a+=(1)", "a += (1)");
+    Ok(())
+}
