@@ -9,7 +9,7 @@ returns-in-Some-clause-ok c =
     sym c.loop-tree.invariant ∙ elim c.match-tree.branch [
       | in-Group+in_ok-push w ↦
           left_to_read-group _ _ _ _ c.in-Some.after _ _ is w.in-Group.is
-          (w.trees-self-inside.ensures ∙ w.stream_ref.ensures) w.in_ok-push.ensures.items
+          (w.trees-self-inside.ensures.value ∙ w.stream_ref.ensures.value) w.in_ok-push.ensures.items
           ∙ ap (λ l. c.in-Some.tree.now ∷ l) (sym w.self-is)
       | in_default-tree w ↦
           left_to_read-token c.loop-tree.self-inside.outer.items _ _ _ is w.in_default-tree.not-Group
