@@ -48,7 +48,7 @@ width_onto : (pieces : List Piece) (rest : List ℕ) → length (onto pieces res
 width_onto [] rest = omega arith
 width_onto (x ∷ pieces) rest = omega (arith, length-append x.1 (onto pieces rest), width_onto pieces rest)
 
-cover_within : (pieces : List Piece) (source rest : List ℕ) → CoversUpTo pieces source rest
+pub cover_within : (pieces : List Piece) (source rest : List ℕ) → CoversUpTo pieces source rest
     → width pieces ≤ length source
 cover_within pieces source rest h = omega (arith, ap length h.whole, width_onto pieces rest)
 

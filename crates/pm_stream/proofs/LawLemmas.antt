@@ -1,5 +1,5 @@
 -- A source has at most one cover. It parses or has a fault, never both, and the fault has one position.
-use Rattle.std.proofs.Common.{◌≡◌, ◌≢◌, ◌⊎◌, inl, inr, ℕ, ◌+◌, ◌<◌, Bool, true, false, List, [], ◌∷◌, ◌++◌, length, refl, sym, ap, ap₂, ◌∙◌, subst, arith, append_assoc, append-nil, suc, zero, Some}
+use Rattle.std.proofs.Common.{◌≡◌, ◌≢◌, ◌⊎◌, inl, inr, ℕ, ◌+◌, ◌<◌, Bool, true, false, List, [], ◌∷◌, ◌++◌, length, refl, sym, ap, ap₂, ◌∙◌, subst, arith, append_assoc, append-nil, suc, zero, Some, Result, Ok, Err, IfOk, IfErr}
 use Rattle.std.proofs.Common.{None as Nothing}
 use Rattle.lexical.specs.Piece.{Kind, Piece, FrontMark, Gap, Doc, Open, Close, Leaf, IsPiece, HasNoPiece}
 use Rattle.lexical.specs.Cover.{onto, width, StandBefore, IsCover}
@@ -11,7 +11,11 @@ use Rattle.pm_token.specs.declared.delimiters.Delimiter.TheVariants.{Parenthesis
 use Rattle.pm_stream.specs.Delimited.{delimiter_of}
 use Rattle.pm_stream.specs.Events.{Event, Closes, events_onto, expansion, Balanced, CanGoOn}
 use Rattle.pm_stream.specs.Forest.{Forest, nil, leaf, group, flattening, joined}
-use Rattle.pm_stream.specs.Parsing.{ParsesTo, is_first, StopsAt, FaultAt}
+use Rattle.pm_token.specs.Outcome.{IfLex}
+use Rattle.pm_token.specs.declared.errors.ParseError.{ParseError}
+use Rattle.pm_token.specs.declared.errors.ParseError.TheVariants.{Lex, MapFull, Memory}
+use Rattle.pm_stream.specs.Parsing.{ParsesTo, is_first, StopsAt, FaultAt, HasNoFault, IsOnlyFault}
+use Rattle.pm_stream.specs.Progress.{IsFault}
 use Rattle.pm_stream.specs.Written.{Opened, written_onto, FitsInnermost}
 use Rattle.pm_stream.proofs.CoverLemmas.{expansion-append}
 use Rattle.pm_stream.proofs.DocLemmas.{doc_trees, doc_trees-events}
@@ -253,3 +257,25 @@ goes (suc n) base source rest at first groups trees l h = elim (front_or_none fi
 pub has_outcome : (base : ℕ) (source : List ℕ) → HasOutcome base source
 has_outcome base source =
     goes (suc (length source)) base source source base true [] nil (omega arith) (reads_none base source)
+
+-- ---- what an attempt to parse answers, and nothing else can be answered
+
+pub parsed_faultless : (base begin : ℕ) (source : List ℕ) (result : Result Forest ParseError) → base ≡ begin
+    → IfOk result (ParsesTo base source) → IfOk result (λ stream. HasNoFault begin source)
+parsed_faultless base begin source (Ok stream) e h = λ position.
+    parses_or_not begin source stream position (subst (λ n. ParsesTo n source stream) e h)
+parsed_faultless base begin source (Err error) e h = tt
+
+only_fault : (base : ℕ) (source : List ℕ) (position : ℕ) → FaultAt base source position → IsOnlyFault base source position
+only_fault base source position h = (
+  λ stream parsed. parses_or_not base source stream position parsed h,
+  λ other fault. one_fault base source other position fault h,
+)
+
+pub refused_only : (base begin : ℕ) (source : List ℕ) (result : Result Forest ParseError) → base ≡ begin
+    → IfErr result (IsFault base source) → IfErr result (λ error. IfLex error (λ fault. IsOnlyFault begin source fault.lo))
+refused_only base begin source (Ok stream) e h = tt
+refused_only base begin source (Err (Lex fault)) e h =
+    only_fault begin source fault.lo (subst (λ n. FaultAt n source fault.lo) e h.1)
+refused_only base begin source (Err MapFull) e h = tt
+refused_only base begin source (Err (Memory error)) e h = tt

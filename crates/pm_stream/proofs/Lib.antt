@@ -10,6 +10,7 @@ pub mod WrittenLemmas
 pub mod ReadSoFar
 pub mod ParseLemmas
 pub mod FaultLemmas
+pub mod SpanLemmas
 pub mod LawLemmas
 pub mod RuleLemmas
 mod SpacedExamples

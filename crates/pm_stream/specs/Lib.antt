@@ -18,3 +18,4 @@ pub mod Written
 pub mod Progress
 pub mod InOrder
 pub mod Walk
+pub mod HeldSpans

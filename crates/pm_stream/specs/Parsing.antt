@@ -51,3 +51,13 @@ pub record StaysOpenAt (base : ℕ) (source : List ℕ) (position : ℕ) : Type 
 -- `fault`: the one position where a source fails to parse
 abbrev pub FaultAt : ℕ → List ℕ → ℕ → Type 0
 FaultAt base source position = StopsAt base source position ⊎ StaysOpenAt base source position
+
+-- no position is a fault
+abbrev pub HasNoFault : ℕ → List ℕ → Type 0
+HasNoFault base source = (position : ℕ) → FaultAt base source position → ⊥
+
+-- the source doesn't parse, and no other position is a fault
+abbrev pub IsOnlyFault : ℕ → List ℕ → ℕ → Type 0
+IsOnlyFault base source position =
+    ((stream : Forest) → ParsesTo base source stream → ⊥)
+    × ((other : ℕ) → FaultAt base source other → other ≡ position)

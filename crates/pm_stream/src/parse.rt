@@ -12,7 +12,8 @@ ghost use Rattle.pm_stream.specs.Events.{Event, One, Opens, Closes, doc_onto, ev
 ghost use Rattle.pm_stream.specs.Forest.{nil, flat_onto, IsBuilt};
 ghost use Rattle.pm_stream.specs.Level.{alone, GoesInside};
 ghost use Rattle.pm_token.specs.Outcome.{IfLex, was_read};
-ghost use Rattle.pm_stream.specs.Parsing.{ParsesTo, FaultAt};
+ghost use Rattle.pm_stream.specs.HeldSpans.{HoldsAll};
+ghost use Rattle.pm_stream.specs.Parsing.{ParsesTo, FaultAt, HasNoFault, IsOnlyFault};
 ghost use Rattle.pm_stream.specs.Written.{FitsInnermost};
 ghost use Rattle.pm_stream.specs.Progress.{groups, trees, written, IsBuiltTo, IsFaultFor, IsStray, IsOpenFault, IsFault};
 
@@ -30,23 +31,27 @@ impl TokenStream {
     /// The token trees of a text, which becomes the next file of the map (`parses-to`). The stream is
     /// `built`.
     ///
-    /// Spans count characters, from the position on where the file begins. A fault (`fault`) has an
-    /// empty span: where no piece of the grammar stands, before a closer that doesn't close the
-    /// innermost open group, or else before the last opener that no closer matches. The text is a
-    /// file of the map then too, so that the place can be asked. `MapFull` is answered exactly where
-    /// the text would end past the map's limit (`fits`), and `Memory` where a growth was refused;
-    /// both leave the map as it was.
+    /// Spans count characters, from the position on where the file begins, and the map holds the
+    /// span of each tree. A fault (`fault`) has an empty span: where no piece of the grammar stands,
+    /// before a closer that doesn't close the innermost open group, or else before the last opener
+    /// that no closer matches. The text is a file of the map then too, so that the place can be
+    /// asked. `MapFull` is answered exactly where the text would end past the map's limit (`fits`),
+    /// and `Memory` where a growth was refused; both leave the map as it was.
     ///
     /// In a new map `a += b` gives four trees, the first the identifier `a` at 1..2. The fault of
     /// `(]` is 2..2, that of `a ( b` is 3..3.
     pub fn from_str(text: &str, map: &mut SourceMap) -> Result<TokenStream, ParseError>
         ensures ok { IfOk result (λ stream. ParsesTo (next_lo map.old) (chars text.now) stream) }
         ensures built { IfOk result IsBuilt }
+        ensures apart { IfOk result (λ _. HasNoFault (next_lo map.old) (chars text.now)) }
+        ensures spans { IfOk result (HoldsAll map.new) }
         ensures within { IsTrue (was_read result) → Fits map.old (length (chars text.now)) }
 
         // The fault has one place, and the map holds it.
         ensures lex { IfErr result (λ error. IfLex error (λ fault.
             (fault.lo ≡ fault.hi) × FaultAt (next_lo map.old) (chars text.now) fault.lo)) }
+        ensures only { IfErr result (λ error. IfLex error (λ fault.
+            IsOnlyFault (next_lo map.old) (chars text.now) fault.lo)) }
         ensures held { IfErr result (λ error. IfLex error (Holds map.new)) }
         ensures map_full { (result ≡ Err ParseError.MapFull)
             ↔ (Fits map.old (length (chars text.now)) → ⊥) }

@@ -1,6 +1,8 @@
 //! Streams of token trees.
 ghost use Rattle.std.specs.Prelude.{◌≡◌, ◌≤◌, ◌+◌, All, IfOk, IfErr, OnOk};
+ghost use Rattle.pm_span.specs.Files.{Files};
 ghost use Rattle.pm_stream.specs.Forest.{Forest, nil, joined, IsBuilt};
+ghost use Rattle.pm_stream.specs.HeldSpans.{HoldsAll, HoldsEach};
 ghost use Rattle.pm_stream.specs.Level.{forest, held, alone, inside, GoesInside, TakesLast};
 ghost use Rattle.pm_stream.specs.Size.{is_nil, count};
 ghost use Rattle.pm_stream.specs.TreeSpan.{extent_of, with_span};
@@ -170,11 +172,13 @@ impl TokenStream {
     }
 
     /// Its trees, in order. Proofs learn by it what every stream is (`built`), and that each of its
-    /// trees may be put into a stream again.
+    /// trees may be put into a stream again. A map that holds all spans of the stream holds those of
+    /// each tree.
     pub fn trees(&self) -> &[TokenTree]
         ensures value { forest result.now ≡ self.now }
         ensures built { IsBuilt self.now }
         ensures inside { All GoesInside result.now }
+        ensures held { (map : Files) → HoldsAll map self.now → HoldsEach map result.now }
     {
         listed(&self.trees)
     }

@@ -1,5 +1,5 @@
 -- Literals by themselves.
-use Rattle.std.proofs.Common.{◌≡◌, ◌≢◌, ◌↔◌, ℕ, Bool, true, false, ◌==◌, Result, Ok, Err, IfErr, List, [], ◌∷◌, ◌++◌, length, Option, Some, None, IfSome, IfNone, MatchOption, Bor, IsTrue, eqb, refl, sym, ap, ◌∙◌, subst, arith, inl, inr, drop, append-nil, length-append, eqb-true}
+use Rattle.std.proofs.Common.{◌≡◌, ◌≢◌, ◌↔◌, ℕ, Bool, true, false, ◌==◌, Result, Ok, Err, IfOk, IfErr, MatchResult, ◌+◌, List, [], ◌∷◌, ◌++◌, length, Option, Some, None, IfSome, IfNone, MatchOption, Bor, IsTrue, eqb, refl, sym, ap, ◌∙◌, subst, arith, inl, inr, drop, append-nil, length-append, eqb-true}
 use Rattle.std.specs.Option.{option_eq}
 use Rattle.std.specs.Char.{is_ascii_digit}
 use Rattle.std.specs.Str.{chars, IsUtf8, encode_utf8_all}
@@ -13,7 +13,8 @@ use Rattle.lexical.specs.Text.{first_passes}
 use Rattle.lexical.specs.PieceFinder.{find_literal}
 use Rattle.lexical.proofs.FinderLemmas.{one_split}
 use Rattle.lexical.proofs.LiteralFinderLemmas.{finds_literal, literal_front, literal_fronts}
-use Rattle.pm_span.specs.Files.{Files, Holds}
+use Rattle.pm_span.specs.Extent.{Extent}
+use Rattle.pm_span.specs.Files.{Files, Holds, all_texts, next_lo, with_file}
 use Rattle.pm_span.proofs.FileLemmas.{holds_nowhere}
 use Rattle.pm_token.specs.Leaf.{Text}
 use Rattle.pm_token.specs.LiteralText.{IsByItself, IsLiteralText}
@@ -35,6 +36,23 @@ refused_held map whole (Ok literal) h = tt
 refused_held map whole (Err (Lex fault)) h = subst (Holds map) (sym h.0) (holds_nowhere map)
 refused_held map whole (Err MapFull) h = tt
 refused_held map whole (Err (Memory error)) h = tt
+
+-- the map that has the text as its last file holds what an attempt to read a literal answers
+pub answer_held : (old new : Files) (source : List ℕ) (whole : Type 0) (span : Extent) (result : Result Text ParseError)
+    → new ≡ with_file old source → span.lo ≡ next_lo old → span.hi ≡ span.lo + length source
+    → IfOk result (λ literal. literal ≡ record { text = source; span = span }) → IfErr result (IsRefusalOf whole)
+    → MatchResult result (λ literal. Holds new literal.span) (λ error. IfLex error (Holds new))
+answer_held old new source whole span (Ok literal) added begins ends is refused =
+    let held : Holds (with_file old source) span = record {
+      text = source;
+      lo = next_lo old;
+      file = record { before = all_texts old; after = []; whole = refl; begins = refl };
+      from = omega (arith, begins);
+      to = omega (arith, begins, ends);
+    } in
+    subst (λ map. Holds map literal.span) (sym added)
+    (subst (λ (l : Text). Holds (with_file old source) l.span) (sym is) held)
+answer_held old new source whole span (Err error) added begins ends is refused = refused_held new whole (Err error) refused
 
 -- ---- a literal that is the whole text
 

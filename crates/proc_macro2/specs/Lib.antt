@@ -35,6 +35,7 @@ pub use Rattle.pm_stream.specs.Delimited
 pub use Rattle.pm_stream.specs.DelimSpan
 pub use Rattle.pm_stream.specs.Events
 pub use Rattle.pm_stream.specs.Forest
+pub use Rattle.pm_stream.specs.HeldSpans
 pub use Rattle.pm_stream.specs.InOrder
 pub use Rattle.pm_stream.specs.Level
 pub use Rattle.pm_stream.specs.Parsing

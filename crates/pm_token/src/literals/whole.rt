@@ -1,5 +1,5 @@
 //! Literals from their text.
-ghost use Rattle.std.specs.Prelude.{◌≡◌, ◌==◌, ◌+◌, ◌↔◌, ◌∷◌, [], length, IfOk, IfErr, IfSome, IsTrue, MatchOption, false, if◌then◌else◌};
+ghost use Rattle.std.specs.Prelude.{◌≡◌, ◌==◌, ◌+◌, ◌↔◌, ◌∷◌, [], length, IfOk, IfErr, IfSome, IsTrue, MatchOption, MatchResult, false, if◌then◌else◌};
 ghost use Rattle.std.specs.Char.{is_ascii_digit};
 ghost use Rattle.std.specs.Str.{chars, IsUtf8};
 ghost use Rattle.lexical.specs.Literal as literals;
@@ -37,7 +37,8 @@ impl Literal {
 
         ensures lex { IfErr result (λ error. IfLex error (λ fault.
             (fault ≡ nowhere) × (IsByItself (chars text.now) → ⊥))) }
-        ensures held { IfErr result (λ error. IfLex error (Holds map.new)) }
+        ensures held { MatchResult result (λ literal. Holds map.new literal.span)
+            (λ error. IfLex error (Holds map.new)) }
         ensures map_full { (result ≡ Err ParseError.MapFull)
             ↔ (Fits map.old (length (chars text.now)) → ⊥) }
 
