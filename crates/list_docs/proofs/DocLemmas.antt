@@ -1,24 +1,18 @@
--- What tells that a name is `doc`.
-use Rattle.std.proofs.Common.{◌≡◌, Bool, true, false, ◌↔◌, codes, IsTrue, refl, sym, ◌∙◌}
-use Rattle.std.specs.Cmp.Lexicographic.{same_text}
-use Rattle.std.specs.Str.{chars}
-use Rattle.proc_macro2.specs.Leaf.{Name}
-use Rattle.proc_macro2.specs.Written.{name_text}
-use Rattle.list_docs.specs.Docs.{is_doc}
+-- The trees that a stream is made of.
+use Rattle.std.proofs.Common.{◌≡◌, List, [], ◌∷◌, ◌++◌, refl, ap, ◌∙◌}
+use Rattle.proc_macro2.specs.Forest.{Forest}
+use Rattle.proc_macro2.specs.Level.{before, forest}
+use Rattle.proc_macro2.proofs.InOrderLemmas.{in_order-alone}
+use Rattle.proc_macro2.specs.declared.TokenTree.{TokenTree}
+use Rattle.proc_macro2.specs.declared.TokenTree.TheVariants.{Group, Ident, Punct, Literal}
+use Rattle.list_docs.specs.Doc.{trees_of}
 
--- the name's characters are its bytes
-doc_chars : chars (codes "doc") ≡ codes "doc"
-unfolding chars
-doc_chars = refl
+trees_of-before : (t : TokenTree) (f : Forest) → trees_of (before t f) ≡ t ∷ trees_of f
+trees_of-before (Group g) f = refl
+trees_of-before (Ident i) f = refl
+trees_of-before (Punct p) f = ap (λ l. l ++ trees_of f) (in_order-alone (Punct p))
+trees_of-before (Literal l) f = refl
 
-same_truth : (a b : Bool) → (a ≡ true → b ≡ true) → (b ≡ true → a ≡ true) → a ≡ b
-same_truth true b there back = sym (there refl)
-same_truth false true there back = back refl
-same_truth false false there back = refl
-
--- what tells that a name is `doc`
-pub is_doc_from : (found : Bool) (name : Name) → (IsTrue found ↔ (name_text name ≡ chars (codes "doc")))
-    → found ≡ is_doc name
-is_doc_from found name tells =
-    same_truth found (is_doc name) (λ h. rw (tells.0 h ∙ doc_chars) refl)
-    (λ h. tells.1 (same_text (name_text name) (codes "doc") (sym h) ∙ sym doc_chars))
+pub trees_of-forest : (ts : List TokenTree) → trees_of (forest ts) ≡ ts
+trees_of-forest [] = refl
+trees_of-forest (t ∷ ts) = trees_of-before t (forest ts) ∙ ap (λ l. t ∷ l) (trees_of-forest ts)

@@ -1,4 +1,1 @@
-mod AnswerLemmas
 mod DocLemmas
-mod LineLemmas
-mod OrderLemmas

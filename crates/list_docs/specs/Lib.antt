@@ -1,4 +1,2 @@
-pub mod Answer
 pub mod Doc
-pub mod Docs
-pub mod Lines
+pub mod Answer

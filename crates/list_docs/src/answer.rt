@@ -1,45 +1,47 @@
 //! What the program answers for a text.
-ghost use Rattle.std.specs.Prelude.{IfOk, OnOk};
+ghost use Rattle.std.specs.Prelude.{List, ℕ, IfOk};
+ghost use Rattle.std.specs.Io.KnownBytes.{Appends};
 ghost use Rattle.std.specs.Str.{chars};
-ghost use Rattle.proc_macro2.specs.Files.{Holds};
-ghost use Rattle.proc_macro2.specs.Outcome.{IfLex};
-ghost use Rattle.list_docs.specs.Answer.{IsAnswer, WritesError};
+ghost use Rattle.list_docs.specs.Answer.{IsAnswer};
 
-use crate::lines::{print_docs, print_fault};
+use crate::doc::doc_text;
 use proc_macro2::{ParseError, SourceMap, TokenStream};
 use std::alloc::Global;
 use std::io;
 use std::io::Write;
 
-/// Writes a line for each doc comment of the text, or the place of its fault, or why it was not
-/// read, and answers the status: 0 for a text that was parsed, else 1.
+/// Writes a line for each doc comment of the text, those inside groups too, in reading order, or the
+/// place of the text's fault, or why it was not read, and answers the status: 0 for a text that was
+/// parsed, else 1.
 ///
-/// After an error a beginning of what is to be written stands.
+/// After an error a beginning of what is to be written stands. Of `/// x` the line is `1:0 " x"`.
 pub fn print_text<W: Write>(alloc: Global, text: &str, writer: &mut W) -> io::Result<u8>
-    ensures { IfOk result (λ status. IsAnswer (chars text.now)
-        (W.contents writer.old) (W.contents writer.new) status) }
+    ensures { IfOk result (λ status. (answer : List ℕ) × IsAnswer (chars text.now) answer status
+        × Appends (W.contents writer.old) (W.contents writer.new) answer) }
 {
     let mut map = SourceMap::new(alloc);
     match TokenStream::from_str(text, &mut map) {
         Ok(stream) => {
-            print_docs(alloc, &stream, &map, writer)?;
+            let mut walk = stream.walk();
+            while let Some(tree) = walk.next()? {
+                let Some(doc) = doc_text(tree) else {
+                    continue;
+                };
+                let place = doc.span().start(&map);
+                writeln!(writer, "{}:{} {doc}", place.line, place.column)?;
+            }
             Ok(0)
         }
-        Err(error) => {
-            print_error(&error, &map, writer)?;
-            Ok(1)
-        }
-    }
-}
-
-// Writes the place of a fault, or why a text was not read.
-fn print_error<W: Write>(error: &ParseError, map: &SourceMap, writer: &mut W) -> io::Result<()>
-    requires { IfLex error.now (Holds map.now) }
-    ensures { OnOk result (WritesError map.now error.now
-        (W.contents writer.old) (W.contents writer.new)) }
-{
-    match error {
-        ParseError::Lex(error) => print_fault(error.span(), map, writer),
-        ParseError::MapFull | ParseError::Memory(_) => writeln!(writer, "{error}"),
+        Err(error) => match &error {
+            ParseError::Lex(fault) => {
+                let place = fault.span().start(&map);
+                writeln!(writer, "fault at {}:{}", place.line, place.column)?;
+                Ok(1)
+            }
+            _ => {
+                writeln!(writer, "{error}")?;
+                Ok(1)
+            }
+        },
     }
 }

@@ -6,8 +6,7 @@
 #![tactic(auto)]
 
 mod answer;
-mod docs;
-mod lines;
+mod doc;
 
 use answer::print_text;
 use std::io;

@@ -11,6 +11,7 @@ pub mod ReadSoFar
 pub mod ParseLemmas
 pub mod FaultLemmas
 pub mod SpanLemmas
+pub mod PlaceLemmas
 pub mod LawLemmas
 pub mod RuleLemmas
 mod SpacedExamples

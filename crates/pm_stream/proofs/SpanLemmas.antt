@@ -46,7 +46,7 @@ expansion_within lo hi at (x ∷ pieces) from to =
     (expansion_within lo hi (at + length x.1) pieces (omega arith) (omega arith))
 
 -- the span is between two positions
-abbrev IsWithin : ℕ → ℕ → TokenTree → Type 0
+abbrev pub IsWithin : ℕ → ℕ → TokenTree → Type 0
 IsWithin lo hi tree = (lo ≤ (extent_of tree).lo) × ((extent_of tree).hi ≤ hi)
 
 token_within : (lo hi : ℕ) (token : Token) (m n : ℕ) → lo ≤ m → n ≤ hi → IsWithin lo hi (token_tree token m n)
@@ -69,7 +69,7 @@ trees_within lo hi (group d m n f g) events more h k =
     (((h.0, inside.1.0), all.0), rest.1)
 
 -- each span of the stream stands in the source
-parsed_within : (base : ℕ) (source : List ℕ) (stream : Forest) → ParsesTo base source stream
+pub parsed_within : (base : ℕ) (source : List ℕ) (stream : Forest) → ParsesTo base source stream
     → Each (IsWithin base (base + length source)) (in_order stream)
 parsed_within base source stream h =
     let within = cover_within h.pieces source [] h.covers in
@@ -78,7 +78,7 @@ parsed_within base source stream h =
     (expansion_within base (base + length source) base h.pieces (omega arith) (omega arith))) tt).0
 
 -- the map holds what stands in its last file
-source_held : (map : Files) (source : List ℕ) (span : Extent) → next_lo map ≤ span.lo
+pub source_held : (map : Files) (source : List ℕ) (span : Extent) → next_lo map ≤ span.lo
     → span.hi ≤ next_lo map + length source → Holds (with_file map source) span
 source_held map source span from to = record {
   text = source;

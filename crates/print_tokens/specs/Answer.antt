@@ -1,31 +1,40 @@
 -- What the program answers for a text: what it writes, and its status.
-use Rattle.std.specs.Prelude.{ℕ, ◌≡◌, List, ◌++◌, length, codes, Option}
-use Rattle.std.specs.Io.KnownBytes.{Appends}
-use Rattle.proc_macro2.specs.Files.{Files, Fits, new_map, next_lo, with_file}
+use Rattle.std.specs.Prelude.{ℕ, ◌≡◌, ◌-◌, List, ◌++◌, length, codes, flat_map}
+use Rattle.proc_macro2.specs.Extent.{Extent}
+use Rattle.proc_macro2.specs.Files.{Fits, new_map, next_lo}
 use Rattle.proc_macro2.specs.Forest.{Forest}
+use Rattle.proc_macro2.specs.InOrder.{in_order}
 use Rattle.proc_macro2.specs.Message.{message}
-use Rattle.proc_macro2.specs.Outcome.{IfLex}
 use Rattle.proc_macro2.specs.Parsing.{ParsesTo, FaultAt}
+use Rattle.proc_macro2.specs.Place.{line_column}
+use Rattle.proc_macro2.specs.TreeSpan.{extent_of}
+use Rattle.proc_macro2.specs.declared.LineColumn.{LineColumn}
 use Rattle.proc_macro2.specs.declared.ParseError.{ParseError}
-use Rattle.proc_macro2.specs.declared.ParseError.TheVariants.{Lex, MapFull, Memory}
-use Rattle.print_tokens.specs.Lines.{WritesFault, WritesLines}
+use Rattle.proc_macro2.specs.declared.ParseError.TheVariants.{Lex, MapFull}
+use Rattle.proc_macro2.specs.declared.TokenTree.{TokenTree}
+use Rattle.print_tokens.specs.Line.{at_place, line_text}
 
--- the place of the fault was written, or why the text wasn't read
-abbrev pub WritesError : Files → ParseError → Option (List ℕ) → Option (List ℕ) → Type 0
-WritesError files (Lex fault) old new = WritesFault files fault old new
-WritesError files MapFull old new = Appends old new (message MapFull ++ codes "\n")
-WritesError files (Memory error) old new = Appends old new (message (Memory error) ++ codes "\n")
+-- the position of the text's first character
+abbrev pub first : ℕ
+first = next_lo new_map
 
--- the text is refused for this reason: it has its fault here, or is too long
-pub record IsRefused (text : List ℕ) (error : ParseError) : Type 0 where
-  pub lex : IfLex error (λ fault. (fault.lo ≡ fault.hi) × FaultAt (next_lo new_map) text fault.lo)
-  pub map_full : error ≡ MapFull → Fits new_map (length text) → ⊥
+-- the place in the text where a position stands
+abbrev pub place_of : List ℕ → ℕ → LineColumn
+place_of text position = line_column text (position - first)
 
--- a line was written of each tree of the text, or why it is refused; the status says which
-pub data IsAnswer (text : List ℕ) (old new : Option (List ℕ)) (status : ℕ) : Type 0 where
-  by_trees :
-      (stream : Forest) → ParsesTo (next_lo new_map) text stream
-      → WritesLines (with_file new_map text) stream old new → status ≡ 0 → IsAnswer text old new status
-  by_error :
-      (error : ParseError) → IsRefused text error
-      → WritesError (with_file new_map text) error old new → status ≡ 1 → IsAnswer text old new status
+-- the line of a tree of the text
+abbrev pub line_of : List ℕ → TokenTree → List ℕ
+line_of text tree = line_text tree (place_of text (extent_of tree).lo)
+
+-- what is written for a text, and the status
+pub data IsAnswer (text : List ℕ) : List ℕ → ℕ → Type 0 where
+  -- a line of each tree, in reading order
+  lines : (stream : Forest) → ParsesTo first text stream → IsAnswer text (flat_map (line_of text) (in_order stream)) 0
+  -- the place of the fault
+  fault :
+      (position : ℕ) → FaultAt first text position
+      → IsAnswer text (codes "fault at " ++ at_place (place_of text position) (codes "\n")) 1
+  -- why the text was not read: it has more characters than a map has positions, or memory was refused
+  unread :
+      (error : ParseError) → ((at : Extent) → error ≡ Lex at → ⊥) → (error ≡ MapFull → Fits new_map (length text) → ⊥)
+      → IsAnswer text (message error ++ codes "\n") 1

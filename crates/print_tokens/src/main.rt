@@ -7,8 +7,7 @@
 #![tactic(auto)]
 
 mod answer;
-mod lines;
-mod order;
+mod line;
 
 use answer::print_text;
 use std::io;

@@ -1,4 +1,7 @@
 pub use Rattle.pm_stream.proofs.FaultLemmas
+pub use Rattle.pm_stream.proofs.InOrderLemmas
+pub use Rattle.pm_stream.proofs.SpanLemmas
+pub use Rattle.pm_stream.proofs.PlaceLemmas
 pub mod Places
 pub mod PieceStarts
 pub mod PrintedCover

@@ -13,6 +13,7 @@ pub use Rattle.literal_escaper.specs.Warning
 pub use Rattle.literal_escaper.specs.Within
 pub use Rattle.pm_span.specs.Extent
 pub use Rattle.pm_span.specs.Files
+pub use Rattle.pm_span.specs.Lookup
 pub use Rattle.pm_span.specs.Place
 pub use Rattle.pm_token.specs.Built
 pub use Rattle.pm_token.specs.CString

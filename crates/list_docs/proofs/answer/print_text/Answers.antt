@@ -1,14 +1,51 @@
-use Rattle.std.proofs.Common.{ap, Err}
-use Rattle.list_docs.proofs.AnswerLemmas.{IsAnswer_error, IsAnswer_docs}
+use Rattle.std.proofs.Common.{Err, ap}
+use Rattle.std.proofs.KnownBytes.{Appends-nil, Appends-trans}
+use Rattle.proc_macro2.specs.Files.{new_map}
+use Rattle.proc_macro2.proofs.PlaceLemmas.{each_inside, fault_starts, starts_in_last}
+use Rattle.proc_macro2.proofs.SpanLemmas.{parsed_within, source_held}
+use Rattle.list_docs.specs.Answer.{first, lines, fault, unread}
 use Rattle.list_docs.proofs.answer.print_text.Goals as goal
+
+pub loop-walk-init : goal.loop-walk-init
+loop-walk-init g c =
+    let within = parsed_within first _ _ (rw c.new-map.ensures at c.in-Ok.ensures.ok) in
+    rw c.walk-walk.ensures (each_inside _ _ within, λ new h. h)
+
+pub start-place-requires : goal.start-place-requires
+start-place-requires g c =
+    let next = rw c.in-Some.is at c.in_ok-tree-in-Ok.ensures.ok in
+    let left = rw next at c.loop-walk.invariant.0 in
+    let literal = (rw c.in-Some-doc_text.ensures.trees.2 at left.0).1.1.0 in
+    rw (c.in-Ok.ensures.kept, c.new-map.ensures, c.span.ensures) (source_held new_map _ _ literal.0 literal.1)
+
+pub loop-walk-preserved : goal.loop-walk-preserved
+loop-walk-preserved g c =
+    let next = rw c.in-Some.is at c.in_ok-tree-in-Ok.ensures.ok in
+    let left = rw next at c.loop-walk.invariant.0 in
+    let literal = (rw c.in-Some-doc_text.ensures.trees.2 at left.0).1.1.0 in
+    let starts = rw (c.in-Ok.ensures.kept, c.new-map.ensures, c.span.ensures) at c.start-place.ensures in
+    let place = starts_in_last new_map _ _ _ literal.0 literal.1 starts in
+    let line = rw place at c.in_ok-writeln-in-Ok.ensures.bytes in (
+      left.1,
+      λ new h. c.loop-walk.invariant.1 new
+          (rw (next, ← c.in-Some-doc_text.ensures.value) (Appends-trans _ _ _ _ _ line h)),
+    )
 
 pub returns-in-Ok : goal.returns-in-Ok
 returns-in-Ok g c =
-    IsAnswer_docs _ _ _ _ _ _ c.new-map.ensures c.in-Ok.ensures.ok c.in-Ok.ensures.kept
-    c.in_ok-print_docs-in-Ok.ensures
+    let next = rw c.in_default.is at c.in_ok-tree-in-Ok.ensures.ok in
+    let written = c.loop-walk.invariant.1 (g.W.Write.contents c.loop-walk.writer) (rw next.0 (Appends-nil _)) in
+    (_, lines c.in-Ok.stream (rw c.new-map.ensures at c.in-Ok.ensures.ok), rw c.walk-walk.ensures at written)
+
+pub returns-in-Lex : goal.returns-in-Lex
+returns-in-Lex g c =
+    let kept = rw (c.in-Lex.is, c.new-map.ensures) at c.in-Err.ensures.kept in
+    let lex = rw (c.in-Lex.is, c.new-map.ensures) at c.in-Err.ensures.lex in
+    let place = fault_starts new_map _ _ _ _ kept lex (rw c.span-in-Lex.ensures at c.start-place-in-Lex.ensures) in
+    (_, fault _ lex.1, rw place at c.in_ok-writeln-in-Lex.ensures.bytes)
 
 pub returns : goal.returns
 returns g c =
-    IsAnswer_error _ _ _ _ _ _ c.new-map.ensures c.in-Err.ensures.lex
-    (λ is. c.in-Err.ensures.map_full.0 (ap Err is)) c.in-Err.ensures.kept
-    c.in_ok-print_error-in-Err.ensures
+    let full = rw c.new-map.ensures at c.in-Err.ensures.map_full.0 in
+    let bytes = c.in_ok-writeln-in_default-error.ensures.bytes in
+    (_, unread _ c.in_default-error.not-Lex (λ is. full (ap Err is)), bytes)

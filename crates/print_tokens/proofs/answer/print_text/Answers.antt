@@ -1,14 +1,45 @@
-use Rattle.std.proofs.Common.{ap, Err}
-use Rattle.print_tokens.proofs.AnswerLemmas.{IsAnswer_error, IsAnswer_trees}
+use Rattle.std.proofs.Common.{Err, ap}
+use Rattle.std.proofs.KnownBytes.{Appends-nil, Appends-trans}
+use Rattle.proc_macro2.specs.Files.{new_map}
+use Rattle.proc_macro2.proofs.PlaceLemmas.{fault_starts, starts_in_last}
+use Rattle.proc_macro2.proofs.SpanLemmas.{parsed_within, source_held}
+use Rattle.print_tokens.specs.Answer.{first, lines, fault, unread}
 use Rattle.print_tokens.proofs.answer.print_text.Goals as goal
+
+pub loop-walk-init : goal.loop-walk-init
+loop-walk-init g c =
+    rw c.walk-walk.ensures (parsed_within first _ _ (rw c.new-map.ensures at c.in-Ok.ensures.ok), λ new h. h)
+
+pub start-requires : goal.start-requires
+start-requires g c =
+    let next = rw c.in-Some.is at c.in_ok-tree-in-Ok.ensures.ok in
+    let left = rw next at c.loop-walk.invariant.0 in
+    rw (c.in-Ok.ensures.kept, c.new-map.ensures, c.span.ensures) (source_held new_map _ _ left.0.0 left.0.1)
+
+pub loop-walk-preserved : goal.loop-walk-preserved
+loop-walk-preserved g c =
+    let next = rw c.in-Some.is at c.in_ok-tree-in-Ok.ensures.ok in
+    let left = rw next at c.loop-walk.invariant.0 in
+    let starts = rw (c.in-Ok.ensures.kept, c.new-map.ensures, c.span.ensures) at c.start.ensures in
+    let place = starts_in_last new_map _ _ _ left.0.0 left.0.1 starts in
+    let line = rw place at c.in_ok-print_line-in-Ok.ensures in
+    (left.1, λ new h. c.loop-walk.invariant.1 new (rw next (Appends-trans _ _ _ _ _ line h)))
 
 pub returns-in-Ok : goal.returns-in-Ok
 returns-in-Ok g c =
-    IsAnswer_trees _ _ _ _ _ _ c.new-map.ensures c.in-Ok.ensures.ok c.in-Ok.ensures.kept
-    c.in_ok-print_lines-in-Ok.ensures
+    let next = rw c.in_default.is at c.in_ok-tree-in-Ok.ensures.ok in
+    let written = c.loop-walk.invariant.1 (g.W.Write.contents c.loop-walk.writer) (rw next.0 (Appends-nil _)) in
+    (_, lines c.in-Ok.stream (rw c.new-map.ensures at c.in-Ok.ensures.ok), rw c.walk-walk.ensures at written)
+
+pub returns-in-Lex : goal.returns-in-Lex
+returns-in-Lex g c =
+    let kept = rw (c.in-Lex.is, c.new-map.ensures) at c.in-Err.ensures.kept in
+    let lex = rw (c.in-Lex.is, c.new-map.ensures) at c.in-Err.ensures.lex in
+    let place = fault_starts new_map _ _ _ _ kept lex (rw c.span-in-Lex.ensures at c.start-place.ensures) in
+    (_, fault _ lex.1, rw place at c.in_ok-writeln-in-Lex.ensures.bytes)
 
 pub returns : goal.returns
 returns g c =
-    IsAnswer_error _ _ _ _ _ _ c.new-map.ensures c.in-Err.ensures.lex
-    (λ is. c.in-Err.ensures.map_full.0 (ap Err is)) c.in-Err.ensures.kept
-    c.in_ok-print_error-in-Err.ensures
+    let full = rw c.new-map.ensures at c.in-Err.ensures.map_full.0 in
+    let bytes = c.in_ok-writeln-in_default-error.ensures.bytes in
+    (_, unread _ c.in_default-error.not-Lex (λ is. full (ap Err is)), bytes)

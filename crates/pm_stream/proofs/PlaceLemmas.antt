@@ -1,0 +1,55 @@
+-- Where what stands in a map's last file starts, and what is true of the trees inside groups.
+use Rattle.std.proofs.Common.{◌≡◌, ◌+◌, ◌-◌, ◌≤◌, ℕ, List, [], ◌∷◌, ◌++◌, length, refl, subst}
+use Rattle.std.specs.List.{AllByRecursion as Each}
+use Rattle.lexical.specs.Token.{Token, Name, Mark, Literal}
+use Rattle.pm_span.specs.Extent.{Extent}
+use Rattle.pm_span.specs.Files.{Files, IsFile, all_texts, next_lo, with_file}
+use Rattle.pm_span.specs.Lookup.{StartsAt}
+use Rattle.pm_span.specs.Place.{line_column}
+use Rattle.pm_span.specs.declared.location.LineColumn.{LineColumn}
+use Rattle.pm_stream.specs.Forest.{Forest, nil, leaf, group}
+use Rattle.pm_stream.specs.InOrder.{token_tree, in_order_onto, in_order}
+use Rattle.pm_stream.specs.Level.{inside}
+use Rattle.pm_stream.specs.Parsing.{FaultAt}
+use Rattle.pm_stream.specs.declared.stream.TokenTree.{TokenTree}
+use Rattle.pm_stream.proofs.FaultLemmas.{fault_within}
+use Rattle.pm_stream.proofs.InOrderLemmas.{each_parts}
+
+-- a map's last file
+pub last_file : (map : Files) (source : List ℕ) → IsFile (with_file map source) source (next_lo map)
+last_file map source = record { before = all_texts map; after = []; whole = refl; begins = refl }
+
+-- where a span of it starts
+pub starts_in_last : (map : Files) (source : List ℕ) (span : Extent) (place : LineColumn)
+    → next_lo map ≤ span.lo → span.hi ≤ next_lo map + length source → StartsAt (with_file map source) span place
+    → place ≡ line_column source (span.lo - next_lo map)
+starts_in_last map source span place from to starts = starts source (next_lo map) (last_file map source) from to
+
+-- where the fault of a map's last file starts
+pub fault_starts : (old new : Files) (source : List ℕ) (fault : Extent) (place : LineColumn) → new ≡ with_file old source
+    → (fault.lo ≡ fault.hi) × FaultAt (next_lo old) source fault.lo → StartsAt new fault place
+    → place ≡ line_column source (fault.lo - next_lo old)
+fault_starts old new source fault place added stands starts =
+    let within = fault_within (next_lo old) source fault.lo stands.1 in
+    starts_in_last old source fault place within.0 (rw (← stands.0) within.1) (rw added at starts)
+
+-- it is true of each tree inside the tree
+abbrev pub EachInside : (TokenTree → Type 0) → TokenTree → Type 0
+EachInside P tree = Each P (in_order (inside tree))
+
+token_inside : (P : TokenTree → Type 0) (token : Token) (lo hi : ℕ) → EachInside P (token_tree token lo hi)
+token_inside P (Name raw name) lo hi = tt
+token_inside P (Mark c joint) lo hi = tt
+token_inside P (Literal text) lo hi = tt
+
+each_inside_onto : (P : TokenTree → Type 0) (f : Forest) (more : List TokenTree) → Each P (in_order f)
+    → Each (EachInside P) more → Each (EachInside P) (in_order_onto f more)
+each_inside_onto P nil more h k = k
+each_inside_onto P (leaf token lo hi f) more h k = (token_inside P token lo hi, each_inside_onto P f more h.1 k)
+each_inside_onto P (group d lo hi f g) more h k =
+    let parts = each_parts P f (in_order g) h.1 in
+    (parts.0, each_inside_onto P f (in_order_onto g more) parts.0 (each_inside_onto P g more parts.1 k))
+
+-- what is true of each tree of a stream is true of each tree inside each of them
+pub each_inside : (P : TokenTree → Type 0) (f : Forest) → Each P (in_order f) → Each (EachInside P) (in_order f)
+each_inside P f h = each_inside_onto P f [] h tt

@@ -1,3 +1,0 @@
-mod AnswerLemmas
-mod LineLemmas
-mod OrderLemmas
