@@ -266,14 +266,16 @@ parsed_faultless base begin source (Ok stream) e h = λ position.
     parses_or_not begin source stream position (subst (λ n. ParsesTo n source stream) e h)
 parsed_faultless base begin source (Err error) e h = tt
 
-only_fault : (base : ℕ) (source : List ℕ) (position : ℕ) → FaultAt base source position → IsOnlyFault base source position
+only_fault : (base : ℕ) (source : List ℕ) (position : ℕ) → FaultAt base source position
+    → IsOnlyFault base source position
 only_fault base source position h = (
   λ stream parsed. parses_or_not base source stream position parsed h,
   λ other fault. one_fault base source other position fault h,
 )
 
 pub refused_only : (base begin : ℕ) (source : List ℕ) (result : Result Forest ParseError) → base ≡ begin
-    → IfErr result (IsFault base source) → IfErr result (λ error. IfLex error (λ fault. IsOnlyFault begin source fault.lo))
+    → IfErr result (IsFault base source)
+    → IfErr result (λ error. IfLex error (λ fault. IsOnlyFault begin source fault.lo))
 refused_only base begin source (Ok stream) e h = tt
 refused_only base begin source (Err (Lex fault)) e h =
     only_fault begin source fault.lo (subst (λ n. FaultAt n source fault.lo) e h.1)

@@ -52,7 +52,8 @@ answer_held old new source whole span (Ok literal) added begins ends is refused 
     } in
     subst (λ map. Holds map literal.span) (sym added)
     (subst (λ (l : Text). Holds (with_file old source) l.span) (sym is) held)
-answer_held old new source whole span (Err error) added begins ends is refused = refused_held new whole (Err error) refused
+answer_held old new source whole span (Err error) added begins ends is refused =
+    refused_held new whole (Err error) refused
 
 -- ---- a literal that is the whole text
 

@@ -3,6 +3,8 @@ pub use Rattle.pm_stream.proofs.InOrderLemmas
 pub use Rattle.pm_stream.proofs.SpanLemmas
 pub use Rattle.pm_stream.proofs.PlaceLemmas
 pub mod Places
+pub mod RunLemmas
+pub mod GiveLemmas
 pub mod PieceStarts
 pub mod PrintedCover
 pub mod Returns

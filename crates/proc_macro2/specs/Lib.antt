@@ -1,4 +1,5 @@
 pub mod Laws
+pub mod GivesBack
 pub use Rattle.lexical.specs.Cover
 pub use Rattle.lexical.specs.Piece
 pub use Rattle.lexical.specs.Quiet

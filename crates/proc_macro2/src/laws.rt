@@ -1,6 +1,7 @@
 //! What is proved of texts, streams and printed texts together. The functions compute nothing: their
 //! contracts are the laws, which `specs/Laws.antt` states.
 
+ghost use Rattle.proc_macro2.specs.GivesBack.{SpansGiveBack};
 ghost use Rattle.proc_macro2.specs.Laws.{
   BrokenLine,
   ComesBack,
@@ -60,4 +61,14 @@ pub fn joined_texts()
 /// `a+=b` broken behind the `a` is `a += b`; broken behind the `+` it would be `a + = b`.
 pub fn broken_line()
     ensures { BrokenLine }
+{}
+
+/// Each tree of a parsed stream stands on a run of the pieces that cover the source: a token on its
+/// piece, a group on the pieces from its opener through its closer, and each tree that a doc comment
+/// gives on the comment. Its span goes from the first place of the run to the last, and the text of
+/// the span is that of the run (`gives-back`), in every map that extends the one after the parse.
+///
+/// In `a (b) // c` the text of the group's span is `(b)`.
+pub fn spans_give_back()
+    ensures { SpansGiveBack }
 {}
