@@ -1,6 +1,7 @@
 //! What several tests assert, each in a function of its own, so that it is proved once.
 
 use lexical::{Piece, PieceKind, literal_at, piece_at};
+use std::alloc::{AllocError, Global};
 use std::fmt::Debug;
 use std::process::Abort;
 
@@ -32,4 +33,33 @@ pub fn check_no_pieces(rt: &impl Abort, texts: &[&str]) {
         check_piece(rt, text, None);
         check_literal_length(rt, text, None);
     }
+}
+
+/// Asserts that each value of the table is equal to itself, and to no other of them.
+pub fn are_told_apart<T: PartialEq + Debug>(rt: &impl Abort, values: &[T]) {
+    for (at, value) in values.iter().enumerate() {
+        is_told_apart(rt, values, at, value);
+    }
+}
+
+/// Asserts that the value is equal to the one at this place of the table, and to no other.
+fn is_told_apart<T: PartialEq + Debug>(rt: &impl Abort, values: &[T], at: usize, value: &T) {
+    for (place, other) in values.iter().enumerate() {
+        let answers = (value == other, value != other);
+        let want = (at == place, at != place);
+        assert_eq!(rt; answers, want, "of {value:?} and {other:?}");
+    }
+}
+
+/// Asserts what each value of the table is shown as.
+pub fn are_shown<T: Debug>(
+    rt: &impl Abort,
+    alloc: Global,
+    rows: &[(T, &str)],
+) -> Result<(), AllocError> {
+    for (value, want) in rows {
+        let shown = format!(in alloc; "{value:?}")?;
+        check_same(rt, want, &shown.as_str(), want);
+    }
+    Ok(())
 }

@@ -6,8 +6,12 @@
 #[cfg(test)]
 mod checks;
 #[cfg(test)]
+mod equalities;
+#[cfg(test)]
 mod escapes;
 #[cfg(test)]
 mod lexer;
 #[cfg(test)]
 mod lexer_literals;
+#[cfg(test)]
+mod shown_units;
