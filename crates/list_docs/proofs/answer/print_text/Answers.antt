@@ -16,14 +16,14 @@ start-place-requires g c =
     let next = rw c.in-Some.is at c.in_ok-tree-in-Ok.ensures.ok in
     let left = rw next at c.loop-walk.invariant.0 in
     let literal = (rw c.in-Some-doc_text.ensures.trees.2 at left.0).1.1.0 in
-    rw (c.in-Ok.ensures.kept, c.new-map.ensures, c.span.ensures) (source_held new_map _ _ literal.0 literal.1)
+    rw (c.in-Ok.ensures.kept, c.new-map.ensures, c.span.ensures.value) (source_held new_map _ _ literal.0 literal.1)
 
 pub loop-walk-preserved : goal.loop-walk-preserved
 loop-walk-preserved g c =
     let next = rw c.in-Some.is at c.in_ok-tree-in-Ok.ensures.ok in
     let left = rw next at c.loop-walk.invariant.0 in
     let literal = (rw c.in-Some-doc_text.ensures.trees.2 at left.0).1.1.0 in
-    let starts = rw (c.in-Ok.ensures.kept, c.new-map.ensures, c.span.ensures) at c.start-place.ensures in
+    let starts = rw (c.in-Ok.ensures.kept, c.new-map.ensures, c.span.ensures.value) at c.start-place.ensures in
     let place = starts_in_last new_map _ _ _ literal.0 literal.1 starts in
     let line = rw place at c.in_ok-writeln-in-Ok.ensures.bytes in (
       left.1,

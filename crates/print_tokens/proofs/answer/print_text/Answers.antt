@@ -14,13 +14,13 @@ pub start-requires : goal.start-requires
 start-requires g c =
     let next = rw c.in-Some.is at c.in_ok-tree-in-Ok.ensures.ok in
     let left = rw next at c.loop-walk.invariant.0 in
-    rw (c.in-Ok.ensures.kept, c.new-map.ensures, c.span.ensures) (source_held new_map _ _ left.0.0 left.0.1)
+    rw (c.in-Ok.ensures.kept, c.new-map.ensures, c.span.ensures.value) (source_held new_map _ _ left.0.0 left.0.1)
 
 pub loop-walk-preserved : goal.loop-walk-preserved
 loop-walk-preserved g c =
     let next = rw c.in-Some.is at c.in_ok-tree-in-Ok.ensures.ok in
     let left = rw next at c.loop-walk.invariant.0 in
-    let starts = rw (c.in-Ok.ensures.kept, c.new-map.ensures, c.span.ensures) at c.start.ensures in
+    let starts = rw (c.in-Ok.ensures.kept, c.new-map.ensures, c.span.ensures.value) at c.start.ensures in
     let place = starts_in_last new_map _ _ _ left.0.0 left.0.1 starts in
     let line = rw place at c.in_ok-print_line-in-Ok.ensures in
     (left.1, λ new h. c.loop-walk.invariant.1 new (rw next (Appends-trans _ _ _ _ _ line h)))
