@@ -2,12 +2,11 @@
 //! difference. The status is 1 where there is one.
 #![tactic(auto)]
 
-ghost use Rattle.std.specs.Prelude.{◌≡◌, ◌==◌, if◌then◌else◌, IfOk, OnOk};
-ghost use Rattle.std.specs.Io.KnownBytes.{Appends};
+ghost use Rattle.std.specs.Prelude.{IfOk};
 ghost use Rattle.std.specs.Process.{exit_status};
-ghost use Rattle.conformance.specs.Run.{IsRun, tally_text};
+ghost use Rattle.conformance.specs.Run.{IsRun};
 
-use replay::{Tally, replay};
+use replay::replay;
 use std::alloc::Global;
 use std::io;
 use std::io::{BufRead, BufReader, BufWriter, Write};
@@ -19,7 +18,7 @@ fn main(rt: HostRuntime) -> io::Result<ExitCode> {
     run(rt.alloc(), reader, &mut writer)
 }
 
-// Replays the answers on the reader's lines, and writes what differs and how many do.
+// Replays the answers on the reader's lines, and writes what differs, and then both numbers.
 fn run<R: BufRead + Drop, W: Write>(
     alloc: Global,
     reader: R,
@@ -29,32 +28,17 @@ fn run<R: BufRead + Drop, W: Write>(
         (W.contents writer.old) (W.contents writer.new)) }
 {
     let tally = replay(alloc, reader, writer)?;
-    print_tally(tally, writer)?;
-    writer.flush()?;
-    Ok(status(tally))
-}
-
-// Writes how many answers there are, and how many of them differ.
-fn print_tally<W: Write>(tally: Tally, writer: &mut W) -> io::Result<()>
-    ensures { OnOk result (Appends (W.contents writer.old) (W.contents writer.new)
-        (tally_text tally)) }
-{
     writeln!(
         writer,
         "{} answers, {} differences",
         tally.answers, tally.differences
-    )
-}
-
-// The program's status, which says whether an answer differs.
-fn status(tally: Tally) -> ExitCode
-    ensures { exit_status result ≡ (if tally.differences == 0 then 0 else 1) }
-{
-    if tally.differences == 0 {
+    )?;
+    writer.flush()?;
+    Ok(if tally.differences == 0 {
         ExitCode::SUCCESS
     } else {
         ExitCode::FAILURE
-    }
+    })
 }
 
 #[cfg(test)]

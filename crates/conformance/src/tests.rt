@@ -1,15 +1,24 @@
-// What the stored run doesn't show: how a difference is told, and which lines are refused.
-use replay::replay;
-use std::process::Abort;
+// What the stored run doesn't show: that a difference is found in each kind of answer, how it is
+// told, and which lines are refused.
+use super::run;
+use std::process::{Abort, ExitCode};
 
-/// Asserts how many answers these lines are, how many of them differ, and what is told of them.
-fn check(rt: &(impl Abort + AllocGlobal), lines: &str, answers: u64, differences: u64, want: &str) {
-    let mut told = Vec::new(rt.alloc());
-    let tally = replay(rt.alloc(), lines.as_bytes(), &mut told).expect(rt, lines);
-    let told = str::from_utf8(told.as_slice()).expect(rt, lines);
+/// Asserts what is told of these lines, how many they are, how many of them differ, and the status.
+fn check(rt: &(impl Abort + AllocGlobal), lines: &str, answers: u64, differences: u64, told: &str) {
+    let mut written = Vec::new(rt.alloc());
+    let status = run(rt.alloc(), lines.as_bytes(), &mut written).expect(rt, lines);
+    let written = str::from_utf8(written.as_slice()).expect(rt, lines);
+    let want = format!(in rt.alloc();
+        "{told}{answers} answers, {differences} differences\n"
+    ).expect(rt, lines);
+    let want_status = if differences == 0 {
+        ExitCode::SUCCESS
+    } else {
+        ExitCode::FAILURE
+    };
     assert_eq!(rt;
-        (tally.answers, tally.differences, told),
-        (answers, differences, want),
+        (written, status),
+        (want.as_str(), want_status),
         "at {lines:?}"
     );
 }
@@ -20,8 +29,8 @@ fn agrees(rt: &(impl Abort + AllocGlobal), line: &str) {
 }
 
 /// Asserts that the line is told as a difference, between these two texts.
-fn is_told(rt: &(impl Abort + AllocGlobal), before: &str, line: &str, behind: &str) {
-    let want = format!(in rt.alloc(); "{before}: {line}\n{behind}").expect(rt, line);
+fn is_told(rt: &(impl Abort + AllocGlobal), before: &str, line: &str, after: &str) {
+    let want = format!(in rt.alloc(); "{before}: {line}\n{after}").expect(rt, line);
     check(rt, line, 1, 1, want.as_str());
 }
 
@@ -33,6 +42,84 @@ fn differs(rt: &(impl Abort + AllocGlobal), line: &str, here: &str) {
 /// Asserts that the line is told to be no recorded answer.
 fn is_refused(rt: &(impl Abort + AllocGlobal), line: &str) {
     is_told(rt, "no recorded answer", line, "");
+}
+
+/// Asserts of each row, whose columns stand with `|` between them, that the line of the first three
+/// has the library's answer, and that the fourth in place of the third is told as a difference.
+fn are_compared(rt: &(impl Abort + AllocGlobal), rows: &str) {
+    for row in rows.lines() {
+        let (line, other) = row.rsplit_once('|').expect(rt, row);
+        let (question, answer) = line.rsplit_once('|').expect(rt, row);
+        let (asked, text) = question.split_once('|').expect(rt, row);
+        let same = format!(in rt.alloc(); "{asked}\t{text}\t{answer}\n").expect(rt, row);
+        agrees(rt, same.as_str());
+        let changed = format!(in rt.alloc(); "{asked}\t{text}\t{other}").expect(rt, row);
+        let here = format!(in rt.alloc(); "here: {asked} {answer:?}\n").expect(rt, row);
+        differs(rt, changed.as_str(), here.as_str());
+    }
+}
+
+#[test]
+fn each_answer_to_a_stream_is_compared(rt: HostRuntime) {
+    // A printed text; a shown tree by its text and by its span; a fault by its line and its column.
+    are_compared(
+        &rt,
+        r#"print|a+b|a + b|a+b
+tree|x|TokenStream [Ident { sym: x, span: bytes(1..2) }]|TokenStream [Ident { sym: y, span: bytes(1..2) }]
+tree|x|TokenStream [Ident { sym: x, span: bytes(1..2) }]|TokenStream [Ident { sym: x, span: bytes(1..3) }]
+fault|\n(]|2:1|1:1
+fault|\n(]|2:1|2:0"#,
+    );
+}
+
+#[test]
+fn each_answer_to_a_literal_or_a_value_is_compared(rt: HostRuntime) {
+    // A printed literal; a value by its bytes, and the want of one by the error's name; and what is
+    // written for a value.
+    are_compared(
+        &rt,
+        r#"literal|808x|808x|808
+refused|- 1||- 1
+str_value|"0n"|306e|306f
+str_value|1|InvalidLiteralKind|FailedToUnescape(ZeroChars)
+byte_str_value|b"0n"|306e|30
+byte_str_value|"a"|InvalidLiteralKind|61
+cstr_value|c"x_"|785f00|785f
+cstr_value|b"a"|InvalidLiteralKind|6100
+string|~a|"~a"|"a~"
+character|a|'a'|'b'
+byte_character|a|b'a'|'a'
+byte_string|~88|b"~88"|b"~8"
+c_string|~a|c"~a"|c"~b""#,
+    );
+}
+
+#[test]
+fn each_item_is_compared(rt: HostRuntime) {
+    // An item by its range, its unit and its place among the others; an error by its name.
+    are_compared(
+        &rt,
+        r#"unescape_str|x|0..1 U+78;|0..1 U+79;
+unescape_str|{}\\_|0..1 U+7B;1..2 U+7D;2..4 InvalidEscape;|0..1 U+7B;1..2 U+7D;
+unescape_byte_str| }|0..1 20;1..2 7D;|0..1 20;1..3 7D;
+unescape_byte_str|\\_|0..2 InvalidEscape;|0..2 LoneSlash;
+unescape_c_str|_\\x80|0..1 U+5F;1..5 80;|0..1 U+5F;1..5 U+80;
+check_raw_str|0u|0..1 U+30;1..2 U+75;|0..1 U+75;1..2 U+30;
+check_raw_byte_str|}8|0..1 7D;1..2 38;|1..2 38;
+check_raw_c_str|}\u{0}|0..1 U+7D;1..2 NulInCStr;|0..1 U+7D;1..2 U+0;
+unescape_char|\\u{0Dd}|U+DD|U+DE
+unescape_char||ZeroChars|MoreThanOneChar
+unescape_byte|\\0|00|01
+unescape_byte|dff|MoreThanOneChar|ZeroChars
+errors_Char|00|0..2 MoreThanOneChar;|
+errors_Byte||0..0 ZeroChars;|0..1 ZeroChars;
+errors_Str|{}\\|2..3 LoneSlash;|2..3 InvalidEscape;
+errors_RawStr|\ru}|0..1 BareCarriageReturnInRawString;|0..1 BareCarriageReturn;
+errors_ByteStr|" x|0..1 EscapeOnlyChar;|0..1 MoreThanOneChar;
+errors_RawByteStr|\u{a0}_x|0..2 NonAsciiCharInByte;|0..1 NonAsciiCharInByte;
+errors_CStr|\u{0}8u|0..1 NulInCStr;|
+errors_RawCStr|x}\u{0}|2..3 NulInCStr;|1..2 NulInCStr;"#,
+    );
 }
 
 #[test]
@@ -58,6 +145,14 @@ fn an_answer_that_differs_is_counted_and_told(rt: HostRuntime) {
         2,
         1,
         "differs: fault\ta\t1:0\nhere: print \"a\"\n",
+    );
+    // The answer is of another kind, in the same words.
+    check(
+        &rt,
+        "fault\ta\ta\n",
+        1,
+        1,
+        "differs: fault\ta\ta\nhere: print \"a\"\n",
     );
     check(
         &rt,

@@ -1,7 +1,1 @@
-mod ColumnLemmas
-mod ContentLemmas
-mod LineLemmas
-mod PlaceLemmas
-mod ReplayLemmas
-mod ValueLemmas
-mod VerdictLemmas
+pub mod ReplayLemmas

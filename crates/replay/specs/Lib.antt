@@ -1,10 +1,1 @@
-pub mod Column
-pub mod Contents
-pub mod Line
-pub mod Literals
-pub mod Name
 pub mod Replay
-pub mod Reply
-pub mod Said
-pub mod Texts
-pub mod Verdict

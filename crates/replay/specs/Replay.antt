@@ -1,33 +1,39 @@
 -- What the replay of lines comes to.
-use Rattle.std.specs.Prelude.{◌≡◌, ℕ, ◌<◌, Bool, not, List, [], ◌∷◌, length, All, count_by, fold, Option, Some, IfSome}
-use Rattle.std.specs.Fmt.{◌++?◌}
-use Rattle.std.specs.Io.BufRead.{drop_through, first_line}
+use Rattle.std.specs.Prelude.{◌≡◌, ℕ, ◌<◌, List, [], ◌∷◌, ◌++◌, codes, length, Option, IfSome}
+use Rattle.std.specs.List.{concat, filter_map}
+use Rattle.std.specs.Io.BufRead.{DropsThrough, first_line}
 use Rattle.std.specs.Io.Iter.{u64_saturate}
 use Rattle.std.specs.Io.KnownBytes.{Appends}
 use Rattle.replay.specs.declared.lines.Tally.{Tally}
-use Rattle.replay.specs.Verdict.{IsVerdict}
 
--- a line, whether its answer is the library's, and what is told of it
-pub record Judged : Type 0 where
+-- what is told of a line: what the library answers instead, or that the line is no recorded answer
+pub data IsReport (line report : List ℕ) : Type 0 where
+  by_answer :
+      (here : List ℕ) → report ≡ codes "differs: " ++ (line ++ (codes "\nhere: " ++ (here ++ codes "\n")))
+      → IsReport line report
+  by_form : report ≡ codes "no recorded answer: " ++ (line ++ codes "\n") → IsReport line report
+
+-- the first line of the known bytes has this verdict, its report or none, and the others are left
+pub record IsJudged (known : Option (List ℕ)) (verdict : Option (List ℕ)) (left : Option (List ℕ)) : Type 0 where
   pub line : List ℕ
-  pub same : Bool
-  pub told : Option (List ℕ)
+  pub first : IfSome known (λ bytes. (0 < length bytes) × (line ≡ first_line bytes))
+  pub rest : DropsThrough known left 10
+  pub report : IfSome verdict (IsReport line)
 
--- the bytes begin with the lines that were judged, and go on with the rest
-abbrev pub BeginWith : List Judged → List ℕ → List ℕ → Type 0
-BeginWith [] bytes rest = bytes ≡ rest
-BeginWith (one ∷ others) bytes rest =
-    (0 < length bytes) × (one.line ≡ first_line bytes) × BeginWith others (drop_through 10 bytes) rest
+-- the lines of the known bytes have these verdicts, in order, up to those that are left
+abbrev pub AreJudged : Option (List ℕ) → List (Option (List ℕ)) → Option (List ℕ) → Type 0
+AreJudged known [] left = left ≡ known
+AreJudged known (verdict ∷ others) left =
+    (next : Option (List ℕ)) × IsJudged known verdict next × AreJudged next others left
 
--- all that is told, in order
-abbrev pub all_told : List Judged → Option (List ℕ)
-all_told judged = fold (λ told one. told ++? one.told) (Some []) judged
+-- the reports among the verdicts
+abbrev pub reports : List (Option (List ℕ)) → List (List ℕ)
+reports verdicts = filter_map (λ verdict. verdict) verdicts
 
--- each line of the known bytes was judged, counted and told
-pub record IsReplay (known : Option (List ℕ)) (tally : Tally) (old new : Option (List ℕ)) : Type 0 where
-  pub judged : List Judged
-  pub lines : IfSome known (λ bytes. BeginWith judged bytes [])
-  pub each : All (λ one. IsVerdict one.line one.same one.told) judged
-  pub answers : tally.answers ≡ u64_saturate (length judged)
-  pub differences : tally.differences ≡ u64_saturate (count_by (λ one. not one.same) judged)
-  pub tells : IfSome (all_told judged) (λ text. Appends old new text)
+-- each line up to those that are left has one verdict: all are counted, and the reports are written one after another
+pub record IsReplay (known left : Option (List ℕ)) (tally : Tally) (old new : Option (List ℕ)) : Type 0 where
+  pub verdicts : List (Option (List ℕ))
+  pub lines : AreJudged known verdicts left
+  pub answers : tally.answers ≡ u64_saturate (length verdicts)
+  pub differences : tally.differences ≡ u64_saturate (length (reports verdicts))
+  pub tells : Appends old new (concat (reports verdicts))

@@ -1,49 +1,33 @@
 //! The columns of a line of recorded answers, and the escapes in them.
-ghost use Rattle.std.specs.Prelude.{◌≡◌, ℕ, List, IfOk, IfSome, MatchOption, string_bytes};
-ghost use Rattle.std.specs.Str.{chars};
-ghost use Rattle.replay.specs.declared.asked.Asked.{Asked};
-ghost use Rattle.replay.specs.Column.{IsUnescaped, StandsFor, letter, step};
-ghost use Rattle.replay.specs.Line.{IsCut, IsLine};
-
-use crate::asked::Asked;
 use std::alloc::{AllocError, Global};
 
 /// A recorded answer.
 ///
 /// On a line the three columns stand with a tab between them, text and answer escaped.
 #[derive(Drop)]
-pub struct Recorded {
+pub struct Recorded<'a> {
     /// What was asked, or that the text was refused.
-    pub asked: Asked,
+    pub asked: &'a str,
     /// The text.
     pub text: String,
     /// What was answered.
     pub answer: String,
 }
 
-/// The recorded answer of a line; `None` where it hasn't three columns, the first names no kind, or
-/// another has a wrong escape.
+/// The recorded answer of a line; `None` where it hasn't three columns, or one has a wrong escape.
 ///
 /// `fault`, a tab, `(]`, a tab and `1:1` are the fault of `(]`.
-pub fn read_line(alloc: Global, line: &str) -> Result<Option<Recorded>, AllocError>
-    ensures found { IfOk result (λ answer. IfSome answer (λ recorded. IsLine line.now
-        recorded.asked (string_bytes recorded.text) (string_bytes recorded.answer))) }
-    ensures none { result ≡ Ok None → (asked : Asked) (text answer : List ℕ)
-        → IsLine line.now asked text answer → ⊥ }
-{
-    let Some((name, columns)) = cut(line) else {
+pub fn read_line<'a>(alloc: Global, line: &'a str) -> Result<Option<Recorded<'a>>, AllocError> {
+    let mut columns = line.split('\t');
+    let (Some(asked), Some(text), Some(answer), None) = (
+        columns.next(),
+        columns.next(),
+        columns.next(),
+        columns.next(),
+    ) else {
         return Ok(None);
     };
-    let Some(asked) = Asked::named(name) else {
-        return Ok(None);
-    };
-    let Some((text, answer)) = cut(columns) else {
-        return Ok(None);
-    };
-    let Some(text) = unescaped(alloc, text)? else {
-        return Ok(None);
-    };
-    let Some(answer) = unescaped(alloc, answer)? else {
+    let (Some(text), Some(answer)) = (unescaped(alloc, text)?, unescaped(alloc, answer)?) else {
         return Ok(None);
     };
     Ok(Some(Recorded {
@@ -51,14 +35,6 @@ pub fn read_line(alloc: Global, line: &str) -> Result<Option<Recorded>, AllocErr
         text,
         answer,
     }))
-}
-
-// The parts before and behind the first tab.
-fn cut(text: &str) -> Option<(&str, &str)>
-    ensures { MatchOption result ((first rest : List ℕ) → IsCut text.now first rest → ⊥)
-        (λ parts. IsCut text.now parts.0.now parts.1.now) }
-{
-    text.split_once('\t')
 }
 
 /// How far an escape is read.
@@ -74,15 +50,9 @@ enum State {
     Number(u32),
 }
 
-/// The text of a column; `None` where an escape is none of `\n`, `\r`, `\t`, `\\` and `\u{..}`, or
-/// isn't closed. A tab is none of a column's characters.
-///
-/// `a\tb\u{e9}` is `a`, a tab, `b` and U+00E9.
-pub fn unescaped(alloc: Global, column: &str) -> Result<Option<String>, AllocError>
-    ensures found { IfOk result (λ answer. IfSome answer (λ text.
-        IsUnescaped (chars column.now) (string_bytes text))) }
-    ensures none { result ≡ Ok None → (text : List ℕ) → StandsFor (chars column.now) text → ⊥ }
-{
+// The text of a column; `None` where an escape is none of `\n`, `\r`, `\t`, `\\` and `\u{..}`, or
+// isn't closed. `a\tb\u{e9}` is `a`, a tab, `b` and U+00E9.
+fn unescaped(alloc: Global, column: &str) -> Result<Option<String>, AllocError> {
     let mut text = String::new(alloc);
     let mut state = State::Plain;
     for c in column.chars() {
@@ -100,35 +70,21 @@ pub fn unescaped(alloc: Global, column: &str) -> Result<Option<String>, AllocErr
     })
 }
 
-// The state after a character, and the character that is read with it.
-fn step(state: State, c: char) -> Option<(State, Option<char>)>
-    ensures { result ≡ step state c }
-{
-    match state {
-        State::Plain if c == '\\' => Some((State::Backslash, None)),
-        State::Plain if c == '\t' => None,
-        State::Plain => Some((State::Plain, Some(c))),
-        State::Backslash if c == 'u' => Some((State::Brace, None)),
-        State::Backslash => Some((State::Plain, Some(escape(c)?))),
-        State::Brace if c == '{' => Some((State::Number(0), None)),
-        State::Brace => None,
-        State::Number(number) if c == '}' => Some((State::Plain, Some(char::from_u32(number)?))),
-        State::Number(number) => {
+// The state after a character, and the character that is read with it; `None` at a wrong escape.
+fn step(state: State, c: char) -> Option<(State, Option<char>)> {
+    match (state, c) {
+        (State::Plain, '\\') => Some((State::Backslash, None)),
+        (State::Plain, c) | (State::Backslash, c @ '\\') => Some((State::Plain, Some(c))),
+        (State::Backslash, 'n') => Some((State::Plain, Some('\n'))),
+        (State::Backslash, 'r') => Some((State::Plain, Some('\r'))),
+        (State::Backslash, 't') => Some((State::Plain, Some('\t'))),
+        (State::Backslash, 'u') => Some((State::Brace, None)),
+        (State::Brace, '{') => Some((State::Number(0), None)),
+        (State::Number(number), '}') => Some((State::Plain, Some(char::from_u32(number)?))),
+        (State::Number(number), c) => {
             let number = number.checked_mul(16)?.checked_add(c.to_digit(16)?)?;
             Some((State::Number(number), None))
         }
-    }
-}
-
-// What a character behind a backslash stands for.
-fn escape(c: char) -> Option<char>
-    ensures { result ≡ letter c }
-{
-    match c {
-        'n' => Some('\n'),
-        'r' => Some('\r'),
-        't' => Some('\t'),
-        '\\' => Some('\\'),
-        _ => None,
+        (State::Backslash | State::Brace, _) => None,
     }
 }

@@ -1,14 +1,13 @@
-//! Recorded answers of the Rust crate: what a line of them asks, what the library answers to it, and
-//! whether that is what was recorded.
+//! Recorded answers of the Rust crate: what the library answers to a line of them, and whether that
+//! is what was recorded.
 #![tactic(auto)]
 
 mod answer;
-mod asked;
 mod columns;
-mod items;
-mod kind;
+mod contents;
 mod lines;
 mod literals;
-mod texts;
+mod streams;
+mod values;
 
 pub use lines::{Tally, replay};

@@ -1,19 +1,25 @@
-use Rattle.std.proofs.Common.{◌≡◌, Some, Ok, refl, ap, ◌∙◌, string_bytes}
-use Rattle.std.specs.Io.Iter.{lines_known_bytes}
-use Rattle.replay.proofs.ReplayLemmas.{IsReplaying-start, IsReplaying-more, IsReplaying-end}
+use Rattle.std.proofs.Common.{rules, string_bytes, Some, None, Ok, ◌≡◌, ap, ◌∙◌}
+use Rattle.replay.proofs.ReplayLemmas.{IsReplay-more}
 use Rattle.replay.proofs.lines.replay.Goals as goal
-
-pub loop-line-init : goal.loop-line-init
-loop-line-init g c =
-    let fresh = ap (lines_known_bytes g.R.Read.remaining) c.into_iter-line-iterator.ensures.into_iter_gives in
-    IsReplaying-start _ _ _ _ (fresh ∙ c.lines-line-items.ensures) refl
+use Rattle.replay.proofs.lines.replay.Goals.{in-Some-2+in_ok-write_all, in_default}
 
 pub loop-line-preserved : goal.loop-line-preserved
 loop-line-preserved g c =
     let is : c.next.result ≡ Some (Ok c.in_ok-line.line) = c.in-Some.is ∙ ap Some c.in_ok-line.was in
-    IsReplaying-more string_bytes _ _ _ _ _ _ _ _ _ _ _ _ c.loop-line.invariant c.next.ensures.steps.1 is
-    c.as_str.ensures.value c.in_ok-same.ensures
-    c.with_answer-tally.ensures.answers c.with_answer-tally.ensures.differences
+    let cut = rw is at c.next.ensures.steps.1 in
+    let line = string_bytes c.in_ok-line.line in
+    let told = rw c.as_str.ensures.value at c.in_ok-report.ensures in
+    elim c.match-branch-3.branch [
+      | in-Some-2+in_ok-write_all w ↦
+          let report = rw w.in-Some-2.is at told in
+          IsReplay-more _ _ _ _ _ _ _ _ (Some (string_bytes w.in-Some-2.report)) c.loop-line.invariant
+          (record { line = line; first = cut.0; rest = cut.1; report = report })
+          (search rules) (search rules) (search rules)
+      | in_default w ↦
+          IsReplay-more _ _ _ _ _ _ _ _ None c.loop-line.invariant
+          (record { line = line; first = cut.0; rest = cut.1; report = tt })
+          (search rules) (search rules) (search rules)
+    ]
 
 pub returns : goal.returns
-returns g c = IsReplaying-end string_bytes _ _ _ _ _ _ _ c.loop-line.invariant c.next.ensures.steps.1 c.in-None.is
+returns g c = (_, rw c.in-None.is at c.next.ensures.steps.1, c.loop-line.invariant)

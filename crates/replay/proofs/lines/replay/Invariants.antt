@@ -1,8 +1,8 @@
 use Rattle.std.specs.Io.Iter.{lines_known_bytes}
-use Rattle.replay.proofs.ReplayLemmas.{IsReplaying}
+use Rattle.replay.specs.Replay.{IsReplay}
 use Rattle.replay.proofs.lines.replay.Given as goal
 
 abbrev pub invariant-loop-line : goal.invariant-loop-line
 invariant-loop-line g l =
-    IsReplaying (g.R.Read.remaining l.fn.reader) (lines_known_bytes g.R.Read.remaining l.line-iterator) l.tally
+    IsReplay (g.R.Read.remaining l.fn.reader) (lines_known_bytes g.R.Read.remaining l.line-iterator) l.tally
     (g.W.Write.contents l.fn.writer) (g.W.Write.contents l.writer)
