@@ -24,13 +24,15 @@ fn plus(spacing: Spacing) -> TokenTree
     TokenTree::Punct(punct('+', spacing, Span::call_site()))
 }
 
-fn grouped(delimiter: Delimiter, stream: TokenStream, span: Span) -> TokenTree
+/// The group of this stream, which stands at the span.
+pub fn grouped(delimiter: Delimiter, stream: TokenStream, span: Span) -> TokenTree
     ensures { GoesInside result }
 {
     TokenTree::Group(group(delimiter, stream, span))
 }
 
-fn one(alloc: Global, tree: TokenTree) -> Result<TokenStream, AllocError>
+/// The stream of this tree alone.
+pub fn one(alloc: Global, tree: TokenTree) -> Result<TokenStream, AllocError>
     requires { GoesInside tree }
 {
     let _ = tree.span();
@@ -53,7 +55,8 @@ fn three(
     stream(alloc, vec![in alloc; first, second, third]?)
 }
 
-fn empty_group(alloc: Global, delimiter: Delimiter) -> TokenTree
+/// The group of no tree, which stands in no file.
+pub fn empty_group(alloc: Global, delimiter: Delimiter) -> TokenTree
     ensures { GoesInside result }
 {
     grouped(delimiter, TokenStream::new(alloc), Span::call_site())

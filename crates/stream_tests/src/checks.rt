@@ -3,7 +3,8 @@
 //! They stand in functions of their own, since a long function is dear to prove.
 use pm_span::parts::bounds;
 use proc_macro2::{ParseError, SourceMap, TokenStream};
-use std::alloc::Global;
+use std::alloc::{AllocError, Global};
+use std::fmt::{Debug, Display};
 use std::process::Abort;
 
 /// Asserts that `text` parses in a new map, and is printed as `want`.
@@ -66,4 +67,41 @@ fn fault_bounds(alloc: Global, text: &str) -> (u32, u32) {
         Err(ParseError::Lex(fault)) => bounds(fault.span()),
         _ => (0, 0),
     }
+}
+
+/// Asserts that the value is displayed as this text.
+pub fn displays<T: Display>(
+    rt: &impl Abort,
+    alloc: Global,
+    value: &T,
+    want: &str,
+) -> Result<(), AllocError> {
+    let found = format!(in alloc; "{value}")?;
+    assert_eq!(rt; found.as_str(), want);
+    Ok(())
+}
+
+/// Asserts that the value shows its parts as this text.
+pub fn shows<T: Debug>(
+    rt: &impl Abort,
+    alloc: Global,
+    value: &T,
+    want: &str,
+) -> Result<(), AllocError> {
+    let found = format!(in alloc; "{value:?}")?;
+    assert_eq!(rt; found.as_str(), want);
+    Ok(())
+}
+
+/// Asserts that the value is displayed as this text, whatever width or precision is asked for.
+pub fn has_no_width<T: Display>(
+    rt: &impl Abort,
+    alloc: Global,
+    value: &T,
+    text: &str,
+) -> Result<(), AllocError> {
+    let found = format!(in alloc; "{value:>9}|{value:*^9}|{value:.1}")?;
+    let want = format!(in alloc; "{text}|{text}|{text}")?;
+    assert_eq!(rt; found.as_str(), want.as_str());
+    Ok(())
 }

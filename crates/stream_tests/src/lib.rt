@@ -22,4 +22,6 @@ mod parsing;
 #[cfg(test)]
 mod rows;
 #[cfg(test)]
+mod shown_trees;
+#[cfg(test)]
 mod streams;
