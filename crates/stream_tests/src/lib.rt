@@ -23,5 +23,6 @@ mod parsing;
 mod rows;
 #[cfg(test)]
 mod shown_trees;
+mod spans;
 #[cfg(test)]
 mod streams;
