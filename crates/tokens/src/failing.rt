@@ -1,5 +1,5 @@
 //! Sources and sinks over memory that move a few bytes a call, and fail. They are for tests.
-ghost use Rattle.std.specs.Prelude.{◌<◌, Some};
+ghost use Rattle.std.specs.Prelude.{◌<◌, None, Some, false};
 
 use crate::sinks::{ByteSink, MemorySink, is_refusal};
 use crate::sources::{ByteSource, MemorySource};
@@ -45,6 +45,47 @@ impl ByteSource for FailingSource<'_> {
         };
         self.failed = self.failed || given.is_err();
         given
+    }
+}
+
+/// Bytes that come whole in each of the first reads and once more after their end, as a terminal
+/// gives them. It counts its reads.
+#[derive(Drop)]
+pub struct TerminalSource<'a> {
+    bytes: &'a [u8],
+    end: usize,
+    reads: usize,
+}
+
+impl<'a> TerminalSource<'a> {
+    /// A source of these bytes, so many times before its end, and once more in the read after it.
+    pub fn new(bytes: &'a [u8], times: usize) -> TerminalSource<'a> {
+        TerminalSource {
+            bytes,
+            end: times.saturating_add(1),
+            reads: 0,
+        }
+    }
+
+    /// How often it was read.
+    pub fn reads(&self) -> usize {
+        self.reads
+    }
+}
+
+impl ByteSource for TerminalSource<'_> {
+    ghost left = { λ _. None };
+
+    ghost has_failed = { λ _. false };
+
+    fn read(&mut self, buffer: &mut [u8]) -> io::Result<usize> {
+        self.reads = self.reads.saturating_add(1);
+        if self.reads == self.end || self.reads > self.end.saturating_add(1) {
+            return Ok(0);
+        }
+        let n = self.bytes.len().min(buffer.len());
+        buffer[..n].copy_from_slice(&self.bytes[..n]);
+        Ok(n)
     }
 }
 

@@ -1,5 +1,5 @@
 use super::*;
-use crate::failing::{FailingSink, FailingSource};
+use crate::failing::{FailingSink, FailingSource, TerminalSource};
 use crate::sinks::MemorySink;
 use crate::sources::MemorySource;
 use proc_macro2::LineColumn;
@@ -123,6 +123,31 @@ fn a_read_that_fails_writes_nothing(rt: HostRuntime) -> Result<(), Fail> {
         check_command(&rt, &reads, words.as_slice(), reader, 2, b"", FAILED);
     }
     Ok(())
+}
+
+/// Asserts what is written, said and answered of these bytes, so many times, from a terminal, and
+/// that nothing is read after their end.
+fn check_terminal(
+    rt: &(impl Abort + AllocGlobal),
+    bytes: &[u8],
+    times: usize,
+    status: u8,
+    output: &[u8],
+    said: &[u8],
+) {
+    let words = one_word(rt.alloc(), "print").expect(rt, "no memory");
+    let reader = &mut TerminalSource::new(bytes, times);
+    check_command(rt, &times, words.as_slice(), reader, status, output, said);
+    assert_eq!(rt; reader.reads(), times.saturating_add(1), "of {bytes:?}");
+}
+
+#[test]
+fn nothing_is_read_after_the_end(rt: HostRuntime) {
+    check_terminal(&rt, b"a+", 0, 0, b"\n", b"");
+    check_terminal(&rt, b"a+b\n", 1, 0, b"a + b\n", b"");
+    check_terminal(&rt, b"a+", 3, 0, b"a + a + a +\n", b"");
+    check_terminal(&rt, b"a(\n", 2, 1, b"", b"fault 2:1\n");
+    check_terminal(&rt, b"a\xFF", 2, 2, b"", b"not utf-8\n");
 }
 
 /// Asserts what stands after so many writes of at most so many bytes, where the next one fails.
