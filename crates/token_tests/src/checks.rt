@@ -45,3 +45,43 @@ pub fn shows<T: Debug>(
     check_same(rt, want, &shown.as_str(), &want);
     Ok(())
 }
+
+/// Asserts what each value of the table shows of itself.
+pub fn are_shown<T: Debug>(
+    rt: &impl Abort,
+    alloc: Global,
+    rows: &[(T, &str)],
+) -> Result<(), AllocError> {
+    for (value, want) in rows {
+        shows(rt, alloc, value, want)?;
+    }
+    Ok(())
+}
+
+/// Asserts what each value of the table is displayed as.
+pub fn are_displayed<T: Display>(
+    rt: &impl Abort,
+    alloc: Global,
+    rows: &[(T, &str)],
+) -> Result<(), AllocError> {
+    for (value, want) in rows {
+        displays(rt, alloc, value, want)?;
+    }
+    Ok(())
+}
+
+/// Asserts that each value of the table is equal to itself, and to no other of them.
+pub fn are_told_apart<T: PartialEq + Debug>(rt: &impl Abort, values: &[T]) {
+    for (at, value) in values.iter().enumerate() {
+        is_told_apart(rt, values, at, value);
+    }
+}
+
+/// Asserts that the value is equal to the one at this place of the table, and to no other.
+fn is_told_apart<T: PartialEq + Debug>(rt: &impl Abort, values: &[T], at: usize, value: &T) {
+    for (place, other) in values.iter().enumerate() {
+        let answers = (value == other, value != other);
+        let want = (at == place, at != place);
+        assert_eq!(rt; answers, want, "of {value:?} and {other:?}");
+    }
+}

@@ -6,6 +6,8 @@
 #[cfg(test)]
 mod checks;
 #[cfg(test)]
+mod equalities;
+#[cfg(test)]
 mod identifiers;
 #[cfg(test)]
 mod integers;
@@ -13,6 +15,10 @@ mod integers;
 mod places;
 #[cfg(test)]
 mod quoted;
+#[cfg(test)]
+mod shown_errors;
+#[cfg(test)]
+mod shown_parts;
 #[cfg(test)]
 mod shown_tokens;
 #[cfg(test)]

@@ -1,23 +1,13 @@
 use crate::checks::{displays, shows};
 use pm_span::Span;
 use pm_span::parts::span_of;
-use pm_token::parts::{fault, ident, punct};
-use pm_token::{Ident, ParseError, Spacing};
+use pm_token::parts::{ident, punct};
+use pm_token::{Ident, Spacing};
 use std::alloc::{AllocError, Global};
 use std::process::Abort;
 
 fn low_line(alloc: Global, span: Span) -> Result<Ident, AllocError> {
     ident(alloc, "_", false, span)
-}
-
-#[test]
-fn errors_say_what_is_wrong(rt: HostRuntime) -> Result<(), AllocError> {
-    let alloc = rt.alloc();
-    let error = fault(span_of(1, 1));
-    shows(&rt, alloc, &error, "LexError { span: bytes(1..1) }")?;
-    let error = ParseError::Lex(error);
-    displays(&rt, alloc, &error, "cannot parse string into token stream")?;
-    displays(&rt, alloc, &ParseError::MapFull, "map full")
 }
 
 /// Asserts that `_` with this span is displayed, and shows its parts as this text.

@@ -53,6 +53,18 @@ fn str_is_refused(
     Ok(())
 }
 
+/// Asserts that the literal of the text is refused by `byte_str_value` for this fault.
+fn byte_str_is_refused(
+    rt: &impl Abort,
+    alloc: Global,
+    text: &str,
+    fault: EscapeError,
+) -> Result<(), Fail> {
+    let refused = literal(alloc, text)?.byte_str_value(alloc).err();
+    is_refused(rt, refused, fault, text);
+    Ok(())
+}
+
 /// Asserts that the literal of the text is refused by `cstr_value` for this fault.
 fn cstr_is_refused(
     rt: &impl Abort,
@@ -112,11 +124,13 @@ fn kinds_are(
 fn a_string_has_the_characters_of_its_items(rt: HostRuntime) -> Result<(), Fail> {
     let rows = &[
         ("\"\"", ""),
+        ("\"\\\n\n\"", ""),
         ("\"a\\tb\"", "a\tb"),
         ("\"\\x7F\\u{e9}\u{E9}\\'\\\"\"", "\x7F\u{E9}\u{E9}'\""),
         ("\"a\\\n  b\nc\"", "ab\nc"),
         ("\"a\\\n\n \u{A0}b\"", "a\u{A0}b"),
         ("r\"\"", ""),
+        ("r#\"\"#", ""),
         ("r\"\\t\r\n\"", "\\t\r\n"),
         ("r##\"a\"#\u{E9}\"##", "a\"#\u{E9}"),
     ];
@@ -125,11 +139,15 @@ fn a_string_has_the_characters_of_its_items(rt: HostRuntime) -> Result<(), Fail>
 
 #[test]
 fn a_byte_string_has_the_bytes_of_its_items(rt: HostRuntime) -> Result<(), Fail> {
-    let rows: [(&str, &[u8]); 4] = [
+    let rows: [(&str, &[u8]); 8] = [
         ("b\"\"", b""),
+        ("b\"\\\n\n\"", b""),
+        ("br\"\"", b""),
+        ("br##\"\"##", b""),
         ("b\"a\\xFF\\0\\\n b\"", b"a\xFF\0b"),
         ("br\"\\x\"", b"\\x"),
         ("br#\"\"\"#", b"\""),
+        ("br\"a\r\n\"", b"a\r\n"),
     ];
     for (text, want) in rows {
         byte_str_value_is(&rt, rt.alloc(), text, want)?;
@@ -139,10 +157,13 @@ fn a_byte_string_has_the_bytes_of_its_items(rt: HostRuntime) -> Result<(), Fail>
 
 #[test]
 fn a_zero_byte_ends_a_c_string(rt: HostRuntime) -> Result<(), Fail> {
-    let rows: [(&str, &[u8]); 4] = [
+    let rows: [(&str, &[u8]); 7] = [
         ("c\"\"", b"\0"),
+        ("c\"\\\n\n\"", b"\0"),
+        ("cr\"\"", b"\0"),
         ("c\"a\\x80\"", b"a\x80\0"),
         ("c\"\u{E9}\\u{e9}\"", b"\xC3\xA9\xC3\xA9\0"),
+        ("cr\"a\r\n\"", b"a\r\n\0"),
         ("cr#\"\\x80\u{E9}\"#", b"\\x80\xC3\xA9\0"),
     ];
     for (text, want) in rows {
@@ -161,12 +182,24 @@ fn the_last_fault_of_a_content_is_answered(rt: HostRuntime) -> Result<(), Fail> 
     ] {
         str_is_refused(&rt, rt.alloc(), text, fault)?;
     }
-    cstr_is_refused(
-        &rt,
-        rt.alloc(),
-        "c\"\r\n\"",
-        EscapeError::BareCarriageReturn,
-    )
+    Ok(())
+}
+
+#[test]
+fn a_fault_in_bytes_is_answered(rt: HostRuntime) -> Result<(), Fail> {
+    for (text, fault) in [
+        ("b\"a\r\nb\"", EscapeError::BareCarriageReturn),
+        ("b\"\\\r\nx\"", EscapeError::InvalidEscape),
+    ] {
+        byte_str_is_refused(&rt, rt.alloc(), text, fault)?;
+    }
+    for (text, fault) in [
+        ("c\"\r\n\"", EscapeError::BareCarriageReturn),
+        ("c\"\\\r\nx\"", EscapeError::InvalidEscape),
+    ] {
+        cstr_is_refused(&rt, rt.alloc(), text, fault)?;
+    }
+    Ok(())
 }
 
 #[test]
