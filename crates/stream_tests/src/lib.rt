@@ -23,6 +23,7 @@ mod parsing;
 mod rows;
 #[cfg(test)]
 mod shown_trees;
+#[cfg(test)]
 mod spans;
 #[cfg(test)]
 mod streams;
