@@ -1,5 +1,5 @@
 -- The text of a tree's span is that of its run.
-use Rattle.std.proofs.Common.{◌≡◌, ℕ, ◌+◌, ◌-◌, ◌≤◌, List, [], ◌∷◌, ◌++◌, length, take, drop, refl, sym, ap, ap₂, ◌∙◌, arith, length-append}
+use Rattle.std.proofs.Common.{◌≡◌, ℕ, ◌+◌, ◌-◌, ◌≤◌, List, [], ◌∷◌, ◌++◌, length, take, drop, refl, sym, ap, ap₂, ◌∙◌, arith, length-append, subst, append-nil}
 use Rattle.std.proofs.lemmas.List.Elements.{All-from_recursion}
 use Rattle.lexical.specs.Piece.{Piece}
 use Rattle.lexical.specs.Cover.{onto, width}
@@ -11,7 +11,8 @@ use Rattle.pm_stream.specs.TreeSpan.{extent_of}
 use Rattle.pm_stream.specs.declared.stream.TokenTree.{TokenTree}
 use Rattle.pm_stream.proofs.CoverLemmas.{onto-append, width-append}
 use Rattle.pm_stream.proofs.FaultLemmas.{cover_within}
-use Rattle.proc_macro2.specs.GivesBack.{between, StandsOn, GivesBack, SpansGiveBack}
+use Rattle.pm_stream.proofs.InOrderLemmas.{all_listed}
+use Rattle.proc_macro2.specs.GivesBack.{between, StandsOn, GivesBack, SpansGiveBack, ListedGiveBack}
 use Rattle.proc_macro2.proofs.RunLemmas.{each_map, each_stands}
 
 -- ---- one file
@@ -120,3 +121,9 @@ spans_give_back old map source stream parsed more =
     (each_map (StandsOn base parsed.pieces) (GivesBack map base parsed.pieces) (in_order stream)
     (λ tree. gives_back map base source parsed.pieces tree file parsed.covers.whole within)
     (each_stands base source stream parsed))
+
+pub listed_give_back : ListedGiveBack
+listed_give_back old map source stream parsed kept trees e tree index less is =
+    let P = GivesBack map (next_lo old) parsed.pieces in
+    let same : Extends (with_file old source) map = ([], ap (λ (m : Files). m.texts) kept ∙ sym (append-nil _)) in
+    subst P (sym is) (all_listed P trees stream e (spans_give_back old map source stream parsed same) index tree less).0

@@ -8,11 +8,12 @@ use Rattle.lexical.specs.Cover.{onto, width, StandBefore}
 use Rattle.lexical.proofs.PieceFacts.{open_is, close_is}
 use Rattle.lexical.proofs.ClassLemmas.{any_of}
 use Rattle.pm_span.specs.Extent.{Extent}
+use Rattle.pm_token.specs.Leaf.{is_joint}
 use Rattle.pm_token.specs.declared.delimiters.Delimiter.{Delimiter}
 use Rattle.pm_stream.specs.Delimited.{opening, closing, delimiter_of}
 use Rattle.pm_stream.specs.Events.{Event, One, Opens, Closes, doc_onto, events_onto, expansion}
 use Rattle.pm_stream.specs.Forest.{Forest, nil, leaf, group, flat_onto, flattening, joined}
-use Rattle.pm_stream.specs.InOrder.{token_tree, in_order}
+use Rattle.pm_stream.specs.InOrder.{spacing_of, token_tree, in_order}
 use Rattle.pm_stream.specs.Parsing.{ParsesTo}
 use Rattle.pm_stream.specs.TreeSpan.{extent_of}
 use Rattle.pm_stream.specs.declared.stream.TokenTree.{TokenTree}
@@ -21,7 +22,7 @@ use Rattle.pm_stream.proofs.CoverLemmas.{expansion-append, width-append}
 use Rattle.pm_stream.proofs.DocLemmas.{doc_trees, doc_trees-events}
 use Rattle.pm_stream.proofs.InOrderLemmas.{in_order-joined, each_onto}
 use Rattle.pm_stream.proofs.Levels.{flat_onto-append, flat_onto-joined}
-use Rattle.proc_macro2.specs.GivesBack.{IsToken, IsOfDoc, IsGroup, StandsOn}
+use Rattle.proc_macro2.specs.GivesBack.{piece_of, IsRunOf, IsRunOfDoc, StandsOn}
 
 -- ---- the events of a stream, cut at its end
 
@@ -88,7 +89,7 @@ stands_later at x ps tree h = record {
   whole = ap (λ us. x ∷ us) h.whole;
   begins = omega (arith, h.begins);
   ends = h.ends;
-  spelled = h.spelled;
+  is_run = h.is_run;
 }
 
 -- more pieces after the others
@@ -101,21 +102,21 @@ stands_before at ps qs tree h = record {
       ∙ (append_assoc h.before (h.run ++ h.after) qs ∙ ap (λ us. h.before ++ us) (append_assoc h.run h.after qs));
   begins = h.begins;
   ends = h.ends;
-  spelled = h.spelled;
+  is_run = h.is_run;
 }
 
 -- the first piece alone
 stands_alone : (at : ℕ) (x : Piece) (ps : List Piece) (tree : TokenTree)
     → extent_of tree ≡ record { lo = at; hi = at + length x.1 }
-    → IsToken (x ∷ []) tree ⊎ (IsOfDoc (x ∷ []) tree ⊎ IsGroup (x ∷ []) tree) → StandsOn at (x ∷ ps) tree
-stands_alone at x ps tree e spelled = record {
+    → IsRunOf (x ∷ []) tree ⊎ IsRunOfDoc (x ∷ []) tree → StandsOn at (x ∷ ps) tree
+stands_alone at x ps tree e is_run = record {
   before = [];
   run = x ∷ [];
   after = ps;
   whole = refl;
   begins = omega (arith, ap (λ (s : Extent). s.lo) e);
   ends = omega (arith, ap (λ (s : Extent). s.lo) e, ap (λ (s : Extent). s.hi) e);
-  spelled = spelled;
+  is_run = is_run;
 }
 
 -- ---- a token, and the trees of a doc comment
@@ -125,16 +126,21 @@ token_extent (Name raw name) lo hi = refl
 token_extent (Mark c joint) lo hi = refl
 token_extent (Literal text) lo hi = refl
 
+joint_back : (joint : Bool) → is_joint (spacing_of joint) ≡ joint
+joint_back true = refl
+joint_back false = refl
+
+token_run : (token : Token) (lo hi : ℕ) → IsRunOf (piece_of token ∷ []) (token_tree token lo hi)
+token_run (Name raw name) lo hi = refl
+token_run (Mark c joint) lo hi = ap (λ j. piece_of (Mark c j) ∷ []) (sym (joint_back joint))
+token_run (Literal text) lo hi = refl
+
 token_stands : (at : ℕ) (token : Token) (p : List ℕ) (ps : List Piece) → p ≡ token_text token
     → StandsOn at ((Leaf token, p) ∷ ps) (token_tree token at (at + length p))
 token_stands at token p ps e =
-    let place = token_extent token at (at + length p) in
-    stands_alone at (Leaf token, p) ps (token_tree token at (at + length p)) place
-    (inl (record {
-      token = token;
-      piece = ap (λ q. (Leaf token, q) ∷ []) e;
-      is = ap (λ (s : Extent). token_tree token s.lo s.hi) (sym place);
-    }))
+    let tree = token_tree token at (at + length p) in
+    stands_alone at (Leaf token, p) ps tree (token_extent token at (at + length p))
+    (inl (subst (λ q. IsRunOf ((Leaf token, q) ∷ []) tree) (sym e) (token_run token at (at + length p))))
 
 doc_extents : (lo hi : ℕ) (inner : Bool) (text : List ℕ)
     → Each (λ tree. extent_of tree ≡ record { lo = lo; hi = hi }) (in_order (doc_trees lo hi inner text))
@@ -154,16 +160,16 @@ doc_stands at inner text p ps =
     each_both (λ tree. extent_of tree ≡ record { lo = at; hi = at + length p }) (Contains (in_order doc))
     (StandsOn at ((Doc inner text, p) ∷ ps)) (in_order doc)
     (λ tree place among. stands_alone at (Doc inner text, p) ps tree place
-    (inr (inl (record {
+    (inr (record {
       inner = inner;
       text = text;
       comment = p;
       trees = doc;
       piece = refl;
-      given = doc_trees-events at (at + length p) inner text []
+      gives = doc_trees-events at (at + length p) inner text []
           ∙ ap (λ (s : Extent). doc_onto s.lo s.hi inner text []) (sym place);
       among = among;
-    }))))
+    })))
     (doc_extents at (at + length p) inner text) own
 
 -- ---- what the pieces are written as
@@ -298,19 +304,13 @@ group_stands at c e p q us vs f same opens closes inside = record {
   whole = ap (λ xs. (Open c, p) ∷ xs) (sym (append_assoc us ((Close e, q) ∷ []) vs));
   begins = omega arith;
   ends = omega (arith, width-append us ((Close e, q) ∷ []));
-  spelled = inr (inr (record {
-    group = record {
-      delimiter = delimiter_of c;
-      stream = f;
-      span = record { lo = at; hi = at + length p + width us + length q };
-    };
+  is_run = inl (record {
     opener = c;
     closer = e;
     middle = us;
-    is = refl;
     pieces = ap₂ (λ x y. enclosed (Open c, x) us (Close e, y) []) opens (closes ∙ ap closing same);
-    between = inside ∙ ap (λ x. expansion (at + length x) us) opens;
-  }));
+    gives = inside ∙ ap (λ x. expansion (at + length x) us) opens;
+  });
 }
 
 cut_group : (at c e : ℕ) (p q : List ℕ) (ps more : List Piece) (f g : Forest) (xs es : List Event)

@@ -1,19 +1,21 @@
 -- How the spans of a parsed stream give back its source. A tree stands on a run of the pieces that cover the source.
-use Rattle.std.specs.Prelude.{ℕ, Bool, ◌+◌, ◌-◌, ◌≡◌, ◌⊎◌, ◌↔◌, List, [], ◌∷◌, ◌++◌, All, Contains, length, take, drop}
+use Rattle.std.specs.Prelude.{ℕ, Bool, ◌+◌, ◌-◌, ◌<◌, ◌≡◌, ◌⊎◌, ◌↔◌, List, [], ◌∷◌, ◌++◌, All, Contains, length, slice_index_or, take, drop}
 use Rattle.lexical.specs.Token.{Token, token_text}
 use Rattle.lexical.specs.Piece.{Piece, Doc, Open, Close, Leaf}
 use Rattle.lexical.specs.Cover.{onto, width}
 use Rattle.pm_span.specs.Extent.{Extent}
 use Rattle.pm_span.specs.Files.{Files, Holds, next_lo, with_file, Extends}
+use Rattle.pm_token.specs.Leaf.{name_token, mark_token, text_token}
 use Rattle.pm_stream.specs.Delimited.{opening, closing}
 use Rattle.pm_stream.specs.Events.{doc_onto, expansion}
 use Rattle.pm_stream.specs.Forest.{Forest, flattening}
-use Rattle.pm_stream.specs.InOrder.{token_tree, in_order}
+use Rattle.pm_stream.specs.InOrder.{in_order}
+use Rattle.pm_stream.specs.Level.{forest}
 use Rattle.pm_stream.specs.Parsing.{ParsesTo}
 use Rattle.pm_stream.specs.TreeSpan.{extent_of}
 use Rattle.pm_stream.specs.declared.stream.Group.{Group as Grouped}
 use Rattle.pm_stream.specs.declared.stream.TokenTree.{TokenTree}
-use Rattle.pm_stream.specs.declared.stream.TokenTree.TheVariants.{Group}
+use Rattle.pm_stream.specs.declared.stream.TokenTree.TheVariants.{Group, Ident, Punct, Literal}
 
 abbrev pub between : List ℕ → ℕ → ℕ → List ℕ
 between text j k = take (k - j) (drop j text)
@@ -22,34 +24,37 @@ pub record IsTextOf (map : Files) (span : Extent) (source : List ℕ) : Type 0 w
   pub held : Holds map span
   pub between : source ≡ between held.text (span.lo - held.lo) (span.hi - held.lo)
 
--- the run is the piece of one token, and the tree is that token
-pub record IsToken (run : List Piece) (tree : TokenTree) : Type 0 where
-  pub token : Token
-  pub piece : run ≡ (Leaf token, token_text token) ∷ []
-  pub is : tree ≡ token_tree token (extent_of tree).lo (extent_of tree).hi
+-- a token's piece, which is written as the token is
+abbrev pub piece_of : Token → Piece
+piece_of token = (Leaf token, token_text token)
 
--- the run is one doc comment, and the tree is one of those that it gives, which all have its span
-pub record IsOfDoc (run : List Piece) (tree : TokenTree) : Type 0 where
+-- the run goes from an opener through its closer, and what stands between them gives the group's stream
+pub record IsRunOfGroup (run : List Piece) (group : Grouped) : Type 0 where
+  pub opener : ℕ
+  pub closer : ℕ
+  pub middle : List Piece
+  pub pieces :
+      run ≡ (Open opener, opening group.delimiter) ∷ (middle ++ ((Close closer, closing group.delimiter) ∷ []))
+  pub gives : flattening group.stream ≡ expansion (group.span.lo + length (opening group.delimiter)) middle
+
+-- the run is what the tree is written as: the piece of a token, or all pieces of a group
+abbrev pub IsRunOf : List Piece → TokenTree → Type 0
+IsRunOf run (Group g) = IsRunOfGroup run g
+IsRunOf run (Ident i) = run ≡ piece_of (name_token i) ∷ []
+IsRunOf run (Punct p) = run ≡ piece_of (mark_token p) ∷ []
+IsRunOf run (Literal l) = run ≡ piece_of (text_token l) ∷ []
+
+-- the run is one doc comment, and the tree is one of those that it gives, each of which has its span
+pub record IsRunOfDoc (run : List Piece) (tree : TokenTree) : Type 0 where
   pub inner : Bool
   pub text : List ℕ
   pub comment : List ℕ
   pub trees : Forest
   pub piece : run ≡ (Doc inner text, comment) ∷ []
-  pub given : flattening trees ≡ doc_onto (extent_of tree).lo (extent_of tree).hi inner text []
+  pub gives : flattening trees ≡ doc_onto (extent_of tree).lo (extent_of tree).hi inner text []
   pub among : Contains (in_order trees) tree
 
--- the run goes from an opener through its closer, and the tree is the group of what stands between them
-pub record IsGroup (run : List Piece) (tree : TokenTree) : Type 0 where
-  pub group : Grouped
-  pub opener : ℕ
-  pub closer : ℕ
-  pub middle : List Piece
-  pub is : tree ≡ Group group
-  pub pieces :
-      run ≡ (Open opener, opening group.delimiter) ∷ (middle ++ ((Close closer, closing group.delimiter) ∷ []))
-  pub between : flattening group.stream ≡ expansion (group.span.lo + length (opening group.delimiter)) middle
-
--- the pieces from base on have a run that is the tree, and the tree's span goes from its first place to its last
+-- the tree has a run of the pieces, which begin at base, and its span goes from the run's first place to its last
 pub record StandsOn (base : ℕ) (pieces : List Piece) (tree : TokenTree) : Type 0 where
   pub before : List Piece
   pub run : List Piece
@@ -57,7 +62,7 @@ pub record StandsOn (base : ℕ) (pieces : List Piece) (tree : TokenTree) : Type
   pub whole : pieces ≡ before ++ (run ++ after)
   pub begins : (extent_of tree).lo ≡ base + width before
   pub ends : (extent_of tree).hi ≡ (extent_of tree).lo + width run
-  pub spelled : IsToken run tree ⊎ (IsOfDoc run tree ⊎ IsGroup run tree)
+  pub is_run : IsRunOf run tree ⊎ IsRunOfDoc run tree
 
 -- `gives-back`: the text of the tree's span in the map is that of its run
 pub record GivesBack (map : Files) (base : ℕ) (pieces : List Piece) (tree : TokenTree) : Type 0 where
@@ -68,3 +73,10 @@ pub record GivesBack (map : Files) (base : ℕ) (pieces : List Piece) (tree : To
 abbrev pub SpansGiveBack : Type 0
 SpansGiveBack = (old map : Files) (source : List ℕ) (stream : Forest) (parsed : ParsesTo (next_lo old) source stream)
     → Extends (with_file old source) map → All (GivesBack map (next_lo old) parsed.pieces) (in_order stream)
+
+-- in the map after the parse, so does each tree of a list that makes the stream
+abbrev pub ListedGiveBack : Type 0
+ListedGiveBack = (old map : Files) (source : List ℕ) (stream : Forest) (parsed : ParsesTo (next_lo old) source stream)
+    → map ≡ with_file old source → (trees : List TokenTree) → forest trees ≡ stream
+    → (tree : TokenTree) (index : ℕ) → index < length trees → tree ≡ slice_index_or trees index tree
+    → GivesBack map (next_lo old) parsed.pieces tree

@@ -1,7 +1,7 @@
 //! What is proved of texts, streams and printed texts together. The functions compute nothing: their
 //! contracts are the laws, which `specs/Laws.antt` states.
 
-ghost use Rattle.proc_macro2.specs.GivesBack.{SpansGiveBack};
+ghost use Rattle.proc_macro2.specs.GivesBack.{SpansGiveBack, ListedGiveBack};
 ghost use Rattle.proc_macro2.specs.Laws.{
   BrokenLine,
   ComesBack,
@@ -70,5 +70,6 @@ pub fn broken_line()
 ///
 /// In `a (b) // c` the text of the group's span is `(b)`.
 pub fn spans_give_back()
-    ensures { SpansGiveBack }
+    ensures each { SpansGiveBack }
+    ensures listed { ListedGiveBack }
 {}
