@@ -1,12 +1,19 @@
--- A text is ASCII exactly if it has as many bytes as characters.
-use Rattle.std.proofs.Common.{◌≡◌, ℕ, ◌+◌, ◌<◌, ◌≤◌, true, false, ◌&&◌, eqb, List, [], ◌∷◌, length, refl, sym, ap, ◌∙◌, arith, inl, inr, eq-eqb, ne_eqb, ltb-true, length-append}
+-- A text is ASCII exactly if it has as many bytes as characters, and its places are then counts of bytes.
+use Rattle.std.proofs.Common.{◌≡◌, ℕ, zero, suc, cond, map, take, get_or, ◌+◌, ◌^◌, ◌++◌, codes, ◌<◌, ◌≤◌, true, false, ◌&&◌, eqb, List, [], ◌∷◌, length, refl, sym, ap, ◌∙◌, arith, inl, inr, eq-eqb, ne_eqb, ltb-true, length-append}
 use Rattle.std.specs.Prelude.{nat_lt, encode_utf8}
 use Rattle.std.specs.Char.{len_utf8}
-use Rattle.std.specs.Str.{chars, IsUtf8, encode_utf8_all}
-use Rattle.std.proofs.lemmas.Bool.{and_parts, cases_Bool}
+use Rattle.std.specs.Str.{chars, IsUtf8, IsAscii, encode_utf8_all}
+use Rattle.std.specs.Fmt.{decimal}
+use Rattle.std.proofs.lemmas.Bool.{and_parts, and_from, cases_Bool}
 use Rattle.std.proofs.lemmas.Bool.Decides.{nat_tests}
-use Rattle.std.proofs.lemmas.Str.{encodes-chars, length-encode, len_utf8_ascii, len_utf8_bounds, length-le-encodes}
-use Rattle.pm_span.specs.FileInfo.{all_ascii}
+use Rattle.std.proofs.lemmas.Fmt.{IsAscii-decimal}
+use Rattle.std.proofs.lemmas.Str.Ascii.{IsAscii-nil, IsAscii-cons}
+use Rattle.std.proofs.lemmas.Str.{chars-IsAscii, IsAscii-append, encodes-chars, length-encode, len_utf8_ascii, len_utf8_bounds, length-le-encodes}
+use Rattle.std.proofs.Math.ListN.{get_or-map, length-map}
+use Rattle.std.proofs.lemmas.List.{length-take-le, get_or_read}
+use Rattle.pm_span.specs.FileInfo.{all_ascii, after_line_feeds, line_bytes, IsKept, IsLineAt}
+use Rattle.pm_span.specs.Files.{file_name}
+use Rattle.pm_span.specs.Place.{byte_offset}
 
 len_utf8_past : (c : ℕ) → nat_lt c 128 ≡ false → 2 ≤ len_utf8 c
 len_utf8_past c h = grind (arith, nat_tests)
@@ -43,3 +50,60 @@ all_ascii_is bytes utf8 =
           let more = more_bytes (chars bytes) some in
           ne_eqb _ _ (λ same. omega arith) ∙ sym some
     ]
+
+ascii_front : (text : List ℕ) (k : ℕ) → all_ascii text ≡ true → all_ascii (take k text) ≡ true
+ascii_front text zero h = refl
+ascii_front [] (suc k) h = refl
+ascii_front (c ∷ text) (suc k) h =
+    let parts = and_parts (nat_lt c 128) (all_ascii text) h in
+    and_from (nat_lt c 128) (all_ascii (take k text)) parts.0 (ascii_front text k parts.1)
+
+-- in a text of ASCII alone a place is a count of bytes
+pub byte_offset-ascii : (text : List ℕ) (k : ℕ) → all_ascii text ≡ true → k ≤ length text → byte_offset text k ≡ k
+byte_offset-ascii text k h within = same_bytes (take k text) (ascii_front text k h) ∙ length-take-le k text within
+
+-- the bytes before the lines are kept exactly of a text that isn't ASCII
+pub kept_none :
+    {text line_starts starts : List ℕ} {lo hi : ℕ} → IsKept text lo hi line_starts starts → length starts ≡ 0
+    → all_ascii text ≡ true
+kept_none {text} kept none = elim (cases_Bool (all_ascii text)) [
+  | inl all ↦ all
+  | inr some ↦
+      let size = ap length (kept.bytes ∙ ap (λ b. cond b [] (line_bytes text)) some) in
+      absurd (omega arith)
+]
+
+kept_all :
+    {text line_starts starts : List ℕ} {lo hi : ℕ} → IsKept text lo hi line_starts starts → (length starts ≡ 0 → ⊥)
+    → starts ≡ line_bytes text
+kept_all {text} kept some = elim (cases_Bool (all_ascii text)) [
+  | inl all ↦ absurd (some (ap length (kept.bytes ∙ ap (λ b. cond b [] (line_bytes text)) all)))
+  | inr other ↦ kept.bytes ∙ ap (λ b. cond b [] (line_bytes text)) other
+]
+
+pub line_byte :
+    {text line_starts starts : List ℕ} {lo hi place n start byte : ℕ} → IsKept text lo hi line_starts starts
+    → (length starts ≡ 0 → ⊥) → IsLineAt text place n start → byte ≡ get_or starts n byte → byte ≡ byte_offset text start
+line_byte {text} {starts = starts} {n = n} {byte = byte} kept some line read =
+    let lines : List ℕ = 0 ∷ after_line_feeds text in
+    let all : starts ≡ map (byte_offset text) lines = kept_all kept some in
+    let size = ap length all ∙ length-map lines (byte_offset text) in
+    get_or_read starts n byte (omega (arith, line.known)) read 0
+    ∙ (ap (λ xs. get_or xs n 0) all ∙ (get_or-map (byte_offset text) lines n 0 ∙ ap (byte_offset text) (sym line.begins)))
+
+-- how a file from 1 on is named, as bytes and as characters
+pub IsAscii-from_test : (text : List ℕ) → all_ascii text ≡ true → IsAscii text
+IsAscii-from_test [] h = IsAscii-nil
+IsAscii-from_test (c ∷ text) h =
+    let parts = and_parts (nat_lt c 128) (all_ascii text) h in
+    IsAscii-cons c text (ltb-true c 128 parts.0) (IsAscii-from_test text parts.1)
+
+pub chars-parsed_name : (n : ℕ) → (n ≡ 0 → ⊥) → n < 2 ^ 64 → chars (codes "<parsed string " ++ (decimal n ++ codes ">")) ≡ file_name n
+chars-parsed_name zero some fits = absurd (some refl)
+chars-parsed_name (suc n) some fits =
+    chars-IsAscii (codes "<parsed string " ++ (decimal (suc n) ++ codes ">"))
+    (IsAscii-append (codes "<parsed string ") (decimal (suc n) ++ codes ">") (IsAscii-from_test (codes "<parsed string ") refl)
+    (IsAscii-append (decimal (suc n)) (codes ">") (IsAscii-decimal (suc n) fits) (IsAscii-from_test (codes ">") refl)))
+
+pub chars-unspecified : chars (codes "<unspecified>") ≡ file_name 0
+chars-unspecified = chars-IsAscii (codes "<unspecified>") (IsAscii-from_test (codes "<unspecified>") refl)

@@ -3,6 +3,7 @@ use Rattle.std.proofs.Common.{◌≡◌, ℕ, ◌+◌, List, [], ◌∷◌, ◌+
 use Rattle.std.proofs.lemmas.List.Sums.{sum_by-cons}
 use Rattle.pm_span.specs.Extent.{Extent, nowhere}
 use Rattle.pm_span.specs.Files.{Files, positions, IsFile, Holds, with_file, Extends}
+use Rattle.pm_span.specs.Lookup.{AreInOneFile, joined}
 
 pub positions-cons : (text : List ℕ) (texts : List (List ℕ)) → positions (text ∷ texts) ≡ length text + 1 + positions texts
 positions-cons text texts = sum_by-cons (λ t. length t + 1) text texts
@@ -38,4 +39,25 @@ holds_extends old new span more held = record {
   file = is_file_extends old new held.text held.lo more held.file;
   from = held.from;
   to = held.to;
+}
+
+-- two spans are in one file exactly if the span of both is held
+pub held_joined : {map : Files} (first second : Extent) → Holds map (joined first second) → AreInOneFile map first second
+held_joined first second held = record {
+  text = held.text;
+  lo = held.lo;
+  file = held.file;
+  first_from = omega (arith, held.from);
+  first_to = omega (arith, held.to);
+  second_from = omega (arith, held.from);
+  second_to = omega (arith, held.to);
+}
+
+pub joined_held : {map : Files} (first second : Extent) → AreInOneFile map first second → Holds map (joined first second)
+joined_held first second both = record {
+  text = both.text;
+  lo = both.lo;
+  file = both.file;
+  from = omega (arith, both.first_from, both.second_from);
+  to = omega (arith, both.first_to, both.second_to);
 }

@@ -3,4 +3,5 @@ mod Examples
 pub mod FileLemmas
 pub mod LineLemmas
 pub mod PlacedLemmas
+pub mod SeamLemmas
 pub mod SplitLemmas

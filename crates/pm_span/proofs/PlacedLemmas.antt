@@ -1,10 +1,13 @@
 -- Lemmas on files that stand one after the other.
-use Rattle.std.proofs.Common.{◌≡◌, ℕ, zero, suc, ◌+◌, ◌-◌, ◌<◌, ◌≤◌, ◌↔◌, List, [], ◌∷◌, ◌++◌, length, map, get_or, refl, sym, ap, subst, ◌∙◌, arith}
+use Rattle.std.proofs.Common.{◌≡◌, ℕ, zero, suc, ◌+◌, ◌-◌, ◌<◌, ◌≤◌, ◌↔◌, List, [], ◌∷◌, ◌++◌, length, map, get_or, Option, Some, None, refl, sym, ap, ap₂, subst, ◌∙◌, ◌≢◌, arith}
+use Rattle.std.specs.Borrow.{Bor}
+use Rattle.std.specs.Option.{unwrap_or, option_copied}
 use Rattle.std.specs.List.Sorted.{IsNonDecreasingBy}
 use Rattle.std.proofs.lemmas.List.{get_or_read}
-use Rattle.pm_span.specs.Extent.{Extent}
+use Rattle.pm_span.specs.Extent.{Extent, nowhere}
 use Rattle.pm_span.specs.FileInfo.{PlacedText}
 use Rattle.pm_span.specs.Files.{Files, positions, IsFile, Holds}
+use Rattle.pm_span.specs.Place.{line_column, byte_offset}
 use Rattle.pm_span.specs.Placed.{file_0, ArePlaced, IsFileOf}
 use Rattle.pm_span.proofs.FileLemmas.{positions-cons}
 
@@ -76,7 +79,8 @@ only_at :
     → file.text ∷ texts_of files ≡ before ++ (text ∷ after) → file.lo + positions before ≤ position
     → position ≤ file.lo + positions before + length text
     → (text ≡ (get_or (file ∷ files) n d).text) × (file.lo + positions before ≡ (get_or (file ∷ files) n d).lo)
-only_at file files zero position d [] after text h bound below above e from to = (cc, omega arith)
+    × (length before ≡ n)
+only_at file files zero position d [] after text h bound below above e from to = (cc, omega arith, refl)
 only_at file [] (suc n) position d [] after text h bound below above e from to = absurd (omega arith)
 only_at file (f ∷ files) (suc n) position d [] after text h bound below above e from to =
     let same : file.text ≡ text = cc in
@@ -93,21 +97,21 @@ only_at file (f ∷ files) (suc n) position d (t ∷ ts) after text h bound belo
     let rest = only_at f files n position d ts after text placed (omega arith)
     (λ j e less. below (suc j) e (omega arith)) (λ j e le less. above (suc j) e (omega arith) (omega arith))
     (cc) (omega arith) (omega arith) in
-    (rest.0, sym k ∙ rest.1)
+    (rest.0, sym k ∙ rest.1, omega (arith, rest.2))
 
 -- what a search for the last file that begins at or before the position finds
 pub file_found :
     (limit : ℕ) (files : List PlacedText) (n position : ℕ) (d : PlacedText) → ArePlaced 1 files
     → n ≤ length files → ((j : ℕ) (e : PlacedText) → j < n → (get_or files j e).lo ≤ position)
     → ((j : ℕ) (e : PlacedText) → n ≤ j → j < length files → position < (get_or files j e).lo)
-    → IsFileOf (record { texts = texts_of files; limit = limit }) position (get_or (file_0 ∷ files) n d)
+    → IsFileOf (record { texts = texts_of files; limit = limit }) position n (get_or (file_0 ∷ files) n d)
 file_found limit files n position d h bound below above = record {
   is_file = (is_file n bound);
   begins = (begins n bound below);
   only = λ text lo file from to.
       let same = only_at file_0 files n position d file.before file.after text h bound below above file.whole
       (omega (arith, file.begins)) (omega (arith, file.begins)) in
-      (same.0, omega (arith, file.begins, same.1));
+      (same.0, omega (arith, file.begins, same.1), same.2);
 }
   where
     is_file :
@@ -136,13 +140,66 @@ get_or_before xs (suc n) x d some bound e =
     let i : suc n - 1 ≡ n = omega arith in
     get_or_read xs n x (omega arith) (e ∙ ap (λ j. get_or xs j x) i) d
 
+-- the file that the search answers
+pub found_none :
+    {map : Files} {p q number : ℕ} {file : Option (Bor PlacedText)} → p ≡ q → file ≡ None
+    → IsFileOf map p number (unwrap_or (option_copied file) file_0) → IsFileOf map q number file_0
+found_none {map} {p} {q} {number} same is found =
+    subst (λ r. IsFileOf map r number file_0) same (subst (λ o. IsFileOf map p number (unwrap_or (option_copied o) file_0)) is found)
+
+pub found_some :
+    {map : Files} {p q number : ℕ} {file : Option (Bor PlacedText)} {some : Bor PlacedText} → p ≡ q → file ≡ Some some
+    → IsFileOf map p number (unwrap_or (option_copied file) file_0) → IsFileOf map q number some.now
+found_some {map} {p} {q} {number} {file} {some} same is found =
+    subst (λ r. IsFileOf map r number some.now) same
+    (subst (λ o. IsFileOf map p number (unwrap_or (option_copied o) file_0)) is found)
+
 -- a span is held exactly if it ends in the file that may have its beginning
 pub holds_at :
-    (map : Files) (span : Extent) (file : PlacedText) → IsFileOf map span.lo file → span.lo ≤ span.hi
+    {map : Files} {number : ℕ} {file : PlacedText} (span : Extent) → IsFileOf map span.lo number file → span.lo ≤ span.hi
     → (span.hi ≤ file.lo + length file.text) ↔ Holds map span
-holds_at map span file found ordered = (
+holds_at {map} {number} {file} span found ordered = (
   λ to. record { text = file.text; lo = file.lo; file = found.is_file; from = found.begins; to = to },
   λ held.
       let same = found.only held.text held.lo held.file held.from (omega (arith, held.to)) in
       omega (arith, held.to, ap length same.0, same.1),
 )
+
+-- what holds of the file that was found holds of any file of the map that has the span
+pub of_each :
+    {map : Files} {number : ℕ} {file : PlacedText} (span : Extent) (P : ℕ → List ℕ → ℕ → Type 0)
+    → IsFileOf map span.lo number file → span.lo ≤ span.hi → P number file.text file.lo
+    → (text : List ℕ) (lo : ℕ) (other : IsFile map text lo) → lo ≤ span.lo → span.hi ≤ lo + length text
+    → P (length other.before) text lo
+of_each {map} {number} {file} span P found ordered here text lo other from to =
+    let same = found.only text lo other from (omega arith) in
+    subst (λ n. P n text lo) (sym same.2)
+    (subst (λ t. P number t lo) (sym same.0) (subst (λ l. P number file.text l) (sym same.1) here))
+
+abbrev extent_of : ℕ → ℕ → Extent
+extent_of lo hi = record { lo = lo; hi = hi }
+
+-- a span that is held in file 0 is 0..0, and no other is
+pub in_file_0 :
+    {map : Files} {number : ℕ} (span : Extent) → IsFileOf map span.lo number file_0 → span.lo ≤ span.hi → Holds map span
+    → span ≡ nowhere
+in_file_0 span found ordered held =
+    let within = (holds_at span found ordered).1 held in
+    ap₂ extent_of (omega arith) (omega arith)
+
+pub past_file_0 :
+    {map : Files} {number : ℕ} {file : PlacedText} (span : Extent) → IsFileOf map span.lo number file → 0 < number
+    → span ≢ nowhere
+past_file_0 {map} span found past same =
+    let lo = ap (λ s. s.lo) same in
+    let zero = found.only [] 0 (record { before = []; after = map.texts; whole = refl; begins = refl }) (omega arith) (omega arith) in
+    omega (arith, zero.2)
+
+-- the places of file 0
+pub line_column-nil : (k : ℕ) → record { line = 1; column = 0 } ≡ line_column [] k
+line_column-nil zero = refl
+line_column-nil (suc k) = refl
+
+pub byte_offset-nil : (k : ℕ) → 0 ≡ byte_offset [] k
+byte_offset-nil zero = refl
+byte_offset-nil (suc k) = refl

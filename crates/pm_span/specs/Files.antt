@@ -1,5 +1,5 @@
 -- What a source map is seen as: its files, each a text at positions of its own.
-use Rattle.std.specs.Prelude.{ℕ, ◌+◌, ◌≤◌, ◌≡◌, List, [], ◌∷◌, ◌++◌, length, sum_by}
+use Rattle.std.specs.Prelude.{ℕ, zero, suc, ◌+◌, ◌≤◌, ◌≡◌, List, [], ◌∷◌, ◌++◌, length, sum_by, codes, decimal}
 use Rattle.pm_span.specs.Extent.{Extent}
 
 -- the texts of the files 1, 2, .. in order, and the last position that may be given
@@ -33,6 +33,11 @@ pub record IsFile (map : Files) (text : List ℕ) (lo : ℕ) : Type 0 where
   pub after : List (List ℕ)
   pub whole : all_texts map ≡ before ++ (text ∷ after)
   pub begins : lo ≡ positions before
+
+-- `file-name`: how the file of this number is named
+abbrev pub file_name : ℕ → List ℕ
+file_name zero = codes "<unspecified>"
+file_name (suc n) = codes "<parsed string " ++ (decimal (suc n) ++ codes ">")
 
 -- `holds`: some file of the map has all the positions of the span
 pub record Holds (map : Files) (span : Extent) : Type 0 where

@@ -1,8 +1,9 @@
--- What is looked up of a span that the map holds. The text of the file that has the span answers.
-use Rattle.std.specs.Prelude.{ℕ, ◌+◌, ◌-◌, ◌≤◌, ◌≡◌, List, length}
+-- What is looked up of a span that the map holds. The file that has the span answers, and no other has it.
+use Rattle.std.specs.Prelude.{ℕ, ◌+◌, ◌-◌, ◌≤◌, ◌≡◌, List, length, min, max}
+use Rattle.std.specs.declared.ops.Range.{Range}
 use Rattle.pm_span.specs.Extent.{Extent}
-use Rattle.pm_span.specs.Files.{Files, IsFile}
-use Rattle.pm_span.specs.Place.{line_column}
+use Rattle.pm_span.specs.Files.{Files, IsFile, Holds, file_name}
+use Rattle.pm_span.specs.Place.{line_column, byte_offset, between}
 use Rattle.pm_span.specs.declared.location.LineColumn.{LineColumn}
 
 -- `line`, `column`: those of the place in its file where the span begins
@@ -10,3 +11,46 @@ abbrev pub StartsAt : Files → Extent → LineColumn → Type 0
 StartsAt map span place =
     (text : List ℕ) (lo : ℕ) → IsFile map text lo → lo ≤ span.lo → span.hi ≤ lo + length text
     → place ≡ line_column text (span.lo - lo)
+
+-- `line`, `column`: those of the place in its file where the span ends
+abbrev pub EndsAt : Files → Extent → LineColumn → Type 0
+EndsAt map span place =
+    (text : List ℕ) (lo : ℕ) → IsFile map text lo → lo ≤ span.lo → span.hi ≤ lo + length text
+    → place ≡ line_column text (span.hi - lo)
+
+-- `byte-offset`: those of the two places in its file where the span begins and ends
+abbrev pub HasBytes : Files → Extent → Range ℕ → Type 0
+HasBytes map span bytes =
+    (text : List ℕ) (lo : ℕ) → IsFile map text lo → lo ≤ span.lo → span.hi ≤ lo + length text
+    → bytes ≡ record { start = byte_offset text (span.lo - lo); end = byte_offset text (span.hi - lo) }
+
+-- `source-text`: what stands in its file between the two places where the span begins and ends
+abbrev pub HasText : Files → Extent → List ℕ → Type 0
+HasText map span source =
+    (text : List ℕ) (lo : ℕ) → IsFile map text lo → lo ≤ span.lo → span.hi ≤ lo + length text
+    → source ≡ between text (span.lo - lo) (span.hi - lo)
+
+-- `file-name`: that of the span's file
+abbrev pub HasName : Files → Extent → List ℕ → Type 0
+HasName map span name =
+    (text : List ℕ) (lo : ℕ) (file : IsFile map text lo) → lo ≤ span.lo → span.hi ≤ lo + length text
+    → name ≡ file_name (length file.before)
+
+-- `source-text`: some file of the map has the span, with this text between the two places
+pub record IsTextOf (map : Files) (span : Extent) (source : List ℕ) : Type 0 where
+  pub held : Holds map span
+  pub value : source ≡ between held.text (span.lo - held.lo) (span.hi - held.lo)
+
+-- some file of the map has both spans
+pub record AreInOneFile (map : Files) (first second : Extent) : Type 0 where
+  pub text : List ℕ
+  pub lo : ℕ
+  pub file : IsFile map text lo
+  pub first_from : lo ≤ first.lo
+  pub first_to : first.hi ≤ lo + length text
+  pub second_from : lo ≤ second.lo
+  pub second_to : second.hi ≤ lo + length text
+
+-- `join`: from where the first of the two begins to where the last of them ends
+abbrev pub joined : Extent → Extent → Extent
+joined first second = record { lo = min first.lo second.lo; hi = max first.hi second.hi }

@@ -1,5 +1,5 @@
 -- Places. A place k in a text is a count of its characters: the place before which its first k characters stand.
-use Rattle.std.specs.Prelude.{ℕ, Bool, not, ◌==◌, ◌+◌, List, length, take, reverse, count_by, take_while}
+use Rattle.std.specs.Prelude.{ℕ, Bool, not, ◌==◌, ◌+◌, List, ◌-◌, length, take, drop, reverse, count_by, take_while}
 use Rattle.std.specs.Str.{encode_utf8_all}
 use Rattle.pm_span.specs.declared.location.LineColumn.{LineColumn}
 
@@ -20,3 +20,7 @@ line_column text k = record { line = line text k; column = column text k }
 -- `byte-offset`: the number of bytes before the place
 abbrev pub byte_offset : List ℕ → ℕ → ℕ
 byte_offset text k = length (encode_utf8_all (take k text))
+
+-- the characters that stand between two places
+abbrev pub between : List ℕ → ℕ → ℕ → List ℕ
+between text j k = take (k - j) (drop j text)

@@ -17,10 +17,10 @@ pub record AreWithin (limit : ℕ) (files : List PlacedText) : Type 0 where
   pub placed : ArePlaced 1 files
   pub within : positions (map (λ file. file.text) files) ≤ limit
 
--- a file of the map that begins at or before the position, and the only one that may have it
-pub record IsFileOf (map : Files) (position : ℕ) (file : PlacedText) : Type 0 where
+-- a file of the map with its number, which begins at or before the position, and the only one that may have it
+pub record IsFileOf (map : Files) (position number : ℕ) (file : PlacedText) : Type 0 where
   pub is_file : IsFile map file.text file.lo
   pub begins : file.lo ≤ position
   pub only :
-      (text : List ℕ) (lo : ℕ) → IsFile map text lo → lo ≤ position → position ≤ lo + length text
-      → (text ≡ file.text) × (lo ≡ file.lo)
+      (text : List ℕ) (lo : ℕ) (other : IsFile map text lo) → lo ≤ position → position ≤ lo + length text
+      → (text ≡ file.text) × (lo ≡ file.lo) × (length other.before ≡ number)

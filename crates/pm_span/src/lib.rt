@@ -4,6 +4,7 @@
 mod file_info;
 pub mod laws;
 pub mod location;
+mod lookups;
 pub mod parts;
 pub mod source_map;
 pub mod spans;

@@ -1,5 +1,5 @@
 //! The map of the texts that were read.
-ghost use Rattle.std.specs.Prelude.{◌≡◌, ◌≤◌, ◌↔◌, ◌+◌, ◌^◌, ◌<◌, [], length, IfSome, IsTrue, OnOk, OnErr, SomeIff};
+ghost use Rattle.std.specs.Prelude.{◌≡◌, ◌≤◌, ◌↔◌, ◌+◌, ◌^◌, ◌<◌, [], length, IfSome, IsTrue, OnOk, OnErr, SomeIff, MatchOption};
 ghost use Rattle.std.specs.Option.{unwrap_or, option_copied};
 ghost use Rattle.std.specs.Str.{chars};
 ghost use Rattle.pm_span.specs.Files.{Files, next_lo, Fits, Holds, new_map, with_file};
@@ -64,6 +64,15 @@ impl SourceMap {
         }
     }
 
+    /// Takes all files but file 0 away, and keeps the limit.
+    ///
+    /// The next text begins at 1 again, so the spans of the texts before may be held by chance alone.
+    pub fn invalidate(&mut self)
+        ensures { self.new ≡ record self.old { texts = [] } }
+    {
+        self.files.clear();
+    }
+
     /// Whether some file of the map has all the positions of the span (`holds`).
     ///
     /// A file has the position at its end too. With the one text `ab` the map holds 0..0, 1..3
@@ -72,21 +81,23 @@ impl SourceMap {
         ensures { IsTrue result ↔ Holds self.now span }
     {
         let (lo, hi) = span.bounds();
-        match self.file_of(lo) {
+        let (_, file) = self.file_of(lo);
+        match file {
             None => hi == 0,
             Some(file) => hi <= file.hi(),
         }
     }
 
-    /// The last file that begins at or before the position; `None` for file 0.
-    fn file_of(&self, position: u32) -> Option<&FileInfo>
-        ensures { IsFileOf self.now position (unwrap_or (option_copied result) file_0) }
+    /// The last file that begins at or before the position, and its number before it; `None` for file 0.
+    pub(crate) fn file_of(&self, position: u32) -> (usize, Option<&FileInfo>)
+        ensures found { IsFileOf self.now position result.0 (unwrap_or (option_copied result.1) file_0) }
+        ensures number { MatchOption result.1 (result.0 ≡ 0) (λ _. 0 < result.0) }
     {
         let number = self.files.partition_point(|file| file.lo() <= position);
         if number == 0 {
-            None
+            (number, None)
         } else {
-            Some(&self.files[number - 1])
+            (number, Some(&self.files[number - 1]))
         }
     }
 
@@ -102,11 +113,12 @@ impl SourceMap {
     }
 
     /// The line and column of a position of the map.
-    fn line_column(&self, position: u32) -> LineColumn
+    pub(crate) fn line_column(&self, position: u32) -> LineColumn
         requires { Holds self.now (record { lo = position; hi = position }) }
         ensures { StartsAt self.now (record { lo = position; hi = position }) result }
     {
-        match self.file_of(position) {
+        let (_, file) = self.file_of(position);
+        match file {
             None => LineColumn { line: 1, column: 0 },
             Some(file) => file.line_column(position - file.lo()),
         }
@@ -140,19 +152,5 @@ impl SourceMap {
         let file = FileInfo::new(self.alloc, text, lo)?;
         self.files.push(file)?;
         Ok(())
-    }
-}
-
-impl Span {
-    /// The line and column where the span begins (`line`, `column`), in a map that holds it.
-    ///
-    /// Lines count from 1 and end at LF alone; columns count characters, from 0. In the text
-    /// `aaa` LF `bbb` at 1..8, the span 6..8 starts at line 2, column 1.
-    pub fn start(self, map: &SourceMap) -> LineColumn
-        requires { Holds map.now self }
-        ensures { StartsAt map.now self result }
-    {
-        let (lo, _) = self.bounds();
-        map.line_column(lo)
     }
 }

@@ -1,5 +1,5 @@
 //! Where tokens stand.
-ghost use Rattle.std.specs.Prelude.{◌≡◌, ◌≤◌, ◌↔◌, IsTrue};
+ghost use Rattle.std.specs.Prelude.{◌≡◌, ◌≤◌, ◌↔◌, IsTrue, None};
 ghost use Rattle.pm_span.specs.Extent.{nowhere};
 ghost use Rattle.pm_span.specs.Files.{Files, Holds};
 
@@ -33,6 +33,50 @@ impl Span {
         ensures held { (map : Files) → Holds map result }
     {
         Span { lo: 0, hi: 0 }
+    }
+
+    /// The span 0..0, as [`call_site`](Span::call_site): in a compiler, that of names with mixed hygiene.
+    pub fn mixed_site() -> Span
+        ensures value { result ≡ nowhere }
+        ensures held { (map : Files) → Holds map result }
+    {
+        Span::call_site()
+    }
+
+    /// The span 0..0, as [`call_site`](Span::call_site): in a compiler, that of names that resolve where a
+    /// macro is defined.
+    pub fn def_site() -> Span
+        ensures value { result ≡ nowhere }
+        ensures held { (map : Files) → Holds map result }
+    {
+        Span::mixed_site()
+    }
+
+    /// This span, resolved as the other one is.
+    ///
+    /// No names are resolved here, so it is this span: 1..2 resolved at 3..4 is 1..2.
+    pub fn resolved_at(self, _other: Span) -> Span
+        ensures { result ≡ self }
+    {
+        // Only a place is known of a span.
+        self
+    }
+
+    /// The other span, resolved as this one is.
+    ///
+    /// No names are resolved here, so it is the other span: 1..2 located at 3..4 is 3..4.
+    pub fn located_at(self, other: Span) -> Span
+        ensures { result ≡ other }
+    {
+        // Nothing of this span is kept.
+        other
+    }
+
+    /// The path of the file on disk that the span is in: always `None`, as every text is handed in.
+    pub fn local_file(self) -> Option<String>
+        ensures { result ≡ None }
+    {
+        None
     }
 
     pub(crate) fn new(lo: u32, hi: u32) -> Span

@@ -1,5 +1,5 @@
 //! The characters and the lines of texts.
-ghost use Rattle.std.specs.Prelude.{◌≡◌, ◌<◌, ◌↔◌, ◌∷◌, ◌++◌, length, IsTrue, IfSome, MatchOption};
+ghost use Rattle.std.specs.Prelude.{◌≡◌, ◌<◌, ◌≤◌, ◌↔◌, ◌∷◌, ◌++◌, length, drop, IsTrue, IfSome, MatchOption};
 ghost use Rattle.std.specs.Str.{chars, IsUtf8};
 ghost use Rattle.pm_span.specs.Line.{is_one_line};
 
@@ -32,4 +32,17 @@ pub(crate) fn split_line(text: &str) -> Option<(&str, &str)>
     ensures utf8 { IfSome result (λ x. IsUtf8 x.0.now × IsUtf8 x.1.now) }
 {
     text.split_once('\n')
+}
+
+/// The text after its first `count` characters.
+pub(crate) fn skip_chars(text: &str, count: usize) -> &str
+    requires { count ≤ length (chars text.now) }
+    ensures value { chars result.now ≡ drop count (chars text.now) }
+    ensures utf8 { IsUtf8 result.now }
+{
+    let mut rest = text.chars();
+    for _ in 0..count {
+        let _ = rest.next();
+    }
+    rest.as_str()
 }

@@ -23,7 +23,7 @@ pub loop-line-preserved : goal.loop-line-preserved
 loop-line-preserved c =
     let split = c.in-Some.ensures.split in
     let n = c.loop-line.count + (c.char_count.result + 1) in
-    let left = after_line_feeds_from n (chars c.in-Some.behind.now) in
+    let left = after_line_feeds_from n (chars c.in-Some.after.now) in
     let more = after_line_feeds_from-split c.loop-line.count n _ _ _ split.0 split.1 (omega (arith, c.char_count.ensures)) in
     record {
       utf8 = c.in-Some.ensures.utf8.1;

@@ -14,7 +14,7 @@ found :
     → record { texts = texts_of files; limit = limit } ≡ map → slice ≡ files → ArePlaced 1 files
     → n ≤ length slice
     → (IsPartitionedBy (λ f. leb f.lo position) slice → IsPartitionPoint (λ f. leb f.lo position ≡ true) (λ f. leb f.lo position ≡ false) slice n)
-    → file ≡ get_or (file_0 ∷ files) n file_0 → IsFileOf map position file
+    → file ≡ get_or (file_0 ∷ files) n file_0 → IsFileOf map position n file
 found map files slice limit position n file view e placed bound point is =
     let here = point (IsPartitionedBy-leb (λ f. f.lo) slice position (rising 1 slice (subst (ArePlaced 1) (sym e) placed))) in
     let there : IsPartitionPoint (λ f. leb f.lo position ≡ true) (λ f. leb f.lo position ≡ false) files n =
@@ -22,10 +22,11 @@ found map files slice limit position n file view e placed bound point is =
     let last = file_found limit files n position file_0 placed (omega (arith, ap length e))
     (λ j x less. leb-true _ _ (there.0 j x (omega arith) less))
     (λ j x le less. leb-false _ _ (there.1 j x le less)) in
-    subst (λ m. IsFileOf m position file) view (subst (λ f. IsFileOf (record { texts = texts_of files; limit = limit }) position f) (sym is) last)
+    subst (λ m. IsFileOf m position n file) view
+    (subst (λ f. IsFileOf (record { texts = texts_of files; limit = limit }) position n f) (sym is) last)
 
-pub returns-then-number-eq0 : goal.returns-then-number-eq0
-returns-then-number-eq0 c =
+pub returns-then-number-eq0-clause-found : goal.returns-then-number-eq0-clause-found
+returns-then-number-eq0-clause-found c =
     found c.args.self.now c.self.inside.files.items c.deref.result.now c.self.inside.limit c.args.position
     c.partition_point-number.result file_0 c.self.view_is c.deref.ensures.value c.self.invariant.placed
     c.partition_point-number.ensures.bound
@@ -33,8 +34,8 @@ returns-then-number-eq0 c =
     c.partition_point-number.ensures.partitioned k (λ a r f q. search rules))
     (ap (λ n. get_or (file_0 ∷ c.self.inside.files.items) n file_0) (sym c.if-number-eq0.true))
 
-pub returns-else-number-eq0 : goal.returns-else-number-eq0
-returns-else-number-eq0 c =
+pub returns-else-number-eq0-clause-found : goal.returns-else-number-eq0-clause-found
+returns-else-number-eq0-clause-found c =
     let bound : c.partition_point-number.result ≤ length c.self.inside.files.items
     = omega (arith, c.partition_point-number.ensures.bound, ap length c.deref.ensures.value) in
     found c.args.self.now c.self.inside.files.items c.deref.result.now c.self.inside.limit c.args.position
