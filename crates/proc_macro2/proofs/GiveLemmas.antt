@@ -12,7 +12,8 @@ use Rattle.pm_stream.specs.declared.stream.TokenTree.{TokenTree}
 use Rattle.pm_stream.proofs.CoverLemmas.{onto-append, width-append}
 use Rattle.pm_stream.proofs.FaultLemmas.{cover_within}
 use Rattle.pm_stream.proofs.InOrderLemmas.{all_listed}
-use Rattle.proc_macro2.specs.GivesBack.{between, StandsOn, GivesBack, SpansGiveBack, ListedGiveBack}
+use Rattle.pm_span.specs.Place.{between}
+use Rattle.proc_macro2.specs.GivesBack.{StandsOn, GivesBack, SpansGiveBack, ListedGiveBack}
 use Rattle.proc_macro2.proofs.RunLemmas.{each_map, each_stands}
 
 -- ---- one file
@@ -98,10 +99,10 @@ gives_back map base source pieces tree file whole within h =
         λ found.
             let same = one_file map source found.held.text base found.held.lo lo file found.held.file
             from (omega (arith, h.ends)) found.held.from (omega (arith, h.ends, found.held.to)) in
-            found.between ∙ (ap₂ (λ t n. between t (lo - n) (hi - n)) (sym same.0) (sym same.1) ∙ is),
+            found.value ∙ (ap₂ (λ t n. between t (lo - n) (hi - n)) (sym same.0) (sym same.1) ∙ is),
         λ e. record {
           held = record { text = source; lo = base; file = file; from = from; to = to };
-          between = e ∙ sym is;
+          value = e ∙ sym is;
         },
       );
     }

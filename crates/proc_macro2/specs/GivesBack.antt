@@ -4,7 +4,8 @@ use Rattle.lexical.specs.Token.{Token, token_text}
 use Rattle.lexical.specs.Piece.{Piece, Doc, Open, Close, Leaf}
 use Rattle.lexical.specs.Cover.{onto, width}
 use Rattle.pm_span.specs.Extent.{Extent}
-use Rattle.pm_span.specs.Files.{Files, Holds, next_lo, with_file, Extends}
+use Rattle.pm_span.specs.Files.{Files, next_lo, with_file, Extends}
+use Rattle.pm_span.specs.Lookup.{IsTextOf}
 use Rattle.pm_token.specs.Leaf.{name_token, mark_token, text_token}
 use Rattle.pm_stream.specs.Delimited.{opening, closing}
 use Rattle.pm_stream.specs.Events.{doc_onto, expansion}
@@ -16,13 +17,6 @@ use Rattle.pm_stream.specs.TreeSpan.{extent_of}
 use Rattle.pm_stream.specs.declared.stream.Group.{Group as Grouped}
 use Rattle.pm_stream.specs.declared.stream.TokenTree.{TokenTree}
 use Rattle.pm_stream.specs.declared.stream.TokenTree.TheVariants.{Group, Ident, Punct, Literal}
-
-abbrev pub between : List ℕ → ℕ → ℕ → List ℕ
-between text j k = take (k - j) (drop j text)
-
-pub record IsTextOf (map : Files) (span : Extent) (source : List ℕ) : Type 0 where
-  pub held : Holds map span
-  pub between : source ≡ between held.text (span.lo - held.lo) (span.hi - held.lo)
 
 -- a token's piece, which is written as the token is
 abbrev pub piece_of : Token → Piece
