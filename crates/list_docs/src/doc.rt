@@ -2,7 +2,8 @@
 ghost use Rattle.std.specs.Prelude.{◌≡◌, [], ◌∷◌, IfSome, option_copied};
 ghost use Rattle.proc_macro2.specs.Leaf.{Name, Mark};
 ghost use Rattle.proc_macro2.specs.Level.{forest, inside};
-ghost use Rattle.proc_macro2.specs.declared.TokenTree.TheVariants.{Ident as IdentTree, Punct as PunctTree, Literal as LiteralTree};
+ghost use Rattle.proc_macro2.specs.declared.TokenTree.TheVariants.{Ident as IdentTree, Punct as PunctTree};
+ghost use Rattle.proc_macro2.specs.declared.TokenTree.TheVariants.{Literal as LiteralTree};
 ghost use Rattle.list_docs.specs.Doc.{doc_literal, doc_of, is_doc, is_equals, AreDocOf, IsDocOf};
 
 use proc_macro2::{Delimiter, Ident, Literal, Punct, Spacing, TokenTree};

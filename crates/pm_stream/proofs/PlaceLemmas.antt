@@ -4,7 +4,7 @@ use Rattle.std.specs.List.{AllByRecursion as Each}
 use Rattle.lexical.specs.Token.{Token, Name, Mark, Literal}
 use Rattle.pm_span.specs.Extent.{Extent}
 use Rattle.pm_span.specs.Files.{Files, IsFile, all_texts, next_lo, with_file}
-use Rattle.pm_span.specs.Lookup.{StartsAt}
+use Rattle.pm_span.specs.Lookup.{StartsAt, EndsAt}
 use Rattle.pm_span.specs.Place.{line_column}
 use Rattle.pm_span.specs.declared.location.LineColumn.{LineColumn}
 use Rattle.pm_stream.specs.Forest.{Forest, nil, leaf, group}
@@ -25,9 +25,15 @@ pub starts_in_last : (map : Files) (source : List ℕ) (span : Extent) (place : 
     → place ≡ line_column source (span.lo - next_lo map)
 starts_in_last map source span place from to starts = starts source (next_lo map) (last_file map source) from to
 
+-- where it ends
+pub ends_in_last : (map : Files) (source : List ℕ) (span : Extent) (place : LineColumn)
+    → next_lo map ≤ span.lo → span.hi ≤ next_lo map + length source → EndsAt (with_file map source) span place
+    → place ≡ line_column source (span.hi - next_lo map)
+ends_in_last map source span place from to ends = ends source (next_lo map) (last_file map source) from to
+
 -- where the fault of a map's last file starts
-pub fault_starts : (old new : Files) (source : List ℕ) (fault : Extent) (place : LineColumn) → new ≡ with_file old source
-    → (fault.lo ≡ fault.hi) × FaultAt (next_lo old) source fault.lo → StartsAt new fault place
+pub fault_starts : (old new : Files) (source : List ℕ) (fault : Extent) (place : LineColumn)
+    → new ≡ with_file old source → (fault.lo ≡ fault.hi) × FaultAt (next_lo old) source fault.lo → StartsAt new fault place
     → place ≡ line_column source (fault.lo - next_lo old)
 fault_starts old new source fault place added stands starts =
     let within = fault_within (next_lo old) source fault.lo stands.1 in

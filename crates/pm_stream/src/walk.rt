@@ -35,7 +35,8 @@ impl<'a> Model for Walk<'a> {
 }
 
 impl TokenStream {
-    /// A walk over all its trees, each group before those inside it. It takes no memory.
+    /// A walk over all its trees, each group before those inside it (`reading-order`). It takes no
+    /// memory.
     ///
     /// `a (b) c` has four trees in the order `a`, `(b)`, `b`, `c`.
     pub fn walk(&self) -> Walk<'_>
@@ -51,7 +52,8 @@ impl TokenStream {
 impl<'a> Walk<'a> {
     /// The next tree, or `None` after the last.
     ///
-    /// It takes memory only at a group. Where that is refused the walk stays as it was.
+    /// It takes memory only at a group, for what comes after that. Where memory is refused the walk
+    /// stays as it was.
     pub fn next(&mut self) -> Result<Option<&'a TokenTree>, AllocError>
         ensures ok { IfOk result (λ next. MatchOption next ((self.old ≡ []) × (self.new ≡ []))
             (λ tree. self.old ≡ tree.now ∷ self.new)) }
