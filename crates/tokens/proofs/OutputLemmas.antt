@@ -6,31 +6,29 @@ use Rattle.proc_macro2.specs.declared.LineColumn.{LineColumn}
 use Rattle.proc_macro2.specs.declared.ParseError.{ParseError}
 use Rattle.proc_macro2.specs.declared.ParseError.TheVariants.{Lex, MapFull, Memory}
 use Rattle.proc_macro2.specs.Extent.{Extent}
+use Rattle.proc_macro2.specs.Lookup.{StartsAt}
 use Rattle.proc_macro2.specs.Files.{Files, IsFile, new_map, next_lo, with_file}
 use Rattle.proc_macro2.specs.Forest.{Forest}
 use Rattle.proc_macro2.specs.Outcome.{IfLex, was_read}
 use Rattle.proc_macro2.specs.Parsing.{FaultAt}
 use Rattle.proc_macro2.proofs.FaultLemmas.{fault_within}
+use Rattle.proc_macro2.proofs.PlaceLemmas.{fault_starts}
 use Rattle.tokens.specs.declared.errors.RunError.{RunError}
 use Rattle.tokens.specs.declared.errors.RunError.TheVariants as run
-use Rattle.tokens.specs.Output.{HasFaultAt, StartsAt}
-
--- the one text that a map has read is its file at position 1
-first_file : (text : List ℕ) → IsFile (with_file new_map text) text 1
-first_file text = record { before = [] ∷ []; after = []; whole = refl; begins = refl }
+use Rattle.tokens.specs.Output.{HasFaultAt}
 
 -- where the fault of the one text that a map has read begins is the place of the input's fault
-HasFaultAt-read : (new : Files) (input : List ℕ) (fault : Extent) (place : LineColumn) → IsUtf8 input → new ≡ with_file new_map (chars input)
-    → fault.lo ≡ fault.hi → FaultAt 1 (chars input) fault.lo → StartsAt new fault place → HasFaultAt input place
+HasFaultAt-read : (new : Files) (input : List ℕ) (fault : Extent) (place : LineColumn) → IsUtf8 input
+    → new ≡ with_file new_map (chars input) → fault.lo ≡ fault.hi → FaultAt 1 (chars input) fault.lo
+    → StartsAt new fault place → HasFaultAt input place
 HasFaultAt-read new input fault place text read empty stands told =
     let within = fault_within 1 (chars input) fault.lo stands in
     let back : fault.lo ≡ 1 + (fault.lo - 1) = omega arith in
-    let File : Files → Type 0 = λ m. IsFile m (chars input) 1 in
     record {
       text = text;
       before = fault.lo - 1;
       fault = subst (FaultAt 1 (chars input)) back stands;
-      at = told (chars input) 1 (subst File (sym read) (first_file (chars input))) within.0 (omega (arith, empty, within.1));
+      at = fault_starts new_map new (chars input) fault place read (empty, stands) told;
     }
 
 -- a refusal that tells a place tells that of the fault

@@ -5,11 +5,13 @@ use Rattle.proc_macro2.specs.declared.LineColumn.{LineColumn}
 use Rattle.tokens.specs.declared.errors.RunError.{RunError}
 use Rattle.tokens.specs.declared.errors.RunError.TheVariants.{Io, NotUtf8, MapFull, Lex, Memory}
 use Rattle.tokens.specs.declared.mode.OutputMode.{OutputMode}
-use Rattle.tokens.specs.declared.mode.OutputMode.TheVariants.{Print}
+use Rattle.tokens.specs.declared.mode.OutputMode.TheVariants.{Print, Spans}
 
 -- the mode that a word names
 abbrev pub mode_named : List ℕ → Option OutputMode
-mode_named word = if pointwise nat_eq word (codes "print") then Some Print else None
+mode_named word =
+    if pointwise nat_eq word (codes "print") then Some Print
+    else (if pointwise nat_eq word (codes "spans") then Some Spans else None)
 
 -- the mode that the words ask for: the one that the only word names
 abbrev pub mode_of : List (List ℕ) → Option OutputMode

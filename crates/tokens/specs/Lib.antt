@@ -1,5 +1,6 @@
 pub mod Known
 pub mod Refusal
+pub mod Spans
 pub mod Output
 pub mod Answer
 pub mod Run

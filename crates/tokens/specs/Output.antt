@@ -1,26 +1,29 @@
 -- What is written for an input, and why it is refused.
-use Rattle.std.specs.Prelude.{ℕ, ◌+◌, ◌-◌, ◌≡◌, ◌≤◌, List, [], ◌++◌, length, codes}
+use Rattle.std.specs.Prelude.{ℕ, ◌+◌, ◌≡◌, List, ◌++◌, length, codes, flat_map}
 use Rattle.std.specs.Str.{chars, IsUtf8, encode_utf8_all}
 use Rattle.proc_macro2.specs.declared.LineColumn.{LineColumn}
-use Rattle.proc_macro2.specs.Extent.{Extent}
-use Rattle.proc_macro2.specs.Files.{Files, Fits, IsFile, new_map, next_lo}
+use Rattle.proc_macro2.specs.Files.{Fits, new_map, next_lo}
 use Rattle.proc_macro2.specs.Place.{line_column}
 use Rattle.proc_macro2.specs.Forest.{Forest}
+use Rattle.proc_macro2.specs.InOrder.{in_order}
 use Rattle.proc_macro2.specs.Parsing.{ParsesTo, FaultAt}
 use Rattle.proc_macro2.specs.Printed.{printed}
 use Rattle.tokens.specs.declared.mode.OutputMode.{OutputMode}
-use Rattle.tokens.specs.declared.mode.OutputMode.TheVariants.{Print}
+use Rattle.tokens.specs.declared.mode.OutputMode.TheVariants.{Print, Spans}
+use Rattle.tokens.specs.Spans.{span_line}
 
--- what is written of a stream, in bytes: for `print` its printed text and a line feed
-abbrev pub written : OutputMode → Forest → List ℕ
-written Print stream = encode_utf8_all (printed stream) ++ codes "\n"
+-- what is written of a stream that the source parses to, in bytes: for `print` its printed text and a line feed, for
+-- `spans` a line for each tree, each group before those inside it
+abbrev pub written : OutputMode → List ℕ → Forest → List ℕ
+written Print source stream = encode_utf8_all (printed stream) ++ codes "\n"
+written Spans source stream = flat_map (span_line source) (in_order stream)
 
 -- `output`: the bytes are what is written of the stream that the input parses to
 pub record IsOutput (mode : OutputMode) (input bytes : List ℕ) : Type 0 where
   pub text : IsUtf8 input
   pub stream : Forest
   pub parses : ParsesTo (next_lo new_map) (chars input) stream
-  pub writes : bytes ≡ written mode stream
+  pub writes : bytes ≡ written mode (chars input) stream
 
 -- the input is too long for a new map
 pub record IsTooLong (input : List ℕ) : Type 0 where
@@ -38,8 +41,3 @@ pub record HasFaultAt (input : List ℕ) (place : LineColumn) : Type 0 where
   pub before : ℕ
   pub fault : FaultAt (next_lo new_map) (chars input) (next_lo new_map + before)
   pub at : place ≡ line_column (chars input) before
-
--- the span begins at this place, in each file of the map that has the span
-abbrev pub StartsAt : Files → Extent → LineColumn → Type 0
-StartsAt map span place = (text : List ℕ) (lo : ℕ) → IsFile map text lo → lo ≤ span.lo → span.hi ≤ lo + length text
-    → place ≡ line_column text (span.lo - lo)

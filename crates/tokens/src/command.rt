@@ -19,7 +19,7 @@ mod tests;
 /// Does what the words after the program's name ask for, says on `errors` why it can't, and answers
 /// the program's status.
 ///
-/// The one word that is known is `print`. The status is 0 where all was written, 1 where the input
+/// The words that are known are `print` and `spans`, one of them alone. The status is 0 where all was written, 1 where the input
 /// has a fault, and 2 where the words ask for nothing, a read or a write failed, the input isn't
 /// UTF-8 or too long, or memory was refused; after each of these a line on `errors` says so. A line
 /// that can't be written changes no status.
@@ -102,10 +102,10 @@ fn mode_of(words: &[String]) -> Option<OutputMode>
 fn mode_named(word: &str) -> Option<OutputMode>
     ensures { result ≡ mode_named word.now }
 {
-    if word == "print" {
-        Some(OutputMode::Print)
-    } else {
-        None
+    match word {
+        "print" => Some(OutputMode::Print),
+        "spans" => Some(OutputMode::Spans),
+        _ => None,
     }
 }
 

@@ -1,18 +1,22 @@
 //! A run: from the bytes of a source to the bytes of a sink.
-ghost use Rattle.std.specs.Prelude.{◌≡◌, ◌↔◌, IfOk, IsFalse, alloc_error, string_bytes};
+ghost use Rattle.std.specs.Prelude.{◌≡◌, ◌↔◌, ℕ, List, IfOk, IsFalse, alloc_error, string_bytes};
 ghost use Rattle.std.specs.Str.{IsUtf8};
 ghost use Rattle.proc_macro2.specs.declared.LineColumn.{LineColumn};
 ghost use Rattle.proc_macro2.specs.Files.{Holds};
+ghost use Rattle.proc_macro2.specs.HeldSpans.{HoldsAll};
+ghost use Rattle.proc_macro2.specs.Lookup.{StartsAt};
 ghost use Rattle.proc_macro2.specs.Outcome.{IfLex};
 ghost use Rattle.tokens.specs.Answer.{is_io};
-ghost use Rattle.tokens.specs.Output.{IsOutput, IsReadable, IsTooLong, HasFaultAt, StartsAt, written};
+ghost use Rattle.tokens.specs.Output.{IsOutput, IsReadable, IsTooLong, HasFaultAt, written};
 ghost use Rattle.tokens.specs.Run.{Runs, seen_by};
+ghost use Rattle.tokens.specs.Spans.{HasRead};
 
 use crate::errors::RunError;
 use crate::mode::OutputMode;
 use crate::reading::read_to_end;
 use crate::sinks::ByteSink;
 use crate::sources::ByteSource;
+use crate::spans::span_lines;
 use crate::writing::write_all;
 use proc_macro2::{ParseError, SourceMap, TokenStream};
 use std::alloc::{AllocError, Global};
@@ -25,8 +29,8 @@ use std::str;
 /// output is. Each other refusal writes nothing: `NotUtf8`, `MapFull` and `Lex`, which has the
 /// place of the fault, are about the whole input, and `Memory` comes where a growth was refused.
 ///
-/// For `Print`, `a+b` gives `a + b` and a line feed, and `(]` is refused with `Lex` at line 1,
-/// column 1.
+/// For `Print`, `a+b` gives `a + b` and a line feed, for `Spans` the lines `1:0-1:1 ident`,
+/// `1:1-1:2 punct` and `1:2-1:3 ident`; `(]` is refused with `Lex` at line 1, column 1.
 pub fn run<R: ByteSource, W: ByteSink>(
     alloc: Global,
     mode: OutputMode,
@@ -58,7 +62,7 @@ fn output_of(alloc: Global, mode: OutputMode, input: &[u8]) -> Result<String, Ru
     };
     let mut map = SourceMap::new(alloc);
     match TokenStream::from_str(text, &mut map) {
-        Ok(stream) => Ok(written(alloc, mode, &stream)?),
+        Ok(stream) => Ok(written(alloc, mode, &stream, &map)?),
         Err(error) => Err(refusal(error, &map)),
     }
 }
@@ -79,11 +83,19 @@ fn refusal(error: ParseError, map: &SourceMap) -> RunError
     }
 }
 
-// What is written of the stream.
-fn written(alloc: Global, mode: OutputMode, stream: &TokenStream) -> Result<String, AllocError>
-    ensures { IfOk result (λ text. string_bytes text ≡ written mode stream.now) }
+// What is written of the stream that a source parses to, which alone was read into the map.
+fn written(
+    alloc: Global,
+    mode: OutputMode,
+    stream: &TokenStream,
+    map: &SourceMap,
+) -> Result<String, AllocError>
+    requires { HoldsAll map.now stream.now }
+    ensures { IfOk result (λ text. (source : List ℕ) → HasRead map.now source stream.now
+        → string_bytes text ≡ written mode source stream.now) }
 {
     match mode {
         OutputMode::Print => format!(in alloc; "{stream}\n"),
+        OutputMode::Spans => span_lines(alloc, stream, map),
     }
 }

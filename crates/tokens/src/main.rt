@@ -1,5 +1,6 @@
-//! The program `tokens`. `tokens print` reads source text from standard input, and writes its
-//! tokens, printed, and a line feed to standard output.
+//! The program `tokens`, which reads source text from standard input. `tokens print` writes its
+//! tokens, printed, and a line feed to standard output; `tokens spans` writes a line for each of its
+//! trees, with the places where the tree begins and ends and its kind.
 #![tactic(auto)]
 
 mod arguments;
@@ -13,6 +14,7 @@ mod mode;
 mod reading;
 mod sinks;
 mod sources;
+mod spans;
 mod writing;
 
 use arguments::words;

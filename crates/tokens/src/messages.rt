@@ -11,7 +11,7 @@ use crate::writing::write_all;
 use itoa::Buffer;
 use proc_macro2::LineColumn;
 
-/// Says how the program is called. The line names `spans` too, which isn't known yet.
+/// Says how the program is called.
 pub fn say_usage<E: ByteSink>(errors: &mut E)
     ensures { Says (E.held errors.old) (E.held errors.new) (E.has_failed errors.new) usage }
 {

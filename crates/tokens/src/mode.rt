@@ -5,4 +5,6 @@
 pub enum OutputMode {
     /// The printed stream and a line feed.
     Print,
+    /// A line for each tree: where it begins and ends, and its kind.
+    Spans,
 }

@@ -47,29 +47,50 @@ fn check_command(
     check_bytes(rt, at, errors.bytes(), said);
 }
 
-/// Asserts what `print` writes, says and answers of an input.
+/// Asserts what a word writes, says and answers of an input.
 fn check_input(
     rt: &(impl Abort + AllocGlobal),
+    word: &str,
     input: &[u8],
     output: &[u8],
     said: &[u8],
     status: u8,
 ) {
-    let words = one_word(rt.alloc(), "print").expect(rt, "no memory");
+    let words = one_word(rt.alloc(), word).expect(rt, "no memory");
     let reader = &mut MemorySource::new(input);
     check_command(rt, &input, words.as_slice(), reader, status, output, said);
 }
 
 #[test]
 fn each_input_has_its_output_message_and_status(rt: HostRuntime) {
-    check_input(&rt, ROW, PRINTED, b"", 0);
-    check_input(&rt, b"", b"\n", b"", 0);
-    check_input(&rt, b"a+b", b"a + b\n", b"", 0);
-    check_input(&rt, b"a += b", b"a += b\n", b"", 0);
-    check_input(&rt, b"a\n(", b"", b"fault 2:0\n", 1);
-    check_input(&rt, b"(]", b"", b"fault 1:1\n", 1);
-    check_input(&rt, b"\xC3\xA9 \"", b"", b"fault 1:2\n", 1);
-    check_input(&rt, b"a\xFF", b"", b"not utf-8\n", 2);
+    check_input(&rt, "print", ROW, PRINTED, b"", 0);
+    check_input(&rt, "print", b"", b"\n", b"", 0);
+    check_input(&rt, "print", b"a+b", b"a + b\n", b"", 0);
+    check_input(&rt, "print", b"a += b", b"a += b\n", b"", 0);
+    check_input(&rt, "print", b"a\n(", b"", b"fault 2:0\n", 1);
+    check_input(&rt, "print", b"(]", b"", b"fault 1:1\n", 1);
+    check_input(&rt, "print", b"\xC3\xA9 \"", b"", b"fault 1:2\n", 1);
+    check_input(&rt, "print", b"a\xFF", b"", b"not utf-8\n", 2);
+    check_input(&rt, "spans", b"", b"", b"", 0);
+    check_input(&rt, "spans", b"\xC3\xA9 ", b"1:0-1:1 ident\n", b"", 0);
+    check_input(&rt, "spans", b"a\n(", b"", b"fault 2:0\n", 1);
+    check_input(&rt, "spans", b"a\xFF", b"", b"not utf-8\n", 2);
+}
+
+#[test]
+fn each_tree_of_a_row_has_its_places(rt: HostRuntime) {
+    let lines = b"1:0-1:2 ident\n1:3-1:4 ident\n1:4-1:7 group\n1:5-1:6 ident\n1:8-1:17 group\n\
+1:10-1:11 ident\n1:12-1:13 punct\n1:14-1:15 ident\n";
+    check_input(&rt, "spans", ROW, lines, b"", 0);
+}
+
+#[test]
+fn each_tree_of_a_doc_comment_stands_where_it_does(rt: HostRuntime) {
+    let input = b"/// This is a document comment\ntesting 123\n{\n  testing 234\n}";
+    let lines = b"1:0-1:30 punct\n1:0-1:30 group\n1:0-1:30 ident\n1:0-1:30 punct\n\
+1:0-1:30 literal\n2:0-2:7 ident\n2:8-2:11 literal\n3:0-5:1 group\n4:2-4:9 ident\n\
+4:10-4:13 literal\n";
+    check_input(&rt, "spans", input, lines, b"", 0);
 }
 
 // The words of the text.
@@ -92,9 +113,10 @@ fn check_usage(rt: &(impl Abort + AllocGlobal), text: &str) {
 #[test]
 fn words_that_ask_for_nothing_are_told_the_usage(rt: HostRuntime) {
     check_usage(&rt, "");
-    check_usage(&rt, "spans");
     check_usage(&rt, "Print");
+    check_usage(&rt, "span");
     check_usage(&rt, "print print");
+    check_usage(&rt, "print spans");
 }
 
 #[test]
