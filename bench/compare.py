@@ -1,11 +1,12 @@
 #!/usr/bin/env python3
-"""Times `tokens print` against the Rust crate's twin, on 10 MB of real source and on its first half.
+"""Times `tokens print` and `tokens spans` against the Rust crate's twin, on 10 MB of real source and on its first half.
 
 Usage: bench/compare.py CRATE IDENT SOURCES [RUNS]
 CRATE and IDENT are the folders of the Rust crates proc-macro2 and unicode-ident (each with src/lib.rs), and SOURCES is
-a folder of Rust files. Builds the program and the twin, runs them in turn, and prints the least user time, the least
-processor time (user and system time together), and the most memory of each, with the ratios and the growth from the half
-to the whole. Ends with an error where a run fails, or where the last outputs of the two on the half or on the whole differ.
+a folder of Rust files. Builds the program and the twin, runs them in turn, and prints for each word the least user
+time, the least processor time (user and system time together), and the most memory of each, with the ratios and the
+growth from the half to the whole. Ends with an error where a run fails, or where the last outputs of the two on the
+half or on the whole differ.
 """
 import os
 import pathlib
@@ -14,6 +15,8 @@ import sys
 import tempfile
 
 SIZE = 10_000_000
+WORDS = ("print", "spans")
+TEXTS = ("half", "whole")
 HERE = pathlib.Path(__file__).resolve().parent
 
 
@@ -50,14 +53,14 @@ def build(crate: str, ident: str, out: pathlib.Path) -> dict[str, str]:
     return {"tokens": str(tokens / "out/tokens"), "twin": str(out / "twin")}
 
 
-def measured(program: str, text: pathlib.Path, output: pathlib.Path) -> tuple[float, float, int]:
+def measured(program: str, word: str, text: pathlib.Path, output: pathlib.Path) -> tuple[float, float, int]:
     """User time and processor time in milliseconds, and peak memory in KB."""
     with open(text, "rb") as source, open(output, "wb") as sink:
-        child = subprocess.Popen([program, "print"], stdin=source, stdout=sink)
+        child = subprocess.Popen([program, word], stdin=source, stdout=sink)
         _, status, used = os.wait4(child.pid, 0)
         child.returncode = os.waitstatus_to_exitcode(status)
     if child.returncode != 0:
-        sys.exit(f"{program} ended with status {child.returncode}")
+        sys.exit(f"{program} {word} ended with status {child.returncode}")
     return used.ru_utime * 1000, (used.ru_utime + used.ru_stime) * 1000, used.ru_maxrss
 
 
@@ -69,31 +72,37 @@ def main() -> None:
         out = pathlib.Path(folder)
         programs = build(sys.argv[1], sys.argv[2], out)
         half, whole = (source(pathlib.Path(sys.argv[3]), size) for size in (SIZE // 2, SIZE))
-        best = {}
-        for name, text in (("half", half), ("whole", whole)):
+        for name, text in zip(TEXTS, (half, whole)):
             (out / name).write_bytes(text)
-        for _ in range(runs):
-            for text in ("half", "whole"):
-                for program, path in programs.items():
-                    found = measured(path, out / text, out / f"{program}.{text}")
-                    old = best.get((program, text), found)
-                    best[program, text] = (min(found[0], old[0]), min(found[1], old[1]), max(found[2], old[2]))
-        for text in ("half", "whole"):
-            if (out / f"tokens.{text}").read_bytes() != (out / f"twin.{text}").read_bytes():
-                sys.exit(f"the outputs on the {text} differ")
-        report(best, len(half), len(whole), runs)
+        print(f"load {os.getloadavg()[0]:.1f}, {os.cpu_count()} processors, the best of {runs} runs in turn")
+        for word in WORDS:
+            report(word, best(programs, word, runs, out), len(half), len(whole))
 
 
-def report(best: dict, half: int, whole: int, runs: int) -> None:
-    print(f"load {os.getloadavg()[0]:.1f}, {os.cpu_count()} processors, the best of {runs} runs in turn")
-    for name, size in (("half", half), ("whole", whole)):
-        ours, twin = best["tokens", name], best["twin", name]
-        print(f"{name}, {size} bytes")
+def best(programs: dict[str, str], word: str, runs: int, out: pathlib.Path) -> dict:
+    """The least times and the most memory of each program on each text, whose last outputs must be the same."""
+    least = {}
+    for _ in range(runs):
+        for text in TEXTS:
+            for program, path in programs.items():
+                found = measured(path, word, out / text, out / f"{program}.{text}")
+                old = least.get((program, text), found)
+                least[program, text] = (min(found[0], old[0]), min(found[1], old[1]), max(found[2], old[2]))
+    for text in TEXTS:
+        if (out / f"tokens.{text}").read_bytes() != (out / f"twin.{text}").read_bytes():
+            sys.exit(f"the outputs of {word} on the {text} differ")
+    return least
+
+
+def report(word: str, least: dict, half: int, whole: int) -> None:
+    for name, size in zip(TEXTS, (half, whole)):
+        ours, twin = least["tokens", name], least["twin", name]
+        print(f"{word}, {name}, {size} bytes")
         for label, i, unit in (("user time", 0, "ms"), ("processor time", 1, "ms"), ("peak memory", 2, "KB")):
             print(f"  {label}: tokens {ours[i]:.0f} {unit}, twin {twin[i]:.0f} {unit}, ratio {ours[i] / twin[i]:.2f}")
     for program in ("tokens", "twin"):
-        user, both = (best[program, "whole"][i] / best[program, "half"][i] for i in (0, 1))
-        print(f"growth of {program} from half to whole: processor time {both:.2f}, of it user time {user:.2f}")
+        user, both = (least[program, "whole"][i] / least[program, "half"][i] for i in (0, 1))
+        print(f"{word}, growth of {program} from half to whole: processor time {both:.2f}, of it user time {user:.2f}")
     print(f"growth of the text: {whole / half:.2f}")
 
 

@@ -1,10 +1,12 @@
 //! The Rust crate behind the command line of `tokens`, and a recorder of its answers.
 //!
-//! `twin print` does what `tokens print` does. `twin answers` reads lines as those of
-//! crates/conformance/stdin, and writes each with the crate's own answer.
+//! `twin print` does what `tokens print` does, and `twin spans` what `tokens spans` does, on a stack that
+//! grows with the nesting of groups. `twin answers` reads lines as those of crates/conformance/stdin, and
+//! writes each with the crate's own answer.
 mod answers;
 
-use proc_macro2::{extra, TokenStream};
+use proc_macro2::{extra, TokenStream, TokenTree};
+use std::fmt;
 use std::io::{self, BufRead, Read, Write};
 use std::process::exit;
 
@@ -71,7 +73,36 @@ fn answered(line: &str) -> Option<String> {
     Some(format!("{kind}\t{}\t{}", escaped(&text), escaped(&said)))
 }
 
-fn print() -> io::Result<()> {
+/// What is written of the stream: its text and a line feed, or the lines of its trees.
+fn written(word: &str, stream: TokenStream) -> Result<String, fmt::Error> {
+    if word == "print" {
+        return Ok(format!("{stream}\n"));
+    }
+    let mut lines = String::new();
+    push_lines(&mut lines, stream)?;
+    Ok(lines)
+}
+
+/// Adds a line for each tree, each group before those inside it: where it begins and ends, and its kind.
+fn push_lines(lines: &mut String, stream: TokenStream) -> fmt::Result {
+    use fmt::Write;
+    for tree in stream {
+        let (start, end) = (tree.span().start(), tree.span().end());
+        let kind = match tree {
+            TokenTree::Group(_) => "group",
+            TokenTree::Ident(_) => "ident",
+            TokenTree::Punct(_) => "punct",
+            TokenTree::Literal(_) => "literal",
+        };
+        writeln!(lines, "{}:{}-{}:{} {kind}", start.line, start.column, end.line, end.column)?;
+        if let TokenTree::Group(group) = tree {
+            push_lines(lines, group.stream())?;
+        }
+    }
+    Ok(())
+}
+
+fn run(word: &str) -> io::Result<()> {
     let mut bytes = Vec::new();
     io::stdin().read_to_end(&mut bytes)?;
     let Ok(text) = String::from_utf8(bytes) else {
@@ -79,7 +110,10 @@ fn print() -> io::Result<()> {
         exit(2)
     };
     match text.parse::<TokenStream>() {
-        Ok(stream) => io::stdout().write_all(format!("{stream}\n").as_bytes()),
+        Ok(stream) => {
+            let output = written(word, stream).map_err(io::Error::other)?;
+            io::stdout().write_all(output.as_bytes())
+        }
         Err(error) => {
             let place = error.span().start();
             eprintln!("fault {}:{}", place.line, place.column);
@@ -91,10 +125,10 @@ fn print() -> io::Result<()> {
 fn main() -> io::Result<()> {
     let words: Vec<String> = std::env::args().skip(1).collect();
     match words.iter().map(String::as_str).collect::<Vec<_>>().as_slice() {
-        ["print"] => print(),
+        [word @ ("print" | "spans")] => run(word),
         ["answers"] => answers(),
         _ => {
-            eprintln!("usage: twin print|answers");
+            eprintln!("usage: twin print|spans|answers");
             exit(2)
         }
     }
