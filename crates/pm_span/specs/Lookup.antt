@@ -6,33 +6,35 @@ use Rattle.pm_span.specs.Files.{Files, IsFile, Holds, file_name}
 use Rattle.pm_span.specs.Place.{line_column, byte_offset, between}
 use Rattle.pm_span.specs.declared.location.LineColumn.{LineColumn}
 
--- it holds of each file of the map that has the span: of the file's number, its text, and the two places in it
--- where the span begins and ends
-abbrev pub OfItsFile : Files → Extent → (ℕ → List ℕ → ℕ → ℕ → Type 0) → Type 0
-OfItsFile map span P =
-    (text : List ℕ) (lo : ℕ) (file : IsFile map text lo) → lo ≤ span.lo → span.hi ≤ lo + length text
-    → P (length file.before) text (span.lo - lo) (span.hi - lo)
-
--- `line`, `column`: those of the place where the span begins
+-- `line`, `column`: those of the place in its file where the span begins
 abbrev pub StartsAt : Files → Extent → LineColumn → Type 0
-StartsAt map span place = OfItsFile map span (λ number text from to. place ≡ line_column text from)
+StartsAt map span place =
+    (text : List ℕ) (lo : ℕ) → IsFile map text lo → lo ≤ span.lo → span.hi ≤ lo + length text
+    → place ≡ line_column text (span.lo - lo)
 
--- `line`, `column`: those of the place where the span ends
+-- `line`, `column`: those of the place in its file where the span ends
 abbrev pub EndsAt : Files → Extent → LineColumn → Type 0
-EndsAt map span place = OfItsFile map span (λ number text from to. place ≡ line_column text to)
+EndsAt map span place =
+    (text : List ℕ) (lo : ℕ) → IsFile map text lo → lo ≤ span.lo → span.hi ≤ lo + length text
+    → place ≡ line_column text (span.hi - lo)
 
--- `byte-offset`: those of the places where the span begins and ends
+-- `byte-offset`: those of the two places in its file where the span begins and ends
 abbrev pub HasBytes : Files → Extent → Range ℕ → Type 0
-HasBytes map span bytes = OfItsFile map span
-    (λ number text from to. bytes ≡ record { start = byte_offset text from; end = byte_offset text to })
+HasBytes map span bytes =
+    (text : List ℕ) (lo : ℕ) → IsFile map text lo → lo ≤ span.lo → span.hi ≤ lo + length text
+    → bytes ≡ record { start = byte_offset text (span.lo - lo); end = byte_offset text (span.hi - lo) }
 
--- `source-text`: what stands between these places
+-- `source-text`: what stands in its file between the two places where the span begins and ends
 abbrev pub HasText : Files → Extent → List ℕ → Type 0
-HasText map span source = OfItsFile map span (λ number text from to. source ≡ between text from to)
+HasText map span source =
+    (text : List ℕ) (lo : ℕ) → IsFile map text lo → lo ≤ span.lo → span.hi ≤ lo + length text
+    → source ≡ between text (span.lo - lo) (span.hi - lo)
 
 -- `file-name`: that of the span's file
 abbrev pub HasName : Files → Extent → List ℕ → Type 0
-HasName map span name = OfItsFile map span (λ number text from to. name ≡ file_name number)
+HasName map span name =
+    (text : List ℕ) (lo : ℕ) (file : IsFile map text lo) → lo ≤ span.lo → span.hi ≤ lo + length text
+    → name ≡ file_name (length file.before)
 
 -- `source-text`: some file of the map has the span, with this text between the two places
 pub record IsTextOf (map : Files) (span : Extent) (source : List ℕ) : Type 0 where

@@ -21,6 +21,6 @@ line_column text k = record { line = line text k; column = column text k }
 abbrev pub byte_offset : List ℕ → ℕ → ℕ
 byte_offset text k = length (encode_utf8_all (take k text))
 
--- `source-text`: the characters that stand between two places
+-- the characters that stand between two places
 abbrev pub between : List ℕ → ℕ → ℕ → List ℕ
 between text j k = take (k - j) (drop j text)
