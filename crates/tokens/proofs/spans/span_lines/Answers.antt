@@ -21,7 +21,7 @@ loop-walk-init c =
 pub end-requires : goal.end-requires
 end-requires c =
     let next = rw c.in-Some.is at c.in_ok-tree.ensures.ok in
-    rw c.span-span.ensures (All-head (IsHeld c.args.map.now) _ _ (rw next at c.loop-walk.invariant.0))
+    rw c.span-span.ensures.value (All-head (IsHeld c.args.map.now) _ _ (rw next at c.loop-walk.invariant.0))
 
 pub loop-walk-preserved : goal.loop-walk-preserved
 loop-walk-preserved c =
@@ -30,8 +30,8 @@ loop-walk-preserved c =
       λ source read.
           let left = rw next at (c.loop-walk.invariant.1 source read) in
           let within = left.0.0 in
-          let starts = rw (read.only, c.span-span.ensures) at c.start.ensures in
-          let ends = rw (read.only, c.span-span.ensures) at c.end.ensures in
+          let starts = rw (read.only, c.span-span.ensures.value) at c.start.ensures in
+          let ends = rw (read.only, c.span-span.ensures.value) at c.end.ensures in
           let start = starts_in_last new_map source _ _ within.0 within.1 starts in
           let end = ends_in_last new_map source _ _ within.0 within.1 ends in
           let line = rw (start, end) at c.in_ok-push_line.ensures in
