@@ -8,7 +8,7 @@ use Rattle.lexical.specs.Form.{Form, Then, Either, Exactly, One, Many, Each}
 use Rattle.lexical.specs.Quoted.{is_string_plain, is_byte_plain, is_c_plain, Simple, LowPair, HexPair, NonzeroPair, Hex, Unicode, Escape, StringEscape, ByteEscape, CEscape, Newline, BodyUnit, Suffix, Body, Cooked, Str}
 use Rattle.lexical.specs.RawString.{RawUnit, RawQuotes, Raw}
 use Rattle.lexical.specs.SingleQuoted.{is_char_plain, is_byte_char_plain, SingleUnit, SingleQuoted}
-use Rattle.lexical.specs.Literal.{QuotedLiteral, Literal, AnyLiteral, IsWhole}
+use Rattle.lexical.specs.Literal.{QuotedLiteral, Literal, AnyLiteral, IsLiteralToken}
 use Rattle.lexical.proofs.QuotedLemmas.{Free, free_one, free_text, free_then, free_either, free_many, free_unicode, free_low_pair, free_hex, free_unit, EndsSuffix, stops, stop_ends}
 use Rattle.lexical.proofs.StableLemmas.{Stable, stable_then}
 use Rattle.lexical.proofs.NumberLemmas.{stable_suffix}
@@ -179,7 +179,7 @@ literal_before_stop p r s e is = elim is [
   | inr error ↦ inr error
 ]
 
--- and before nothing: it is whole
-pub literal_whole : (p r : List ℕ) → AnyLiteral p r → IsWhole p
-unfolding IsWhole
+-- and before nothing
+pub literal_whole : (p r : List ℕ) → AnyLiteral p r → IsLiteralToken p
+unfolding IsLiteralToken
 literal_whole p r is = literal_before_stop p r [] refl is

@@ -27,6 +27,6 @@ ErrorLiteral = Exactly error_literal
 abbrev pub AnyLiteral : Form
 AnyLiteral = Either Literal ErrorLiteral
 
--- `whole-literal`: the text is a literal, nothing following
-unfoldable pub IsWhole : List ℕ → Type 0
-IsWhole text = AnyLiteral text []
+-- `literal-token`: the text is a literal or the error literal, nothing following
+unfoldable pub IsLiteralToken : List ℕ → Type 0
+IsLiteralToken text = AnyLiteral text []

@@ -2,7 +2,7 @@
 use Rattle.std.specs.Prelude.{◌≡◌, List, [], ◌∷◌, Option, Some, None, Vec}
 use Rattle.std.specs.declared.alloc.Global.{Global}
 use Rattle.std.specs.declared.rc.Rc.{Rc}
-use Rattle.lexical.specs.Literal.{IsWhole}
+use Rattle.lexical.specs.Literal.{IsLiteralToken}
 use Rattle.pm_token.specs.Leaf.{name_token, mark_token, text_token}
 use Rattle.pm_stream.specs.Forest.{Forest, nil, leaf, group, joined}
 use Rattle.pm_stream.specs.declared.stream.TokenTree.{TokenTree}
@@ -29,7 +29,7 @@ abbrev pub GoesInside : TokenTree → Type 0
 GoesInside (Group g) = Unit {0}
 GoesInside (Ident i) = Unit {0}
 GoesInside (Punct p) = Unit {0}
-GoesInside (Literal l) = IsWhole l.text
+GoesInside (Literal l) = IsLiteralToken l.text
 
 -- the trees within a group, and none of a token
 abbrev pub inside : TokenTree → Forest

@@ -181,7 +181,7 @@ impl Reading {
         self.push(TokenTree::Punct(punct(mark, spacing(joint), span)))
     }
 
-    /// Takes a literal, which is whole.
+    /// Takes a literal of this text, by the rule `literal-token`.
     fn push_literal(&mut self, text: &str, span: Span) -> Result<(), AllocError>
         requires { IsBuiltToken (tokens.Literal (chars text.now)) }
         ensures ok { OnOk result ((events : List Event) → written self.new events

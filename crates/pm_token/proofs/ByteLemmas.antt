@@ -8,7 +8,7 @@ use Rattle.lexical.specs.Text.{begins_any}
 use Rattle.lexical.specs.Form.{Each}
 use Rattle.lexical.specs.Quoted.{HexPair, ByteEscape, ByteUnit, is_byte_plain}
 use Rattle.lexical.specs.SingleQuoted.{is_byte_char_plain, SingleUnit, Byte}
-use Rattle.lexical.specs.Literal.{IsWhole}
+use Rattle.lexical.specs.Literal.{IsLiteralToken}
 use Rattle.lexical.specs.Literal as literals
 use Rattle.lexical.specs.Quoted.{ByteStr}
 use Rattle.lexical.proofs.QuotedLemmas.{EndsSuffix, stop_ends}
@@ -119,11 +119,11 @@ byte_stands b r low ends = record {
 }
 
 -- what `byte_string` writes is a whole literal
-pub byte_string_whole : (bytes : List ℕ) → AreBytes bytes → IsWhole (byte_string_text bytes)
-unfolding IsWhole literals.Literal
+pub byte_string_whole : (bytes : List ℕ) → AreBytes bytes → IsLiteralToken (byte_string_text bytes)
+unfolding IsLiteralToken literals.Literal
 byte_string_whole bytes are = inl (inl (inr (inr (inl (inl (byte_string_stands bytes [] are (stop_ends [] refl)))))))
 
 -- what `byte_character` writes is one
-pub byte_whole : (b : ℕ) → b < 256 → IsWhole (byte_text b)
-unfolding IsWhole literals.Literal
+pub byte_whole : (b : ℕ) → b < 256 → IsLiteralToken (byte_text b)
+unfolding IsLiteralToken literals.Literal
 byte_whole b low = inl (inl (inr (inr (inr (inl (byte_stands b [] low (stop_ends [] refl)))))))

@@ -13,7 +13,7 @@ use Rattle.lexical.specs.Text.{first_passes}
 use Rattle.lexical.specs.Form.{Each}
 use Rattle.lexical.specs.Quoted.{is_octal_digit, NonzeroPair, CEscape, CUnit, CStr, is_c_plain}
 use Rattle.lexical.specs.SingleQuoted.{SingleUnit}
-use Rattle.lexical.specs.Literal.{IsWhole}
+use Rattle.lexical.specs.Literal.{IsLiteralToken}
 use Rattle.lexical.specs.Literal as literals
 use Rattle.lexical.proofs.QuotedLemmas.{EndsSuffix, stop_ends}
 use Rattle.pm_token.specs.Escaped.{is_bare, hex_pair, written, written_char, content}
@@ -116,8 +116,8 @@ c_string_stands parts bytes r are fit none ends = record {
 }
 
 -- what `c_string` writes is a whole literal
-pub c_string_whole : (bytes text : List ℕ) → IsCStringText bytes text → AreBytes bytes → has_no_zero bytes ≡ true → IsWhole text
-unfolding IsWhole literals.Literal
+pub c_string_whole : (bytes text : List ℕ) → IsCStringText bytes text → AreBytes bytes → has_no_zero bytes ≡ true → IsLiteralToken text
+unfolding IsLiteralToken literals.Literal
 c_string_whole bytes text is fit none =
     subst (λ t. literals.AnyLiteral t []) (sym is.whole)
     (inl (inl (inr (inr (inr (inr (inl

@@ -9,7 +9,7 @@ use Rattle.lexical.specs.Text.{first_passes}
 use Rattle.lexical.specs.Form.{Form, Then, Exactly, Many, Each}
 use Rattle.lexical.specs.Quoted.{is_one_of, is_octal_digit, is_scalar, hex_value, is_string_plain, Code, LowPair, Escape, StringEscape, BodyUnit, StringUnit, Suffix, Str}
 use Rattle.lexical.specs.SingleQuoted.{is_char_plain, SingleUnit, Character}
-use Rattle.lexical.specs.Literal.{IsWhole}
+use Rattle.lexical.specs.Literal.{IsLiteralToken}
 use Rattle.lexical.specs.Literal as literals
 use Rattle.lexical.specs.Token.{Literal}
 use Rattle.pm_token.specs.Built.{IsBuiltToken}
@@ -188,8 +188,8 @@ pub string_before_stop : (text r : List ℕ) → IsText text → stops r ≡ tru
 string_before_stop text r all stop = string_stands text r all (stop_ends r stop)
 
 -- what `string` writes is a whole literal
-pub string_whole : (text : List ℕ) → IsText text → IsWhole (string_text text)
-unfolding IsWhole literals.Literal
+pub string_whole : (text : List ℕ) → IsText text → IsLiteralToken (string_text text)
+unfolding IsLiteralToken literals.Literal
 string_whole text all = inl (inl (inl (inl (string_before_stop text [] all refl))))
 
 -- what `character` writes is one
@@ -208,8 +208,8 @@ character_stands c r scalar ends = record {
   };
 }
 
-pub character_whole : (c : ℕ) → IsScalar c → IsWhole (character_text c)
-unfolding IsWhole literals.Literal
+pub character_whole : (c : ℕ) → IsScalar c → IsLiteralToken (character_text c)
+unfolding IsLiteralToken literals.Literal
 character_whole c scalar = inl (inl (inr (inl (character_stands c [] scalar (stop_ends [] refl)))))
 
 -- what stands for a doc comment is built

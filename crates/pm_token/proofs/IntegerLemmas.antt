@@ -1,4 +1,4 @@
--- The text of an integer is a literal by itself.
+-- The text of an integer is a whole literal.
 use Rattle.std.proofs.Common.{◌≡◌, ℕ, ◌<◌, ◌^◌, ℤ, pos, negsuc, Bool, true, false, ◌||◌, ◌==◌, List, [], ◌∷◌, ◌++◌, codes, Some, refl, ap, ◌∙◌, subst, arith, ap₂, inl, inr, drop, eqb-true, SFits, suc}
 use Rattle.std.specs.List.{list_all}
 use Rattle.std.specs.Char.{is_ascii_digit, digit_value}
@@ -23,7 +23,7 @@ use Rattle.lexical.proofs.TextLemmas.{begins_splits}
 use Rattle.lexical.proofs.FinderLemmas.{found_is}
 use Rattle.lexical.proofs.NumberFinderLemmas.{finds_digits, finds_number}
 use Rattle.pm_token.specs.Integer.{suffix_text}
-use Rattle.pm_token.specs.LiteralText.{IsByItself}
+use Rattle.pm_token.specs.LiteralText.{IsWholeLiteral}
 use Rattle.pm_token.specs.declared.literals.integers.Suffix.{Suffix}
 use Rattle.pm_token.specs.declared.literals.integers.Suffix.TheVariants.{Nothing, U8, U16, U32, U64, U128, Usize, I8, I16, I32, I64, I128, Isize}
 
@@ -127,12 +127,13 @@ integer_literal (c ∷ digits) suffix numeral =
     let all = digits_pass (c ∷ digits) numeral.1 in
     (inr (found_is find_number Number finds_number _ _ _ (integer_found c digits suffix all)).1, (and_parts _ _ all).0)
 
-pub unsigned_by_itself : (n : ℕ) (suffix : Suffix) → n < 2 ^ 128 → IsByItself (decimal n ++ suffix_text suffix)
-unsigned_by_itself n suffix h = inl (integer_literal (decimal n) suffix (decimal_is_IsNumeral_wide n (omega (arith, h))).0).0
+pub unsigned_whole : (n : ℕ) (suffix : Suffix) → n < 2 ^ 128 → IsWholeLiteral (decimal n ++ suffix_text suffix)
+unsigned_whole n suffix h =
+    inl (integer_literal (decimal n) suffix (decimal_is_IsNumeral_wide n (omega (arith, h))).0).0
 
-pub signed_by_itself : (z : ℤ) (suffix : Suffix) → SFits w128 z → IsByItself (signed_decimal z ++ suffix_text suffix)
-signed_by_itself (pos n) suffix h = unsigned_by_itself n suffix (omega (arith, h.sfits))
-signed_by_itself (negsuc n) suffix h =
+pub signed_whole : (z : ℤ) (suffix : Suffix) → SFits w128 z → IsWholeLiteral (signed_decimal z ++ suffix_text suffix)
+signed_whole (pos n) suffix h = unsigned_whole n suffix (omega (arith, h.sfits))
+signed_whole (negsuc n) suffix h =
     let is = integer_literal (decimal (suc n)) suffix (decimal_is_IsNumeral_wide (suc n) (omega (arith, h.sfits))).0 in
     inr (record { number = decimal (suc n) ++ suffix_text suffix; whole = refl; literal = is.0; digit = is.1 })
 

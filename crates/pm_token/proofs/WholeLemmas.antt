@@ -1,4 +1,4 @@
--- Literals by themselves.
+-- Whole literals.
 use Rattle.std.proofs.Common.{◌≡◌, ◌≢◌, ◌↔◌, ℕ, Bool, true, false, ◌==◌, Result, Ok, Err, IfOk, IfErr, MatchResult, ◌+◌, List, [], ◌∷◌, ◌++◌, length, Option, Some, None, IfSome, IfNone, MatchOption, Bor, IsTrue, eqb, refl, sym, ap, ◌∙◌, subst, arith, inl, inr, drop, append-nil, length-append, eqb-true}
 use Rattle.std.specs.Option.{option_eq}
 use Rattle.std.specs.Char.{is_ascii_digit}
@@ -7,7 +7,7 @@ use Rattle.std.proofs.lemmas.Bool.{both_ways, false_from_ne_true, eq-eqb}
 use Rattle.std.proofs.lemmas.Str.{encodes-chars, encodes-append, encode_ascii, chars_past_char, length-le-encodes}
 use Rattle.lexical.specs.Form.{HasNone}
 use Rattle.lexical.specs.Found.{IsAt}
-use Rattle.lexical.specs.Literal.{Literal, IsWhole}
+use Rattle.lexical.specs.Literal.{Literal, IsLiteralToken}
 use Rattle.lexical.specs.Quoted.{is_one_of}
 use Rattle.lexical.specs.Text.{first_passes}
 use Rattle.lexical.specs.PieceFinder.{find_literal}
@@ -17,15 +17,15 @@ use Rattle.pm_span.specs.Extent.{Extent}
 use Rattle.pm_span.specs.Files.{Files, Holds, all_texts, next_lo, with_file}
 use Rattle.pm_span.proofs.FileLemmas.{holds_nowhere}
 use Rattle.pm_token.specs.Leaf.{Text}
-use Rattle.pm_token.specs.LiteralText.{IsByItself, IsLiteralText}
+use Rattle.pm_token.specs.LiteralText.{IsWholeLiteral, IsLiteralText}
 use Rattle.pm_token.specs.Outcome.{IfLex, IsRefusalOf}
 use Rattle.pm_token.specs.Text.{IsText}
 use Rattle.pm_token.specs.declared.errors.ParseError.{ParseError}
 use Rattle.pm_token.specs.declared.errors.ParseError.TheVariants.{Lex, MapFull, Memory}
 
--- what stands by itself may be the text of a literal
-pub literal_text : (text : List ℕ) → IsText text → IsByItself text → IsLiteralText text
-unfolding IsWhole
+-- a text that is a whole literal may be the text of a literal
+pub literal_text : (text : List ℕ) → IsText text → IsWholeLiteral text → IsLiteralText text
+unfolding IsLiteralToken
 literal_text text all (inl literal) = (inl (inl literal), all)
 literal_text text all (inr negative) = (inr negative, all)
 
@@ -107,8 +107,9 @@ no_minus number is =
     let head : 45 ≡ at.0 = cc in
     both_ways (is_one_of literal_fronts 45) refl (ap (is_one_of literal_fronts) head ∙ at.3)
 
--- with a `-` a literal by itself is a literal behind it
-negative_of : (text number : List ℕ) → text ≡ 45 ∷ number → IsByItself text → Literal number [] × (first_passes is_ascii_digit number ≡ true)
+-- with a `-` a whole literal is a literal behind it
+negative_of : (text number : List ℕ) → text ≡ 45 ∷ number → IsWholeLiteral text
+    → Literal number [] × (first_passes is_ascii_digit number ≡ true)
 negative_of text number split (inl other) = absurd (no_minus number (subst (λ p. Literal p []) split other))
 negative_of text number split (inr negative) =
     let same : negative.number ≡ number = ap (drop 1) (sym negative.whole ∙ split) in
@@ -117,17 +118,17 @@ negative_of text number split (inr negative) =
 -- where a digit follows the `-`
 pub minus_digit : (text number : List ℕ) (literal : Bool) → text ≡ 45 ∷ number
     → first_passes is_ascii_digit number ≡ true → (IsTrue literal ↔ Literal number [])
-    → IsTrue literal ↔ IsByItself text
+    → IsTrue literal ↔ IsWholeLiteral text
 minus_digit text number literal split digit is = (
   λ h. inr (record { number = number; whole = split; literal = is.0 h; digit = digit }),
-  λ by_itself. is.1 (negative_of text number split by_itself).0,
+  λ whole. is.1 (negative_of text number split whole).0,
 )
 
 -- where none does
 pub minus_other : (text number : List ℕ) (digit : Bool) → text ≡ 45 ∷ number
-    → first_passes is_ascii_digit number ≡ false → digit ≡ false → IsTrue digit ↔ IsByItself text
+    → first_passes is_ascii_digit number ≡ false → digit ≡ false → IsTrue digit ↔ IsWholeLiteral text
 minus_other text number digit split other e = (
   λ h. absurd (both_ways _ e h),
-  λ by_itself.
-      absurd (both_ways _ other (negative_of text number split by_itself).1),
+  λ whole.
+      absurd (both_ways _ other (negative_of text number split whole).1),
 )

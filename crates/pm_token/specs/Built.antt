@@ -3,11 +3,11 @@ use Rattle.std.specs.Prelude.{[], IsTrue}
 use Rattle.lexical.specs.Token.{Token, Name, Mark, Literal}
 use Rattle.lexical.specs.Identifier as identifiers
 use Rattle.lexical.specs.Mark.{is_mark}
-use Rattle.lexical.specs.Literal.{IsWhole}
+use Rattle.lexical.specs.Literal.{IsLiteralToken}
 use Rattle.pm_token.specs.Text.{IsText}
 
--- `built`: a name that is allowed, raw or plain; one of the marks; or a whole literal. Names and literals are texts
+-- `built`: a name that is allowed, raw or plain; one of the marks; or a `literal-token`. Names and literals are texts
 abbrev pub IsBuiltToken : Token → Type 0
 IsBuiltToken (Name raw name) = identifiers.Name name [] × IsTrue (identifiers.is_allowed raw name) × IsText name
 IsBuiltToken (Mark c joint) = IsTrue (is_mark c)
-IsBuiltToken (Literal text) = IsWhole text × IsText text
+IsBuiltToken (Literal text) = IsLiteralToken text × IsText text

@@ -57,7 +57,7 @@ impl Literal {
         self.text.as_str()
     }
 
-    /// Where it stands. Proofs learn by it what the text of every literal is: a `whole-literal` or,
+    /// Where it stands. Proofs learn by it what the text of every literal is: a `literal-token` or,
     /// outside of streams, a `negative-literal`.
     pub fn span(&self) -> Span
         ensures value { result ≡ self.now.span }

@@ -31,7 +31,7 @@ pub fn punct(mark: char, spacing: Spacing, span: Span) -> Punct
     Punct::from_parts(mark, spacing, span)
 }
 
-/// The literal of this text, which is a whole one. Fails where memory runs out.
+/// The literal of this text, by the rule `literal-token`. Fails where memory runs out.
 pub fn literal(alloc: Global, text: &str, span: Span) -> Result<Literal, AllocError>
     requires { IsBuiltToken (tokens.Literal (chars text.now)) }
     ensures ok { IfOk result (λ literal. literal ≡ record { text = chars text.now; span = span }) }

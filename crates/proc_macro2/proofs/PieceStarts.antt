@@ -246,7 +246,7 @@ pub joint_stands : (c : ℕ) (b : Bool) (k : Kind) (p r : List ℕ) → is_mark 
 joint_stands c b k p r m other h j plain = inl (((c, refl, plain_mark c m other), plain), sym (joint_by b k p r h ∙ j))
 
 whole_any : (text : List ℕ) → IsBuiltToken (Literal text) → AnyLiteral text []
-unfolding literals.IsWhole
+unfolding literals.IsLiteralToken
 whole_any text is = is.0
 
 pub literal_stands : (text s : List ℕ) → IsBuiltToken (Literal text) → stops s ≡ true → Stands (Literal text) s

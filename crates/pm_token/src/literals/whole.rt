@@ -6,7 +6,7 @@ ghost use Rattle.lexical.specs.Literal as literals;
 ghost use Rattle.lexical.specs.Text.{first_passes};
 ghost use Rattle.pm_span.specs.Extent.{nowhere};
 ghost use Rattle.pm_span.specs.Files.{Fits, Holds, next_lo, with_file};
-ghost use Rattle.pm_token.specs.LiteralText.{IsByItself};
+ghost use Rattle.pm_token.specs.LiteralText.{IsWholeLiteral};
 ghost use Rattle.pm_token.specs.Outcome.{IfLex, IsRefusalOf, was_read};
 
 use crate::errors::{LexError, ParseError};
@@ -18,7 +18,7 @@ use std::alloc::{AllocError, Global};
 
 impl Literal {
     /// The literal that the whole text is, or `-` and one that begins with a digit
-    /// (`literal-by-itself`). The text becomes the next file of the map, and the literal's span is all
+    /// (`whole-literal`). The text becomes the next file of the map, and the literal's span is all
     /// of it.
     ///
     /// Nothing may stand before or behind the literal, not even white space. Any other text is
@@ -32,11 +32,11 @@ impl Literal {
           text = chars text.now;
           span = record { lo = next_lo map.old; hi = next_lo map.old + length (chars text.now) };
         }) }
-        ensures whole { IfOk result (λ _. IsByItself (chars text.now)) }
+        ensures whole { IfOk result (λ _. IsWholeLiteral (chars text.now)) }
         ensures within { IsTrue (was_read result) → Fits map.old (length (chars text.now)) }
 
         ensures lex { IfErr result (λ error. IfLex error (λ fault.
-            (fault ≡ nowhere) × (IsByItself (chars text.now) → ⊥))) }
+            (fault ≡ nowhere) × (IsWholeLiteral (chars text.now) → ⊥))) }
         ensures held { MatchResult result (λ literal. Holds map.new literal.span)
             (λ error. IfLex error (Holds map.new)) }
         ensures map_full { (result ≡ Err ParseError.MapFull)
@@ -60,8 +60,8 @@ impl Literal {
     /// The literal that the whole text is, which stands at this span. Any other text is a fault.
     fn whole_at(alloc: Global, text: &str, span: Span) -> Result<Literal, ParseError>
         ensures ok { IfOk result (λ literal. literal ≡ record { text = chars text.now; span = span }) }
-        ensures whole { IfOk result (λ _. IsByItself (chars text.now)) }
-        ensures refused { IfErr result (IsRefusalOf (IsByItself (chars text.now))) }
+        ensures whole { IfOk result (λ _. IsWholeLiteral (chars text.now)) }
+        ensures refused { IfErr result (IsRefusalOf (IsWholeLiteral (chars text.now))) }
     {
         if !Literal::is_whole(text) {
             return Err(ParseError::Lex(LexError::at(Span::call_site())));
@@ -72,17 +72,17 @@ impl Literal {
     /// The literal of this text, which is a whole one (`is_whole`), with the span 0..0. Fails where
     /// memory runs out. For `1.5` it is `1.5`.
     pub fn from_str_unchecked(alloc: Global, text: &str) -> Result<Literal, AllocError>
-        requires { IsByItself (chars text.now) }
+        requires { IsWholeLiteral (chars text.now) }
         ensures ok { IfOk result (λ literal. literal ≡ record { text = chars text.now; span = nowhere }) }
     {
         Literal::from_parts(alloc, text, Span::call_site())
     }
 
-    /// Whether the text is a literal, or `-` and one that begins with a digit (`literal-by-itself`):
+    /// Whether the text is a literal, or `-` and one that begins with a digit (`whole-literal`):
     /// the texts that `from_str` accepts. It is so of `1u8`, `-0.1` and `"a"`, and not of `- 1`,
     /// `1 ` or `-""`.
     pub fn is_whole(text: &str) -> bool
-        ensures { IsTrue result ↔ IsByItself (chars text.now) }
+        ensures { IsTrue result ↔ IsWholeLiteral (chars text.now) }
     {
         match behind_minus(text) {
             Some(number) => begins_with_digit(number) && is_literal(number),

@@ -1,5 +1,5 @@
 use Rattle.std.proofs.Common.{◌≡◌, ◌++◌, ◌∷◌, [], sym, ap, ap₂, ◌∙◌, subst, inl}
-use Rattle.lexical.specs.Literal.{IsWhole}
+use Rattle.lexical.specs.Literal.{IsLiteralToken}
 use Rattle.pm_token.specs.Escaped.{written, written_byte, byte_text}
 use Rattle.pm_token.proofs.ByteLemmas.{byte_whole}
 use Rattle.pm_token.proofs.literals.Literal.byte_character.Goals as goal
@@ -14,7 +14,7 @@ text c =
 
 pub invariant_of-result : goal.invariant_of-result
 invariant_of-result c =
-    (inl (subst IsWhole (sym (text c)) (byte_whole c.args.byte c.ranges.byte.fits)), c.finish.ensures.text)
+    (inl (subst IsLiteralToken (sym (text c)) (byte_whole c.args.byte c.ranges.byte.fits)), c.finish.ensures.text)
 
 pub returns : goal.returns
 returns c = record { ok = ap₂ (λ x s. record { text = x; span = s }) (text c) c.call_site.ensures.value }

@@ -1,5 +1,5 @@
 use Rattle.std.proofs.Common.{◌≡◌, ◌++◌, ◌∷◌, [], sym, ap, ap₂, ◌∙◌, subst, inl}
-use Rattle.lexical.specs.Literal.{IsWhole}
+use Rattle.lexical.specs.Literal.{IsLiteralToken}
 use Rattle.pm_token.specs.Escaped.{content, written_byte, byte_string_text}
 use Rattle.pm_token.proofs.ByteLemmas.{bytes_fit, byte_string_whole}
 use Rattle.pm_token.proofs.literals.Literal.byte_string.Goals as goal
@@ -15,7 +15,7 @@ text c =
 pub invariant_of-result : goal.invariant_of-result
 invariant_of-result c =
     let fit = bytes_fit c.args.bytes.now (λ i. (c.type_inv.bytes i).fits) in
-    (inl (subst IsWhole (sym (text c)) (byte_string_whole c.args.bytes.now fit)), c.finish.ensures.text)
+    (inl (subst IsLiteralToken (sym (text c)) (byte_string_whole c.args.bytes.now fit)), c.finish.ensures.text)
 
 pub returns : goal.returns
 returns c = record { ok = ap₂ (λ x s. record { text = x; span = s }) (text c) c.call_site.ensures.value }

@@ -1,6 +1,6 @@
 use Rattle.std.proofs.Common.{◌≡◌, ◌++◌, ◌∷◌, [], sym, ap, ap₂, ◌∙◌, subst, inl}
 use Rattle.std.proofs.lemmas.Str.{chars-nil}
-use Rattle.lexical.specs.Literal.{IsWhole}
+use Rattle.lexical.specs.Literal.{IsLiteralToken}
 use Rattle.pm_token.specs.Escaped.{written, written_char, character_text}
 use Rattle.pm_token.proofs.EscapedLemmas.{character_whole}
 use Rattle.pm_token.proofs.literals.Literal.character.Goals as goal
@@ -14,7 +14,7 @@ text c =
 
 pub invariant_of-result : goal.invariant_of-result
 invariant_of-result c =
-    (inl (subst IsWhole (sym (text c)) (character_whole c.args.c c.ranges.c.0)), c.finish.ensures.text)
+    (inl (subst IsLiteralToken (sym (text c)) (character_whole c.args.c c.ranges.c.0)), c.finish.ensures.text)
 
 pub returns : goal.returns
 returns c = record { ok = ap₂ (λ x s. record { text = x; span = s }) (text c) c.call_site.ensures.value }

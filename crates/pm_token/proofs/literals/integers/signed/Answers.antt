@@ -4,8 +4,8 @@ use Rattle.std.proofs.lemmas.Int.{to_z-of_z}
 use Rattle.std.specs.Fmt.{signed_decimal}
 use Rattle.std.specs.Str.{chars}
 use Rattle.pm_token.specs.Integer.{suffix_text}
-use Rattle.pm_token.specs.LiteralText.{IsByItself}
-use Rattle.pm_token.proofs.IntegerLemmas.{chars_signed, signed_by_itself}
+use Rattle.pm_token.specs.LiteralText.{IsWholeLiteral}
+use Rattle.pm_token.proofs.IntegerLemmas.{chars_signed, signed_whole}
 use Rattle.pm_token.proofs.WholeLemmas.{literal_text}
 use Rattle.pm_token.proofs.literals.integers.signed.Goals as goal
 use Rattle.pm_token.proofs.literals.integers.signed.Goals.{After-call_site}
@@ -22,8 +22,8 @@ text c =
 
 pub invariant_of-result : goal.invariant_of-result
 invariant_of-result c =
-    let is = signed_by_itself c.args.value c.args.suffix c.ranges.value in
-    literal_text _ c.from_string.ensures.text (subst IsByItself (sym (text c)) is)
+    let is = signed_whole c.args.value c.args.suffix c.ranges.value in
+    literal_text _ c.from_string.ensures.text (subst IsWholeLiteral (sym (text c)) is)
 
 pub returns : goal.returns
 returns c = record {

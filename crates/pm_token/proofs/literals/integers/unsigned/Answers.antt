@@ -2,8 +2,8 @@ use Rattle.std.proofs.Common.{◌≡◌, ◌++◌, sym, ap, ◌∙◌, subst}
 use Rattle.std.specs.Fmt.{decimal}
 use Rattle.std.specs.Str.{chars}
 use Rattle.pm_token.specs.Integer.{suffix_text}
-use Rattle.pm_token.specs.LiteralText.{IsByItself}
-use Rattle.pm_token.proofs.IntegerLemmas.{chars_unsigned, unsigned_by_itself}
+use Rattle.pm_token.specs.LiteralText.{IsWholeLiteral}
+use Rattle.pm_token.proofs.IntegerLemmas.{chars_unsigned, unsigned_whole}
 use Rattle.pm_token.proofs.WholeLemmas.{literal_text}
 use Rattle.pm_token.proofs.literals.integers.unsigned.Goals as goal
 use Rattle.pm_token.proofs.literals.integers.unsigned.Goals.{After-call_site}
@@ -17,8 +17,8 @@ text c =
 
 pub invariant_of-result : goal.invariant_of-result
 invariant_of-result c =
-    let is = unsigned_by_itself c.args.value c.args.suffix c.ranges.value.fits in
-    literal_text _ c.from_string.ensures.text (subst IsByItself (sym (text c)) is)
+    let is = unsigned_whole c.args.value c.args.suffix c.ranges.value.fits in
+    literal_text _ c.from_string.ensures.text (subst IsWholeLiteral (sym (text c)) is)
 
 pub returns : goal.returns
 returns c = record {
