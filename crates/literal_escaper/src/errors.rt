@@ -14,7 +14,8 @@ pub enum EscapeError {
     LoneSlash,
     /// A backslash before a character that begins no escape: `\z`, or `\` before a CR.
     InvalidEscape,
-    /// A CR that no backslash stands before in a content with escapes, also before LF: `a` CR LF.
+    /// A CR that is read by itself in a content with escapes, also before LF: `a` CR LF. It is no part of
+    /// an escape, nor is it skipped behind a backslash and LF.
     BareCarriageReturn,
     /// A CR in a raw content: `a` CR.
     BareCarriageReturnInRawString,
