@@ -52,7 +52,11 @@ ComesBack = (base : ℕ) (stream : Forest) → IsBuilt stream → Gives base (pr
 abbrev pub ParsedIsWellSpaced : Type 0
 ParsedIsWellSpaced = (base : ℕ) (source : List ℕ) (stream : Forest) → ParsesTo base source stream → IsWellSpaced stream
 
--- and every one that a text parses to is built
+-- so is what is the same as one, up to spans
+abbrev pub GivenIsWellSpaced : Type 0
+GivenIsWellSpaced = (base : ℕ) (source : List ℕ) (stream : Forest) → Gives base source stream → IsWellSpaced stream
+
+-- and every stream that a text parses to is built
 abbrev pub ParsedIsBuilt : Type 0
 ParsedIsBuilt = (base : ℕ) (source : List ℕ) (stream : Forest)
     → IsText source → ParsesTo base source stream → IsBuilt stream

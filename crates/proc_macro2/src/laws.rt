@@ -5,6 +5,7 @@ ghost use Rattle.proc_macro2.specs.GivesBack.{SpansGiveBack, ListedGiveBack};
 ghost use Rattle.proc_macro2.specs.Laws.{
   BrokenLine,
   ComesBack,
+  GivenIsWellSpaced,
   JoinedTexts,
   NeverBoth,
   OneCover,
@@ -41,6 +42,7 @@ pub fn one_cover()
 pub fn printed_comes_back()
     ensures back { ComesBack }
     ensures parsed { ParsedIsWellSpaced }
+    ensures given { GivenIsWellSpaced }
     ensures built { ParsedIsBuilt }
     ensures printed { PrintedIsText }
     ensures exactly { WellSpacedIsParsed }

@@ -7,6 +7,7 @@ pub returns : goal.returns
 returns c = record {
   back = λ base s built. (given_spaced base (printed s) s, comes_back base s built);
   parsed = parsed_spaced;
+  given = given_spaced;
   built = parsed_built;
   printed = printed_text;
   exactly = λ s built. (
