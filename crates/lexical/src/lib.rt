@@ -5,6 +5,9 @@
 //! relation between a piece and all that follows it. No call takes memory. A call may read more of
 //! the text than the piece that it answers: an unclosed `/*` or string is read to the end, and a
 //! lone `'` with the whole identifier behind it.
+//!
+//! A rule is named by its label in backquotes, such as `block-comment`. `docs/GRAMMAR.md` has all of them, each
+//! with its definition.
 #![tactic(auto)]
 
 mod class;

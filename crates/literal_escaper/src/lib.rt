@@ -2,6 +2,9 @@
 //!
 //! The rules are in docs/GRAMMAR.md under "Escaper items" and, exactly, in `specs/`. No call takes
 //! memory, and each one answers, whatever the text.
+//!
+//! A rule is named by its label in backquotes, such as `item-hex`. `docs/GRAMMAR.md` has all of them, each
+//! with its definition.
 #![tactic(auto)]
 
 mod check;

@@ -1,4 +1,7 @@
 //! Streams of token trees: read from text, and printed.
+//!
+//! A rule is named by its label in backquotes, such as `parses-to`. `docs/GRAMMAR.md` has all of them, each
+//! with its definition.
 #![tactic(auto)]
 
 mod debug;

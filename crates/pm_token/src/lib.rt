@@ -1,4 +1,7 @@
 //! Tokens: identifiers, marks and literals, and why a text is refused.
+//!
+//! A rule is named by its label in backquotes, such as `literal-value`. `docs/GRAMMAR.md` has all of them, each
+//! with its definition.
 #![tactic(auto)]
 
 pub mod delimiters;

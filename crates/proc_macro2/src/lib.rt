@@ -1,4 +1,7 @@
 //! Rust source text as token trees: reading it, walking it, printing it.
+//!
+//! A rule is named by its label in backquotes, such as `well-spaced`. `docs/GRAMMAR.md` has all of them, each
+//! with its definition.
 #![tactic(auto)]
 
 pub mod laws;
