@@ -4,8 +4,8 @@
 Usage: bench/function_cost.py [--test] [-n COUNT] CRATE ..
 Proves each crate from nothing in a copy, over the libraries below it as `rt check` last built them, and prints the
 slowest functions with the processor seconds between the line `checked FUNCTION` before theirs and their own. With
---test the crate's tests are proved with it. A file of lemmas counts for the first function that needs it, and what every check
-has to load counts for the crate alone.
+--test the crate's tests are proved with it. A file of definitions or of lemmas counts for the first function that needs
+it, and what every check has to load counts for the crate alone.
 """
 import argparse
 import os
@@ -15,8 +15,8 @@ import sys
 import tempfile
 from pathlib import Path
 
-TOP = Path(__file__).resolve().parent.parent
-sys.path.insert(0, str(TOP / "bugs"))
+sys.dont_write_bytecode = True
+sys.path.insert(0, str(Path(__file__).resolve().parent.parent / "bugs"))
 from try_edits import copy_repository  # noqa: E402
 
 TICK = os.sysconf("SC_CLK_TCK")
@@ -41,9 +41,10 @@ def times_of(crate, tests):
         copy_repository(crate, Path(room), keeps=False)
         folder = Path(room).resolve() / "crates" / crate
         command = ["rt", "check", "--jobs", "1", *["--test"] * tests]
-        found, last = {}, 0.0
+        found, last, said = {}, 0.0, []
         with subprocess.Popen(command, cwd=folder, stdout=subprocess.PIPE, stderr=subprocess.STDOUT, text=True) as ran:
             for line in ran.stdout:
+                said.append(line)
                 now = max(time_of_provers(folder), last)
                 checked = re.match(r"checked (\S+), \d+ of \d+$", line)
                 if checked:
@@ -51,7 +52,7 @@ def times_of(crate, tests):
                 if checked or line.startswith("so far:"):
                     last = now
         if ran.returncode:
-            sys.exit(f"{crate} is not proved: see `rt check` there")
+            sys.exit("".join(said[-12:]) + f"{crate} is not proved")
         return found, now
 
 

@@ -14,6 +14,7 @@ import argparse
 import os
 import re
 import shutil
+import signal
 import subprocess
 import sys
 import tempfile
@@ -207,12 +208,15 @@ def try_crate(crate, edits, lanes, room):
             free.put(repository)
         return edit, found, time.monotonic() - began
 
-    results = []
-    with ThreadPoolExecutor(lanes) as pool:
+    results, pool = [], ThreadPoolExecutor(lanes)
+    try:
         for done in as_completed([pool.submit(work, edit) for edit in edits]):
             edit, (result, why), seconds = done.result()
             print(f"{result}: {crate}/{edit.name} ({seconds:.0f} s): {why[:200]}", flush=True)
             results.append(result)
+    finally:
+        # Where this is stopped, the edits that wait are not begun.
+        pool.shutdown(cancel_futures=True)
     for folder in room.iterdir():
         shutil.rmtree(folder)
     return results
@@ -224,6 +228,8 @@ def main():
     words.add_argument("-j", "--lanes", type=int, default=1, metavar="N", help="how many edits to try at a time (1)")
     words.add_argument("names", nargs="*", metavar="CRATE | FOLDER | FILE.edit")
     given = words.parse_args()
+    # So that the copies are removed where a signal ends this.
+    signal.signal(signal.SIGTERM, lambda *_: sys.exit("stopped"))
     results = []
     with tempfile.TemporaryDirectory(prefix="bugs-") as room:
         for crate, edits in edits_named(given.names).items():
