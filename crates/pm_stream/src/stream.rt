@@ -7,6 +7,8 @@ ghost use Rattle.pm_stream.specs.Level.{forest, held, alone, inside, GoesInside,
 ghost use Rattle.pm_stream.specs.Size.{is_nil, count};
 ghost use Rattle.pm_stream.specs.TreeSpan.{extent_of, with_span};
 
+mod clones;
+
 use pm_span::Span;
 use pm_span::parts::bounds;
 use pm_token::{Delimiter, Ident, Literal, Punct};

@@ -145,6 +145,19 @@ impl Ident {
     }
 }
 
+/// The same identifier, with the same span. Fails where memory runs out.
+impl Clone for Ident {
+    ghost is_clone = { λ ident copy. copy ≡ ident };
+
+    fn clone(&self) -> Result<Ident, AllocError> {
+        Ok(Ident {
+            name: self.name.clone()?,
+            raw: self.raw,
+            span: self.span,
+        })
+    }
+}
+
 impl fmt::Display for Ident {
     ghost use Rattle.std.specs.Prelude.{Some};
     ghost use Rattle.std.specs.Str.{encode_utf8_all};

@@ -77,6 +77,18 @@ impl Literal {
     }
 }
 
+/// The same literal, with the same span. Fails where memory runs out.
+impl Clone for Literal {
+    ghost is_clone = { λ literal copy. copy ≡ literal };
+
+    fn clone(&self) -> Result<Literal, AllocError> {
+        Ok(Literal {
+            text: self.text.clone()?,
+            span: self.span,
+        })
+    }
+}
+
 impl fmt::Display for Literal {
     ghost use Rattle.std.specs.Prelude.{Some};
     ghost use Rattle.std.specs.Str.{encode_utf8_all};

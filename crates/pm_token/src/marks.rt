@@ -7,6 +7,7 @@ ghost use Rattle.pm_token.specs.Leaf.{mark_token};
 use crate::parts::show_span;
 use pm_span::Span;
 use pm_span::parts::bounds;
+use std::alloc::AllocError;
 use std::fmt;
 use std::marker::Model;
 
@@ -82,6 +83,22 @@ impl Punct {
         ensures { self.new ≡ record self.old { span = span } }
     {
         self.span = span;
+    }
+}
+
+/// The same mark, with the same span. It takes no memory.
+impl Clone for Punct {
+    ghost use Rattle.std.specs.Prelude.{⊤};
+
+    ghost is_clone = { λ punct copy. copy ≡ punct };
+    ghost is_infallible = { λ punct. ⊤ };
+
+    fn clone(&self) -> Result<Punct, AllocError> {
+        Ok(Punct {
+            mark: self.mark,
+            spacing: self.spacing,
+            span: self.span,
+        })
     }
 }
 

@@ -48,6 +48,19 @@ impl Symbol {
     }
 }
 
+/// The same text. Fails where memory runs out.
+impl Clone for Symbol {
+    ghost use Rattle.std.specs.Prelude.{◌≡◌};
+
+    ghost is_clone = { λ symbol copy. copy ≡ symbol };
+
+    fn clone(&self) -> Result<Symbol, AllocError> {
+        Ok(Symbol {
+            text: self.text.clone()?,
+        })
+    }
+}
+
 impl fmt::Display for Symbol {
     ghost use Rattle.std.specs.Prelude.{Some};
     ghost use Rattle.std.specs.Str.{encode_utf8_all};

@@ -1,0 +1,49 @@
+//! Copies of streams and trees.
+ghost use Rattle.std.specs.Prelude.{◌≡◌};
+
+use super::{Group, TokenStream, TokenTree};
+use std::alloc::AllocError;
+
+/// The same trees. They are shared until one of the two streams is changed, so that this takes no
+/// memory, however many they are.
+impl Clone for TokenStream {
+    ghost is_clone = { λ stream copy. copy ≡ stream };
+
+    fn clone(&self) -> Result<TokenStream, AllocError> {
+        let trees = match &self.trees {
+            Some(trees) => Some(trees.clone()?),
+            None => None,
+        };
+        Ok(TokenStream {
+            alloc: self.alloc,
+            trees,
+        })
+    }
+}
+
+/// The same tree, with the same spans. Fails where memory for its text runs out.
+impl Clone for TokenTree {
+    ghost is_clone = { λ tree copy. copy ≡ tree };
+
+    fn clone(&self) -> Result<TokenTree, AllocError> {
+        Ok(match self {
+            TokenTree::Group(group) => TokenTree::Group(group.clone()?),
+            TokenTree::Ident(ident) => TokenTree::Ident(ident.clone()?),
+            TokenTree::Punct(punct) => TokenTree::Punct(punct.clone()?),
+            TokenTree::Literal(literal) => TokenTree::Literal(literal.clone()?),
+        })
+    }
+}
+
+/// The same group, whose trees are shared as those of a stream are.
+impl Clone for Group {
+    ghost is_clone = { λ group copy. copy ≡ group };
+
+    fn clone(&self) -> Result<Group, AllocError> {
+        Ok(Group {
+            delimiter: self.delimiter,
+            stream: self.stream.clone()?,
+            span: self.span,
+        })
+    }
+}
