@@ -5,6 +5,7 @@ pub mod Levels
 pub mod InOrderLemmas
 pub mod WalkLemmas
 pub mod PrintLemmas
+pub mod SpacedLemmas
 pub mod EventLemmas
 pub mod WrittenLemmas
 pub mod ReadSoFar

@@ -12,7 +12,9 @@ pub mod PrintedTree
 pub mod Rule
 pub mod Shown
 pub mod WellSpaced
+pub mod SpacedTree
 pub mod Same
+pub mod SameTree
 pub mod Parsing
 pub mod Written
 pub mod Progress

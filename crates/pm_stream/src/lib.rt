@@ -11,8 +11,10 @@ pub mod extra;
 pub mod laws;
 mod parse;
 pub mod parts;
+mod same;
 mod stream;
 mod walk;
+mod well_spaced;
 
 pub use stream::{Group, TokenStream, TokenTree};
 pub use walk::Walk;

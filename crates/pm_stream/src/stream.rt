@@ -264,6 +264,16 @@ impl TokenTree {
         }
     }
 
+    /// The trees within a group, and none of a token.
+    pub(crate) fn inside(&self) -> &[TokenTree]
+        ensures { forest result.now ≡ inside self.now }
+    {
+        match self {
+            TokenTree::Group(group) => group.stream.trees(),
+            TokenTree::Ident(_) | TokenTree::Punct(_) | TokenTree::Literal(_) => &[],
+        }
+    }
+
     // The trees within a group, and none of a token.
     fn into_inside(self, alloc: Global) -> TokenStream
         ensures { result ≡ inside self }

@@ -1,0 +1,15 @@
+-- What `well-spaced` asks of one tree by itself.
+use Rattle.std.specs.Prelude.{Bool}
+use Rattle.pm_token.specs.Leaf.{name_token, mark_token, text_token}
+use Rattle.pm_stream.specs.Forest.{Forest}
+use Rattle.pm_stream.specs.Shown.{is_shown}
+use Rattle.pm_stream.specs.WellSpaced.{fits, next_token}
+use Rattle.pm_stream.specs.declared.stream.TokenTree.{TokenTree}
+use Rattle.pm_stream.specs.declared.stream.TokenTree.TheVariants.{Group, Ident, Punct, Literal}
+
+-- the token may stand before these trees, or the group is shown
+abbrev pub tree_fits : TokenTree → Forest → Bool
+tree_fits (Group g) rest = is_shown g.delimiter
+tree_fits (Ident i) rest = fits (name_token i) (next_token rest)
+tree_fits (Punct p) rest = fits (mark_token p) (next_token rest)
+tree_fits (Literal l) rest = fits (text_token l) (next_token rest)

@@ -1,0 +1,92 @@
+//! Whether two streams have the same tokens.
+//!
+//! Groups may nest as deep as a text is long, so what is left after a group stands in a list and
+//! not on the stack. Only where memory for the list is refused does a call for the group alone
+//! follow, so that there is an answer then too.
+ghost use Rattle.std.specs.Prelude.{◌≡◌, ◌↔◌, IsTrue};
+ghost use Rattle.std.specs.Str.{chars};
+ghost use Rattle.pm_stream.specs.Level.{forest};
+ghost use Rattle.pm_stream.specs.Same.{Same};
+ghost use Rattle.pm_stream.specs.SameTree.{first_event};
+
+use crate::stream::{TokenStream, TokenTree};
+use pm_token::{Literal, Punct};
+use std::alloc::Global;
+
+// Two lists of trees that are to be compared.
+#[derive(Clone, Copy)]
+struct Lists<'a> {
+    trees: &'a [TokenTree],
+    others: &'a [TokenTree],
+}
+
+impl TokenStream {
+    /// Whether both have the `same` trees but for their spans: whether they are equal once every span
+    /// in them, at any depth, is 0..0.
+    ///
+    /// It always answers, whatever memory there is, and in time proportional to the number of trees
+    /// of the smaller one and the length of their texts.
+    ///
+    /// What `a` and `  a` parse to is the same. `(a)` and `[a]` are not, nor are `+ =` and `+=`, where
+    /// one `+` is Alone and the other Joint.
+    pub fn same_tokens(&self, other: &TokenStream) -> bool
+        ensures { IsTrue result ↔ Same self.now other.now }
+    {
+        are_same(self.alloc(), self.trees(), other.trees())
+    }
+}
+
+// Whether these trees are those of the other list, up to spans.
+fn are_same(alloc: Global, trees: &[TokenTree], others: &[TokenTree]) -> bool
+    ensures { IsTrue result ↔ Same (forest trees.now) (forest others.now) }
+{
+    let mut outer = Vec::new(alloc);
+    let mut left = Lists { trees, others };
+    loop {
+        let Some((tree, trees)) = left.trees.split_first() else {
+            if !left.others.is_empty() {
+                return false;
+            }
+            let Some(after) = outer.pop() else {
+                return true;
+            };
+            left = after;
+            continue;
+        };
+        let Some((other, others)) = left.others.split_first() else {
+            return false;
+        };
+        if !begin_alike(tree, other) {
+            return false;
+        }
+        let after = Lists { trees, others };
+        let inside = Lists {
+            trees: tree.inside(),
+            others: other.inside(),
+        };
+        left = after;
+        if inside.trees.is_empty() && inside.others.is_empty() {
+            continue;
+        }
+        if outer.push(after).is_ok() {
+            left = inside;
+        } else if !are_same(alloc, inside.trees, inside.others) {
+            return false;
+        }
+    }
+}
+
+// Whether both are the same token, or groups with the same delimiter.
+fn begin_alike(tree: &TokenTree, other: &TokenTree) -> bool
+    ensures { IsTrue result ↔ first_event tree.now ≡ first_event other.now }
+{
+    match (tree, other) {
+        (TokenTree::Group(group), TokenTree::Group(other)) => group.delimiter() == other.delimiter(),
+        (TokenTree::Ident(ident), TokenTree::Ident(other)) => ident == other,
+        (TokenTree::Punct(punct), TokenTree::Punct(other)) => {
+            punct.as_char() == other.as_char() && punct.spacing() == other.spacing()
+        }
+        (TokenTree::Literal(literal), TokenTree::Literal(other)) => literal.text() == other.text(),
+        _ => false,
+    }
+}
