@@ -6,6 +6,7 @@ pub mod InOrderLemmas
 pub mod WalkLemmas
 pub mod PrintLemmas
 pub mod SpacedLemmas
+pub mod SameLemmas
 pub mod EventLemmas
 pub mod WrittenLemmas
 pub mod ReadSoFar

@@ -55,7 +55,7 @@ spaced-before (Ident i) rest outer fits = refl
 spaced-before (Punct p) rest outer fits = rw fits refl
 spaced-before (Literal l) rest outer fits = refl
 
-count-before : (t : TokenTree) (rest : Forest) → count (before t rest) ≡ 1 + count (inside t) + count rest
+pub count-before : (t : TokenTree) (rest : Forest) → count (before t rest) ≡ 1 + count (inside t) + count rest
 count-before (Group g) rest = refl
 count-before (Ident i) rest = refl
 count-before (Punct p) rest = refl

@@ -82,7 +82,7 @@ fn begin_alike(tree: &TokenTree, other: &TokenTree) -> bool
 {
     match (tree, other) {
         (TokenTree::Group(group), TokenTree::Group(other)) => group.delimiter() == other.delimiter(),
-        (TokenTree::Ident(ident), TokenTree::Ident(other)) => ident == other,
+        (TokenTree::Ident(ident), TokenTree::Ident(other)) => *ident == *other,
         (TokenTree::Punct(punct), TokenTree::Punct(other)) => {
             punct.as_char() == other.as_char() && punct.spacing() == other.spacing()
         }
