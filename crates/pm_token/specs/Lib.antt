@@ -5,6 +5,7 @@ pub mod CString
 pub mod IdentFault
 pub mod Integer
 pub mod Joined
+pub mod Kept
 pub mod KindLaws
 pub mod Leaf
 pub mod LiteralText

@@ -1,5 +1,5 @@
 //! How literals between quotes are written.
-ghost use Rattle.std.specs.Prelude.{◌≡◌, ◌∷◌, ◌++◌, [], codes, OnOk};
+ghost use Rattle.std.specs.Prelude.{◌≡◌, ◌∷◌, ◌++◌, [], codes, IfOk, OnOk};
 ghost use Rattle.std.specs.Str.{chars};
 ghost use Rattle.std.specs.Char.Escape.{escape_unicode};
 ghost use Rattle.lexical.specs.Text.{first_passes};
@@ -40,12 +40,12 @@ impl Draft {
         }
     }
 
-    /// What is written, as the text of a token.
-    pub(crate) fn finish(self) -> Symbol
-        ensures value { result ≡ self }
-        ensures text { IsText result }
+    /// What is written, as the text of a token. Fails where memory runs out.
+    pub(crate) fn finish(self, alloc: Global) -> Result<Symbol, AllocError>
+        ensures ok { IfOk result (λ symbol. symbol ≡ self) }
+        ensures text { IfOk result IsText }
     {
-        Symbol::from_string(self.text)
+        Symbol::from_string(alloc, self.text)
     }
 
     /// Writes the character.

@@ -5,7 +5,7 @@ mod comparisons;
 mod faults;
 
 use crate::parts::show_span;
-use crate::symbols::Symbol;
+use crate::symbols::Name;
 pub use faults::IdentError;
 use faults::fault;
 use pm_span::Span;
@@ -17,8 +17,7 @@ use std::marker::Model;
 /// An identifier or a keyword, raw or plain.
 #[derive(Drop)]
 pub struct Ident {
-    name: Symbol,
-    raw: bool,
+    name: Name,
     span: Span,
 }
 
@@ -29,9 +28,9 @@ impl Model for Ident {
 
     ghost Value = { Name };
 
-    ghost view = { λ ident. record { name = ident.name; raw = ident.raw; span = ident.span } };
+    ghost view = { λ ident. record { name = ident.name.name; raw = ident.name.raw; span = ident.span } };
 
-    ghost invariant = { λ ident. IsBuiltToken (tokens.Name ident.raw ident.name) };
+    ghost invariant = { λ ident. IsBuiltToken (tokens.Name ident.name.raw ident.name.name) };
 }
 
 impl Ident {
@@ -54,8 +53,7 @@ impl Ident {
         ensures ok { IfOk result (λ ident. ident ≡ record { name = chars name.now; raw = raw; span = span }) }
     {
         Ok(Ident {
-            name: Symbol::new(alloc, name)?,
-            raw,
+            name: Name::new(alloc, name, raw)?,
             span,
         })
     }
@@ -116,7 +114,7 @@ impl Ident {
         ensures { IsTrue result ↔ (name_text self.now ≡ chars text.now) }
     {
         let name = self.name.as_str();
-        if !self.raw {
+        if !self.name.is_raw() {
             return name == text;
         }
         match text.strip_prefix("r#") {
@@ -145,14 +143,18 @@ impl Ident {
     }
 }
 
-/// The same identifier, with the same span. Fails where memory runs out.
+/// The same identifier, with the same span. A name of more than 22 bytes takes memory, and the copy fails where that
+/// runs out.
 impl Clone for Ident {
+    ghost use Rattle.pm_token.specs.Kept.{IsShort};
+
     ghost is_clone = { λ ident copy. copy ≡ ident };
+
+    ghost is_infallible = { λ ident. IsShort ident.name };
 
     fn clone(&self) -> Result<Ident, AllocError> {
         Ok(Ident {
             name: self.name.clone()?,
-            raw: self.raw,
             span: self.span,
         })
     }
@@ -167,7 +169,7 @@ impl fmt::Display for Ident {
     ghost output = { λ ident. Some (encode_utf8_all (token_text (name_token ident))) };
 
     fn fmt<W: fmt::Write>(&self, f: &mut fmt::Formatter<W>) -> fmt::Result {
-        if self.raw {
+        if self.name.is_raw() {
             f.write_str("r#")?;
         }
         self.name.fmt(f)

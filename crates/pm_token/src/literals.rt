@@ -77,9 +77,14 @@ impl Literal {
     }
 }
 
-/// The same literal, with the same span. Fails where memory runs out.
+/// The same literal, with the same span. A text of more than 22 bytes takes memory, and the copy fails where that runs
+/// out.
 impl Clone for Literal {
+    ghost use Rattle.pm_token.specs.Kept.{IsShort};
+
     ghost is_clone = { λ literal copy. copy ≡ literal };
+
+    ghost is_infallible = { λ literal. IsShort literal.text };
 
     fn clone(&self) -> Result<Literal, AllocError> {
         Ok(Literal {

@@ -91,6 +91,7 @@ impl Clone for Punct {
     ghost use Rattle.std.specs.Prelude.{⊤};
 
     ghost is_clone = { λ punct copy. copy ≡ punct };
+
     ghost is_infallible = { λ punct. ⊤ };
 
     fn clone(&self) -> Result<Punct, AllocError> {

@@ -1,58 +1,112 @@
 //! The text of a token, kept once.
+ghost use Rattle.std.specs.Prelude.{◌≡◌, ℕ, List, IfOk, IsOk, Some, string_bytes};
+ghost use Rattle.std.specs.Str.{chars, encode_utf8_all};
+ghost use Rattle.pm_token.specs.Kept.{IsShort, text_bytes};
+ghost use Rattle.pm_token.specs.Text.{IsText};
+
+mod names;
+mod short;
+
+pub use names::Name;
+use short::{ROOM, Short};
 use std::alloc::{AllocError, Global};
 use std::fmt;
 use std::marker::Model;
 
-/// The text that a token owns: a name or a literal, in characters.
+/// A short text, in place, or a long one, behind a pointer.
+#[derive(Drop)]
+enum Text {
+    Short(Short),
+    Long(Box<String>),
+}
+
+impl Text {
+    /// A copy of the text. Fails where memory runs out.
+    fn new(alloc: Global, text: &str) -> Result<Text, AllocError>
+        ensures ok { IfOk result (λ kept. text_bytes kept ≡ text.now) }
+        ensures short { IsShort (chars text.now) → IsOk result }
+    {
+        if text.len() <= ROOM {
+            Ok(Text::Short(Short::new(text)))
+        } else {
+            Ok(Text::Long(Box::new(alloc, String::from_str(alloc, text)?)?))
+        }
+    }
+
+    /// The text itself if it is long, and a copy if it is short. Fails where memory runs out.
+    fn from_string(alloc: Global, text: String) -> Result<Text, AllocError>
+        ensures ok { IfOk result (λ kept. text_bytes kept ≡ string_bytes text) }
+    {
+        if text.len() <= ROOM {
+            Ok(Text::Short(Short::new(text.as_str())))
+        } else {
+            Ok(Text::Long(Box::new(alloc, text)?))
+        }
+    }
+}
+
+/// The same text. A long one fails where memory runs out.
+impl Clone for Text {
+    ghost is_clone = { λ text copy. text_bytes copy ≡ text_bytes text };
+
+    ghost is_infallible = { λ text. IsShort (chars (text_bytes text)) };
+
+    fn clone(&self) -> Result<Text, AllocError> {
+        match self {
+            Text::Short(text) => Ok(Text::Short(text.copy())),
+            Text::Long(text) => Text::new(*text.allocator(), text.as_str()),
+        }
+    }
+}
+
+/// The text that a token owns: a literal, in characters.
 #[derive(Drop)]
 pub struct Symbol {
-    text: String,
+    text: Text,
 }
 
 impl Model for Symbol {
-    ghost use Rattle.std.specs.Prelude.{ℕ, List, string_bytes};
-    ghost use Rattle.std.specs.Str.{chars};
-
     ghost Value = { List ℕ };
 
-    ghost view = { λ symbol. chars (string_bytes symbol.text) };
+    ghost view = { λ symbol. chars (text_bytes symbol.text) };
 }
 
 impl Symbol {
-    ghost use Rattle.std.specs.Prelude.{◌≡◌, IfOk, string_bytes};
-    ghost use Rattle.std.specs.Str.{chars};
-    ghost use Rattle.pm_token.specs.Text.{IsText};
-
     /// Keeps a copy of the text. Fails where memory runs out.
     pub fn new(alloc: Global, text: &str) -> Result<Symbol, AllocError>
         ensures ok { IfOk result (λ symbol. symbol ≡ chars text.now) }
     {
         Ok(Symbol {
-            text: String::from_str(alloc, text)?,
+            text: Text::new(alloc, text)?,
         })
     }
 
-    /// Keeps the text.
-    pub fn from_string(text: String) -> Symbol
-        ensures value { result ≡ chars (string_bytes text) }
-        ensures text { IsText result }
+    /// Keeps the text. Fails where memory runs out.
+    pub fn from_string(alloc: Global, text: String) -> Result<Symbol, AllocError>
+        ensures ok { IfOk result (λ symbol. symbol ≡ chars (string_bytes text)) }
+        ensures text { IfOk result IsText }
     {
-        Symbol { text }
+        Ok(Symbol {
+            text: Text::from_string(alloc, text)?,
+        })
     }
 
     /// The text.
     pub fn as_str(&self) -> &str
         ensures { chars result.now ≡ self.now }
     {
-        self.text.as_str()
+        match &self.text {
+            Text::Short(text) => text.as_str(),
+            Text::Long(text) => text.as_str(),
+        }
     }
 }
 
-/// The same text. Fails where memory runs out.
+/// The same text. A long one fails where memory runs out.
 impl Clone for Symbol {
-    ghost use Rattle.std.specs.Prelude.{◌≡◌};
-
     ghost is_clone = { λ symbol copy. copy ≡ symbol };
+
+    ghost is_infallible = { IsShort };
 
     fn clone(&self) -> Result<Symbol, AllocError> {
         Ok(Symbol {
@@ -62,12 +116,9 @@ impl Clone for Symbol {
 }
 
 impl fmt::Display for Symbol {
-    ghost use Rattle.std.specs.Prelude.{Some};
-    ghost use Rattle.std.specs.Str.{encode_utf8_all};
-
     ghost output = { λ symbol. Some (encode_utf8_all symbol) };
 
     fn fmt<W: fmt::Write>(&self, f: &mut fmt::Formatter<W>) -> fmt::Result {
-        f.write_str(self.text.as_str())
+        f.write_str(self.as_str())
     }
 }

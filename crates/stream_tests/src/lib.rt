@@ -24,6 +24,8 @@ mod rows;
 #[cfg(test)]
 mod shown_trees;
 #[cfg(test)]
+mod sizes;
+#[cfg(test)]
 mod spans;
 #[cfg(test)]
 mod streams;

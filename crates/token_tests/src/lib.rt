@@ -22,6 +22,8 @@ mod shown_parts;
 #[cfg(test)]
 mod shown_tokens;
 #[cfg(test)]
+mod sizes;
+#[cfg(test)]
 mod source_map;
 #[cfg(test)]
 mod subspans;

@@ -23,7 +23,8 @@ impl PartialEq for Ident {
     {
         let name = self.name.as_str();
         let other_name = other.name.as_str();
-        if self.raw == other.raw {
+        let raw = self.name.is_raw();
+        if raw == other.name.is_raw() {
             return name == other_name;
         }
         false
@@ -61,11 +62,12 @@ impl Ord for Ident {
     {
         let name = self.name.as_str();
         let other_name = other.name.as_str();
-        if self.raw == other.raw {
+        let raw = self.name.is_raw();
+        if raw == other.name.is_raw() {
             return name.cmp(other_name);
         }
         // A plain name has no `#`, so that its first two characters decide.
-        if self.raw {
+        if raw {
             "r#".cmp(other_name)
         } else {
             name.cmp("r#")
@@ -85,7 +87,7 @@ impl Hash for Ident {
         ensures text { concat (fed_for (written self.now)) ≡ written self.now ++ 255 ∷ [] }
     {
         let name = self.name.as_str();
-        if self.raw {
+        if self.name.is_raw() {
             state.write(b"r#");
         }
         name.hash(state);

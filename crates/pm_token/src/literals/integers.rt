@@ -70,7 +70,7 @@ fn unsigned(alloc: Global, value: u128, suffix: Suffix) -> Result<Literal, Alloc
 {
     let suffix = suffix.name();
     Ok(Literal {
-        text: Symbol::from_string(format!(in alloc; "{value}{suffix}")?),
+        text: Symbol::from_string(alloc, format!(in alloc; "{value}{suffix}")?)?,
         span: Span::call_site(),
     })
 }
@@ -82,7 +82,7 @@ fn signed(alloc: Global, value: i128, suffix: Suffix) -> Result<Literal, AllocEr
 {
     let suffix = suffix.name();
     Ok(Literal {
-        text: Symbol::from_string(format!(in alloc; "{value}{suffix}")?),
+        text: Symbol::from_string(alloc, format!(in alloc; "{value}{suffix}")?)?,
         span: Span::call_site(),
     })
 }

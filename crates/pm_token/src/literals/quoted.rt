@@ -31,7 +31,7 @@ impl Literal {
         draft.push_content('"', text)?;
         draft.push('"')?;
         Ok(Literal {
-            text: draft.finish(),
+            text: draft.finish(alloc)?,
             span,
         })
     }
@@ -47,7 +47,7 @@ impl Literal {
         draft.push_escaped('\'', c, "")?;
         draft.push('\'')?;
         Ok(Literal {
-            text: draft.finish(),
+            text: draft.finish(alloc)?,
             span: Span::call_site(),
         })
     }
@@ -64,7 +64,7 @@ impl Literal {
         draft.push_byte(b'\'', byte, &[])?;
         draft.push('\'')?;
         Ok(Literal {
-            text: draft.finish(),
+            text: draft.finish(alloc)?,
             span: Span::call_site(),
         })
     }
@@ -81,7 +81,7 @@ impl Literal {
         draft.push_bytes(b'"', bytes)?;
         draft.push('"')?;
         Ok(Literal {
-            text: draft.finish(),
+            text: draft.finish(alloc)?,
             span: Span::call_site(),
         })
     }
@@ -100,7 +100,7 @@ impl Literal {
         draft.push_c_string(bytes)?;
         draft.push('"')?;
         Ok(Literal {
-            text: draft.finish(),
+            text: draft.finish(alloc)?,
             span: Span::call_site(),
         })
     }

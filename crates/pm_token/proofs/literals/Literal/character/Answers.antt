@@ -6,15 +6,15 @@ use Rattle.pm_token.proofs.EscapedLemmas.{character_whole}
 use Rattle.pm_token.proofs.literals.Literal.character.Goals as goal
 use Rattle.pm_token.proofs.literals.Literal.character.Goals.{After-call_site}
 
-text : (c : After-call_site) → c.finish.result ≡ character_text c.args.c
+text : (c : After-call_site) → c.in_ok-finish.field-0 ≡ character_text c.args.c
 text c =
-    c.finish.ensures.value ∙ (c.in_ok-push-2.ensures.ok
+    c.in_ok-finish.ensures.ok ∙ (c.in_ok-push-2.ensures.ok
     ∙ ap (λ x. x ++ 39 ∷ []) (c.in_ok-push_escaped.ensures.ok
     ∙ ap₂ (λ x rest. x ++ written 39 written_char c.args.c rest) (c.in_ok-push.ensures.ok ∙ ap (λ x. x ++ 39 ∷ []) c.new-draft.ensures) chars-nil))
 
 pub invariant_of-result : goal.invariant_of-result
 invariant_of-result c =
-    (inl (subst IsLiteralToken (sym (text c)) (character_whole c.args.c c.ranges.c.0)), c.finish.ensures.text)
+    (inl (subst IsLiteralToken (sym (text c)) (character_whole c.args.c c.ranges.c.0)), c.in_ok-finish.ensures.text)
 
 pub returns : goal.returns
 returns c = record { ok = ap₂ (λ x s. record { text = x; span = s }) (text c) c.call_site.ensures.value }

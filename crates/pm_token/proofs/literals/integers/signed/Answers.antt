@@ -11,19 +11,19 @@ use Rattle.pm_token.proofs.literals.integers.signed.Goals as goal
 use Rattle.pm_token.proofs.literals.integers.signed.Goals.{After-call_site}
 
 -- the characters of what was written
-text : (c : After-call_site) → c.from_string.result ≡ signed_decimal c.args.value ++ suffix_text c.args.suffix
+text : (c : After-call_site) → c.in_ok-from_string.field-0 ≡ signed_decimal c.args.value ++ suffix_text c.args.suffix
 text c =
     let written =
     c.in_ok-format.ensures.ok ∙ ap (λ z. signed_decimal z ++ c.name-suffix.result.now) (to_z-of_z w128 c.args.value c.ranges.value)
     ∙ ap (λ xs. signed_decimal c.args.value ++ xs) c.name-suffix.ensures in
-    c.from_string.ensures.value
+    c.in_ok-from_string.ensures.ok
     ∙ (ap chars written
     ∙ chars_signed c.args.value c.args.suffix c.ranges.value)
 
 pub invariant_of-result : goal.invariant_of-result
 invariant_of-result c =
     let is = signed_whole c.args.value c.args.suffix c.ranges.value in
-    literal_text _ c.from_string.ensures.text (subst IsWholeLiteral (sym (text c)) is)
+    literal_text _ c.in_ok-from_string.ensures.text (subst IsWholeLiteral (sym (text c)) is)
 
 pub returns : goal.returns
 returns c = record {

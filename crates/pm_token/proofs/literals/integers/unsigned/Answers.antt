@@ -9,16 +9,16 @@ use Rattle.pm_token.proofs.literals.integers.unsigned.Goals as goal
 use Rattle.pm_token.proofs.literals.integers.unsigned.Goals.{After-call_site}
 
 -- the characters of what was written
-text : (c : After-call_site) → c.from_string.result ≡ decimal c.args.value ++ suffix_text c.args.suffix
+text : (c : After-call_site) → c.in_ok-from_string.field-0 ≡ decimal c.args.value ++ suffix_text c.args.suffix
 text c =
-    c.from_string.ensures.value
+    c.in_ok-from_string.ensures.ok
     ∙ (ap chars (c.in_ok-format.ensures.ok ∙ ap (λ xs. decimal c.args.value ++ xs) c.name-suffix.ensures)
     ∙ chars_unsigned c.args.value c.args.suffix c.ranges.value.fits)
 
 pub invariant_of-result : goal.invariant_of-result
 invariant_of-result c =
     let is = unsigned_whole c.args.value c.args.suffix c.ranges.value.fits in
-    literal_text _ c.from_string.ensures.text (subst IsWholeLiteral (sym (text c)) is)
+    literal_text _ c.in_ok-from_string.ensures.text (subst IsWholeLiteral (sym (text c)) is)
 
 pub returns : goal.returns
 returns c = record {

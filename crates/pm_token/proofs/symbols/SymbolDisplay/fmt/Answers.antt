@@ -1,5 +1,5 @@
 use Rattle.std.proofs.Common.{◌≡◌, ap, sym, ◌∙◌}
-use Rattle.std.specs.Str.{chars, encode_utf8_all}
+use Rattle.std.specs.Str.{encode_utf8_all}
 use Rattle.std.proofs.lemmas.Str.{encodes-chars}
 use Rattle.pm_token.proofs.symbols.SymbolDisplay.fmt.Goals as goal
 
@@ -7,5 +7,5 @@ use Rattle.pm_token.proofs.symbols.SymbolDisplay.fmt.Goals as goal
 pub returns-clause-writes : goal.returns-clause-writes
 returns-clause-writes g c =
     let same : encode_utf8_all c.args.self.now ≡ c.as_str.result.now =
-    ap encode_utf8_all (sym (ap chars c.as_str.ensures.value ∙ c.self.view_is)) ∙ encodes-chars c.as_str.result.now c.as_str.utf8 in
+    ap encode_utf8_all (sym c.as_str.ensures) ∙ encodes-chars c.as_str.result.now c.as_str.utf8 in
     rw same c.write_str.ensures.writes

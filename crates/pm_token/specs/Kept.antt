@@ -1,0 +1,36 @@
+-- How a token keeps its text.
+use Rattle.std.specs.Prelude.{◌≤◌, ℕ, List, Bool, true, false, length, string_bytes}
+use Rattle.std.specs.Str.{encode_utf8_all}
+use Rattle.pm_token.specs.declared.symbols.Text.{Text}
+use Rattle.pm_token.specs.declared.symbols.Text.TheVariants.{Short, Long}
+use Rattle.pm_token.specs.declared.symbols.short.TheConstants.{ROOM}
+use Rattle.pm_token.specs.declared.symbols.names.NameText.{NameText}
+use Rattle.pm_token.specs.declared.symbols.names.NameText.TheVariants as names
+
+-- the bytes of a text
+abbrev pub text_bytes : Text → List ℕ
+text_bytes (Short text) = text
+text_bytes (Long text) = string_bytes text.value
+
+-- a text that stands in place: a copy of it takes no memory
+abbrev pub IsShort : List ℕ → Type 0
+IsShort text = length (encode_utf8_all text) ≤ ROOM
+
+-- a name without `r#`, and whether it is raw
+pub record KeptName : Type 0 where
+  pub name : List ℕ
+  pub raw : Bool
+
+-- the bytes of a name
+abbrev pub name_bytes : NameText → List ℕ
+name_bytes (names.Short name) = name
+name_bytes (names.Long name) = string_bytes name.value
+name_bytes (names.RawShort name) = name
+name_bytes (names.RawLong name) = string_bytes name.value
+
+-- whether it is raw
+abbrev pub is_raw : NameText → Bool
+is_raw (names.Short name) = false
+is_raw (names.Long name) = false
+is_raw (names.RawShort name) = true
+is_raw (names.RawLong name) = true

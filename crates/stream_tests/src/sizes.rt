@@ -1,0 +1,16 @@
+// How many bytes a tree takes, since a long text is many trees.
+use proc_macro2::{Group, TokenStream, TokenTree};
+use std::mem::size_of;
+use std::process::Abort;
+
+/// Asserts that the values of a type take so many bytes each.
+fn take(rt: &impl Abort, name: &str, bytes: usize, want: usize) {
+    assert_eq!(rt; bytes, want, "of {name:?}");
+}
+
+#[test]
+fn trees_take_no_more_bytes_than_this(rt: HostRuntime) {
+    take(&rt, "Group", size_of::<Group>(), 32);
+    take(&rt, "TokenStream", size_of::<TokenStream>(), 16);
+    take(&rt, "TokenTree", size_of::<TokenTree>(), 40);
+}
