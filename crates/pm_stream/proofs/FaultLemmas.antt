@@ -10,7 +10,7 @@ use Rattle.pm_token.specs.declared.errors.ParseError.TheVariants.{Lex, MapFull, 
 use Rattle.pm_stream.specs.Events.{Event, One, Opens, Closes, events_onto, expansion}
 use Rattle.pm_stream.specs.Forest.{Forest}
 use Rattle.pm_token.specs.Outcome.{IfLex}
-use Rattle.pm_stream.specs.Progress.{IsFault}
+use Rattle.pm_stream.specs.Fault.{IsFault}
 use Rattle.pm_stream.specs.Parsing.{FaultAt}
 
 -- the openers begin between two positions

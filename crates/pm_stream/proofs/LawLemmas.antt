@@ -15,7 +15,7 @@ use Rattle.pm_token.specs.Outcome.{IfLex}
 use Rattle.pm_token.specs.declared.errors.ParseError.{ParseError}
 use Rattle.pm_token.specs.declared.errors.ParseError.TheVariants.{Lex, MapFull, Memory}
 use Rattle.pm_stream.specs.Parsing.{ParsesTo, is_first, StopsAt, FaultAt, HasNoFault, IsOnlyFault}
-use Rattle.pm_stream.specs.Progress.{IsFault}
+use Rattle.pm_stream.specs.Fault.{IsFault}
 use Rattle.pm_stream.specs.Written.{Opened, written_onto, FitsInnermost}
 use Rattle.pm_stream.proofs.CoverLemmas.{expansion-append}
 use Rattle.pm_stream.proofs.DocLemmas.{doc_trees, doc_trees-events}

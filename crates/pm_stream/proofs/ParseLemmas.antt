@@ -16,7 +16,7 @@ use Rattle.pm_stream.specs.Events.{events_onto}
 use Rattle.pm_stream.specs.Forest.{Forest}
 use Rattle.pm_stream.specs.Parsing.{ParsesTo, FaultAt}
 use Rattle.pm_stream.specs.Written.{Opened, written_onto}
-use Rattle.pm_stream.specs.Progress.{IsFaultFor, IsStray, IsOpenFault, IsFault}
+use Rattle.pm_stream.specs.Fault.{IsFaultFor, IsStray, IsOpenFault, IsFault}
 use Rattle.pm_stream.proofs.ReadSoFar.{Reads, reads_more, reads_white, reads_all, reads_open, reads_stray, reads_stuck}
 
 found_shorter : (first : Bool) (source : List ℕ) (piece : Piece) (h : IsPieceAt first source piece)

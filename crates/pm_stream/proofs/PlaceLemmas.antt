@@ -1,5 +1,5 @@
 -- Where what stands in a map's last file starts, and what is true of the trees inside groups.
-use Rattle.std.proofs.Common.{◌≡◌, ◌+◌, ◌-◌, ◌≤◌, ℕ, List, [], ◌∷◌, ◌++◌, length, refl, subst}
+use Rattle.std.proofs.Common.{◌≡◌, ◌+◌, ◌-◌, ◌≤◌, ℕ, List, [], length, refl}
 use Rattle.std.specs.List.{AllByRecursion as Each}
 use Rattle.lexical.specs.Token.{Token, Name, Mark, Literal}
 use Rattle.pm_span.specs.Extent.{Extent}

@@ -1,47 +1,66 @@
 -- What is written with one step more.
-use Rattle.std.proofs.Common.{◌≡◌, ℕ, ◌≤◌, List, [], ◌∷◌, ◌++◌, map, reverse, sym, ap, ◌∙◌, subst, arith}
-use Rattle.std.proofs.lemmas.List.{map-append, reverse-append}
+use Rattle.std.proofs.Common.{◌≡◌, ℕ, ◌≤◌, List, [], ◌∷◌, ◌++◌, length, take, drop, sym, ap, ◌∙◌, subst, arith}
+use Rattle.std.proofs.lemmas.List.{take-append-le, drop-append-le, length-take-le}
 use Rattle.pm_token.specs.declared.delimiters.Delimiter.{Delimiter}
 use Rattle.pm_stream.specs.Events.{Event, Opens, Closes}
 use Rattle.pm_stream.specs.Forest.{Forest, flat_onto, joined, IsBuilt}
 use Rattle.pm_stream.specs.Level.{forest, alone}
+use Rattle.pm_stream.specs.Nesting.{innermost, opened, IsNested}
 use Rattle.pm_stream.specs.Written.{Opened, written_onto, IsBuiltUpTo}
-use Rattle.pm_stream.specs.Progress.{opened}
 use Rattle.pm_stream.specs.declared.parse.Frame.{Frame}
 use Rattle.pm_stream.specs.declared.stream.TokenTree.{TokenTree}
 use Rattle.pm_stream.specs.declared.stream.TokenTree.TheVariants.{Group}
 use Rattle.pm_stream.proofs.Levels.{forest-push, IsBuilt-joined}
 use Rattle.pm_stream.proofs.EventLemmas.{written-joined}
 
--- one frame more
-pub groups-push : (frames : List Frame) (frame : Frame)
-    → reverse (map opened (frames ++ frame ∷ [])) ≡ opened frame ∷ reverse (map opened frames)
-groups-push frames frame =
-    ap reverse (map-append opened frames (frame ∷ []))
-    ∙ reverse-append (map opened frames) (opened frame ∷ [])
+-- what the list and the frames, the innermost first, are seen as
+abbrev seen : List Frame → List TokenTree → List Opened × Forest
+seen frames trees = (opened frames trees, forest (innermost frames trees))
 
 -- one tree more
-pub written-push : (groups : List Opened) (trees : List TokenTree) (tree : TokenTree) (events : List Event)
-    → written_onto groups (forest (trees ++ tree ∷ [])) events ≡ written_onto groups (forest trees) (flat_onto (alone tree) events)
-written-push groups trees tree events =
-    ap (λ f. written_onto groups f events) (forest-push trees tree)
-    ∙ written-joined groups (forest trees) (alone tree) events
+seen-push : (frames : List Frame) (trees : List TokenTree) (tree : TokenTree) → IsNested frames (length trees)
+    → seen frames (trees ++ tree ∷ []) ≡ (opened frames trees, joined (forest (innermost frames trees)) (alone tree))
+seen-push [] trees tree h = ap (λ f. ([], f)) (forest-push trees tree)
+seen-push (frame ∷ frames) trees tree h =
+    rw (take-append-le frame.before trees (tree ∷ []) h.0, drop-append-le frame.before trees (tree ∷ []) h.0)
+    (ap (λ f. (opened (frame ∷ frames) trees, f)) (forest-push (drop frame.before trees) tree))
+
+pub nested_more : (frames : List Frame) (m n : ℕ) → m ≤ n → IsNested frames m → IsNested frames n
+nested_more [] m n le h = tt
+nested_more (frame ∷ frames) m n le h = (omega (arith, h.0), h.1)
+
+-- what is left of the list before a group
+nested_before : (frame : Frame) (frames : List Frame) (trees : List TokenTree) → IsNested (frame ∷ frames) (length trees)
+    → IsNested frames (length (take frame.before trees))
+nested_before frame frames trees h = subst (IsNested frames) (sym (length-take-le frame.before trees h.0)) h.1
+
+-- ---- what is written
+
+abbrev pub written_in : List Frame → List TokenTree → List Event → List Event
+written_in frames trees = written_onto (opened frames trees) (forest (innermost frames trees))
+
+pub written-push : (frames : List Frame) (trees : List TokenTree) (tree : TokenTree) (events : List Event) → IsNested frames (length trees)
+    → written_in frames (trees ++ tree ∷ []) events ≡ written_in frames trees (flat_onto (alone tree) events)
+written-push frames trees tree events h =
+    ap (λ (s : List Opened × Forest). written_onto s.0 s.1 events) (seen-push frames trees tree h)
+    ∙ written-joined (opened frames trees) (forest (innermost frames trees)) (alone tree) events
 
 -- the tree of a group that was open
-abbrev pub closed : Delimiter → Frame → Forest → ℕ → TokenTree
-closed d frame inside hi =
-    Group (record { delimiter = d; stream = inside; span = record { lo = frame.lo; hi = hi } })
+abbrev pub closed : Delimiter → Frame → List TokenTree → ℕ → TokenTree
+closed d frame trees hi =
+    Group (record { delimiter = d; stream = forest (drop frame.before trees); span = record { lo = frame.lo; hi = hi } })
 
-pub written-close : (frames outer : List Frame) (frame : Frame) (trees : Forest) (list : List TokenTree) (d : Delimiter) (hi : ℕ) (events : List Event)
-    → frames ≡ outer ++ frame ∷ [] → frame.delimiter ≡ d
-    → list ≡ frame.outer.items ++ closed d frame trees hi ∷ []
-    → written_onto (reverse (map opened outer)) (forest list) events ≡ written_onto (reverse (map opened frames)) trees (Closes d hi ∷ events)
-written-close frames outer frame trees list d hi events last same grown =
-    let groups = reverse (map opened outer) in
-    ap (λ ts. written_onto groups (forest ts) events) grown
-    ∙ (written-push groups frame.outer.items (closed d frame trees hi) events
-    ∙ (ap (λ x. written_onto groups (forest frame.outer.items) (Opens x frame.lo ∷ flat_onto trees (Closes d hi ∷ events))) (sym same)
-    ∙ sym (ap (λ gs. written_onto gs trees (Closes d hi ∷ events)) (ap (λ fs. reverse (map opened fs)) last ∙ groups-push outer frame))))
+-- the list, once the group is closed
+abbrev pub with_closed : Delimiter → Frame → List TokenTree → ℕ → List TokenTree
+with_closed d frame trees hi = take frame.before trees ++ closed d frame trees hi ∷ []
+
+pub written-close : (frames : List Frame) (frame : Frame) (trees : List TokenTree) (d : Delimiter) (hi : ℕ) (events : List Event)
+    → IsNested (frame ∷ frames) (length trees) → frame.delimiter ≡ d
+    → written_in frames (with_closed d frame trees hi) events ≡ written_in (frame ∷ frames) trees (Closes d hi ∷ events)
+written-close frames frame trees d hi events h same =
+    let outer = take frame.before trees in
+    written-push frames outer (closed d frame trees hi) events (nested_before frame frames trees h)
+    ∙ ap (λ x. written_in frames outer (Opens x frame.lo ∷ flat_onto (forest (drop frame.before trees)) (Closes d hi ∷ events))) (sym same)
 
 -- ---- what is written stays built
 
@@ -60,21 +79,22 @@ pub built_joined : (at : ℕ) (groups : List Opened) (trees more : Forest) → I
 built_joined at [] trees more h k = IsBuilt-joined trees more h k
 built_joined at (x ∷ groups) trees more h k = (IsBuilt-joined trees more h.0 k, h.1, h.2)
 
-pub built_push : (at : ℕ) (groups : List Opened) (trees : List TokenTree) (tree : TokenTree)
-    → IsBuiltUpTo at groups (forest trees) → IsBuilt (alone tree)
-    → IsBuiltUpTo at groups (forest (trees ++ tree ∷ []))
-built_push at groups trees tree h k =
-    subst (IsBuiltUpTo at groups) (sym (forest-push trees tree)) (built_joined at groups (forest trees) (alone tree) h k)
+-- built, by the frames with the innermost first
+abbrev pub IsBuiltIn : ℕ → List Frame → List TokenTree → Type 0
+IsBuiltIn at frames trees = IsBuiltUpTo at (opened frames trees) (forest (innermost frames trees))
 
-pub built_close : (at hi : ℕ) (frames outer : List Frame) (frame : Frame) (trees : Forest) (list : List TokenTree) (d : Delimiter)
-    → at ≤ hi → frames ≡ outer ++ frame ∷ [] → list ≡ frame.outer.items ++ closed d frame trees hi ∷ []
-    → IsBuiltUpTo at (reverse (map opened frames)) trees
-    → IsBuiltUpTo hi (reverse (map opened outer)) (forest list)
-built_close at hi frames outer frame trees list d le last grown h =
-    let groups = reverse (map opened outer) in
-    let parts : IsBuiltUpTo at (opened frame ∷ groups) trees =
-    subst (λ gs. IsBuiltUpTo at gs trees) (ap (λ fs. reverse (map opened fs)) last ∙ groups-push outer frame) h in
-    let within : frame.lo ≤ hi = omega (arith, parts.1) in
-    subst (λ ts. IsBuiltUpTo hi groups (forest ts)) (sym grown)
-    (built_push hi groups frame.outer.items (closed d frame trees hi)
-    (built_later groups (forest frame.outer.items) frame.lo hi within parts.2) (within, parts.0, tt))
+pub built_push : (at : ℕ) (frames : List Frame) (trees : List TokenTree) (tree : TokenTree)
+    → IsNested frames (length trees) → IsBuiltIn at frames trees → IsBuilt (alone tree)
+    → IsBuiltIn at frames (trees ++ tree ∷ [])
+built_push at frames trees tree nested h k =
+    subst (λ (s : List Opened × Forest). IsBuiltUpTo at s.0 s.1) (sym (seen-push frames trees tree nested))
+    (built_joined at (opened frames trees) (forest (innermost frames trees)) (alone tree) h k)
+
+pub built_close : (at hi : ℕ) (frames : List Frame) (frame : Frame) (trees : List TokenTree) (d : Delimiter)
+    → at ≤ hi → IsNested (frame ∷ frames) (length trees) → IsBuiltIn at (frame ∷ frames) trees
+    → IsBuiltIn hi frames (with_closed d frame trees hi)
+built_close at hi frames frame trees d le nested h =
+    let outer = take frame.before trees in
+    let within : frame.lo ≤ hi = omega (arith, h.1) in
+    built_push hi frames outer (closed d frame trees hi) (nested_before frame frames trees nested)
+    (built_later (opened frames outer) (forest (innermost frames outer)) frame.lo hi within h.2) (within, h.0, tt)

@@ -17,6 +17,8 @@ pub mod Same
 pub mod SameTree
 pub mod Parsing
 pub mod Written
+pub mod Fault
+pub mod Nesting
 pub mod Progress
 pub mod InOrder
 pub mod Walk

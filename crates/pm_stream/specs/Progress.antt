@@ -1,29 +1,19 @@
--- What the parser's state is seen as, and what its refusals say.
-use Rattle.std.specs.Prelude.{ℕ, ◌≡◌, List, [], ◌∷◌, map, reverse}
-use Rattle.lexical.specs.declared.piece.PieceKind.{PieceKind}
-use Rattle.lexical.specs.declared.piece.PieceKind.TheVariants.{FrontMark, Gap, Doc, Opener, Closer, Literal, Mark, Name}
-use Rattle.pm_token.specs.declared.errors.ParseError.{ParseError}
-use Rattle.pm_token.specs.declared.errors.ParseError.TheVariants.{Lex, MapFull, Memory}
-use Rattle.pm_stream.specs.Delimited.{delimiter_of}
+-- What the parser's state is seen as.
+use Rattle.std.specs.Prelude.{ℕ, List, reverse}
 use Rattle.pm_stream.specs.Events.{Event}
 use Rattle.pm_stream.specs.Forest.{Forest}
 use Rattle.pm_stream.specs.Level.{forest}
-use Rattle.pm_stream.specs.Parsing.{FaultAt}
-use Rattle.pm_stream.specs.Written.{Opened, written_onto, FitsInnermost, IsBuiltUpTo}
-use Rattle.pm_stream.specs.declared.parse.Frame.{Frame}
+use Rattle.pm_stream.specs.Nesting.{innermost, opened}
+use Rattle.pm_stream.specs.Written.{Opened, written_onto, IsBuiltUpTo}
 use Rattle.pm_stream.specs.declared.parse.Reading.{Reading}
-
--- the group of a frame
-abbrev pub opened : Frame → Opened
-opened frame = record { outer = forest frame.outer.items; delimiter = frame.delimiter; lo = frame.lo }
 
 -- the open groups, the innermost first
 abbrev pub groups : Reading → List Opened
-groups reading = reverse (map opened reading.frames.items)
+groups reading = opened (reverse reading.frames.items) reading.trees.items
 
 -- the trees of the innermost
 abbrev pub trees : Reading → Forest
-trees reading = forest reading.trees.items
+trees reading = forest (innermost (reverse reading.frames.items) reading.trees.items)
 
 -- the events of what was read, and then other events
 abbrev pub written : Reading → List Event → List Event
@@ -32,31 +22,3 @@ written reading = written_onto (groups reading) (trees reading)
 -- what was read is built, and each open group begins at or before the position
 abbrev pub IsBuiltTo : ℕ → Reading → Type 0
 IsBuiltTo at reading = IsBuiltUpTo at (groups reading) (trees reading)
-
--- a fault at the position, for this reason, or want of memory where there is no such reason
-abbrev pub IsFaultFor : ℕ → Type 0 → ParseError → Type 0
-IsFaultFor at reason (Lex extent) = (extent ≡ record { lo = at; hi = at }) × reason
-IsFaultFor at reason MapFull = ⊥
-IsFaultFor at reason (Memory error) = reason → ⊥
-
--- the piece is a closer that doesn't close the innermost of the groups
-abbrev pub IsStray : PieceKind → List Opened → Type 0
-IsStray FrontMark groups = ⊥
-IsStray Gap groups = ⊥
-IsStray (Doc inner text) groups = ⊥
-IsStray (Opener c) groups = ⊥
-IsStray (Closer c) groups = FitsInnermost (delimiter_of c) groups → ⊥
-IsStray Literal groups = ⊥
-IsStray (Mark mark joint) groups = ⊥
-IsStray (Name raw name) groups = ⊥
-
--- a fault where the innermost of the open groups begins, or want of memory where none is open
-abbrev pub IsOpenFault : List Opened → ParseError → Type 0
-IsOpenFault [] error = IsFaultFor 0 ⊥ error
-IsOpenFault (group ∷ groups) error = IsFaultFor group.lo (Unit {0}) error
-
--- the one fault of a source, by an empty span, or want of memory
-abbrev pub IsFault : ℕ → List ℕ → ParseError → Type 0
-IsFault base source (Lex extent) = (extent.lo ≡ extent.hi) × FaultAt base source extent.lo
-IsFault base source MapFull = ⊥
-IsFault base source (Memory error) = Unit {0}

@@ -1,5 +1,5 @@
 //! The parser: from the pieces of a text to its token trees.
-ghost use Rattle.std.specs.Prelude.{◌≡◌, ◌≢◌, ◌≤◌, ◌+◌, ◌<◌, ◌^◌, ◌↔◌, ℕ, Bool, List, [], ◌∷◌, ◌++◌, length, OnOk, IfOk, IfErr, IsTrue, if◌then◌else◌};
+ghost use Rattle.std.specs.Prelude.{◌≡◌, ◌≢◌, ◌≤◌, ◌+◌, ◌<◌, ◌^◌, ◌↔◌, ℕ, Bool, List, [], ◌∷◌, ◌++◌, length, reverse, OnOk, IfOk, IfErr, IsTrue, if◌then◌else◌};
 ghost use Rattle.std.specs.Str.{chars};
 ghost use Rattle.lexical.specs.Found.{IsPieceAt, kind_of};
 ghost use Rattle.lexical.specs.Mark.{is_mark};
@@ -15,7 +15,8 @@ ghost use Rattle.pm_token.specs.Outcome.{IfLex, was_read};
 ghost use Rattle.pm_stream.specs.HeldSpans.{HoldsAll};
 ghost use Rattle.pm_stream.specs.Parsing.{ParsesTo, FaultAt, HasNoFault, IsOnlyFault};
 ghost use Rattle.pm_stream.specs.Written.{FitsInnermost};
-ghost use Rattle.pm_stream.specs.Progress.{groups, trees, written, IsBuiltTo, IsFaultFor, IsStray, IsOpenFault, IsFault};
+ghost use Rattle.pm_stream.specs.Nesting.{IsNested, IsNested-prop};
+ghost use Rattle.pm_stream.specs.Fault.{IsFaultFor, IsStray, IsOpenFault, IsFault};
 
 use crate::doc::doc_group;
 use crate::stream::{Group, TokenStream, TokenTree};
@@ -25,7 +26,6 @@ use pm_span::{SourceMap, Span};
 use pm_token::parts::{fault, ident, literal, punct};
 use pm_token::{Delimiter, ParseError, Spacing};
 use std::alloc::{AllocError, Global};
-use std::mem;
 
 impl TokenStream {
     /// The token trees of a text, which becomes the next file of the map (`parses-to`). The stream is
@@ -100,15 +100,17 @@ struct Reading {
     alloc: Global,
     /// The groups that are open, the innermost last.
     frames: Vec<Frame>,
-    /// The trees of the innermost.
+    /// The trees of all of them and those outside every group, the innermost group's last.
     trees: Vec<TokenTree>,
+    // Each group's trees come after those before it.
+    ghost nested: { IsNested (reverse frames.items) (length trees.items) } by { IsNested-prop (reverse frames.items) (length trees.items) },
 }
 
 /// A group whose closer is still to come.
 #[derive(Drop)]
 struct Frame {
-    /// The trees before the group.
-    outer: Vec<TokenTree>,
+    /// How many trees are before its own.
+    before: usize,
     /// What stands around its trees.
     delimiter: Delimiter,
     /// Where its opener begins.
@@ -116,6 +118,8 @@ struct Frame {
 }
 
 impl Reading {
+    ghost use Rattle.pm_stream.specs.Progress.{groups, trees, written, IsBuiltTo};
+
     /// Nothing was read.
     fn new(alloc: Global) -> Reading
         ensures groups { groups result ≡ [] }
@@ -213,9 +217,9 @@ impl Reading {
             → written self.new events ≡ written self.old (Opens delimiter lo ∷ events)) }
         ensures built { OnOk result (IsBuiltTo lo self.new) }
     {
-        let outer = mem::replace(&mut self.trees, Vec::new(self.alloc));
+        let before = self.trees.len();
         self.frames.push(Frame {
-            outer,
+            before,
             delimiter,
             lo,
         })?;
@@ -238,7 +242,7 @@ impl Reading {
         if frame.delimiter != delimiter {
             return Err(fault_at(lo));
         }
-        let trees = mem::replace(&mut self.trees, frame.outer);
+        let trees = self.trees.split_off(frame.before)?;
         let stream = TokenStream::from_trees(self.alloc, trees)?;
         let group = Group::from_parts(delimiter, stream, span_of(frame.lo, hi));
         self.trees.push(TokenTree::Group(group))?;
