@@ -8,10 +8,10 @@ use Rattle.lexical.specs.Token as tokens
 use Rattle.lexical.specs.Token.{Token}
 use Rattle.pm_token.specs.Leaf.{name_token, mark_token, text_token}
 use Rattle.pm_token.specs.declared.delimiters.Delimiter.{Delimiter}
-use Rattle.pm_stream.specs.Events.{Event, One, Opens}
+use Rattle.pm_stream.specs.Events.{One, Opens}
 use Rattle.pm_stream.specs.Forest.{Forest, nil, leaf, group}
 use Rattle.pm_stream.specs.Level.{before, forest, inside}
-use Rattle.pm_stream.specs.Same.{erased, Same}
+use Rattle.pm_stream.specs.Same.{Same}
 use Rattle.pm_stream.specs.SameTree.{first_event}
 use Rattle.pm_stream.specs.Size.{count}
 use Rattle.pm_stream.specs.declared.same.Lists.{Lists}

@@ -81,7 +81,8 @@ fn begin_alike(tree: &TokenTree, other: &TokenTree) -> bool
     ensures { IsTrue result ↔ first_event tree.now ≡ first_event other.now }
 {
     match (tree, other) {
-        (TokenTree::Group(group), TokenTree::Group(other)) => group.delimiter() == other.delimiter(),
+        (TokenTree::Group(group), TokenTree::Group(other)) => group.delimiter()
+            == other.delimiter(),
         (TokenTree::Ident(ident), TokenTree::Ident(other)) => *ident == *other,
         (TokenTree::Punct(punct), TokenTree::Punct(other)) => {
             punct.as_char() == other.as_char() && punct.spacing() == other.spacing()

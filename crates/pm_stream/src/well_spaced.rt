@@ -10,6 +10,7 @@ ghost use Rattle.lexical.specs.Character.{single_quote};
 ghost use Rattle.lexical.specs.Mark.{quotable_fronts};
 ghost use Rattle.lexical.specs.Text.{begins_any, begins_with, first_passes};
 ghost use Rattle.pm_token.specs.Leaf.{mark_token};
+ghost use Rattle.pm_stream.specs.Forest.{IsBuilt};
 ghost use Rattle.pm_stream.specs.Level.{forest};
 ghost use Rattle.pm_stream.specs.SpacedTree.{tree_fits};
 ghost use Rattle.pm_stream.specs.WellSpaced.{fits, follows_joint, follows_quote, next_token, well_spaced, IsWellSpaced};
@@ -23,11 +24,13 @@ impl TokenStream {
     /// up to spans. Every stream that was read from a text is well spaced.
     ///
     /// It always answers, whatever memory there is, and in time proportional to the number of trees.
+    /// Proofs learn by it what every stream is (`built`).
     ///
     /// The stream of `+` Joint and the identifier `a` is not well spaced: it prints `+a`, which is
     /// `+` Alone and `a`.
     pub fn is_well_spaced(&self) -> bool
-        ensures { IsTrue result ↔ IsWellSpaced self.now }
+        ensures value { IsTrue result ↔ IsWellSpaced self.now }
+        ensures built { IsBuilt self.now }
     {
         are_well_spaced(self.alloc(), self.trees())
     }

@@ -1,4 +1,3 @@
-use Rattle.std.proofs.Common.{sym, ap, ◌∙◌}
 use Rattle.pm_stream.proofs.SameLemmas.{literal_alike}
 use Rattle.pm_stream.proofs.same.begin_alike.Goals as goal
 
