@@ -41,28 +41,32 @@ pub fn run<R: ByteSource, W: ByteSink>(
         Runs mode (seen reader.old writer.old) result (seen reader.new writer.new) }
 {
     let input = read_to_end(alloc, reader)?;
-    let output = output_of(alloc, mode, input.as_slice())?;
+    let output = output_of(alloc, mode, input)?;
     write_all(writer, output.as_bytes())
 }
 
-// What is written for the input.
-fn output_of(alloc: Global, mode: OutputMode, input: &[u8]) -> Result<String, RunError>
-    ensures ok { IfOk result (λ output. IsOutput mode input.now (string_bytes output)) }
+// What is written for the input, whose memory is given back before the output is made.
+fn output_of(alloc: Global, mode: OutputMode, input: Vec<u8>) -> Result<String, RunError>
+    ensures ok { IfOk result (λ output. IsOutput mode input.items (string_bytes output)) }
     ensures io { IsFalse (is_io result) }
-    ensures not_utf8 { (result ≡ Err RunError.NotUtf8) ↔ (¬ IsUtf8 input.now) }
-    ensures map_full { (result ≡ Err RunError.MapFull) ↔ IsTooLong input.now }
+    ensures not_utf8 { (result ≡ Err RunError.NotUtf8) ↔ (¬ IsUtf8 input.items) }
+    ensures map_full { (result ≡ Err RunError.MapFull) ↔ IsTooLong input.items }
     ensures lex { (place : LineColumn) → result ≡ Err (RunError.Lex place)
-        → HasFaultAt input.now place }
+        → HasFaultAt input.items place }
 
     // That a growth was refused can't be stated, only which inputs may come so far.
-    ensures memory { result ≡ Err (RunError.Memory alloc_error) → IsReadable input.now }
+    ensures memory { result ≡ Err (RunError.Memory alloc_error) → IsReadable input.items }
 {
-    let Ok(text) = str::from_utf8(input) else {
+    let Ok(text) = str::from_utf8(input.as_slice()) else {
         return Err(RunError::NotUtf8);
     };
     let mut map = SourceMap::new(alloc);
     match TokenStream::from_str(text, &mut map) {
-        Ok(stream) => Ok(written(alloc, mode, &stream, &map)?),
+        Ok(stream) => {
+            // The map has the text.
+            drop(input);
+            Ok(written(alloc, mode, &stream, map)?)
+        }
         Err(error) => Err(refusal(error, &map)),
     }
 }
@@ -88,14 +92,18 @@ fn written(
     alloc: Global,
     mode: OutputMode,
     stream: &TokenStream,
-    map: &SourceMap,
+    map: SourceMap,
 ) -> Result<String, AllocError>
-    requires { HoldsAll map.now stream.now }
-    ensures { IfOk result (λ text. (source : List ℕ) → HasRead map.now source stream.now
+    requires { HoldsAll map stream.now }
+    ensures { IfOk result (λ text. (source : List ℕ) → HasRead map source stream.now
         → string_bytes text ≡ written mode source stream.now) }
 {
     match mode {
-        OutputMode::Print => format!(in alloc; "{stream}\n"),
-        OutputMode::Spans => span_lines(alloc, stream, map),
+        OutputMode::Print => {
+            // What is printed has no positions.
+            drop(map);
+            format!(in alloc; "{stream}\n")
+        }
+        OutputMode::Spans => span_lines(alloc, stream, &map),
     }
 }

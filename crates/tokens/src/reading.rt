@@ -38,7 +38,8 @@ pub fn read_to_end<R: ByteSource>(alloc: Global, reader: &mut R) -> Result<Vec<u
     }
 }
 
-// Makes room for a block after the bytes that are filled, by zeros.
+// Makes room for a block after the bytes that are filled, by zeros. What the list has room for past
+// the block stays untouched, so that no memory is taken for it.
 fn make_room(bytes: &mut Vec<u8>, filled: usize) -> Result<(), AllocError>
     requires { filled ≤ vec_len bytes.old }
     ensures room { OnOk result (filled + BLOCK ≤ vec_len bytes.new) }
@@ -46,7 +47,7 @@ fn make_room(bytes: &mut Vec<u8>, filled: usize) -> Result<(), AllocError>
 {
     if bytes.len() - filled < BLOCK {
         bytes.reserve(BLOCK)?;
-        bytes.resize(bytes.capacity(), 0)?;
+        bytes.resize(filled + BLOCK, 0)?;
     }
     Ok(())
 }
