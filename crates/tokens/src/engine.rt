@@ -14,6 +14,7 @@ ghost use Rattle.tokens.specs.Spans.{HasRead};
 use crate::errors::RunError;
 use crate::mode::OutputMode;
 use crate::reading::read_to_end;
+use crate::room::text_with_room;
 use crate::sinks::ByteSink;
 use crate::sources::ByteSource;
 use crate::spans::span_lines;
@@ -63,9 +64,10 @@ fn output_of(alloc: Global, mode: OutputMode, input: Vec<u8>) -> Result<String, 
     let mut map = SourceMap::new(alloc);
     match TokenStream::from_str(text, &mut map) {
         Ok(stream) => {
+            let bytes = input.len();
             // The map has the text.
             drop(input);
-            Ok(written(alloc, mode, &stream, map)?)
+            Ok(written(alloc, mode, bytes, &stream, map)?)
         }
         Err(error) => Err(refusal(error, &map)),
     }
@@ -87,10 +89,12 @@ fn refusal(error: ParseError, map: &SourceMap) -> RunError
     }
 }
 
-// What is written of the stream that a source parses to, which alone was read into the map.
+// What is written of the stream that a source of so many bytes parses to, which alone was read into
+// the map.
 fn written(
     alloc: Global,
     mode: OutputMode,
+    bytes: usize,
     stream: &TokenStream,
     map: SourceMap,
 ) -> Result<String, AllocError>
@@ -100,10 +104,12 @@ fn written(
 {
     match mode {
         OutputMode::Print => {
-            // What is printed has no positions.
+            // What is printed has no positions, and is about as long as the source.
             drop(map);
-            format!(in alloc; "{stream}\n")
+            let mut text = text_with_room(alloc, bytes);
+            write!(text, "{stream}\n")?;
+            Ok(text)
         }
-        OutputMode::Spans => span_lines(alloc, stream, &map),
+        OutputMode::Spans => span_lines(alloc, bytes, stream, &map),
     }
 }

@@ -12,6 +12,7 @@ mod failing;
 mod messages;
 mod mode;
 mod reading;
+mod room;
 mod sinks;
 mod sources;
 mod spans;

@@ -4,17 +4,22 @@ ghost use Rattle.proc_macro2.specs.HeldSpans.{HoldsAll};
 ghost use Rattle.proc_macro2.specs.InOrder.{in_order};
 ghost use Rattle.tokens.specs.Spans.{HasRead, kind, line_text, place_text, span_line};
 
+use crate::room::text_with_room;
 use itoa::Buffer;
 use proc_macro2::{LineColumn, SourceMap, TokenStream, TokenTree};
 use std::alloc::{AllocError, Global};
+
+// How many bytes the lines of usual source take for each of its bytes, a little more than was seen.
+const LINE_BYTES_PER_SOURCE_BYTE: usize = 5;
 
 /// A line for each tree of the stream, each group before those inside it.
 ///
 /// A line has the places where the tree begins and ends, as lines from 1 on and columns in characters
 /// from 0 on, and its kind. Of `a (b)` they are `1:0-1:1 ident`, `1:2-1:5 group` and
-/// `1:3-1:4 ident`.
+/// `1:3-1:4 ident`. By the number of `bytes` of the source it guesses how long they are together.
 pub fn span_lines(
     alloc: Global,
+    bytes: usize,
     stream: &TokenStream,
     map: &SourceMap,
 ) -> Result<String, AllocError>
@@ -22,7 +27,7 @@ pub fn span_lines(
     ensures { IfOk result (λ lines. (source : List ℕ) → HasRead map.now source stream.now
         → string_bytes lines ≡ flat_map (span_line source) (in_order stream.now)) }
 {
-    let mut lines = String::new(alloc);
+    let mut lines = text_with_room(alloc, bytes.saturating_mul(LINE_BYTES_PER_SOURCE_BYTE));
     let mut walk = stream.walk();
     while let Some(tree) = walk.next()? {
         let span = tree.span();

@@ -15,7 +15,7 @@ loop-walk-init c =
     rw c.walk-walk.ensures (
       c.requires.each,
       λ source read.
-          (parsed_within _ _ _ read.parses, rw c.new-lines.ensures.bytes),
+          (parsed_within _ _ _ read.parses, rw c.text_with_room-lines.ensures),
     )
 
 pub end-requires : goal.end-requires
