@@ -12,6 +12,8 @@ mod identifiers;
 #[cfg(test)]
 mod integers;
 #[cfg(test)]
+mod lengths;
+#[cfg(test)]
 mod places;
 #[cfg(test)]
 mod quoted;

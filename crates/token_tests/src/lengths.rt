@@ -1,0 +1,48 @@
+// A text of at most 22 bytes stands in its token, and a longer one behind a pointer. Both are kept and copied.
+use crate::checks::displays;
+use pm_span::Span;
+use pm_token::{Ident, Literal};
+use std::alloc::{AllocError, Global};
+use std::process::Abort;
+use std::test::Fail;
+
+/// Asserts how a copy of the plain identifier of the name is written, and one of the raw one.
+fn is_kept(rt: &impl Abort, alloc: Global, name: &str) -> Result<(), Fail> {
+    let plain = Ident::new(alloc, name, Span::call_site())?;
+    displays(rt, alloc, &plain.clone()?, name)?;
+    let raw = Ident::new_raw(alloc, name, Span::call_site())?;
+    let text = format!(in alloc; "r#{name}")?;
+    displays(rt, alloc, &raw.clone()?, text.as_str())?;
+    Ok(())
+}
+
+/// Asserts how a copy of the string literal of the text is written.
+fn is_quoted(rt: &impl Abort, alloc: Global, text: &str) -> Result<(), AllocError> {
+    let literal = Literal::string(alloc, text)?;
+    let quoted = format!(in alloc; "\"{text}\"")?;
+    displays(rt, alloc, &literal.clone()?, quoted.as_str())
+}
+
+#[test]
+fn a_name_of_any_length_is_kept(rt: HostRuntime) -> Result<(), Fail> {
+    let names = [
+        "a",
+        "abcdefghijklmnopqrstu",
+        "abcdefghijklmnopqrstuv",
+        "abcdefghijklmnopqrstuvw",
+        "\u{E9}\u{E9}\u{E9}\u{E9}\u{E9}\u{E9}\u{E9}\u{E9}\u{E9}\u{E9}\u{E9}",
+        "a\u{E9}\u{E9}\u{E9}\u{E9}\u{E9}\u{E9}\u{E9}\u{E9}\u{E9}\u{E9}\u{E9}",
+    ];
+    for name in &names {
+        is_kept(&rt, rt.alloc(), name)?;
+    }
+    Ok(())
+}
+
+#[test]
+fn a_literal_of_any_length_is_kept(rt: HostRuntime) -> Result<(), AllocError> {
+    for text in &["", "abcdefghijklmnopqrst", "abcdefghijklmnopqrstu"] {
+        is_quoted(&rt, rt.alloc(), text)?;
+    }
+    Ok(())
+}
