@@ -33,4 +33,5 @@ mod text;
 pub use crate::gaps::past_white;
 pub use crate::identifiers::is_reserved;
 pub use crate::lexer::{literal_at, name_at, piece_at};
+pub use crate::marks::is_mark;
 pub use crate::piece::{Piece, PieceKind};

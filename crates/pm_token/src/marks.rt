@@ -1,6 +1,7 @@
 //! Punctuation marks.
 ghost use Rattle.std.specs.Prelude.{◌≡◌, ◌≤◌, IsTrue};
 ghost use Rattle.lexical.specs.Mark.{is_mark};
+ghost use Rattle.pm_span.specs.Extent.{nowhere};
 ghost use Rattle.pm_token.specs.Built.{IsBuiltToken};
 ghost use Rattle.pm_token.specs.Leaf.{mark_token};
 
@@ -42,6 +43,26 @@ impl Model for Punct {
 }
 
 impl Punct {
+    /// Whether the character is one of the 22 punctuation marks (`marks`).
+    ///
+    /// `+` and `'` are, and `_`, `(` and `"` are not.
+    pub fn is_punct_char(c: char) -> bool
+        ensures { result ≡ is_mark c }
+    {
+        lexical::is_mark(c)
+    }
+
+    /// The punctuation mark of this character, with the span 0..0. It takes no memory.
+    ///
+    /// The character is one of the 22 `marks`: [`Punct::is_punct_char`] is the test. Of `'+'` it prints
+    /// `+`, whatever its spacing.
+    pub fn new(mark: char, spacing: Spacing) -> Punct
+        requires { IsTrue (is_mark mark) }
+        ensures { result ≡ record { mark = mark; spacing = spacing; span = nowhere } }
+    {
+        Punct::from_parts(mark, spacing, Span::call_site())
+    }
+
     pub(crate) fn from_parts(mark: char, spacing: Spacing, span: Span) -> Punct
         requires { IsTrue (is_mark mark) }
         ensures { result ≡ record { mark = mark; spacing = spacing; span = span } }

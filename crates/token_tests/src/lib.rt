@@ -13,6 +13,7 @@ mod identifiers;
 mod integers;
 #[cfg(test)]
 mod lengths;
+mod marks;
 #[cfg(test)]
 mod places;
 #[cfg(test)]
