@@ -1,5 +1,5 @@
 -- Whole literals.
-use Rattle.std.proofs.Common.{◌≡◌, ◌≢◌, ◌↔◌, ℕ, Bool, true, false, ◌==◌, Result, Ok, Err, IfOk, IfErr, MatchResult, ◌+◌, List, [], ◌∷◌, ◌++◌, length, Option, Some, None, IfSome, IfNone, MatchOption, Bor, IsTrue, eqb, refl, sym, ap, ◌∙◌, subst, arith, inl, inr, drop, append-nil, length-append, eqb-true}
+use Rattle.std.proofs.Common.{◌≡◌, ◌≢◌, ◌↔◌, ℕ, Bool, true, false, ◌==◌, Result, Ok, Err, IfOk, IfErr, MatchResult, ◌+◌, List, [], ◌∷◌, ◌++◌, length, Option, Some, None, IfSome, IfNone, MatchOption, Bor, IsTrue, eqb, refl, sym, ap, ◌∙◌, subst, arith, inl, inr, drop, append-nil, length-append, eqb-true, codes, if◌then◌else◌}
 use Rattle.std.specs.Option.{option_eq}
 use Rattle.std.specs.Char.{is_ascii_digit}
 use Rattle.std.specs.Str.{chars, IsUtf8, encode_utf8_all}
@@ -10,18 +10,22 @@ use Rattle.lexical.specs.Found.{IsAt}
 use Rattle.lexical.specs.Literal.{Literal, IsLiteralToken}
 use Rattle.lexical.specs.Quoted.{is_one_of}
 use Rattle.lexical.specs.Text.{first_passes}
+use Rattle.lexical.specs.Token as tokens
 use Rattle.lexical.specs.PieceFinder.{find_literal}
 use Rattle.lexical.proofs.FinderLemmas.{one_split}
 use Rattle.lexical.proofs.LiteralFinderLemmas.{finds_literal, literal_front, literal_fronts}
 use Rattle.pm_span.specs.Extent.{Extent}
 use Rattle.pm_span.specs.Files.{Files, Holds, all_texts, next_lo, with_file}
 use Rattle.pm_span.proofs.FileLemmas.{holds_nowhere}
+use Rattle.pm_token.specs.Built.{IsBuiltToken}
 use Rattle.pm_token.specs.Leaf.{Text}
-use Rattle.pm_token.specs.LiteralText.{IsWholeLiteral, IsLiteralText}
+use Rattle.pm_token.specs.LiteralText.{IsNegative, IsWholeLiteral, IsLiteralText}
+use Rattle.pm_token.specs.Negative.{has_minus}
 use Rattle.pm_token.specs.Outcome.{IfLex, IsRefusalOf}
 use Rattle.pm_token.specs.Text.{IsText}
 use Rattle.pm_token.specs.declared.errors.ParseError.{ParseError}
 use Rattle.pm_token.specs.declared.errors.ParseError.TheVariants.{Lex, MapFull, Memory}
+use Rattle.pm_token.proofs.TextLemmas.{text_split}
 
 -- a text that is a whole literal may be the text of a literal
 pub literal_text : (text : List ℕ) → IsText text → IsWholeLiteral text → IsLiteralText text
@@ -132,3 +136,36 @@ minus_other text number digit split other e = (
   λ whole.
       absurd (both_ways _ other (negative_of text number split whole).1),
 )
+
+-- ---- a negative literal in two parts
+
+-- of the texts of literals those that begin with `-` are negative
+negative_text : (text : List ℕ) → has_minus text ≡ true → IsLiteralText text → IsNegative text
+unfolding IsLiteralToken
+negative_text text minus (inl (inl literal), all) =
+    let at = begins_minus text minus in
+    absurd (no_minus at.0 (subst (λ p. Literal p []) at.1 literal))
+negative_text text minus (inl (inr error), all) = absurd (both_ways (has_minus text) (ap has_minus error) minus)
+negative_text text minus (inr negative, all) = negative
+
+-- what follows the `-` is built
+pub number_built : (text : List ℕ) → has_minus text ≡ true → IsLiteralText text → IsBuiltToken (tokens.Literal (drop 1 text))
+unfolding IsLiteralToken
+number_built text minus is =
+    let negative = negative_text text minus is in
+    let rest : negative.number ≡ drop 1 text = ap (drop 1) (sym negative.whole) in (
+      subst IsLiteralToken rest (inl negative.literal),
+      subst IsText rest (text_split (codes "-") negative.number (subst IsText negative.whole is.1)).1,
+    )
+
+-- so it is the text of a literal
+pub number_text : (text new : List ℕ) (found : Bool) → found ≡ true → found ≡ has_minus text
+    → new ≡ (if found then drop 1 text else text) → IsLiteralText text → IsLiteralText new
+number_text text new found is_found minus stripped is =
+    let built = number_built text (sym minus ∙ is_found) is in
+    subst IsLiteralText (sym (stripped ∙ ap (λ b. if b then drop 1 text else text) is_found)) (inl built.0, built.1)
+
+-- and other literals are built themselves
+pub plain_built : (text : List ℕ) → has_minus text ≡ false → IsLiteralText text → IsBuiltToken (tokens.Literal text)
+plain_built text plain (inl token, all) = (token, all)
+plain_built text plain (inr negative, all) = absurd (both_ways (has_minus text) plain (ap has_minus negative.whole))

@@ -10,6 +10,7 @@ pub mod KindLaws
 pub mod Leaf
 pub mod LiteralText
 pub mod Message
+pub mod Negative
 pub mod Outcome
 pub mod Text
 pub mod Subspan

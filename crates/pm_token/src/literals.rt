@@ -4,6 +4,7 @@ ghost use Rattle.std.specs.Str.{chars};
 
 mod conversion;
 mod integers;
+mod negative;
 mod quoted;
 mod subspan;
 mod values;

@@ -1,10 +1,11 @@
 //! What the crates above make tokens of, and users don't.
-ghost use Rattle.std.specs.Prelude.{◌≡◌, IfOk, IsTrue};
+ghost use Rattle.std.specs.Prelude.{◌≡◌, IfOk, IsTrue, MatchOption, false, true};
 ghost use Rattle.std.specs.Str.{chars};
 ghost use Rattle.lexical.specs.Mark.{is_mark};
 ghost use Rattle.lexical.specs.Token as tokens;
 ghost use Rattle.pm_token.specs.Built.{IsBuiltToken};
 ghost use Rattle.pm_token.specs.Escaped.{string_text};
+ghost use Rattle.pm_token.specs.Negative.{has_minus, minus_of, number_of};
 
 use crate::errors::LexError;
 use crate::identifiers::Ident;
@@ -37,6 +38,16 @@ pub fn literal(alloc: Global, text: &str, span: Span) -> Result<Literal, AllocEr
     ensures ok { IfOk result (λ literal. literal ≡ record { text = chars text.now; span = span }) }
 {
     Literal::from_parts(alloc, text, span)
+}
+
+/// The `-` of a negative literal, Alone, and the rest, both with the literal's span. Of any other
+/// literal there is no mark, and the rest is the literal. It takes no memory.
+pub fn split_minus(literal: Literal) -> (Option<Punct>, Literal)
+    ensures { MatchOption result.0 ((has_minus literal.text ≡ false) × (result.1 ≡ literal))
+        (λ minus. (has_minus literal.text ≡ true)
+        × (minus ≡ minus_of literal) × (result.1 ≡ number_of literal)) }
+{
+    literal.split_minus()
 }
 
 /// The string literal of the text. Fails where memory runs out.

@@ -1,7 +1,8 @@
 //! The text of a token, kept once.
-ghost use Rattle.std.specs.Prelude.{◌≡◌, ℕ, List, IfOk, IsOk, Some, string_bytes};
+ghost use Rattle.std.specs.Prelude.{◌≡◌, ◌≤◌, ℕ, List, drop, length, false, true, IfOk, IfSome, IsOk, MatchOption, Some, if◌then◌else◌, string_bytes};
 ghost use Rattle.std.specs.Str.{chars, encode_utf8_all};
 ghost use Rattle.pm_token.specs.Kept.{IsShort, text_bytes};
+ghost use Rattle.pm_token.specs.Negative.{has_minus};
 ghost use Rattle.pm_token.specs.Text.{IsText};
 
 mod names;
@@ -59,6 +60,20 @@ impl Clone for Text {
     }
 }
 
+/// The text behind the `-` that it begins with, if there is one.
+#[tactic(auto, using(std::proofs::lemmas::Str::chars_past_char))]
+fn behind_minus(text: &str) -> Option<&str>
+    ensures found { MatchOption result (has_minus (chars text.now) ≡ false)
+        (λ rest. has_minus (chars text.now) ≡ true × (chars rest.now ≡ drop 1 (chars text.now))) }
+    ensures fits { IfSome result (λ rest. length rest.now ≤ length text.now) }
+{
+    let mut rest = text.chars();
+    match rest.next() {
+        Some('-') => Some(rest.as_str()),
+        _ => None,
+    }
+}
+
 /// The text that a token owns: a literal, in characters.
 #[derive(Drop)]
 pub struct Symbol {
@@ -89,6 +104,30 @@ impl Symbol {
         Ok(Symbol {
             text: Text::from_string(alloc, text)?,
         })
+    }
+
+    /// Takes away the `-` that the text begins with, and answers whether there was one.
+    pub fn strip_minus(&mut self) -> bool
+        ensures found { result ≡ has_minus self.old }
+        ensures rest { self.new ≡ (if result then drop 1 self.old else self.old) }
+    {
+        match &mut self.text {
+            Text::Short(text) => {
+                let Some(rest) = behind_minus(text.as_str()) else {
+                    return false;
+                };
+                let rest = Short::new(rest);
+                *text = rest;
+                true
+            }
+            Text::Long(text) => {
+                if behind_minus(text.as_str()).is_none() {
+                    return false;
+                }
+                text.remove(0);
+                true
+            }
+        }
     }
 
     /// The text.

@@ -13,6 +13,7 @@ mod identifiers;
 mod integers;
 #[cfg(test)]
 mod lengths;
+#[cfg(test)]
 mod marks;
 #[cfg(test)]
 mod places;
