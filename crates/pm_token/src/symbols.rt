@@ -1,5 +1,5 @@
 //! The text of a token, kept once.
-ghost use Rattle.std.specs.Prelude.{◌≡◌, ◌≤◌, ℕ, List, drop, length, false, true, IfOk, IfSome, IsOk, MatchOption, Some, if◌then◌else◌, string_bytes};
+ghost use Rattle.std.specs.Prelude.{◌≡◌, ℕ, List, drop, IfOk, IsOk, Some, if◌then◌else◌, string_bytes};
 ghost use Rattle.std.specs.Str.{chars, encode_utf8_all};
 ghost use Rattle.pm_token.specs.Kept.{IsShort, text_bytes};
 ghost use Rattle.pm_token.specs.Negative.{has_minus};
@@ -60,17 +60,19 @@ impl Clone for Text {
     }
 }
 
-/// The text behind the `-` that it begins with, if there is one.
+/// Takes away the `-` that the text begins with, and answers whether there was one.
 #[tactic(auto, using(std::proofs::lemmas::Str::chars_past_char))]
-fn behind_minus(text: &str) -> Option<&str>
-    ensures found { MatchOption result (has_minus (chars text.now) ≡ false)
-        (λ rest. has_minus (chars text.now) ≡ true × (chars rest.now ≡ drop 1 (chars text.now))) }
-    ensures fits { IfSome result (λ rest. length rest.now ≤ length text.now) }
+fn strip_minus(text: &mut String) -> bool
+    ensures found { result ≡ has_minus (chars (string_bytes text.old)) }
+    ensures rest { chars (string_bytes text.new)
+        ≡ (if result then drop 1 (chars (string_bytes text.old)) else chars (string_bytes text.old)) }
 {
-    let mut rest = text.chars();
-    match rest.next() {
-        Some('-') => Some(rest.as_str()),
-        _ => None,
+    match text.as_str().chars().next() {
+        Some('-') => {
+            text.remove(0);
+            true
+        }
+        _ => false,
     }
 }
 
@@ -112,21 +114,8 @@ impl Symbol {
         ensures rest { self.new ≡ (if result then drop 1 self.old else self.old) }
     {
         match &mut self.text {
-            Text::Short(text) => {
-                let Some(rest) = behind_minus(text.as_str()) else {
-                    return false;
-                };
-                let rest = Short::new(rest);
-                *text = rest;
-                true
-            }
-            Text::Long(text) => {
-                if behind_minus(text.as_str()).is_none() {
-                    return false;
-                }
-                text.remove(0);
-                true
-            }
+            Text::Short(text) => text.strip_minus(),
+            Text::Long(text) => strip_minus(text),
         }
     }
 

@@ -1,5 +1,7 @@
 //! Short texts, which stand in place.
-ghost use Rattle.std.specs.Prelude.{◌≡◌, ◌≤◌, length, take, ℕ, List, IsUtf8};
+ghost use Rattle.std.specs.Prelude.{◌≡◌, ◌≤◌, ℕ, List, drop, length, take, false, true, IfSome, IsUtf8, MatchOption, if◌then◌else◌};
+ghost use Rattle.std.specs.Str.{chars};
+ghost use Rattle.pm_token.specs.Negative.{has_minus};
 ghost use Rattle.pm_token.specs.declared.symbols.short.TheConstants.{ROOM};
 
 use std::marker::Model;
@@ -39,10 +41,23 @@ impl Short {
 
     /// The text.
     pub(crate) fn as_str(&self) -> &str
-        ensures { result.now ≡ self.now }
+        ensures value { result.now ≡ self.now }
+        ensures fits { length result.now ≤ ROOM }
     {
         // The invariant says that the bytes are UTF-8, so they aren't looked at again.
         unsafe { str::from_utf8_unchecked(&self.bytes[..self.len as usize]) }
+    }
+
+    /// Takes away the `-` that the text begins with, and answers whether there was one.
+    pub(crate) fn strip_minus(&mut self) -> bool
+        ensures found { result ≡ has_minus (chars self.old) }
+        ensures rest { chars self.new ≡ (if result then drop 1 (chars self.old) else chars self.old) }
+    {
+        let Some(rest) = past_minus(self.as_str()) else {
+            return false;
+        };
+        *self = Short::new(rest);
+        true
     }
 
     /// The same text.
@@ -53,5 +68,19 @@ impl Short {
             len: self.len,
             bytes: self.bytes,
         }
+    }
+}
+
+/// The text behind the `-` that it begins with, if there is one.
+#[tactic(auto, using(std::proofs::lemmas::Str::chars_past_char))]
+fn past_minus(text: &str) -> Option<&str>
+    ensures found { MatchOption result (has_minus (chars text.now) ≡ false)
+        (λ rest. (has_minus (chars text.now) ≡ true) × (chars rest.now ≡ drop 1 (chars text.now))) }
+    ensures fits { IfSome result (λ rest. length rest.now ≤ length text.now) }
+{
+    let mut rest = text.chars();
+    match rest.next() {
+        Some('-') => Some(rest.as_str()),
+        _ => None,
     }
 }
