@@ -7,7 +7,6 @@ mod columns;
 mod contents;
 mod lines;
 mod literals;
-mod spans;
 mod streams;
 mod values;
 
