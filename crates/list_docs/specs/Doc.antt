@@ -5,7 +5,7 @@ use lib.Pointwise.{pointwise}
 use Rattle.proc_macro2.specs.Forest.{Forest, nil, leaf, group}
 use Rattle.proc_macro2.specs.InOrder.{token_tree}
 use Rattle.proc_macro2.specs.Leaf.{Name, Mark, Text, is_joint}
-use Rattle.proc_macro2.specs.Level.{alone, before}
+use Rattle.proc_macro2.specs.Level.{alone, forest}
 use Rattle.proc_macro2.specs.Printed.{printed}
 use Rattle.proc_macro2.specs.Written.{name_text}
 use Rattle.proc_macro2.specs.declared.Delimiter.{Delimiter}
@@ -43,9 +43,9 @@ abbrev pub doc_of : TokenTree → Option Text
 doc_of (Group g) = doc_in g.delimiter (trees_of g.stream)
 doc_of _ = None
 
--- the three trees are printed as `doc = ` and the text of a literal
-abbrev pub AreDocOf : TokenTree → TokenTree → TokenTree → List ℕ → Type 0
-AreDocOf name mark literal text = printed (before name (before mark (alone literal))) ≡ codes "doc = " ++ text
+-- the trees are printed as `doc = ` and the text of a literal
+abbrev pub AreDocOf : List TokenTree → List ℕ → Type 0
+AreDocOf trees text = printed (forest trees) ≡ codes "doc = " ++ text
 
 -- the tree is printed as `[doc = `, the text of a literal, and `]`
 abbrev pub IsDocOf : TokenTree → List ℕ → Type 0

@@ -2,9 +2,10 @@
 ghost use Rattle.std.specs.Prelude.{◌≡◌, [], ◌∷◌, IfSome, option_copied};
 ghost use Rattle.proc_macro2.specs.Leaf.{Name, Mark};
 ghost use Rattle.proc_macro2.specs.Level.{forest, inside};
+ghost use Rattle.proc_macro2.specs.declared.Delimiter.TheVariants.{Bracket};
 ghost use Rattle.proc_macro2.specs.declared.TokenTree.TheVariants.{Ident as IdentTree, Punct as PunctTree};
 ghost use Rattle.proc_macro2.specs.declared.TokenTree.TheVariants.{Literal as LiteralTree};
-ghost use Rattle.list_docs.specs.Doc.{doc_literal, doc_of, is_doc, is_equals, AreDocOf, IsDocOf};
+ghost use Rattle.list_docs.specs.Doc.{doc_in, doc_of, is_doc, is_equals, AreDocOf, IsDocOf};
 
 use proc_macro2::{Delimiter, Ident, Literal, Punct, Spacing, TokenTree};
 
@@ -28,28 +29,22 @@ pub fn doc_text(tree: &TokenTree) -> Option<&Literal>
     let Delimiter::Bracket = group.delimiter() else {
         return None;
     };
-    match group.stream_ref().trees() {
-        [name, mark, text] => literal_of(name, mark, text),
-        _ => None,
-    }
+    doc_in(group.stream_ref().trees())
 }
 
-// The last of the three trees `doc`, `=` Alone and a literal, and `None` of others.
-fn literal_of<'a>(name: &TokenTree, mark: &TokenTree, text: &'a TokenTree) -> Option<&'a Literal>
-    ensures value { option_copied result ≡ doc_literal name.now mark.now text.now }
+// The literal of the three trees `doc`, `=` Alone and a literal, and `None` of others.
+fn doc_in(trees: &[TokenTree]) -> Option<&Literal>
+    ensures value { option_copied result ≡ doc_in Bracket trees.now }
     ensures trees { IfSome result (λ literal. (n : Name) × (m : Mark)
-        × (name.now ≡ IdentTree n) × (mark.now ≡ PunctTree m)
-        × (text.now ≡ LiteralTree literal.now)) }
-    ensures printed { IfSome result (λ literal.
-        AreDocOf name.now mark.now text.now literal.now.text) }
+        × (trees.now ≡ IdentTree n ∷ PunctTree m ∷ LiteralTree literal.now ∷ [])) }
+    ensures printed { IfSome result (λ literal. AreDocOf trees.now literal.now.text) }
 {
-    let TokenTree::Ident(name) = name else {
-        return None;
-    };
-    let TokenTree::Punct(mark) = mark else {
-        return None;
-    };
-    let TokenTree::Literal(literal) = text else {
+    let [
+        TokenTree::Ident(name),
+        TokenTree::Punct(mark),
+        TokenTree::Literal(literal),
+    ] = trees
+    else {
         return None;
     };
     if is_doc(name) && is_equals(mark) {
