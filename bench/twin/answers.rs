@@ -1,4 +1,5 @@
 //! What the Rust crate answers to each kind of line of crates/conformance/stdin.
+use crate::spans::span_lines;
 use escaper::num::NonZeroChar;
 use escaper::rustc_literal_escaper::{
     check_for_errors, check_raw_byte_str, check_raw_c_str, check_raw_str, unescape_byte, unescape_byte_str,
@@ -27,7 +28,7 @@ const REFUSED: (&str, String) = ("refused", String::new());
 /// kind is known.
 pub fn answer<'a>(asked: &'a str, text: &str) -> Option<(&'a str, String)> {
     match asked {
-        "print" | "tree" | "fault" => Some(of_stream(asked, text)),
+        "print" | "tree" | "spans" | "fault" => Some(of_stream(asked, text)),
         "literal" | "refused" | "str_value" | "byte_str_value" | "cstr_value" => Some(of_literal(asked, text)),
         "string" | "character" | "byte_character" | "byte_string" | "c_string" => {
             Some(written(asked, text).map_or(REFUSED, |said| (asked, said)))
@@ -36,10 +37,11 @@ pub fn answer<'a>(asked: &'a str, text: &str) -> Option<(&'a str, String)> {
     }
 }
 
-/// The stream that the text parses to, or the place of its fault.
+/// The stream that the text parses to, or where its trees stand, or the place of its fault.
 fn of_stream<'a>(asked: &'a str, text: &str) -> (&'a str, String) {
     match text.parse::<TokenStream>() {
         Ok(stream) if asked == "tree" => (asked, format!("{stream:?}")),
+        Ok(stream) if asked == "spans" => (asked, span_lines(stream).expect("a String takes all text")),
         Ok(stream) => ("print", stream.to_string()),
         Err(error) => {
             let place = error.span().start();

@@ -4,9 +4,9 @@
 //! grows with the nesting of groups. `twin answers` reads lines as those of crates/conformance/stdin, and
 //! writes each with the crate's own answer.
 mod answers;
+mod spans;
 
-use proc_macro2::{extra, TokenStream, TokenTree};
-use std::fmt;
+use proc_macro2::{extra, TokenStream};
 use std::io::{self, BufRead, Read, Write};
 use std::process::exit;
 
@@ -73,35 +73,6 @@ fn answered(line: &str) -> Option<String> {
     Some(format!("{kind}\t{}\t{}", escaped(&text), escaped(&said)))
 }
 
-/// What is written of the stream: its text and a line feed, or the lines of its trees.
-fn written(word: &str, stream: TokenStream) -> Result<String, fmt::Error> {
-    if word == "print" {
-        return Ok(format!("{stream}\n"));
-    }
-    let mut lines = String::new();
-    push_lines(&mut lines, stream)?;
-    Ok(lines)
-}
-
-/// Adds a line for each tree, each group before those inside it: where it begins and ends, and its kind.
-fn push_lines(lines: &mut String, stream: TokenStream) -> fmt::Result {
-    use fmt::Write;
-    for tree in stream {
-        let (start, end) = (tree.span().start(), tree.span().end());
-        let kind = match tree {
-            TokenTree::Group(_) => "group",
-            TokenTree::Ident(_) => "ident",
-            TokenTree::Punct(_) => "punct",
-            TokenTree::Literal(_) => "literal",
-        };
-        writeln!(lines, "{}:{}-{}:{} {kind}", start.line, start.column, end.line, end.column)?;
-        if let TokenTree::Group(group) = tree {
-            push_lines(lines, group.stream())?;
-        }
-    }
-    Ok(())
-}
-
 fn run(word: &str) -> io::Result<()> {
     let mut bytes = Vec::new();
     io::stdin().read_to_end(&mut bytes)?;
@@ -111,7 +82,10 @@ fn run(word: &str) -> io::Result<()> {
     };
     match text.parse::<TokenStream>() {
         Ok(stream) => {
-            let output = written(word, stream).map_err(io::Error::other)?;
+            let output = match word {
+                "print" => format!("{stream}\n"),
+                _ => spans::span_lines(stream).map_err(io::Error::other)?,
+            };
             io::stdout().write_all(output.as_bytes())
         }
         Err(error) => {

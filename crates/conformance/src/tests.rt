@@ -73,6 +73,25 @@ fault|\n(]|2:1|2:0"#,
 }
 
 #[test]
+fn where_trees_stand_is_compared(rt: HostRuntime) {
+    agrees(
+        &rt,
+        "spans\t(\\n\\u{e9})\t1:0-2:2 group\\n2:0-2:1 ident\\n",
+    );
+    differs(
+        &rt,
+        "spans\t(\\n\\u{e9})\t1:0-2:3 group\\n2:0-2:1 ident\\n",
+        "here: spans \"1:0-2:2 group\\n2:0-2:1 ident\\n\"\n",
+    );
+    differs(
+        &rt,
+        "spans\ta\t1:0-1:1 punct\\n",
+        "here: spans \"1:0-1:1 ident\\n\"\n",
+    );
+    differs(&rt, "spans\t(]\t", "here: fault \"1:1\"\n");
+}
+
+#[test]
 fn each_answer_to_a_literal_or_a_value_is_compared(rt: HostRuntime) {
     // A printed literal; a value by its bytes, and the want of one by the error's name; and what is
     // written for a value.

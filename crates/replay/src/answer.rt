@@ -35,7 +35,7 @@ pub fn answer_to<'a>(
     text: &str,
 ) -> Result<Option<Answer<'a>>, ParseError> {
     Ok(match asked {
-        "print" | "tree" | "fault" => Some(stream_answer(alloc, asked, text)?),
+        "print" | "tree" | "spans" | "fault" => Some(stream_answer(alloc, asked, text)?),
         "literal" | "refused" | "str_value" | "byte_str_value" | "cstr_value" => {
             Some(literal_answer(alloc, asked, text)?)
         }

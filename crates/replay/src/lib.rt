@@ -7,6 +7,7 @@ mod columns;
 mod contents;
 mod lines;
 mod literals;
+mod spans;
 mod streams;
 mod values;
 
