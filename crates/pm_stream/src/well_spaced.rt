@@ -1,8 +1,8 @@
 //! Whether a stream comes back from its printed text.
 //!
 //! Groups may nest as deep as a text is long, so what is left after a group stands in a list and
-//! not on the stack. Only where memory for the list is refused does a call for the group alone
-//! follow, so that there is an answer then too.
+//! not on the stack. If memory for the list is refused, the function calls itself for the group,
+//! so that it answers all the same.
 ghost use Rattle.std.specs.Prelude.{◌≡◌, ◌↔◌, ◌==◌, IsTrue};
 ghost use Rattle.std.specs.Str.{chars};
 ghost use Rattle.lexical.specs.Ascii.{all_ascii};

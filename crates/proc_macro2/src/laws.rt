@@ -1,5 +1,15 @@
 //! What is proved of texts, streams and printed texts together. The functions compute nothing: their
 //! contracts are the laws, which `specs/Laws.antt` states.
+//!
+//! The calls answer in the words of the laws, so each law says the same of them:
+//!
+//! | The law's word | The call that answers by it |
+//! |---|---|
+//! | a source parses to a stream (`parses-to`), or has a fault (`fault`) | `TokenStream::from_str` |
+//! | the printed text (`printed`) | the stream's `Display` |
+//! | well spaced (`well-spaced`) | `TokenStream::is_well_spaced` |
+//! | the same up to spans (`same`) | `TokenStream::same_tokens` |
+//! | built (`built`) | what `TokenStream::trees`, `is_well_spaced` and `Group::stream_ref` say of every stream |
 
 ghost use Rattle.proc_macro2.specs.GivesBack.{SpansGiveBack, ListedGiveBack};
 ghost use Rattle.proc_macro2.specs.Laws.{
@@ -37,6 +47,10 @@ pub fn one_cover()
 /// So the built streams that are well spaced are, up to spans, exactly those that some text parses to. Two
 /// of them are the same up to spans exactly if they print the same text, so that this is the one text of
 /// these tokens.
+///
+/// So `is_well_spaced` is the whole test for a faithful print: where it answers yes, the printed text parses,
+/// and `same_tokens` of the stream and what is parsed answers yes. Where it answers no, the text has a fault
+/// or gives other tokens.
 ///
 /// `+` Joint before the identifier `a` doesn't come back: it prints `+a`, which parses to `+` Alone and `a`.
 pub fn printed_comes_back()
