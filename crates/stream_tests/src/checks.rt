@@ -13,10 +13,20 @@ pub fn check_printed(rt: &(impl Abort + AllocGlobal), text: &str, want: &str) {
     assert_eq!(rt; found.as_str(), want, "of {text:?}");
 }
 
-/// Asserts that `text` is printed as `want`, and that this text is printed as itself.
+/// Asserts that `text` is printed as `want`, and that this text is printed as itself and gives the
+/// same tokens, which are well spaced.
 pub fn check_printed_twice(rt: &(impl Abort + AllocGlobal), text: &str, want: &str) {
     check_printed(rt, text, want);
     check_printed(rt, want, want);
+    check_same(rt, text, want, true);
+    let spaced = parses_well_spaced(rt.alloc(), text).expect(rt, text);
+    assert!(rt; spaced, "of {text:?}");
+}
+
+/// Asserts whether two texts, each parsed in a new map, give the same tokens.
+pub fn check_same(rt: &(impl Abort + AllocGlobal), text: &str, other: &str, same: bool) {
+    let found = are_same(rt.alloc(), text, other).expect(rt, text);
+    assert_eq!(rt; found, same, "of {text:?} and {other:?}");
 }
 
 /// Asserts that `text` parses to so many trees, and is printed as `want`.
@@ -43,6 +53,19 @@ pub fn printed(alloc: Global, text: &str) -> Result<String, ParseError> {
     let mut map = SourceMap::new(alloc);
     let stream = TokenStream::from_str(text, &mut map)?;
     Ok(format!(in alloc; "{stream}")?)
+}
+
+/// Whether the stream of `text`, parsed in a new map, is well spaced.
+pub fn parses_well_spaced(alloc: Global, text: &str) -> Result<bool, ParseError> {
+    let mut map = SourceMap::new(alloc);
+    Ok(TokenStream::from_str(text, &mut map)?.is_well_spaced())
+}
+
+// Whether the two texts, each parsed in a new map, give the same tokens, asked from both sides.
+fn are_same(alloc: Global, text: &str, other: &str) -> Result<bool, ParseError> {
+    let stream = TokenStream::from_str(text, &mut SourceMap::new(alloc))?;
+    let other = TokenStream::from_str(other, &mut SourceMap::new(alloc))?;
+    Ok(stream.same_tokens(&other) && other.same_tokens(&stream))
 }
 
 // The text that the stream of `text` is shown as.

@@ -1,6 +1,6 @@
 // What callers prove of streams by public items alone: by what the readers promise, and by the laws. None of
 // these functions has a proof file.
-ghost use Rattle.std.specs.Prelude.{◌≤◌, IfOk};
+ghost use Rattle.std.specs.Prelude.{◌≡◌, ◌≤◌, ◌↔◌, IfOk, IfSome, IsTrue};
 ghost use Rattle.proc_macro2.specs.Built.{IsBuiltToken};
 ghost use Rattle.proc_macro2.specs.Forest.{IsBuilt};
 ghost use Rattle.proc_macro2.specs.Laws.{Gives};
@@ -41,6 +41,25 @@ fn inside_comes_back(group: &Group)
 {
     let _ = group.stream_ref();
     laws::printed_comes_back();
+}
+
+/// Whether the stream comes back from its printed text: it is asked by one call.
+fn prints_faithfully(stream: &TokenStream) -> bool
+    ensures { IsTrue result ↔ Gives 0 (printed stream.now) stream.now }
+{
+    laws::printed_comes_back();
+    stream.is_well_spaced()
+}
+
+/// Streams that are well spaced have the same tokens exactly if they print the same text.
+fn print_alike(stream: &TokenStream, other: &TokenStream) -> Option<bool>
+    ensures { IfSome result (λ same. IsTrue same ↔ (printed stream.now ≡ printed other.now)) }
+{
+    laws::printed_comes_back();
+    if stream.is_well_spaced() && other.is_well_spaced() {
+        return Some(stream.same_tokens(other));
+    }
+    None
 }
 
 /// A tree that may be put into a stream is built.
@@ -97,6 +116,8 @@ fn what_laws_say_of_a_stream_is_seen_in_its_printed_text(rt: HostRuntime) -> Res
     let mut map = SourceMap::new(rt.alloc());
     let stream = read("a+=(1)", &mut map)?;
     comes_back(&stream);
+    assert!(rt; prints_faithfully(&stream));
+    assert_eq!(rt; print_alike(&stream, &stream), Some(true));
     each_is_built(&stream);
     for tree in stream.trees() {
         kind_is_built(tree);

@@ -1,4 +1,4 @@
-use crate::checks::{check_printed, check_printed_twice};
+use crate::checks::{check_printed, check_printed_twice, check_same};
 use proc_macro2::{ParseError, SourceMap, TokenStream};
 
 #[test]
@@ -46,6 +46,10 @@ fn joined_texts_are_read_one_after_the_other(rt: HostRuntime) {
     check_printed(&rt, "x // c\ny", "x y");
     check_printed(&rt, "+\n+", "+ +");
     check_printed(&rt, "//\r\ny", "y");
+    check_same(&rt, "x // c\ny", "x y", true);
+    check_same(&rt, "+\n+", "+ +", true);
+    check_same(&rt, "+\n+", "++", false);
+    check_same(&rt, "//\r\ny", "y", true);
 }
 
 #[test]
@@ -68,6 +72,9 @@ fn a_line_is_broken_behind_a_piece(rt: HostRuntime) {
     check_printed(&rt, "/// d\n\nx", "# [doc = \" d\"] x");
     check_printed(&rt, "(a)\"b\"c", "(a) \"b\"c");
     check_printed(&rt, "(\na\n)\n\"b\"c", "(a) \"b\"c");
+    check_same(&rt, "a+=b", "a\n+=b", true);
+    check_same(&rt, "/// d\nx", "/// d\n\nx", true);
+    check_same(&rt, "(a)\"b\"c", "(\na\n)\n\"b\"c", true);
 }
 
 #[test]
@@ -78,4 +85,7 @@ fn behind_a_mark_or_a_number_it_may_be_read_otherwise(rt: HostRuntime) {
     check_printed(&rt, "1.\nf32", "1. f32");
     check_printed(&rt, "1.0e+_5\u{301}", "1 . 0e + _5\u{301}");
     check_printed(&rt, "1.0e\n+_5\u{301}", "1.0e + _5\u{301}");
+    check_same(&rt, "a+=b", "a+\n=b", false);
+    check_same(&rt, "1.f32", "1.\nf32", false);
+    check_same(&rt, "1.0e+_5\u{301}", "1.0e\n+_5\u{301}", false);
 }

@@ -26,6 +26,8 @@ mod shown_trees;
 #[cfg(test)]
 mod sizes;
 #[cfg(test)]
+mod spacing;
+#[cfg(test)]
 mod spans;
 #[cfg(test)]
 mod streams;

@@ -1,4 +1,6 @@
-use crate::checks::{check_fault, check_trees, count_trees, printed};
+use crate::checks::{
+    check_fault, check_same, check_trees, count_trees, parses_well_spaced, printed,
+};
 use pm_span::SourceMap;
 use pm_span::parts::bounds;
 use pm_stream::{TokenStream, TokenTree};
@@ -59,6 +61,17 @@ fn deep_groups_are_read_without_stack(rt: HostRuntime) -> Result<(), Fail> {
     assert_eq!(rt; trees, Some(1), "all stands in one group");
     let printed = printed(rt.alloc(), text.as_str())?;
     assert!(rt; printed.as_str() == text.as_str(), "no level has a space");
+    Ok(())
+}
+
+#[test]
+fn deep_groups_are_compared_without_stack(rt: HostRuntime) -> Result<(), Fail> {
+    let text = deep_groups(rt.alloc(), 100000)?;
+    let other = deep_groups(rt.alloc(), 100001)?;
+    check_same(&rt, text.as_str(), text.as_str(), true);
+    check_same(&rt, text.as_str(), other.as_str(), false);
+    let spaced = parses_well_spaced(rt.alloc(), text.as_str())?;
+    assert!(rt; spaced, "each level is one group");
     Ok(())
 }
 
