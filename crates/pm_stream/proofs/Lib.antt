@@ -2,6 +2,7 @@ pub mod CoverLemmas
 pub mod DocLemmas
 pub mod PieceLemmas
 pub mod Levels
+pub mod BuildingLemmas
 pub mod InOrderLemmas
 pub mod WalkLemmas
 pub mod PrintLemmas

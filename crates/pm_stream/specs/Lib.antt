@@ -23,3 +23,4 @@ pub mod Progress
 pub mod InOrder
 pub mod Walk
 pub mod HeldSpans
+pub mod Building

@@ -24,6 +24,6 @@ pub(crate) fn doc_group(alloc: Global, text: &str, span: Span) -> Result<Group, 
     trees.push(TokenTree::Ident(doc))?;
     trees.push(TokenTree::Punct(equals))?;
     trees.push(TokenTree::Literal(text))?;
-    let stream = TokenStream::from_trees(alloc, trees)?;
+    let stream = TokenStream::from_vec(alloc, trees)?;
     Ok(Group::from_parts(Delimiter::Bracket, stream, span))
 }

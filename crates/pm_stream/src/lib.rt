@@ -4,6 +4,7 @@
 //! with its definition.
 #![tactic(auto)]
 
+mod build;
 mod debug;
 mod display;
 mod doc;

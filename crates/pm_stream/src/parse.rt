@@ -243,7 +243,7 @@ impl Reading {
             return Err(fault_at(lo));
         }
         let trees = self.trees.split_off(frame.before)?;
-        let stream = TokenStream::from_trees(self.alloc, trees)?;
+        let stream = TokenStream::from_vec(self.alloc, trees)?;
         let group = Group::from_parts(delimiter, stream, span_of(frame.lo, hi));
         self.trees.push(TokenTree::Group(group))?;
         Ok(())
@@ -281,7 +281,7 @@ impl Reading {
         if let Some(frame) = frames.pop() {
             return Err(fault_at(frame.lo));
         }
-        Ok(TokenStream::from_trees(alloc, trees)?)
+        Ok(TokenStream::from_vec(alloc, trees)?)
     }
 }
 

@@ -20,5 +20,5 @@ pub fn stream(alloc: Global, trees: Vec<TokenTree>) -> Result<TokenStream, Alloc
     requires { IsBuilt (forest trees.items) }
     ensures ok { IfOk result (λ stream. stream ≡ forest trees.items) }
 {
-    TokenStream::from_trees(alloc, trees)
+    TokenStream::from_vec(alloc, trees)
 }

@@ -7,6 +7,7 @@ ghost use Rattle.pm_stream.specs.Level.{forest, held, alone, inside, GoesInside,
 ghost use Rattle.pm_stream.specs.Size.{is_nil, count};
 ghost use Rattle.pm_stream.specs.TreeSpan.{extent_of, with_span};
 
+mod changes;
 mod clones;
 
 use pm_span::Span;
@@ -150,7 +151,7 @@ impl TokenStream {
 
     /// The stream of these trees. An empty list takes no memory; any other is moved into memory that
     /// streams share, and is lost where that is refused.
-    pub(crate) fn from_trees(
+    pub(crate) fn from_vec(
         alloc: Global,
         trees: Vec<TokenTree>,
     ) -> Result<TokenStream, AllocError>

@@ -1,0 +1,133 @@
+-- What is put into streams.
+use Rattle.std.proofs.Common.{◌≡◌, ◌≤◌, Bool, true, false, List, [], ◌∷◌, ◌++◌, Option, Some, None, MatchOption, Result, Ok, Err, OnOk, OnErr, Vec, ◌⊎◌, inl, inr, refl, sym, ap, ap₂, subst, ◌∙◌, append_assoc, if◌then◌else◌}
+use Rattle.std.specs.Iterator.{Drains, Yields}
+use Rattle.std.specs.List.{AllZip}
+use Rattle.std.specs.Vec.{vec_len}
+use Rattle.std.specs.declared.alloc.Global.{Global}
+use Rattle.std.proofs.lemmas.List.Elements.{same_from_all_zip}
+use Rattle.pm_token.specs.Leaf.{Mark, Text}
+use Rattle.pm_token.specs.LiteralText.{IsLiteralText}
+use Rattle.pm_token.specs.Negative.{has_minus, minus_of, number_of}
+use Rattle.pm_token.proofs.WholeLemmas.{number_built, plain_built}
+use Rattle.pm_stream.specs.Building.{GivesAll, GivesAnItem, PutsIn, gathered, split}
+use Rattle.pm_stream.specs.Forest.{Forest, nil, leaf, group, joined, IsBuilt}
+use Rattle.pm_stream.specs.Level.{alone, before, forest}
+use Rattle.pm_stream.specs.declared.stream.TokenTree.{TokenTree}
+use Rattle.pm_stream.specs.declared.stream.TokenTree.TheVariants.{Group, Ident, Punct, Literal}
+use Rattle.pm_stream.proofs.Levels.{IsBuilt-joined, joined-before}
+
+-- ---- forests one after another
+
+pub joined_nil : (f : Forest) → joined f nil ≡ f
+joined_nil nil = refl
+joined_nil (leaf t lo hi f) = ap (leaf t lo hi) (joined_nil f)
+joined_nil (group d lo hi f g) = ap (group d lo hi f) (joined_nil g)
+
+pub joined_assoc : (f g h : Forest) → joined (joined f g) h ≡ joined f (joined g h)
+joined_assoc nil g h = refl
+joined_assoc (leaf t lo hi f) g h = ap (leaf t lo hi) (joined_assoc f g h)
+joined_assoc (group d lo hi f k) g h = ap (group d lo hi f) (joined_assoc k g h)
+
+-- one item more
+gathered_push : {A : Type 0} (trees : A → Forest) (items : List A) (item : A)
+    → gathered trees (items ++ item ∷ []) ≡ joined (gathered trees items) (trees item)
+gathered_push trees [] item = joined_nil (trees item)
+gathered_push trees (first ∷ items) item =
+    ap (joined (trees first)) (gathered_push trees items item)
+    ∙ sym (joined_assoc (trees first) (gathered trees items) (trees item))
+
+pub puts_more : {A : Type 0} (trees : A → Forest) (old now new : Forest) (items : List A) (item : A)
+    → PutsIn trees old items now → new ≡ joined now (trees item) → PutsIn trees old (items ++ item ∷ []) new
+puts_more trees old now new items item so_far more =
+    more ∙ ap (λ f. joined f (trees item)) so_far ∙ joined_assoc old (gathered trees items) (trees item)
+    ∙ ap (joined old) (sym (gathered_push trees items item))
+
+-- ---- what is pushed onto a list of trees
+
+pub forest_append : (old more : List TokenTree) → forest (old ++ more) ≡ joined (forest old) (forest more)
+forest_append [] more = refl
+forest_append (t ∷ old) more = ap (before t) (forest_append old more) ∙ sym (joined-before t (forest old) (forest more))
+
+-- a tree that is no literal
+pub pushed_other : (old new : List TokenTree) (t : TokenTree) → new ≡ old ++ t ∷ []
+    → ((l : Text) → t ≡ Literal l → ⊥) → forest new ≡ joined (forest old) (split t)
+pushed_other old new (Group g) pushed other = ap forest pushed ∙ forest_append old (Group g ∷ [])
+pushed_other old new (Ident i) pushed other = ap forest pushed ∙ forest_append old (Ident i ∷ [])
+pushed_other old new (Punct p) pushed other = ap forest pushed ∙ forest_append old (Punct p ∷ [])
+pushed_other old new (Literal l) pushed other = absurd (other l refl)
+
+-- the mark and the rest of a literal, or no mark and the literal
+abbrev AreParts : Text → Option Mark → Text → Type 0
+AreParts l minus rest =
+    MatchOption minus ((has_minus l.text ≡ false) × (rest ≡ l))
+    (λ m. (has_minus l.text ≡ true) × (m ≡ minus_of l) × (rest ≡ number_of l))
+
+split_by : (l : Text) (b : Bool) → has_minus l.text ≡ b
+    → split (Literal l) ≡ (if b then before (Punct (minus_of l)) (alone (Literal (number_of l))) else alone (Literal l))
+split_by l b is = ap (λ x. if x then before (Punct (minus_of l)) (alone (Literal (number_of l))) else alone (Literal l)) is
+
+-- a literal without a sign
+pub pushed_plain : (old new : List TokenTree) (t : TokenTree) (l rest : Text) (minus : Option Mark)
+    → t ≡ Literal l → AreParts l minus rest → ((m : Mark) → minus ≡ Some m → ⊥)
+    → new ≡ old ++ Literal rest ∷ [] → forest new ≡ joined (forest old) (split t)
+pushed_plain old new t l rest (Some m) is parts other pushed = absurd (other m refl)
+pushed_plain old new t l rest None is parts other pushed =
+    ap forest pushed ∙ forest_append old (Literal rest ∷ [])
+    ∙ ap (joined (forest old)) (ap (λ (x : Text). alone (Literal x)) parts.1 ∙ sym (split_by l false parts.0) ∙ ap split (sym is))
+
+-- one with a sign
+pub pushed_negative : (old first new : List TokenTree) (t : TokenTree) (l rest : Text) (m : Mark) (minus : Option Mark)
+    → t ≡ Literal l → AreParts l minus rest → minus ≡ Some m
+    → first ≡ old ++ Punct m ∷ [] → new ≡ first ++ Literal rest ∷ [] → forest new ≡ joined (forest old) (split t)
+pushed_negative old first new t l rest m minus is parts some one two =
+    let known = subst (λ o. AreParts l o rest) some parts in
+    let same : before (Punct m) (alone (Literal rest)) ≡ split (Literal l) =
+    ap₂ (λ (x : Mark) (y : Text). before (Punct x) (alone (Literal y))) known.1 known.2 ∙ sym (split_by l true known.0) in
+    ap forest (two ∙ (ap (λ ts. ts ++ Literal rest ∷ []) one ∙ append_assoc old (Punct m ∷ []) (Literal rest ∷ [])))
+    ∙ forest_append old (Punct m ∷ Literal rest ∷ [])
+    ∙ ap (joined (forest old)) (same ∙ ap split (sym is))
+
+-- a list and its copy
+pub clones_same : (old new : Vec TokenTree Global) → (new ≡ old) ⊎ (AllZip (λ t copy. copy ≡ t) old.items new.items × (vec_len new ≡ vec_len old))
+    → new.items ≡ old.items
+clones_same old new (inl same) = ap (λ (v : Vec TokenTree Global). v.items) same
+clones_same old new (inr copied) = same_from_all_zip _ old.items new.items copied.0 (λ x y e. e)
+
+-- ---- what is built
+
+pub built_after : {E : Type 0} (r : Result (Unit {0}) E) (old new more : Forest)
+    → OnOk r (new ≡ joined old more) → OnErr r (new ≡ old) → IsBuilt old → IsBuilt more → IsBuilt new
+built_after (Ok u) old new more ok err p q = subst IsBuilt (sym ok) (IsBuilt-joined old more p q)
+built_after (Err e) old new more ok err p q = subst IsBuilt (sym err) p
+
+pub literal_built : (l : Text) → IsLiteralText l.text → l.span.lo ≤ l.span.hi → IsBuilt (split (Literal l))
+literal_built l is ordered = go (has_minus l.text) refl
+  where
+    go : (b : Bool) → has_minus l.text ≡ b
+        → IsBuilt (if b then before (Punct (minus_of l)) (alone (Literal (number_of l))) else alone (Literal l))
+    go true minus = (refl, ordered, (number_built l.text minus is, ordered, tt))
+    go false plain = (plain_built l.text plain is, ordered, tt)
+
+-- ---- what an iterator gives
+
+-- where it gave items and then one more, it gives an item
+gives_item : {U T A : Type 0} (becomes : U → T → Type 0) (steps : T → Option A → T → Type 0) (iterable : U) (it now next : T) (items : List A) (item : A)
+    → becomes iterable it → Yields steps it items now → steps now (Some item) next → GivesAnItem becomes steps iterable
+gives_item becomes steps iterable it now next [] item is yields step =
+    (it, item, next, is, subst (λ s. steps s (Some item) next) (sym yields) step)
+gives_item becomes steps iterable it now next (first ∷ items) item is yields step = (it, first, yields.0, is, yields.1)
+
+-- so does that whose last item was refused
+pub refused_item : {U T A E : Type 0} (becomes : U → T → Type 0) (steps : T → Option A → T → Type 0) (iterable : U) (it now next : T) (items : List A) (item : A) (r : Result (Unit {0}) E)
+    → becomes iterable it → Yields steps it items now → steps now (Some item) next
+    → OnErr r (GivesAnItem becomes steps iterable)
+refused_item becomes steps iterable it now next items item (Ok u) is yields step = tt
+refused_item becomes steps iterable it now next items item (Err e) is yields step =
+    gives_item becomes steps iterable it now next items item is yields step
+
+-- an empty stream with all of them is all of them
+pub gives_all : {U T A : Type 0} (becomes : U → T → Type 0) (steps : T → Option A → T → Type 0) (trees : A → Forest) (iterable : U) (empty new : Forest)
+    → empty ≡ nil → (it : T) × (items : List A) × becomes iterable it × PutsIn trees empty items new × Drains steps it items
+    → GivesAll becomes steps iterable (λ items. new ≡ gathered trees items)
+gives_all becomes steps trees iterable empty new none ran =
+    (ran.0, ran.1, ran.2, ran.4, ran.3 ∙ ap (λ f. joined f (gathered trees ran.1)) none)

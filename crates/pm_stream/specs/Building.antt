@@ -1,0 +1,35 @@
+-- What is put into streams.
+use Rattle.std.specs.Prelude.{◌≡◌, List, [], ◌∷◌, Option, Some, if◌then◌else◌}
+use Rattle.std.specs.Iterator.{Drains}
+use Rattle.pm_token.specs.Negative.{has_minus, minus_of, number_of}
+use Rattle.pm_stream.specs.Forest.{Forest, nil, joined}
+use Rattle.pm_stream.specs.Level.{alone, before}
+use Rattle.pm_stream.specs.declared.stream.TokenTree.{TokenTree}
+use Rattle.pm_stream.specs.declared.stream.TokenTree.TheVariants.{Group, Ident, Punct, Literal}
+
+-- `split`: the trees that stand in a stream for one that is put in. A negative literal is its `-` and the rest
+abbrev pub split : TokenTree → Forest
+split (Group g) = alone (Group g)
+split (Ident i) = alone (Ident i)
+split (Punct p) = alone (Punct p)
+split (Literal l) =
+    if has_minus l.text then before (Punct (minus_of l)) (alone (Literal (number_of l))) else alone (Literal l)
+
+-- the trees of each item, one item after another
+abbrev pub gathered : {A : Type 0} → (A → Forest) → List A → Forest
+gathered trees [] = nil
+gathered trees (item ∷ items) = joined (trees item) (gathered trees items)
+
+-- the trees of each item were put after those of the stream
+abbrev pub PutsIn : {A : Type 0} → (A → Forest) → Forest → List A → Forest → Type 0
+PutsIn trees old items new = new ≡ joined old (gathered trees items)
+
+-- what is iterated over gives at least one item
+abbrev pub GivesAnItem : {U T A : Type 0} → (U → T → Type 0) → (T → Option A → T → Type 0) → U → Type 0
+GivesAnItem {U} {T} {A} becomes steps iterable =
+    (it : T) × (first : A) × (rest : T) × becomes iterable it × steps it (Some first) rest
+
+-- the property holds of all the items that what is iterated over gives
+abbrev pub GivesAll : {U T A : Type 0} → (U → T → Type 0) → (T → Option A → T → Type 0) → U → (List A → Type 0) → Type 0
+GivesAll {U} {T} {A} becomes steps iterable holds =
+    (it : T) × (items : List A) × becomes iterable it × Drains steps it items × holds items

@@ -1,0 +1,171 @@
+//! Building and changing streams.
+ghost use Rattle.std.specs.Prelude.{◌≡◌, IfErr, IfOk, OnErr};
+ghost use Rattle.std.specs.Iterator.{ExtendsWithItems, IsFiniteIterable};
+ghost use Rattle.pm_stream.specs.Building.{GivesAll, GivesAnItem, PutsIn, gathered, split};
+ghost use Rattle.pm_stream.specs.Forest.{Forest};
+
+mod collects;
+
+use crate::stream::{Group, TokenStream, TokenTree};
+use pm_token::{Ident, Literal, Punct};
+use std::alloc::{AllocError, Global};
+
+impl TokenStream {
+    ghost use Rattle.pm_stream.specs.declared.stream.TokenTree.TheVariants.{Group as GroupTree, Ident as IdentTree, Punct as PunctTree, Literal as LiteralTree};
+
+    /// The stream of this tree, by the rule `split`. Fails where memory runs out.
+    ///
+    /// The literal `-3i32` gives two trees, the mark `-` Alone and the literal `3i32`, both with the
+    /// span of that literal. Any other tree gives itself.
+    pub fn from_tree(alloc: Global, tree: TokenTree) -> Result<TokenStream, AllocError>
+        ensures ok { IfOk result (λ stream. stream ≡ split tree) }
+    {
+        let mut stream = TokenStream::new(alloc);
+        stream.put(tree)?;
+        Ok(stream)
+    }
+
+    /// The stream of these trees, in order, each by the rule `split`. Fails where memory runs out,
+    /// which it doesn't for no trees.
+    pub fn from_trees<I: IntoIterator<Item = TokenTree>>(
+        alloc: Global,
+        trees: I,
+    ) -> Result<TokenStream, AllocError>
+        requires { IsFiniteIterable I.into_iter_gives I.IntoIter.can_next I.IntoIter.remaining trees }
+        ensures ok { IfOk result (λ stream. GivesAll I.into_iter_gives I.IntoIter.next_gives trees
+            (λ trees. stream ≡ gathered split trees)) }
+        ensures memory { IfErr result (λ _. GivesAnItem I.into_iter_gives I.IntoIter.next_gives trees) }
+    {
+        let mut stream = TokenStream::new(alloc);
+        stream.extend_trees(trees)?;
+        Ok(stream)
+    }
+
+    /// The stream of the trees of these streams, one stream after another. Fails where memory runs
+    /// out, which it doesn't for no streams.
+    ///
+    /// The trees of a stream that shares them with no other are moved, not copied.
+    pub fn from_streams<I: IntoIterator<Item = TokenStream>>(
+        alloc: Global,
+        streams: I,
+    ) -> Result<TokenStream, AllocError>
+        requires { IsFiniteIterable I.into_iter_gives I.IntoIter.can_next I.IntoIter.remaining streams }
+        ensures ok { IfOk result (λ stream. GivesAll I.into_iter_gives I.IntoIter.next_gives streams
+            (λ streams. stream ≡ gathered (λ stream. stream) streams)) }
+        ensures memory { IfErr result (λ _. GivesAnItem I.into_iter_gives I.IntoIter.next_gives streams) }
+    {
+        let mut stream = TokenStream::new(alloc);
+        stream.extend_streams(streams)?;
+        Ok(stream)
+    }
+
+    /// Puts these trees after its own, in order, each by the rule `split`.
+    ///
+    /// Where memory runs out the trees before that which found none stay, both halves of a negative
+    /// literal or none. It doesn't run out for no trees. Other streams that share the trees keep
+    /// what they had.
+    #[tactic(auto, using(crate::proofs::BuildingLemmas::joined_nil, crate::proofs::BuildingLemmas::puts_more))]
+    pub fn extend_trees<I: IntoIterator<Item = TokenTree>>(
+        &mut self,
+        trees: I,
+    ) -> Result<(), AllocError>
+        requires { IsFiniteIterable I.into_iter_gives I.IntoIter.can_next I.IntoIter.remaining trees }
+        ensures ran { ExtendsWithItems I.into_iter_gives I.IntoIter.next_gives (PutsIn split)
+            trees self.old self.new result }
+        ensures memory { OnErr result (GivesAnItem I.into_iter_gives I.IntoIter.next_gives trees) }
+    {
+        for tree in trees {
+            self.put(tree)?;
+        }
+        Ok(())
+    }
+
+    /// Puts the trees of these streams after its own, one stream after another.
+    ///
+    /// Where memory runs out the streams before that which found none stay whole, and no tree of that
+    /// one. The trees of a stream that shares them with no other are moved, not copied.
+    #[tactic(auto, using(crate::proofs::BuildingLemmas::joined_nil, crate::proofs::BuildingLemmas::puts_more))]
+    pub fn extend_streams<I: IntoIterator<Item = TokenStream>>(
+        &mut self,
+        streams: I,
+    ) -> Result<(), AllocError>
+        requires { IsFiniteIterable I.into_iter_gives I.IntoIter.can_next I.IntoIter.remaining streams }
+        ensures ran { ExtendsWithItems I.into_iter_gives I.IntoIter.next_gives (PutsIn (λ stream. stream))
+            streams self.old self.new result }
+        ensures memory { OnErr result (GivesAnItem I.into_iter_gives I.IntoIter.next_gives streams) }
+    {
+        for stream in streams {
+            self.append(stream)?;
+        }
+        Ok(())
+    }
+
+    /// Puts these groups after its trees, as [`extend_trees`](TokenStream::extend_trees) does.
+    #[tactic(auto, using(crate::proofs::BuildingLemmas::joined_nil, crate::proofs::BuildingLemmas::puts_more))]
+    pub fn extend_groups<I: IntoIterator<Item = Group>>(
+        &mut self,
+        groups: I,
+    ) -> Result<(), AllocError>
+        requires { IsFiniteIterable I.into_iter_gives I.IntoIter.can_next I.IntoIter.remaining groups }
+        ensures ran { ExtendsWithItems I.into_iter_gives I.IntoIter.next_gives (PutsIn (λ group. split (GroupTree group)))
+            groups self.old self.new result }
+        ensures memory { OnErr result (GivesAnItem I.into_iter_gives I.IntoIter.next_gives groups) }
+    {
+        for group in groups {
+            self.put(TokenTree::Group(group))?;
+        }
+        Ok(())
+    }
+
+    /// Puts these identifiers after its trees, as [`extend_trees`](TokenStream::extend_trees) does.
+    #[tactic(auto, using(crate::proofs::BuildingLemmas::joined_nil, crate::proofs::BuildingLemmas::puts_more))]
+    pub fn extend_idents<I: IntoIterator<Item = Ident>>(
+        &mut self,
+        idents: I,
+    ) -> Result<(), AllocError>
+        requires { IsFiniteIterable I.into_iter_gives I.IntoIter.can_next I.IntoIter.remaining idents }
+        ensures ran { ExtendsWithItems I.into_iter_gives I.IntoIter.next_gives (PutsIn (λ ident. split (IdentTree ident)))
+            idents self.old self.new result }
+        ensures memory { OnErr result (GivesAnItem I.into_iter_gives I.IntoIter.next_gives idents) }
+    {
+        for ident in idents {
+            self.put(TokenTree::Ident(ident))?;
+        }
+        Ok(())
+    }
+
+    /// Puts these marks after its trees, as [`extend_trees`](TokenStream::extend_trees) does.
+    #[tactic(auto, using(crate::proofs::BuildingLemmas::joined_nil, crate::proofs::BuildingLemmas::puts_more))]
+    pub fn extend_puncts<I: IntoIterator<Item = Punct>>(
+        &mut self,
+        puncts: I,
+    ) -> Result<(), AllocError>
+        requires { IsFiniteIterable I.into_iter_gives I.IntoIter.can_next I.IntoIter.remaining puncts }
+        ensures ran { ExtendsWithItems I.into_iter_gives I.IntoIter.next_gives (PutsIn (λ punct. split (PunctTree punct)))
+            puncts self.old self.new result }
+        ensures memory { OnErr result (GivesAnItem I.into_iter_gives I.IntoIter.next_gives puncts) }
+    {
+        for punct in puncts {
+            self.put(TokenTree::Punct(punct))?;
+        }
+        Ok(())
+    }
+
+    /// Puts these literals after its trees, as [`extend_trees`](TokenStream::extend_trees) does: a
+    /// negative one as its `-` and the rest.
+    #[tactic(auto, using(crate::proofs::BuildingLemmas::joined_nil, crate::proofs::BuildingLemmas::puts_more))]
+    pub fn extend_literals<I: IntoIterator<Item = Literal>>(
+        &mut self,
+        literals: I,
+    ) -> Result<(), AllocError>
+        requires { IsFiniteIterable I.into_iter_gives I.IntoIter.can_next I.IntoIter.remaining literals }
+        ensures ran { ExtendsWithItems I.into_iter_gives I.IntoIter.next_gives (PutsIn (λ literal. split (LiteralTree literal)))
+            literals self.old self.new result }
+        ensures memory { OnErr result (GivesAnItem I.into_iter_gives I.IntoIter.next_gives literals) }
+    {
+        for literal in literals {
+            self.put(TokenTree::Literal(literal))?;
+        }
+        Ok(())
+    }
+}

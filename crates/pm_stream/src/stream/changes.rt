@@ -1,0 +1,124 @@
+//! How the list of a stream is changed, which other streams may share.
+ghost use Rattle.std.specs.Prelude.{◌≡◌, IfOk, OnErr, OnOk};
+ghost use Rattle.pm_stream.specs.Building.{split};
+ghost use Rattle.pm_stream.specs.Forest.{IsBuilt, joined};
+ghost use Rattle.pm_stream.specs.Level.{forest, held};
+
+use super::{TokenStream, TokenTree};
+use pm_token::parts::split_minus;
+use std::alloc::{AllocError, Global};
+use std::rc::Rc;
+
+impl TokenStream {
+    /// Puts the tree after the others (`split`). Where memory runs out the stream stays as it was.
+    pub(crate) fn put(&mut self, tree: TokenTree) -> Result<(), AllocError>
+        ensures ok { OnOk result (self.new ≡ joined self.old (split tree)) }
+        ensures err { OnErr result (self.new ≡ self.old) }
+    {
+        tree.built_parts();
+        put_shared(self.alloc, &mut self.trees, tree)
+    }
+
+    /// Puts the trees of the other stream after its own, all of them or, where memory runs out, none.
+    pub(crate) fn append(&mut self, more: TokenStream) -> Result<(), AllocError>
+        ensures ok { OnOk result (self.new ≡ joined self.old more) }
+        ensures err { OnErr result (self.new ≡ self.old) }
+    {
+        let TokenStream { alloc: _, trees } = more;
+        match trees {
+            Some(more) => append_shared(&mut self.trees, more),
+            None => Ok(()),
+        }
+    }
+}
+
+impl TokenTree {
+    // What is true of the trees that stand in a stream for it. It computes nothing: it hands the
+    // invariants of the types to proofs.
+    #[tactic(auto, using(crate::proofs::BuildingLemmas::literal_built))]
+    fn built_parts(&self)
+        ensures { IsBuilt (split self.now) }
+    {
+        match self {
+            TokenTree::Group(group) => group.span(),
+            TokenTree::Ident(ident) => ident.span(),
+            TokenTree::Punct(punct) => punct.span(),
+            TokenTree::Literal(literal) => literal.span(),
+        };
+    }
+}
+
+// Puts the tree after those of a list, which is copied first where it is shared.
+fn put_shared(
+    alloc: Global,
+    trees: &mut Option<Rc<Vec<TokenTree>>>,
+    tree: TokenTree,
+) -> Result<(), AllocError>
+    ensures ok { OnOk result (held trees.new ≡ joined (held trees.old) (split tree)) }
+    ensures err { OnErr result (held trees.new ≡ held trees.old) }
+{
+    if let Some(shared) = trees {
+        return push_split(Rc::make_mut(shared)?, tree);
+    }
+    let mut own = Vec::new(alloc);
+    push_split(&mut own, tree)?;
+    *trees = Some(Rc::new(alloc, own)?);
+    Ok(())
+}
+
+#[tactic(auto, using(crate::proofs::BuildingLemmas::pushed_other))]
+// Puts the tree after the others. Both places of a negative literal are there before its first half
+// is put in.
+fn push_split(trees: &mut Vec<TokenTree>, tree: TokenTree) -> Result<(), AllocError>
+    ensures ok { OnOk result (forest trees.new.items ≡ joined (forest trees.old.items) (split tree)) }
+    ensures err { OnErr result (forest trees.new.items ≡ forest trees.old.items) }
+{
+    let TokenTree::Literal(literal) = tree else {
+        trees.push(tree)?;
+        return Ok(());
+    };
+    let (minus, literal) = split_minus(literal);
+    let Some(minus) = minus else {
+        trees.push(TokenTree::Literal(literal))?;
+        return Ok(());
+    };
+    trees.reserve(2)?;
+    trees.push(TokenTree::Punct(minus))?;
+    trees.push(TokenTree::Literal(literal))?;
+    Ok(())
+}
+
+// Puts the trees of one list after those of the other. They are moved where no stream shares them.
+fn append_shared(
+    trees: &mut Option<Rc<Vec<TokenTree>>>,
+    more: Rc<Vec<TokenTree>>,
+) -> Result<(), AllocError>
+    ensures ok { OnOk result (held trees.new ≡ joined (held trees.old) (forest more.value.items)) }
+    ensures err { OnErr result (held trees.new ≡ held trees.old) }
+{
+    if let Some(shared) = trees {
+        let own = owned(more)?;
+        return push_all(Rc::make_mut(shared)?, own);
+    }
+    *trees = Some(more);
+    Ok(())
+}
+
+#[tactic(auto, using(crate::proofs::BuildingLemmas::clones_same))]
+// The list itself where nothing shares it, and else a copy.
+fn owned(shared: Rc<Vec<TokenTree>>) -> Result<Vec<TokenTree>, AllocError>
+    ensures ok { IfOk result (λ own. own.items ≡ shared.value.items) }
+{
+    Rc::unwrap_or_clone(shared)
+}
+
+#[tactic(auto, using(crate::proofs::BuildingLemmas::forest_append))]
+// Puts these trees after the others, all of them or none.
+fn push_all(trees: &mut Vec<TokenTree>, mut more: Vec<TokenTree>) -> Result<(), AllocError>
+    ensures ok { OnOk result
+        (forest trees.new.items ≡ joined (forest trees.old.items) (forest more.items)) }
+    ensures err { OnErr result (forest trees.new.items ≡ forest trees.old.items) }
+{
+    trees.append(&mut more)?;
+    Ok(())
+}
