@@ -22,5 +22,6 @@ pub mod Nesting
 pub mod Progress
 pub mod InOrder
 pub mod Walk
+pub mod Given
 pub mod HeldSpans
 pub mod Building

@@ -14,6 +14,7 @@ mod parse;
 pub mod parts;
 mod same;
 mod stream;
+pub mod token_stream;
 mod walk;
 mod well_spaced;
 

@@ -1,5 +1,6 @@
 //! Streams of token trees.
 ghost use Rattle.std.specs.Prelude.{◌≡◌, ◌≤◌, ◌+◌, All, IfOk, IfErr, OnOk};
+ghost use Rattle.pm_span.specs.Extent.{nowhere};
 ghost use Rattle.pm_span.specs.Files.{Files};
 ghost use Rattle.pm_stream.specs.Forest.{Forest, nil, joined, IsBuilt};
 ghost use Rattle.pm_stream.specs.HeldSpans.{HoldsAll, HoldsEach};
@@ -9,6 +10,8 @@ ghost use Rattle.pm_stream.specs.TreeSpan.{extent_of, with_span};
 
 mod changes;
 mod clones;
+mod conversions;
+mod owned;
 
 use pm_span::Span;
 use pm_span::parts::bounds;
@@ -302,6 +305,15 @@ impl Group {
         }
     }
 
+    /// A group of these trees between these delimiters, with the span 0..0. It takes no memory.
+    ///
+    /// Of `Delimiter::Parenthesis` and the stream `x` it is `(x)`. The trees keep their spans.
+    pub fn new(delimiter: Delimiter, stream: TokenStream) -> Group
+        ensures { result ≡ record { delimiter = delimiter; stream = stream; span = nowhere } }
+    {
+        Group::from_parts(delimiter, stream, Span::call_site())
+    }
+
     /// What stands around its trees.
     pub fn delimiter(&self) -> Delimiter
         ensures { result ≡ self.now.delimiter }
@@ -316,6 +328,16 @@ impl Group {
     {
         self.stream.built();
         &self.stream
+    }
+
+    /// Its trees, without the delimiters, as a stream of their own: `x` of `(x)`.
+    ///
+    /// They are shared until one of the two is changed, so that this takes no memory. It fails only where
+    /// the trees have more owners than can be counted. [`stream_ref`](Group::stream_ref) lends them.
+    pub fn stream(&self) -> Result<TokenStream, AllocError>
+        ensures { IfOk result (λ stream. stream ≡ self.now.stream) }
+    {
+        self.stream.clone()
     }
 
     /// Where it stands, delimiters and all. Proofs learn by it what every group is (`built`).

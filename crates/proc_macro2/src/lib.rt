@@ -29,8 +29,8 @@ pub mod rustc_literal_escaper {
     };
 }
 
-/// The stream of trees and the walk over all of them, under the module that also has the stream's
-/// iterator in the Rust crate.
+/// The stream of trees, with the iterator over its trees and the walk over all of them.
 pub mod token_stream {
-    pub use pm_stream::{TokenStream, Walk};
+    pub use pm_stream::Walk;
+    pub use pm_stream::token_stream::{IntoIter, TokenStream};
 }

@@ -14,9 +14,13 @@ mod doc_comments;
 #[cfg(test)]
 mod group_spans;
 #[cfg(test)]
+mod iterators;
+#[cfg(test)]
 mod laws;
 #[cfg(test)]
 mod literal_rows;
+#[cfg(test)]
+mod new_trees;
 #[cfg(test)]
 mod parsing;
 #[cfg(test)]
