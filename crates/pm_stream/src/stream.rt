@@ -154,10 +154,7 @@ impl TokenStream {
 
     /// The stream of these trees. An empty list takes no memory; any other is moved into memory that
     /// streams share, and is lost where that is refused.
-    pub(crate) fn from_vec(
-        alloc: Global,
-        trees: Vec<TokenTree>,
-    ) -> Result<TokenStream, AllocError>
+    pub(crate) fn from_vec(alloc: Global, trees: Vec<TokenTree>) -> Result<TokenStream, AllocError>
         requires { IsBuilt (forest trees.items) }
         ensures ok { IfOk result (λ stream. stream ≡ forest trees.items) }
     {
