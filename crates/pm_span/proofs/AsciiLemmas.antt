@@ -11,7 +11,7 @@ use Rattle.std.proofs.lemmas.Str.Ascii.{IsAscii-nil, IsAscii-cons}
 use Rattle.std.proofs.lemmas.Str.{chars-IsAscii, IsAscii-append, encodes-chars, length-encode, len_utf8_ascii, len_utf8_bounds, length-le-encodes}
 use Rattle.std.proofs.Math.ListN.{get_or-map, length-map}
 use Rattle.std.proofs.lemmas.List.{length-take-le, get_or_read}
-use Rattle.pm_span.specs.FileInfo.{all_ascii, after_line_feeds, line_bytes, IsKept, IsLineAt}
+use Rattle.pm_span.specs.FileInfo.{all_ascii, after_line_feeds, line_bytes, IsKept}
 use Rattle.pm_span.specs.Files.{file_name}
 use Rattle.pm_span.specs.Place.{byte_offset}
 
@@ -64,7 +64,7 @@ byte_offset-ascii text k h within = same_bytes (take k text) (ascii_front text k
 
 -- the bytes before the lines are kept exactly of a text that isn't ASCII
 pub kept_none :
-    {text line_starts starts : List ℕ} {lo hi : ℕ} → IsKept text lo hi line_starts starts → length starts ≡ 0
+    {text line_starts starts : List ℕ} {lo hi : ℕ} {entries : List (ℕ × ℕ)} → IsKept text lo hi line_starts starts entries → length starts ≡ 0
     → all_ascii text ≡ true
 kept_none {text} kept none = elim (cases_Bool (all_ascii text)) [
   | inl all ↦ all
@@ -73,23 +73,32 @@ kept_none {text} kept none = elim (cases_Bool (all_ascii text)) [
       absurd (omega arith)
 ]
 
-kept_all :
-    {text line_starts starts : List ℕ} {lo hi : ℕ} → IsKept text lo hi line_starts starts → (length starts ≡ 0 → ⊥)
-    → starts ≡ line_bytes text
-kept_all {text} kept some = elim (cases_Bool (all_ascii text)) [
+-- a text whose lines' bytes are kept isn't ASCII alone
+pub kept_some :
+    {text line_starts starts : List ℕ} {lo hi : ℕ} {entries : List (ℕ × ℕ)} → IsKept text lo hi line_starts starts entries
+    → (length starts ≡ 0 → ⊥) → all_ascii text ≡ false
+kept_some {text} kept some = elim (cases_Bool (all_ascii text)) [
   | inl all ↦ absurd (some (ap length (kept.bytes ∙ ap (λ b. cond b [] (line_bytes text)) all)))
-  | inr other ↦ kept.bytes ∙ ap (λ b. cond b [] (line_bytes text)) other
+  | inr other ↦ other
 ]
 
-pub line_byte :
-    {text line_starts starts : List ℕ} {lo hi place n start byte : ℕ} → IsKept text lo hi line_starts starts
-    → (length starts ≡ 0 → ⊥) → IsLineAt text place n start → byte ≡ get_or starts n byte → byte ≡ byte_offset text start
-line_byte {text} {starts = starts} {n = n} {byte = byte} kept some line read =
+pub kept_size :
+    {text line_starts starts : List ℕ} {lo hi : ℕ} {entries : List (ℕ × ℕ)} → IsKept text lo hi line_starts starts entries
+    → all_ascii text ≡ false → length starts ≡ length (after_line_feeds text) + 1
+kept_size {text} kept other =
     let lines : List ℕ = 0 ∷ after_line_feeds text in
-    let all : starts ≡ map (byte_offset text) lines = kept_all kept some in
-    let size = ap length all ∙ length-map lines (byte_offset text) in
-    get_or_read starts n byte (omega (arith, line.known)) read 0
-    ∙ (ap (λ xs. get_or xs n 0) all ∙ (get_or-map (byte_offset text) lines n 0 ∙ ap (byte_offset text) (sym line.begins)))
+    ap length (kept.bytes ∙ ap (λ b. cond b [] (line_bytes text)) other) ∙ (length-map lines (byte_offset text) ∙ omega arith)
+
+-- the bytes before a line
+pub line_byte :
+    {text line_starts starts : List ℕ} {lo hi n start byte : ℕ} {entries : List (ℕ × ℕ)}
+    → IsKept text lo hi line_starts starts entries → all_ascii text ≡ false → n ≤ length (after_line_feeds text)
+    → start ≡ get_or (0 ∷ after_line_feeds text) n 0 → byte ≡ get_or starts n byte → byte ≡ byte_offset text start
+line_byte {text} {starts = starts} {n = n} {byte = byte} kept other known begins read =
+    let lines : List ℕ = 0 ∷ after_line_feeds text in
+    let all : starts ≡ map (byte_offset text) lines = kept.bytes ∙ ap (λ b. cond b [] (line_bytes text)) other in
+    get_or_read starts n byte (omega (arith, kept_size kept other)) read 0
+    ∙ (ap (λ xs. get_or xs n 0) all ∙ (get_or-map (byte_offset text) lines n 0 ∙ ap (byte_offset text) (sym begins)))
 
 -- how a file from 1 on is named, as bytes and as characters
 pub IsAscii-from_test : (text : List ℕ) → all_ascii text ≡ true → IsAscii text

@@ -1,5 +1,5 @@
 -- Lemmas on the files of a map and their positions.
-use Rattle.std.proofs.Common.{◌≡◌, ℕ, ◌+◌, List, [], ◌∷◌, ◌++◌, length, refl, ap, ◌∙◌, append_assoc, arith}
+use Rattle.std.proofs.Common.{◌≡◌, ℕ, ◌+◌, ◌≤◌, List, [], ◌∷◌, ◌++◌, length, refl, ap, ◌∙◌, append_assoc, arith}
 use Rattle.std.proofs.lemmas.List.Sums.{sum_by-cons}
 use Rattle.pm_span.specs.Extent.{Extent, nowhere}
 use Rattle.pm_span.specs.Files.{Files, positions, IsFile, Holds, with_file, Extends}
@@ -39,6 +39,18 @@ holds_extends old new span more held = record {
   file = is_file_extends old new held.text held.lo more held.file;
   from = held.from;
   to = held.to;
+}
+
+-- each position of a span that is held
+pub holds_within :
+    {map : Files} (span : Extent) (position : ℕ) → Holds map span → span.lo ≤ position → position ≤ span.hi
+    → Holds map (record { lo = position; hi = position })
+holds_within span position held from to = record {
+  text = held.text;
+  lo = held.lo;
+  file = held.file;
+  from = omega (arith, held.from);
+  to = omega (arith, held.to);
 }
 
 -- two spans are in one file exactly if the span of both is held

@@ -1,4 +1,5 @@
 pub mod AsciiLemmas
+pub mod ByteOffsetLemmas
 mod Examples
 pub mod FileLemmas
 pub mod LineLemmas

@@ -1,5 +1,5 @@
 -- Lemmas on the places after line feeds: they give the line and the column of a place.
-use Rattle.std.proofs.Common.{◌≡◌, ℕ, zero, suc, ◌+◌, ◌-◌, ◌<◌, ◌≤◌, true, false, cond, not, List, [], ◌∷◌, ◌++◌, length, get_or, take, drop, reverse, refl, sym, ap, ap₂, leb, ◌∙◌, arith, length-append, append-nil, inl, inr}
+use Rattle.std.proofs.Common.{◌≡◌, ℕ, zero, suc, ◌+◌, ◌-◌, ◌<◌, ◌≤◌, true, false, cond, not, List, [], ◌∷◌, ◌++◌, length, get_or, take, drop, reverse, refl, sym, ap, ap₂, leb, ◌∙◌, arith, length-append, length-drop, append-nil, inl, inr}
 use Rattle.std.specs.Prelude.{count_by, take_while}
 use Rattle.std.specs.List.{All}
 use Rattle.std.specs.List.Sorted.{IsNonDecreasing, IsPartitionPoint}
@@ -8,7 +8,7 @@ use Rattle.std.proofs.lemmas.List.{length-take-le, take_more, reverse-append, ge
 use Rattle.std.proofs.lemmas.List.Elements.{All-nil, All-cons, All-weaker}
 use Rattle.std.proofs.lemmas.List.Sums.{sum_by-cons, take_while-cons}
 use Rattle.pm_span.specs.FileInfo.{after_line_feeds_from, after_line_feeds}
-use Rattle.pm_span.specs.Place.{is_line_feed, column, line_column}
+use Rattle.pm_span.specs.Place.{is_line_feed, line, column, line_column}
 use Rattle.pm_span.specs.declared.location.LineColumn.{LineColumn}
 
 pub after_line_feeds_from-append :
@@ -136,6 +136,20 @@ column_is text (suc k) h =
     let e : take (suc k) text ≡ take k text ++ get_or text k 0 ∷ [] = ap (λ n. take n text) next ∙ take_more text k 0 (omega arith) in
     let step = length-last_line-push (take k text) (get_or text k 0) (column_is text k (omega arith) ∙ sym (length-take-le k text (omega arith))) in
     ap (λ xs. length (last_line xs) + last_start (after_line_feeds xs)) e ∙ (step ∙ omega (arith, length-take-le k text (omega arith)))
+
+-- the line after the one of a place begins after the place
+pub next_start :
+    (text : List ℕ) (k n next : ℕ) → k ≤ length text → line text k ≡ n + 1 → n < length (after_line_feeds text)
+    → next ≡ get_or (after_line_feeds text) n 0 → (k < next) × (next ≤ length text)
+next_start text k n next within here less is =
+    let front = after_line_feeds (take k text) in
+    let rest = after_line_feeds_from k (drop k text) in
+    let whole : after_line_feeds text ≡ front ++ rest = split text k within in
+    let size : length front ≡ n = omega (arith, length-after_line_feeds_from 0 (take k text), here) in
+    let first : next ≡ get_or rest 0 0 =
+    is ∙ (ap (λ xs. get_or xs n 0) whole ∙ (ap (λ i. get_or (front ++ rest) i 0) (omega arith) ∙ get_or-append-add front rest 0 0)) in
+    let past = after_line_feeds_from-within k (drop k text) 0 0 (omega (arith, ap length whole, length-append front rest)) in
+    (omega (arith, past.0), omega (arith, past.1, length-drop k text))
 
 rising_cons : (x : ℕ) (xs : List ℕ) → All (λ y. x ≤ y) xs → IsNonDecreasing xs → IsNonDecreasing (x ∷ xs)
 rising_cons x xs least h zero zero d le less = omega arith

@@ -1,7 +1,7 @@
 -- Lemmas on files that stand one after the other.
 use Rattle.std.proofs.Common.{◌≡◌, ℕ, zero, suc, ◌+◌, ◌-◌, ◌<◌, ◌≤◌, ◌↔◌, List, [], ◌∷◌, ◌++◌, length, map, get_or, Option, Some, None, refl, sym, ap, ap₂, subst, ◌∙◌, ◌≢◌, arith}
 use Rattle.std.specs.Borrow.{Bor}
-use Rattle.std.specs.Option.{unwrap_or, option_copied}
+use Rattle.std.specs.Option.{unwrap_or, option_copied, MatchOption}
 use Rattle.std.specs.List.Sorted.{IsNonDecreasingBy}
 use Rattle.std.proofs.lemmas.List.{get_or_read}
 use Rattle.pm_span.specs.Extent.{Extent, nowhere}
@@ -57,6 +57,41 @@ last_end position (file ∷ []) zero d h e = omega arith
 last_end position (file ∷ f ∷ files) zero d h e = absurd (omega arith)
 last_end position (file ∷ files) (suc i) d h e =
     omega (arith, last_end (position + (length file.text + 1)) files i d h.1 (omega arith), positions-cons file.text (texts_of files))
+
+-- the file of a text that has so many before it
+numbered :
+    (position : ℕ) (files : List PlacedText) (before after : List (List ℕ)) (text : List ℕ) (d : PlacedText) → ArePlaced position files
+    → texts_of files ≡ before ++ (text ∷ after)
+    → (length before < length files) × ((get_or files (length before) d).text ≡ text)
+    × ((get_or files (length before) d).lo ≡ position + positions before)
+numbered position [] [] after text d h e = absurd (cc)
+numbered position [] (t ∷ ts) after text d h e = absurd (cc)
+numbered position (f ∷ files) [] after text d h e = (omega arith, cc, omega (arith, h.0))
+numbered position (f ∷ files) (t ∷ ts) after text d h e =
+    let same : f.text ≡ t = cc in
+    let more = numbered (position + (length f.text + 1)) files ts after text d h.1 (cc) in
+    (omega (arith, more.0), more.1, omega (arith, more.2, ap length same, positions-cons t ts))
+
+-- the file that has the position is the one of its number
+pub file_at :
+    (limit : ℕ) (files : List PlacedText) (position number : ℕ) (file d : PlacedText) → ArePlaced 1 files
+    → IsFileOf (record { texts = texts_of files; limit = limit }) position number file → position ≤ file.lo + length file.text
+    → (number ≡ 0 → ⊥)
+    → (number - 1 < length files) × ((get_or files (number - 1) d).text ≡ file.text) × ((get_or files (number - 1) d).lo ≡ file.lo)
+file_at limit files position number file d placed found within some =
+    at found.is_file.before found.is_file.after found.is_file.whole found.is_file.begins
+    (found.only file.text file.lo found.is_file found.begins within).2
+  where
+    at :
+        (before after : List (List ℕ)) → [] ∷ texts_of files ≡ before ++ (file.text ∷ after) → file.lo ≡ positions before
+        → length before ≡ number
+        → (number - 1 < length files) × ((get_or files (number - 1) d).text ≡ file.text) × ((get_or files (number - 1) d).lo ≡ file.lo)
+    at [] after whole begins count = absurd (some (sym count))
+    at (t ∷ before) after whole begins count =
+        let here = numbered 1 files before after file.text d placed (cc) in
+        let first : [] ≡ t = cc in
+        let place : number - 1 ≡ length before = omega (arith, count) in
+        rw place (here.0, here.1, omega (arith, here.2, begins, positions-cons t before, ap length first))
 
 begins_past :
     (position : ℕ) (files : List PlacedText) (i : ℕ) (d : PlacedText) → ArePlaced position files
@@ -154,6 +189,13 @@ found_some {map} {p} {q} {number} {file} {some} same is found =
     subst (λ r. IsFileOf map r number some.now) same
     (subst (λ o. IsFileOf map p number (unwrap_or (option_copied o) file_0)) is found)
 
+-- at number 0 the search answers no file
+pub none_at_0 :
+    {number : ℕ} (file : Option (Bor PlacedText)) → MatchOption file (number ≡ 0) (λ _. 0 < number) → number ≡ 0
+    → unwrap_or (option_copied file) file_0 ≡ file_0
+none_at_0 None h is = refl
+none_at_0 (Some file) h is = absurd (omega arith)
+
 -- a span is held exactly if it ends in the file that may have its beginning
 pub holds_at :
     {map : Files} {number : ℕ} {file : PlacedText} (span : Extent) → IsFileOf map span.lo number file → span.lo ≤ span.hi
@@ -164,6 +206,17 @@ holds_at {map} {number} {file} span found ordered = (
       let same = found.only held.text held.lo held.file held.from (omega (arith, held.to)) in
       omega (arith, held.to, ap length same.0, same.1),
 )
+
+-- the file of the number that was found, where the position is held
+pub file_held :
+    {map : Files} (limit : ℕ) (files : List PlacedText) (position number : ℕ) (file d : PlacedText)
+    → record { texts = texts_of files; limit = limit } ≡ map → ArePlaced 1 files → IsFileOf map position number file
+    → Holds map (record { lo = position; hi = position }) → (number ≡ 0 → ⊥)
+    → ((number - 1 < length files) × ((get_or files (number - 1) d).text ≡ file.text) × ((get_or files (number - 1) d).lo ≡ file.lo))
+    × (position ≤ file.lo + length file.text)
+file_held limit files position number file d view placed found held some =
+    let within = (holds_at (record { lo = position; hi = position }) found (omega arith)).1 held in
+    (file_at limit files position number file d placed (subst (λ m. IsFileOf m position number file) (sym view) found) within some, within)
 
 -- what holds of the file that was found holds of any file of the map that has the span
 pub of_each :

@@ -1,12 +1,13 @@
 -- A text may be cut at each of its places, and a count of characters there is a count of bytes.
-use Rattle.std.proofs.Common.{◌≡◌, ℕ, ◌+◌, ◌-◌, ◌≤◌, true, List, [], ◌∷◌, ◌++◌, length, take, drop, Option, Some, None, refl, sym, ap, subst, ◌∙◌, arith, length-append}
+use Rattle.std.proofs.Common.{◌≡◌, ℕ, ◌+◌, ◌-◌, ◌<◌, ◌≤◌, true, List, [], ◌∷◌, ◌++◌, length, take, drop, Option, Some, None, refl, sym, ap, subst, ◌∙◌, arith, append_assoc, length-append}
 use Rattle.std.specs.Str.{chars, IsUtf8, IsCharBoundary, encode_utf8_all, all_scalars}
-use Rattle.std.specs.Str.Iter.{chars_steps}
+use Rattle.std.specs.Prelude.{encode_utf8}
+use Rattle.std.specs.Str.Iter.{chars_steps, chars_steps_back}
 use Rattle.std.specs.declared.str.Chars.{Chars}
 use Rattle.std.proofs.Math.Seq.{take-add}
 use Rattle.std.proofs.lemmas.Bool.{and_parts, and_from}
-use Rattle.std.proofs.lemmas.List.{take-append-drop, take_at, drop_at, drop-drop}
-use Rattle.std.proofs.lemmas.Str.{chars-nil, chars-encodes, chars_past_char, encodes-append, encodes-chars, scalars-chars, IsCharBoundary-at_seam, IsUtf8-drop, IsUtf8-past_char}
+use Rattle.std.proofs.lemmas.List.{take-append-drop, take_at, drop_at, drop-drop, nil_from_length}
+use Rattle.std.proofs.lemmas.Str.{chars-nil, chars-encodes, chars_past_char, encodes-append, encodes-chars, encodes_same, scalars-chars, chars-append, IsCharBoundary-at_seam, IsCharBoundary-from_take, IsUtf8-drop, IsUtf8-past_char}
 use Rattle.pm_span.specs.Place.{byte_offset, between}
 
 split_scalars : (p r : List ℕ) → all_scalars (p ++ r) ≡ true → (all_scalars p ≡ true) × (all_scalars r ≡ true)
@@ -121,3 +122,41 @@ past_one s t (Some c) utf8 steps = (
   IsUtf8-past_char s.rest.now t.rest.now c utf8 steps.0,
   ap (drop 1) (sym (chars_past_char s.rest.now t.rest.now c utf8 steps.0)),
 )
+
+-- so many characters are cut off at the end
+pub record IsCutBack (text front : List ℕ) (count : ℕ) : Type 0 where
+  pub cut : List ℕ
+  pub whole : text ≡ front ++ encode_utf8_all cut
+  pub size : length cut ≡ count
+
+chars_encodes_all : (cs : List ℕ) → IsUtf8 (encode_utf8_all cs) → chars (encode_utf8_all cs) ≡ cs
+chars_encodes_all cs utf8 = encodes_same _ _ (encodes-chars (encode_utf8_all cs) utf8)
+
+-- one character more
+pub back_one :
+    {text : List ℕ} {n : ℕ} (s t : Chars) (r : Option ℕ) → IsUtf8 text → IsCutBack text s.rest.now n → n < length (chars text)
+    → chars_steps_back s r t → IsCutBack text t.rest.now (n + 1)
+back_one {text} {n} s t None utf8 cut less steps =
+    let all : text ≡ encode_utf8_all cut.cut = cut.whole ∙ ap (λ xs. xs ++ encode_utf8_all cut.cut) (nil_from_length s.rest.now steps.0) in
+    absurd (omega (arith, cut.size, ap length (ap chars all ∙ chars_encodes_all cut.cut (subst IsUtf8 all utf8))))
+back_one {text} {n} s t (Some c) utf8 cut less steps = record {
+  cut = c ∷ cut.cut;
+  whole = cut.whole ∙ (ap (λ xs. xs ++ encode_utf8_all cut.cut) steps ∙ append_assoc t.rest.now (encode_utf8 c) (encode_utf8_all cut.cut));
+  size = omega (arith, cut.size);
+}
+
+-- what is left is the front of the text
+pub front_of :
+    {text front : List ℕ} {n : ℕ} → IsUtf8 text → IsUtf8 front → IsCutBack text front n
+    → chars front ≡ take (length (chars text) - n) (chars text)
+front_of {text} {front} {n} utf8 left cut =
+    let back = encode_utf8_all cut.cut in
+    let whole : text ≡ front ++ back = cut.whole in
+    let at : IsCharBoundary text (length front) =
+    IsCharBoundary-from_take text (length front) utf8 (omega (arith, ap length whole, length-append front back))
+    (subst IsUtf8 (sym (ap (take (length front)) whole ∙ take_at front back _ refl)) left) in
+    let rest : IsUtf8 back = subst IsUtf8 (ap (drop (length front)) whole ∙ drop_at front back _ refl) (IsUtf8-drop text (length front) utf8 at) in
+    let cs : chars text ≡ chars front ++ cut.cut =
+    ap chars whole ∙ (chars-append front back left ∙ ap (λ xs. chars front ++ xs) (chars_encodes_all cut.cut rest)) in
+    let size : length (chars front) ≡ length (chars text) - n = omega (arith, ap length cs, length-append (chars front) cut.cut, cut.size) in
+    sym (ap (λ m. take m (chars text)) (sym size) ∙ (ap (take (length (chars front))) cs ∙ take_at (chars front) cut.cut _ refl))

@@ -1,6 +1,6 @@
 -- What one file of a source map is seen as, and what it keeps to answer fast.
 use Rattle.std.specs.Prelude.{ℕ, Bool, nat_lt, if◌then◌else◌, ◌+◌, ◌-◌, ◌≤◌, ◌≡◌, List, [], ◌∷◌, map, length, slice_index}
-use Rattle.std.specs.List.{list_all}
+use Rattle.std.specs.List.{All, list_all}
 use Rattle.pm_span.specs.Place.{is_line_feed, line_column, byte_offset}
 
 -- a text and the position of its first character
@@ -33,8 +33,14 @@ pub record IsLineAt (text : List ℕ) (place line_feeds line_start : ℕ) : Type
   pub known : line_feeds ≤ length (after_line_feeds text)
   pub begins : line_start ≡ slice_index (0 ∷ after_line_feeds text) line_feeds
 
+-- a place of the text and the bytes before it
+pub record IsByteOffset (text : List ℕ) (place bytes : ℕ) : Type 0 where
+  pub within : place ≤ length text
+  pub value : bytes ≡ byte_offset text place
+
 -- what a file that begins at lo keeps beside its text; in a text of ASCII alone the places are the bytes before them
-pub record IsKept (text : List ℕ) (lo hi : ℕ) (line_starts byte_starts : List ℕ) : Type 0 where
+pub record IsKept (text : List ℕ) (lo hi : ℕ) (line_starts byte_starts : List ℕ) (byte_offsets : List (ℕ × ℕ)) : Type 0 where
   pub ends : hi ≡ lo + length text
   pub lines : line_starts ≡ after_line_feeds text
   pub bytes : byte_starts ≡ (if all_ascii text then [] else line_bytes text)
+  pub known : All (λ entry. IsByteOffset text entry.0 entry.1) byte_offsets

@@ -1,12 +1,16 @@
-ghost use Rattle.std.specs.Prelude.{◌≡◌, ◌+◌, ◌^◌, ◌<◌, ◌≤◌, length, IfOk};
+ghost use Rattle.std.specs.Prelude.{◌≡◌, ◌+◌, ◌^◌, ◌<◌, ◌≤◌, false, length, IfOk};
 ghost use Rattle.std.specs.Str.{chars};
-ghost use Rattle.pm_span.specs.FileInfo.{PlacedText, IsLineAt, after_line_feeds, line_bytes};
-ghost use Rattle.pm_span.specs.Place.{line_column, byte_offset, between};
+ghost use Rattle.pm_span.specs.FileInfo.{PlacedText, IsLineAt, IsByteOffset, after_line_feeds, all_ascii, line_bytes};
+ghost use Rattle.pm_span.specs.Place.{line, line_column, byte_offset, between};
 
 use crate::location::LineColumn;
-use crate::text::{char_count, skip_chars, split_line};
+use crate::text::{char_count, skip_chars, skip_chars_back, split_line};
 use std::alloc::{AllocError, Global};
+use std::collections::BTreeMap;
 use std::marker::Model;
+
+/// So many characters may be walked again each time. A place that was found by more is kept.
+const SHORT_WALK: u32 = 32;
 
 /// A file of a source map: its text, the positions that it takes, and where its lines begin.
 #[derive(Debug, Drop)]
@@ -20,6 +24,15 @@ pub(crate) struct FileInfo {
     line_starts: Vec<u32>,
     /// The bytes before each line, from the first on; none are kept where each character takes one byte.
     byte_starts: Vec<usize>,
+    /// Places inside long lines, in characters, each with the bytes before it.
+    byte_offsets: BTreeMap<u32, usize>,
+}
+
+/// A place of a text, in characters, and the bytes before it.
+#[derive(Clone, Copy)]
+struct KnownPlace {
+    place: u32,
+    bytes: usize,
 }
 
 impl Model for FileInfo {
@@ -32,7 +45,7 @@ impl Model for FileInfo {
     ghost view = { λ file. record { text = chars (string_bytes file.text); lo = file.lo } };
 
     ghost invariant = { λ file. IsKept (chars (string_bytes file.text)) file.lo file.hi file.line_starts.items
-        file.byte_starts.items };
+        file.byte_starts.items file.byte_offsets.entries };
 }
 
 /// The places after each line feed of the text, and the number of its characters.
@@ -83,6 +96,7 @@ impl FileInfo {
             hi: lo + count,
             line_starts,
             byte_starts,
+            byte_offsets: BTreeMap::new(alloc),
         })
     }
 
@@ -126,21 +140,108 @@ impl FileInfo {
         }
     }
 
-    /// A place of the text, a count of its characters, as a count of its bytes.
+    /// The place where the line of a place ends: the start of the next line, or the end of the text.
+    fn line_end(&self, place: u32, line_feeds: usize) -> KnownPlace
+        requires within { place ≤ length self.now.text }
+        requires line { line self.now.text place ≡ line_feeds + 1 }
+        requires wide { all_ascii self.now.text ≡ false }
+        ensures value { IsByteOffset self.now.text result.place result.bytes }
+        ensures after { place ≤ result.place }
+    {
+        match self.line_starts.get(line_feeds) {
+            Some(next_start) => KnownPlace {
+                place: *next_start,
+                bytes: self.byte_starts[line_feeds + 1],
+            },
+            None => KnownPlace {
+                place: self.hi - self.lo,
+                bytes: self.text.len(),
+            },
+        }
+    }
+
+    /// The last known place that isn't after this one, from the start of its line on.
+    fn known_before(&self, place: u32, line_start: KnownPlace) -> KnownPlace
+        requires known { IsByteOffset self.now.text line_start.place line_start.bytes }
+        requires before { line_start.place ≤ place }
+        ensures value { IsByteOffset self.now.text result.place result.bytes }
+        ensures before { result.place ≤ place }
+    {
+        match self.byte_offsets.range(..=place).next_back() {
+            Some((entry, bytes)) if *entry > line_start.place => KnownPlace {
+                place: *entry,
+                bytes: *bytes,
+            },
+            _ => line_start,
+        }
+    }
+
+    /// The first known place that isn't before this one, up to the end of its line.
+    fn known_after(&self, place: u32, line_end: KnownPlace) -> KnownPlace
+        requires known { IsByteOffset self.now.text line_end.place line_end.bytes }
+        requires after { place ≤ line_end.place }
+        ensures value { IsByteOffset self.now.text result.place result.bytes }
+        ensures after { place ≤ result.place }
+    {
+        match self.byte_offsets.range(place..).next() {
+            Some((entry, bytes)) if *entry < line_end.place => KnownPlace {
+                place: *entry,
+                bytes: *bytes,
+            },
+            _ => line_end,
+        }
+    }
+
+    /// The bytes before a place of the text, and how many characters were walked to count them.
     ///
-    /// It walks from where the line of the place begins, and not at all in a text of ASCII alone.
+    /// It walks from the nearer one of the known places on both sides of it, and not at all in a text of ASCII
+    /// alone.
+    fn count_bytes(&self, place: u32) -> (usize, u32)
+        requires { place ≤ length self.now.text }
+        ensures { result.0 ≡ byte_offset self.now.text place }
+    {
+        if self.byte_starts.is_empty() {
+            return (place as usize, 0);
+        }
+        let (line_feeds, line_start) = self.line_at(place);
+        let line_start = KnownPlace {
+            place: line_start,
+            bytes: self.byte_starts[line_feeds],
+        };
+        let before = self.known_before(place, line_start);
+        let after = self.known_after(place, self.line_end(place, line_feeds));
+        let forwards = place - before.place;
+        let backwards = after.place - place;
+        let text = self.text.as_str();
+        if backwards < forwards {
+            let front = skip_chars_back(&text[..after.bytes], backwards as usize);
+            (front.len(), backwards)
+        } else {
+            let rest = skip_chars(&text[before.bytes..], forwards as usize);
+            (text.len() - rest.len(), forwards)
+        }
+    }
+
+    /// A place of the text, a count of its characters, as a count of its bytes.
     pub(crate) fn byte_offset(&self, place: u32) -> usize
         requires { place ≤ length self.now.text }
         ensures { result ≡ byte_offset self.now.text place }
     {
-        if self.byte_starts.is_empty() {
-            return place as usize;
+        let (bytes, _) = self.count_bytes(place);
+        bytes
+    }
+
+    /// The same, and the place becomes a known one if the walk to it was long and there is memory.
+    pub(crate) fn find_byte_offset(&mut self, place: u32) -> usize
+        requires { place ≤ length self.old.text }
+        ensures value { result ≡ byte_offset self.old.text place }
+        ensures kept { self.new ≡ self.old }
+    {
+        let (bytes, walked) = self.count_bytes(place);
+        if walked > SHORT_WALK {
+            let _ = self.byte_offsets.insert(place, bytes);
         }
-        let (line_feeds, line_start) = self.line_at(place);
-        let text = self.text.as_str();
-        let line = &text[self.byte_starts[line_feeds]..];
-        let rest = skip_chars(line, (place - line_start) as usize);
-        text.len() - rest.len()
+        bytes
     }
 
     /// The text between two of its places, counts of its characters.

@@ -56,18 +56,17 @@ impl Span {
     /// The bytes of its file's text that the span takes (`byte-offset`), in a map that holds it.
     ///
     /// They count from the start of the file, and are 0..0 for 0..0. In the text `é a` at 1..4, the span
-    /// 3..4 takes the bytes 3..4. The map stays as it is.
+    /// 3..4 takes the bytes 3..4. The map stays as it is, but may remember places inside long lines, so that
+    /// later look-ups there are short. Where there is no memory for that, the answer is the same.
     pub fn byte_range(self, map: &mut SourceMap) -> Range<usize>
         requires { Holds map.old self }
         ensures value { HasBytes map.old self result }
         ensures kept { map.new ≡ map.old }
     {
         let (lo, hi) = self.bounds();
-        let (_, file) = map.file_of(lo);
-        match file {
-            None => 0..0,
-            Some(file) => file.byte_offset(lo - file.lo())..file.byte_offset(hi - file.lo()),
-        }
+        let start = map.byte_offset(lo);
+        let end = map.byte_offset(hi);
+        start..end
     }
 
     /// The text of the span (`source-text`), in a map that holds it; `None` for 0..0 alone.
@@ -82,6 +81,8 @@ impl Span {
         ensures nowhere { self ≡ nowhere → result ≡ Ok None }
         ensures kept { map.new ≡ map.old }
     {
+        // Its ends become known places, from which `source_str` then walks.
+        let _ = self.byte_range(map);
         match self.source_str(map) {
             None => Ok(None),
             Some(text) => Ok(Some(String::from_str(map.allocator(), text)?)),

@@ -3,7 +3,7 @@ ghost use Rattle.std.specs.Prelude.{◌≡◌, ◌≤◌, ◌↔◌, ◌+◌, �
 ghost use Rattle.std.specs.Option.{unwrap_or, option_copied};
 ghost use Rattle.std.specs.Str.{chars};
 ghost use Rattle.pm_span.specs.Files.{Files, next_lo, Fits, Holds, new_map, with_file};
-ghost use Rattle.pm_span.specs.Lookup.{StartsAt};
+ghost use Rattle.pm_span.specs.Lookup.{StartsAt, HasBytesBefore};
 ghost use Rattle.pm_span.specs.Placed.{file_0, IsFileOf};
 
 use crate::file_info::FileInfo;
@@ -122,6 +122,20 @@ impl SourceMap {
             None => LineColumn { line: 1, column: 0 },
             Some(file) => file.line_column(position - file.lo()),
         }
+    }
+
+    /// The bytes before a position of the map in its file, which may keep what it found.
+    pub(crate) fn byte_offset(&mut self, position: u32) -> usize
+        requires { Holds self.old (record { lo = position; hi = position }) }
+        ensures value { HasBytesBefore self.old position result }
+        ensures kept { self.new ≡ self.old }
+    {
+        let (number, _) = self.file_of(position);
+        if number == 0 {
+            return 0;
+        }
+        let file = &mut self.files[number - 1];
+        file.find_byte_offset(position - file.lo())
     }
 
     /// Where the file of this text would begin, if it fits.

@@ -1,5 +1,5 @@
 //! The characters and the lines of texts.
-ghost use Rattle.std.specs.Prelude.{◌≡◌, ◌<◌, ◌≤◌, ◌↔◌, ◌∷◌, ◌++◌, length, drop, IsTrue, IfSome, MatchOption};
+ghost use Rattle.std.specs.Prelude.{◌≡◌, ◌<◌, ◌≤◌, ◌↔◌, ◌∷◌, ◌++◌, ◌-◌, length, take, drop, IsTrue, IfSome, MatchOption};
 ghost use Rattle.std.specs.Str.{chars, IsUtf8};
 ghost use Rattle.pm_span.specs.Line.{is_one_line};
 
@@ -45,4 +45,17 @@ pub(crate) fn skip_chars(text: &str, count: usize) -> &str
         let _ = rest.next();
     }
     rest.as_str()
+}
+
+/// The text before its last `count` characters.
+pub(crate) fn skip_chars_back(text: &str, count: usize) -> &str
+    requires { count ≤ length (chars text.now) }
+    ensures value { chars result.now ≡ take (length (chars text.now) - count) (chars text.now) }
+    ensures utf8 { IsUtf8 result.now }
+{
+    let mut front = text.chars();
+    for _ in 0..count {
+        let _ = front.next_back();
+    }
+    front.as_str()
 }

@@ -6,6 +6,8 @@
 #[cfg(test)]
 mod built_streams;
 #[cfg(test)]
+mod byte_cache;
+#[cfg(test)]
 mod checks;
 #[cfg(test)]
 mod cited_laws;

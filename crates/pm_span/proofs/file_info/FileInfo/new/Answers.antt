@@ -1,6 +1,8 @@
-use Rattle.std.proofs.Common.{◌+◌, ◌∙◌, cond, length, eqb, eq-eqb, ne_eqb, ap, [], sym}
+use Rattle.std.proofs.Common.{◌+◌, ◌∙◌, cond, length, eqb, eq-eqb, ne_eqb, ap, subst, [], sym}
+use Rattle.std.specs.List.{All}
 use Rattle.std.specs.Str.{chars}
-use Rattle.pm_span.specs.FileInfo.{line_bytes}
+use Rattle.std.proofs.lemmas.List.Elements.{All-nil}
+use Rattle.pm_span.specs.FileInfo.{line_bytes, IsByteOffset}
 use Rattle.pm_span.proofs.AsciiLemmas.{all_ascii_is}
 use Rattle.pm_span.proofs.file_info.FileInfo.new.Goals as goal
 use Rattle.pm_span.proofs.file_info.FileInfo.new.Goals.{then-count-text, else-count-text+in_ok-byte_starts}
@@ -21,4 +23,5 @@ invariant_of-result c =
             ap (λ v. v.items) w.byte_starts-is ∙ (w.in_ok-byte_starts.ensures.ok
             ∙ ap (λ b. cond b [] (line_bytes text)) (sym (ne_eqb _ _ w.if-count-text.false) ∙ ascii))
       ];
+      known = subst (All (λ entry. IsByteOffset text entry.0 entry.1)) (sym c.new.ensures.empty) (All-nil _);
     })

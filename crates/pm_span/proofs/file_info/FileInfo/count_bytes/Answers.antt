@@ -1,0 +1,64 @@
+use Rattle.std.proofs.Common.{◌≡◌, ◌+◌, ◌-◌, ◌∙◌, length, take, length-drop, eqb-true, sym, ap, arith}
+use Rattle.std.specs.Str.{chars}
+use Rattle.std.proofs.lemmas.List.{length-take-le}
+use Rattle.pm_span.specs.FileInfo.{all_ascii}
+use Rattle.pm_span.specs.Place.{byte_offset}
+use Rattle.pm_span.proofs.AsciiLemmas.{byte_offset-ascii, kept_none}
+use Rattle.pm_span.proofs.ByteOffsetLemmas.{known_boundary, known_front, known_rest, back_from, on_from}
+use Rattle.pm_span.proofs.file_info.FileInfo.count_bytes.Goals as goal
+
+pub returns-then-is_empty : goal.returns-then-is_empty
+returns-then-is_empty c =
+    let ascii = sym (ap (λ file. all_ascii file.text) c.self.view_is) ∙ kept_none c.self.invariant
+    (omega (arith, c.self.inside.byte_starts.ok.0, eqb-true _ _ (sym c.is_empty.ensures ∙ c.if-is_empty.true))) in
+    sym (byte_offset-ascii c.args.self.now.text c.args.place ascii c.requires)
+
+pub range-requires-clause-end_boundary : goal.range-requires-clause-end_boundary
+range-requires-clause-end_boundary c =
+    let text : chars c.as_str-text.result.now ≡ c.args.self.now.text = ap chars c.as_str-text.ensures.value ∙ ap (λ file. file.text) c.self.view_is in
+    known_boundary c.as_str-text.utf8 text c.known_after-after.ensures.value
+
+pub skip_chars_back-front-requires : goal.skip_chars_back-front-requires
+skip_chars_back-front-requires c =
+    let text : chars c.as_str-text.result.now ≡ c.args.self.now.text = ap chars c.as_str-text.ensures.value ∙ ap (λ file. file.text) c.self.view_is in
+    let after = c.known_after-after.ensures.value in
+    let whole : c.known_after-after.result.bytes - 0 ≡ c.known_after-after.result.bytes = omega arith in
+    let front = known_front c.as_str-text.utf8 text after (c.range.ensures.value ∙ ap (λ n. take n c.as_str-text.result.now) whole) in
+    omega (arith, ap length front, length-take-le c.known_after-after.result.place c.args.self.now.text after.within)
+
+pub range_from-requires : goal.range_from-requires
+range_from-requires c =
+    let text : chars c.as_str-text.result.now ≡ c.args.self.now.text = ap chars c.as_str-text.ensures.value ∙ ap (λ file. file.text) c.self.view_is in
+    λ past. known_boundary c.as_str-text.utf8 text c.known_before-before.ensures.value
+
+pub skip_chars-rest-requires : goal.skip_chars-rest-requires
+skip_chars-rest-requires c =
+    let text : chars c.as_str-text.result.now ≡ c.args.self.now.text = ap chars c.as_str-text.ensures.value ∙ ap (λ file. file.text) c.self.view_is in
+    let rest = known_rest c.as_str-text.utf8 text c.known_before-before.ensures.value c.range_from.ensures.value in
+    omega (arith, ap length rest, length-drop c.known_before-before.result.place c.args.self.now.text, c.requires)
+
+-- what is left of the text, in bytes
+left : (c : goal.After-skip_chars-rest)
+    → byte_offset c.args.self.now.text c.args.place + length c.skip_chars-rest.result.now ≡ length c.as_str-text.result.now
+left c =
+    let text : chars c.as_str-text.result.now ≡ c.args.self.now.text = ap chars c.as_str-text.ensures.value ∙ ap (λ file. file.text) c.self.view_is in
+    let rest = known_rest c.as_str-text.utf8 text c.known_before-before.ensures.value c.range_from.ensures.value in
+    on_from c.as_str-text.result.now c.args.self.now.text c.range_from.result.now c.skip_chars-rest.result.now
+    c.known_before-before.result.place c.args.place (c.args.place - c.known_before-before.result.place) c.as_str-text.utf8
+    c.skip_chars-rest.utf8 text rest (omega (arith, c.known_before-before.ensures.before)) c.skip_chars-rest.ensures.value
+
+pub overflow_sub-result : goal.overflow_sub-result
+overflow_sub-result c = omega (arith, left c)
+
+pub returns-then-backwards-forwards : goal.returns-then-backwards-forwards
+returns-then-backwards-forwards c =
+    let text : chars c.as_str-text.result.now ≡ c.args.self.now.text = ap chars c.as_str-text.ensures.value ∙ ap (λ file. file.text) c.self.view_is in
+    let after = c.known_after-after.ensures.value in
+    let whole : c.known_after-after.result.bytes - 0 ≡ c.known_after-after.result.bytes = omega arith in
+    let front = known_front c.as_str-text.utf8 text after (c.range.ensures.value ∙ ap (λ n. take n c.as_str-text.result.now) whole) in
+    back_from c.args.self.now.text c.range.result.now c.skip_chars_back-front.result.now c.known_after-after.result.place c.args.place
+    (c.known_after-after.result.place - c.args.place) c.skip_chars_back-front.utf8 front after.within
+    (omega (arith, c.known_after-after.ensures.after)) c.skip_chars_back-front.ensures.value
+
+pub returns-else-backwards-forwards : goal.returns-else-backwards-forwards
+returns-else-backwards-forwards c = omega (arith, left c)
