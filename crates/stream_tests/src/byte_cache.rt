@@ -16,7 +16,11 @@ const PARTS: [((u32, u32), (usize, usize)); 5] = [
 ];
 
 /// The tokens of four spaces, U+13015, ` a z` and four spaces, in characters, and the bytes that they take.
-const TOKENS: [((u32, u32), (usize, usize)); 3] = [((4, 5), (4, 8)), ((6, 7), (9, 10)), ((8, 9), (11, 12))];
+const TOKENS: [((u32, u32), (usize, usize)); 3] = [
+    ((4, 5), (4, 8)),
+    ((6, 7), (9, 10)),
+    ((8, 9), (11, 12)),
+];
 
 /// Adds the text, which begins at the position that is answered.
 fn add(rt: &impl Abort, map: &mut SourceMap, text: &str) -> Result<u32, AllocError> {
@@ -50,7 +54,11 @@ fn check(
     let want = text.get(start..end);
     assert_eq!(rt; span.source_str(map), want, "the text of {chars:?}");
     let bytes = span.byte_range(map);
-    assert_eq!(rt; (bytes.start, bytes.end), (start, end), "the bytes of {chars:?}");
+    assert_eq!(rt;
+        (bytes.start, bytes.end),
+        (start, end),
+        "the bytes of {chars:?}"
+    );
     let copy = span.source_text(map)?;
     assert_eq!(rt; copy.as_deref(), want, "the copied text of {chars:?}");
     Ok(())
@@ -110,7 +118,14 @@ fn any_order_of_five_spans_gives_the_same_bytes(rt: HostRuntime) -> Result<(), A
 #[test]
 fn any_order_of_three_spans_gives_the_same_bytes(rt: HostRuntime) -> Result<(), AllocError> {
     let alloc = rt.alloc();
-    let orders = [[0, 1, 2], [0, 2, 1], [1, 0, 2], [1, 2, 0], [2, 0, 1], [2, 1, 0]];
+    let orders = [
+        [0, 1, 2],
+        [0, 2, 1],
+        [1, 0, 2],
+        [1, 2, 0],
+        [2, 0, 1],
+        [2, 1, 0],
+    ];
     for order in orders.iter() {
         check_in_order(&rt, alloc, ("    𓀕 a z    ", 0), &TOKENS, *order)?;
         check_in_order(&rt, alloc, ("    𓀕 a z    ", 100), &TOKENS, *order)?;
@@ -176,8 +191,20 @@ fn drawn_spans_of_two_texts_take_the_bytes_that_are_counted(
         let first_base = add(&rt, &mut map, first.as_str())?;
         let second_base = add(&rt, &mut map, second.as_str())?;
         for _ in 0..300 {
-            check_drawn(&rt, &mut map, (first.as_str(), &first_offsets), first_base, &mut seed)?;
-            check_drawn(&rt, &mut map, (second.as_str(), &second_offsets), second_base, &mut seed)?;
+            check_drawn(
+                &rt,
+                &mut map,
+                (first.as_str(), &first_offsets),
+                first_base,
+                &mut seed,
+            )?;
+            check_drawn(
+                &rt,
+                &mut map,
+                (second.as_str(), &second_offsets),
+                second_base,
+                &mut seed,
+            )?;
         }
         map.invalidate();
     }

@@ -1,5 +1,5 @@
 use Rattle.std.proofs.Common.{◌≡◌, ◌-◌, ◌∙◌, length, take, sym, ap, subst, arith}
-use Rattle.std.specs.Str.{chars, IsUtf8}
+use Rattle.std.specs.Str.{chars}
 use Rattle.pm_span.proofs.SeamLemmas.{IsCutBack, back_one, front_of}
 use Rattle.pm_span.proofs.text.skip_chars_back.Goals as goal
 

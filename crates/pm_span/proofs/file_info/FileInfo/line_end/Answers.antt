@@ -1,5 +1,4 @@
-use Rattle.std.proofs.Common.{◌≡◌, ◌+◌, ◌-◌, ◌<◌, ◌≤◌, ◌∷◌, ◌∙◌, suc, length, get_or, false, List, ℕ, sym, ap, subst, arith}
-use Rattle.std.specs.Str.{chars}
+use Rattle.std.proofs.Common.{◌≡◌, ◌+◌, ◌-◌, ◌<◌, ◌≤◌, ◌∷◌, ◌∙◌, suc, length, get_or, List, ℕ, sym, ap, subst, arith}
 use Rattle.std.proofs.lemmas.Str.{IsUtf8-string_bytes}
 use Rattle.pm_span.specs.FileInfo.{after_line_feeds, all_ascii, IsKept, IsByteOffset}
 use Rattle.pm_span.specs.Place.{line, byte_offset}
