@@ -96,7 +96,7 @@ fn check_in_order<const N: usize>(
 #[test]
 fn any_order_of_five_spans_gives_the_same_bytes(rt: HostRuntime) -> Result<(), AllocError> {
     let alloc = rt.alloc();
-    let mut orders = 0;
+    let mut orders = 0u32;
     for code in 0..3125usize {
         let order = [
             code % 5,
@@ -106,7 +106,7 @@ fn any_order_of_five_spans_gives_the_same_bytes(rt: HostRuntime) -> Result<(), A
             code / 625 % 5,
         ];
         if (0..5usize).all(|place| order.contains(&place)) {
-            orders += 1;
+            orders = orders.saturating_add(1);
             check_in_order(&rt, alloc, ("\"aéb𓀕c\"", 0), &PARTS, order)?;
             check_in_order(&rt, alloc, ("\"aéb𓀕c\"", 100), &PARTS, order)?;
         }
@@ -169,7 +169,7 @@ fn check_drawn(
     base: u32,
     seed: &mut u32,
 ) -> Result<(), AllocError> {
-    let places = offsets.len() as u32;
+    let places = offsets.len().min(60000) as u32;
     let (first, second) = (draw(seed, places), draw(seed, places));
     let (from, to) = (first.min(second), first.max(second));
     if let (Some(start), Some(end)) = (offsets.get(from as usize), offsets.get(to as usize)) {
