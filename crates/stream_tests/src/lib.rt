@@ -4,6 +4,8 @@
 #![tactic(auto)]
 
 #[cfg(test)]
+mod building;
+#[cfg(test)]
 mod built_streams;
 #[cfg(test)]
 mod byte_cache;
