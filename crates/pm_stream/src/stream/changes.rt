@@ -1,9 +1,10 @@
 //! How the list of a stream is changed, which other streams may share.
-ghost use Rattle.std.specs.Prelude.{◌≡◌, IfOk, OnErr, OnOk};
+ghost use Rattle.std.specs.Prelude.{◌≡◌, OnErr, OnOk};
 ghost use Rattle.pm_stream.specs.Building.{split};
 ghost use Rattle.pm_stream.specs.Forest.{IsBuilt, joined};
 ghost use Rattle.pm_stream.specs.Level.{forest, held};
 
+use super::owned::unshared;
 use super::{TokenStream, TokenTree};
 use pm_token::parts::split_minus;
 use std::alloc::{AllocError, Global};
@@ -66,9 +67,9 @@ fn put_shared(
     Ok(())
 }
 
-#[tactic(auto, using(crate::proofs::BuildingLemmas::pushed_other))]
 // Puts the tree after the others. Both places of a negative literal are there before its first half
 // is put in.
+#[tactic(auto, using(crate::proofs::BuildingLemmas::pushed_other))]
 fn push_split(trees: &mut Vec<TokenTree>, tree: TokenTree) -> Result<(), AllocError>
     ensures ok { OnOk result (forest trees.new.items ≡ joined (forest trees.old.items) (split tree)) }
     ensures err { OnErr result (forest trees.new.items ≡ forest trees.old.items) }
@@ -97,23 +98,15 @@ fn append_shared(
     ensures err { OnErr result (held trees.new ≡ held trees.old) }
 {
     if let Some(shared) = trees {
-        let own = owned(more)?;
+        let own = unshared(more)?;
         return push_all(Rc::make_mut(shared)?, own);
     }
     *trees = Some(more);
     Ok(())
 }
 
-#[tactic(auto, using(crate::proofs::BuildingLemmas::clones_same))]
-// The list itself where nothing shares it, and else a copy.
-fn owned(shared: Rc<Vec<TokenTree>>) -> Result<Vec<TokenTree>, AllocError>
-    ensures ok { IfOk result (λ own. own.items ≡ shared.value.items) }
-{
-    Rc::unwrap_or_clone(shared)
-}
-
-#[tactic(auto, using(crate::proofs::BuildingLemmas::forest_append))]
 // Puts these trees after the others, all of them or none.
+#[tactic(auto, using(crate::proofs::BuildingLemmas::forest_append))]
 fn push_all(trees: &mut Vec<TokenTree>, mut more: Vec<TokenTree>) -> Result<(), AllocError>
     ensures ok { OnOk result
         (forest trees.new.items ≡ joined (forest trees.old.items) (forest more.items)) }

@@ -25,9 +25,14 @@ fn owned(alloc: Global, trees: Option<Rc<Vec<TokenTree>>>) -> Result<Vec<TokenTr
 {
     match trees {
         None => Ok(Vec::new(alloc)),
-        Some(shared) => match Rc::try_unwrap(shared) {
-            Ok(list) => Ok(list),
-            Err(shared) => Vec::from_clones(alloc, shared.as_slice()),
-        },
+        Some(shared) => unshared(shared),
     }
+}
+
+/// The list itself where this was its last owner, and else a copy.
+#[tactic(auto, using(crate::proofs::BuildingLemmas::clones_same))]
+pub(super) fn unshared(shared: Rc<Vec<TokenTree>>) -> Result<Vec<TokenTree>, AllocError>
+    ensures { IfOk result (λ list. list.items ≡ shared.value.items) }
+{
+    Rc::unwrap_or_clone(shared)
 }
