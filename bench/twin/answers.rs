@@ -1,4 +1,5 @@
 //! What the Rust crate answers to each kind of line of crates/conformance/stdin.
+use crate::lists::list_answer;
 use crate::spans::span_lines;
 use escaper::num::NonZeroChar;
 use escaper::rustc_literal_escaper::{
@@ -33,6 +34,7 @@ pub fn answer<'a>(asked: &'a str, text: &str) -> Option<(&'a str, String)> {
         "string" | "character" | "byte_character" | "byte_string" | "c_string" => {
             Some(written(asked, text).map_or(REFUSED, |said| (asked, said)))
         }
+        "list" => Some((asked, list_answer(text)?)),
         _ => Some((asked, items(asked, text)?)),
     }
 }

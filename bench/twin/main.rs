@@ -2,11 +2,15 @@
 //!
 //! `twin print` does what `tokens print` does, and `twin spans` what `tokens spans` does, on a stack that
 //! grows with the nesting of groups. `twin answers` reads lines as those of crates/conformance/stdin, and
-//! writes each with the crate's own answer.
+//! writes each with the crate's own answer. `twin lists SEED COUNT` writes such lines for lists of trees by
+//! chance.
 mod answers;
+mod lists;
+mod random_lists;
 mod spans;
 
 use proc_macro2::{extra, TokenStream};
+use random_lists::RandomLists;
 use std::io::{self, BufRead, Read, Write};
 use std::process::exit;
 
@@ -66,11 +70,26 @@ fn answers() -> io::Result<()> {
 /// wrong escape.
 fn answered(line: &str) -> Option<String> {
     let [asked, text, _] = line.split('\t').collect::<Vec<_>>().try_into().ok()?;
-    let text = unescaped(text)?;
+    line_of(asked, &unescaped(text)?)
+}
+
+/// The line of the crate's answer, where this is asked of the text.
+fn line_of(asked: &str, text: &str) -> Option<String> {
     // each text is the first of a map
     extra::invalidate_current_thread_spans();
-    let (kind, said) = answers::answer(asked, &text)?;
-    Some(format!("{kind}\t{}\t{}", escaped(&text), escaped(&said)))
+    let (kind, said) = answers::answer(asked, text)?;
+    Some(format!("{kind}\t{}\t{}", escaped(text), escaped(&said)))
+}
+
+/// Writes the lines of so many lists of trees.
+fn lists(seed: u64, count: u64) -> io::Result<()> {
+    let mut out = io::BufWriter::new(io::stdout());
+    let mut lists = RandomLists::new(seed);
+    for _ in 0..count {
+        let list = lists.list();
+        writeln!(out, "{}", line_of("list", &list).expect("a list is noted"))?;
+    }
+    out.flush()
 }
 
 fn run(word: &str) -> io::Result<()> {
@@ -96,14 +115,22 @@ fn run(word: &str) -> io::Result<()> {
     }
 }
 
+fn usage() -> ! {
+    eprintln!("usage: twin print|spans|answers, or twin lists SEED COUNT");
+    exit(2)
+}
+
 fn main() -> io::Result<()> {
     let words: Vec<String> = std::env::args().skip(1).collect();
     match words.iter().map(String::as_str).collect::<Vec<_>>().as_slice() {
         [word @ ("print" | "spans")] => run(word),
         ["answers"] => answers(),
-        _ => {
-            eprintln!("usage: twin print|spans|answers");
-            exit(2)
+        ["lists", seed, count] => {
+            let [Ok(seed), Ok(count)] = [seed.parse(), count.parse()] else {
+                usage()
+            };
+            lists(seed, count)
         }
+        _ => usage(),
     }
 }
