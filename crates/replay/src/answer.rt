@@ -1,5 +1,6 @@
 //! What the library answers to a text.
 use crate::contents::content_answer;
+use crate::lists::list_answer;
 use crate::literals::literal_answer;
 use crate::streams::stream_answer;
 use crate::values::value_answer;
@@ -25,7 +26,8 @@ impl<'a> Answer<'a> {
     }
 }
 
-/// The library's answer where this was asked of the text; `None` where no such kind is known.
+/// The library's answer where this was asked of the text; `None` where no such kind is known, and
+/// where a list of trees isn't noted as one.
 ///
 /// `MapFull` is answered where the text is too long for a new map, and `Memory` where a growth was
 /// refused. Of `string`, a quote is answered by `string` and `"\""`.
@@ -42,6 +44,7 @@ pub fn answer_to<'a>(
         "string" | "character" | "byte_character" | "byte_string" | "c_string" => {
             Some(value_answer(alloc, asked, text)?)
         }
+        "list" => list_answer(alloc, asked, text)?,
         _ => content_answer(alloc, asked, text)?,
     })
 }

@@ -5,7 +5,9 @@
 mod answer;
 mod columns;
 mod contents;
+mod leaves;
 mod lines;
+mod lists;
 mod literals;
 mod spans;
 mod streams;
