@@ -1,0 +1,23 @@
+//! Why getters are not written.
+
+use proc_macro2::IdentError;
+use std::alloc::AllocError;
+use std::io;
+use thiserror::Error;
+
+/// Why getters are not written.
+#[derive(Debug, Drop, Error)]
+pub enum WriteError {
+    /// A read or a write failed, or memory for it ran out.
+    #[error(transparent)]
+    Io(#[from] io::Error),
+    /// A word of the code is no identifier.
+    #[error(transparent)]
+    Word(#[from] IdentError),
+    /// The code that was built would not come back from its printed text.
+    #[error("the getters are not well spaced")]
+    NotWellSpaced,
+    /// Memory ran out.
+    #[error(transparent)]
+    Memory(#[from(alloc)] AllocError),
+}
