@@ -34,3 +34,16 @@ AppendsFront-after a b c xs ys first h =
       whole = ap (λ l. xs ++ l) h.whole ∙ sym (append_assoc xs h.front h.back);
       appends = Appends-trans a b c xs h.front first h.appends;
     }
+
+-- a piece is taken off the front of the rest
+pub front_grows : (all front rest piece after : List ℕ) → all ≡ front ++ rest → rest ≡ piece ++ after
+    → all ≡ (front ++ piece) ++ after
+front_grows all front rest piece after whole cut =
+    whole ∙ ap (λ l. front ++ l) cut ∙ sym (append_assoc front piece after)
+
+-- a beginning of the piece at the front of the rest is written
+pub AppendsFront-piece : (a b c : Option (List ℕ)) (all front rest piece after : List ℕ) → all ≡ front ++ rest
+    → rest ≡ piece ++ after → Appends a b front → AppendsFront b c piece → AppendsFront a c all
+AppendsFront-piece a b c all front rest piece after whole cut first h =
+    subst (AppendsFront a c) (sym (whole ∙ ap (λ l. front ++ l) cut))
+    (AppendsFront-after a b c front (piece ++ after) first (AppendsFront-more b c piece after h))

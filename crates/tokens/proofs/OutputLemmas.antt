@@ -1,5 +1,5 @@
 -- Lemmas on the place of an input's fault.
-use Rattle.std.proofs.Common.{◌≡◌, ◌↔◌, ℕ, ◌+◌, ◌-◌, List, [], ◌∷◌, Err, if◌then◌else◌, refl, sym, subst, arith}
+use Rattle.std.proofs.Common.{◌≡◌, ◌↔◌, ℕ, ◌+◌, ◌-◌, List, Err, if◌then◌else◌, refl, subst, arith}
 use Rattle.std.specs.Str.{chars, IsUtf8}
 use Rattle.std.specs.Prelude.{alloc_error}
 use Rattle.proc_macro2.specs.declared.LineColumn.{LineColumn}
@@ -7,7 +7,7 @@ use Rattle.proc_macro2.specs.declared.ParseError.{ParseError}
 use Rattle.proc_macro2.specs.declared.ParseError.TheVariants.{Lex, MapFull, Memory}
 use Rattle.proc_macro2.specs.Extent.{Extent}
 use Rattle.proc_macro2.specs.Lookup.{StartsAt}
-use Rattle.proc_macro2.specs.Files.{Files, IsFile, new_map, next_lo, with_file}
+use Rattle.proc_macro2.specs.Files.{Files, new_map, next_lo, with_file}
 use Rattle.proc_macro2.specs.Forest.{Forest}
 use Rattle.proc_macro2.specs.Outcome.{IfLex, was_read}
 use Rattle.proc_macro2.specs.Parsing.{FaultAt}

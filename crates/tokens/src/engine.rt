@@ -1,5 +1,5 @@
 //! A run: from the bytes of a source to the bytes of a sink.
-ghost use Rattle.std.specs.Prelude.{◌≡◌, ◌↔◌, ℕ, List, IfOk, IsFalse, alloc_error, string_bytes};
+ghost use Rattle.std.specs.Prelude.{◌≡◌, ◌↔◌, ℕ, List, IfOk, IsFalse, alloc_error, flat_map, string_bytes};
 ghost use Rattle.std.specs.Str.{IsUtf8};
 ghost use Rattle.proc_macro2.specs.declared.LineColumn.{LineColumn};
 ghost use Rattle.proc_macro2.specs.Files.{Holds};
@@ -18,7 +18,7 @@ use crate::room::text_with_room;
 use crate::sinks::ByteSink;
 use crate::sources::ByteSource;
 use crate::spans::span_lines;
-use crate::writing::write_all;
+use crate::writing::write_blocks;
 use proc_macro2::{ParseError, SourceMap, TokenStream};
 use std::alloc::{AllocError, Global};
 use std::str;
@@ -43,12 +43,12 @@ pub fn run<R: ByteSource, W: ByteSink>(
 {
     let input = read_to_end(alloc, reader)?;
     let output = output_of(alloc, mode, input)?;
-    write_all(writer, output.as_bytes())
+    write_blocks(writer, output.as_slice())
 }
 
-// What is written for the input, whose memory is given back before the output is made.
-fn output_of(alloc: Global, mode: OutputMode, input: Vec<u8>) -> Result<String, RunError>
-    ensures ok { IfOk result (λ output. IsOutput mode input.items (string_bytes output)) }
+// What is written for the input, in blocks. The input's memory is given back before they are made.
+fn output_of(alloc: Global, mode: OutputMode, input: Vec<u8>) -> Result<Vec<String>, RunError>
+    ensures ok { IfOk result (λ output. IsOutput mode input.items (flat_map string_bytes output.items)) }
     ensures io { IsFalse (is_io result) }
     ensures not_utf8 { (result ≡ Err RunError.NotUtf8) ↔ (¬ IsUtf8 input.items) }
     ensures map_full { (result ≡ Err RunError.MapFull) ↔ IsTooLong input.items }
@@ -67,7 +67,7 @@ fn output_of(alloc: Global, mode: OutputMode, input: Vec<u8>) -> Result<String, 
             let bytes = input.len();
             // The map has the text.
             drop(input);
-            Ok(written(alloc, mode, bytes, &stream, map)?)
+            Ok(written(alloc, mode, bytes, stream, map)?)
         }
         Err(error) => Err(refusal(error, &map)),
     }
@@ -95,12 +95,12 @@ fn written(
     alloc: Global,
     mode: OutputMode,
     bytes: usize,
-    stream: &TokenStream,
+    stream: TokenStream,
     map: SourceMap,
-) -> Result<String, AllocError>
-    requires { HoldsAll map stream.now }
-    ensures { IfOk result (λ text. (source : List ℕ) → HasRead map source stream.now
-        → string_bytes text ≡ written mode source stream.now) }
+) -> Result<Vec<String>, AllocError>
+    requires { HoldsAll map stream }
+    ensures { IfOk result (λ blocks. (source : List ℕ) → HasRead map source stream
+        → flat_map string_bytes blocks.items ≡ written mode source stream) }
 {
     match mode {
         OutputMode::Print => {
@@ -108,7 +108,9 @@ fn written(
             drop(map);
             let mut text = text_with_room(alloc, bytes);
             write!(text, "{stream}\n")?;
-            Ok(text)
+            let mut blocks = Vec::new(alloc);
+            blocks.push(text)?;
+            Ok(blocks)
         }
         OutputMode::Spans => span_lines(alloc, bytes, stream, &map),
     }
