@@ -16,7 +16,8 @@ use std::alloc::Global;
 /// `struct P { x: u32 }` it is `impl P { pub fn x (& self) -> & u32 { & self . x } }`.
 pub fn getters(alloc: Global, item: &Struct<'_>) -> Result<TokenStream, WriteError>
     ensures back { IfOk result IsFaithful }
-    ensures methods { IfOk result (λ code. (methods : Forest) × (code ≡ impl_of item.now.name.now methods)) }
+    ensures methods { IfOk result (λ code. (methods : Forest)
+        × (code ≡ impl_of item.now.name.now methods)) }
 {
     let mut methods = Code::new(alloc);
     let mut left = item.body;
