@@ -74,10 +74,7 @@ fault|\n(]|2:1|2:0"#,
 
 #[test]
 fn where_trees_stand_is_compared(rt: HostRuntime) {
-    agrees(
-        &rt,
-        "spans\t(\\n\\u{e9})\t1:0-2:2 group\\n2:0-2:1 ident\\n",
-    );
+    agrees(&rt, "spans\t(\\n\\u{e9})\t1:0-2:2 group\\n2:0-2:1 ident\\n");
     differs(
         &rt,
         "spans\t(\\n\\u{e9})\t1:0-2:3 group\\n2:0-2:1 ident\\n",
@@ -89,6 +86,52 @@ fn where_trees_stand_is_compared(rt: HostRuntime) {
         "here: spans \"1:0-1:1 ident\\n\"\n",
     );
     differs(&rt, "spans\t(]\t", "here: fault \"1:1\"\n");
+}
+
+#[test]
+fn what_is_made_of_a_list_is_compared(rt: HostRuntime) {
+    // What is printed, and which of the three the text comes back as.
+    agrees(
+        &rt,
+        "list\tident a\\njoint +\\nalone =\\n(\\ninteger -3i32\\nliteral \"x\"\\n)\\n\t\
+         a += (- 3i32 \"x\")\\tsame",
+    );
+    differs(
+        &rt,
+        "list\tident a\\nraw a\\n\ta a\\tsame",
+        "here: list \"a r#a\\tsame\"\n",
+    );
+    differs(
+        &rt,
+        "list\tident a\\n\ta\\tother",
+        "here: list \"a\\tsame\"\n",
+    );
+    differs(
+        &rt,
+        "list\tjoint +\\nident a\\n\t+a\\tsame",
+        "here: list \"+a\\tother\"\n",
+    );
+    differs(
+        &rt,
+        "list\talone '\\n\t'\\tother",
+        "here: list \"'\\tfault\"\n",
+    );
+}
+
+#[test]
+fn what_notes_no_list_is_refused(rt: HostRuntime) {
+    is_refused(&rt, "list\t(\\n\t(\\tfault");
+    is_refused(&rt, "list\t)\\n\t)\\tfault");
+    is_refused(&rt, "list\t(\\n]\\n\t(]\\tfault");
+    is_refused(&rt, "list\tident\\n\t\\tsame");
+    is_refused(&rt, "list\tident 1\\n\t1\\tsame");
+    is_refused(&rt, "list\traw self\\n\tr#self\\tfault");
+    is_refused(&rt, "list\talone a\\n\ta\\tsame");
+    is_refused(&rt, "list\tjoint ++\\n\t++\\tsame");
+    is_refused(&rt, "list\tliteral a\\n\ta\\tsame");
+    is_refused(&rt, "list\tinteger 128\\n\t128\\tsame");
+    is_refused(&rt, "list\tinteger 1u8\\n\t1u8\\tsame");
+    is_refused(&rt, "list\tname a\\n\ta\\tsame");
 }
 
 #[test]
