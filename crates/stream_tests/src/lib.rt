@@ -28,6 +28,8 @@ mod new_trees;
 #[cfg(test)]
 mod parsing;
 #[cfg(test)]
+mod random_streams;
+#[cfg(test)]
 mod rows;
 #[cfg(test)]
 mod shown_trees;
