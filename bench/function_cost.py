@@ -23,13 +23,13 @@ TICK = os.sysconf("SC_CLK_TCK")
 
 
 def time_of_provers(folder):
-    """The processor seconds so far of the processes that prove in the folder."""
+    """The processor seconds so far of the processes that prove in the folder, and of those that they waited for."""
     seconds = 0.0
     for pid in filter(str.isdigit, os.listdir("/proc")):
         try:
             if os.readlink(f"/proc/{pid}/cwd") == str(folder) and os.readlink(f"/proc/{pid}/exe").endswith("/rattle"):
                 stat = Path(f"/proc/{pid}/stat").read_text()
-                seconds += sum(map(int, stat[stat.rindex(")") + 2 :].split()[11:13])) / TICK
+                seconds += sum(map(int, stat[stat.rindex(")") + 2 :].split()[11:15])) / TICK
         except OSError:
             pass
     return seconds
