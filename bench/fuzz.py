@@ -1,0 +1,275 @@
+#!/usr/bin/env python3
+"""Feeds texts to `tokens` and to the twin over the Rust crate, side by side, and reports what they answer otherwise.
+
+Usage: bench/fuzz.py --twin TWIN [--sources FOLDER] [--seconds N | --rounds N] [--seed TEXT] [--first ROUND]
+                     [--keep FOLDER] [--tokens FILE] [--conformance FILE]
+       bench/fuzz.py --twin TWIN --characters
+       bench/fuzz.py --twin TWIN --beginnings
+
+TWIN is the program that bench/twin/build.sh builds, FOLDER one of Rust files that are broken. Build `tokens` and
+`conformance` first; without `conformance` texts are asked by runs alone. Rounds go on for N seconds (60 if left out) or are so many. Each makes short texts of the grammar's
+pieces and of near misses, texts of literals and of their contents, and broken parts of the files. Most are asked as
+lines of recorded answers, many of them a run (fuzzing/sides.py says how), and some each by a run of `print` and of
+`spans` of both programs. A round depends on the seed and its number alone, so `--first` and `--rounds 1` repeat it.
+
+`--characters` asks about each character alone, behind `a`, `1`, `'`, `"`, `'a` and `r#`, in quotes of each kind and in
+comments, and as a value of the constructors. `--beginnings` asks about every beginning of every text that the recorded
+answers have, and of raw strings with 255 and 256 hash signs.
+
+Told are: each text that is answered otherwise, cut down to what still is; each run that a signal stops or whose status
+is none of 0, 1 and 2; each that takes over 0.1 seconds and 5 times what the twin takes; and at the end figures.
+Differences that docs/DIFFERENCES.md names are told apart by rule (fuzzing/known.py) and counted. `--keep` writes the
+others to files. The status is 1 if there is any.
+"""
+import argparse
+import collections
+import pathlib
+import random
+import sys
+import time
+import typing
+
+sys.dont_write_bytecode = True
+
+from fuzzing import known, sides, texts
+
+TOP = pathlib.Path(__file__).resolve().parent.parent
+
+STREAM = ("tree", "print", "spans")
+LITERAL = ("literal", "str_value", "byte_str_value", "cstr_value")
+CONTENT = ("string", "character", "byte_string", "c_string", "unescape_str", "unescape_byte_str", "unescape_c_str",
+           "check_raw_str", "check_raw_byte_str", "check_raw_c_str", "unescape_char", "unescape_byte", "errors_Char",
+           "errors_Byte", "errors_Str", "errors_RawStr", "errors_ByteStr", "errors_RawByteStr", "errors_CStr",
+           "errors_RawCStr")
+
+# Around a character: what is asked, and the text before and after it.
+AROUND = [
+    ("tree", "", ""), ("tree", "a", ""), ("tree", "1", ""), ("tree", "'", ""), ("tree", '"', ""), ("tree", "'a", ""),
+    ("tree", "r#", ""), ("tree", '"', '"'), ("tree", "'", "'"), ("tree", 'b"', '"'), ("tree", "b'", "'"),
+    ("tree", 'c"', '"'), ("tree", 'r"', '"'), ("tree", 'br"', '"'), ("tree", 'cr"', '"'), ("tree", '"\\', '"'),
+    ("tree", '"\\\n', '"'), ("tree", "//", ""), ("tree", "///", ""), ("tree", "/*", "*/"), ("tree", "+", ""),
+    ("tree", "1.", ""), ("tree", "1.0", ""), ("string", "", ""), ("character", "", ""), ("c_string", "", ""),
+    ("unescape_str", "\\\n", ""),
+]
+
+# What stands before a character in the texts that tell how it is classed: alone, in a name, and in a doc comment.
+CLASSES = ("", "a", "///")
+
+# How many characters are asked about at a time.
+CHUNK = 1 << 13
+
+# How many differences are cut down. The others are told whole.
+MOST_CUT = 50
+
+
+class Other(typing.NamedTuple):
+    """A text that is answered otherwise: what the answer is of, the text, the twin's answer and the one here."""
+
+    kind: str
+    text: str
+    there: str
+    here: str
+
+
+class Fuzzer:
+    def __init__(self, both: sides.Sides, keep: "pathlib.Path | None"):
+        self.both, self.keep = both, keep
+        self.figures = collections.Counter()
+        self.classed = {}
+
+    def ask(self, asked: list, where: str) -> list[Other]:
+        """Those of the texts, each with what is asked of it, that are answered otherwise."""
+        failed = []
+        lines = dict.fromkeys(f"{kind}\t{sides.escaped(text)}\t" for kind, text in asked)
+        answers, differing = self.both.replay(list(lines), failed)
+        kinds = collections.Counter(line[:line.index("\t")] for line in answers)
+        self.figures["lines"] += len(answers)
+        self.figures["texts accepted"] += kinds["tree"]
+        self.figures["texts refused"] += kinds["fault"]
+        for side, line, ran in failed:
+            self.tell("crashed", f"{where}: {side} at the line {line!r}: {ran}", line.encode())
+        columns = [(line.split("\t"), here) for line, here in differing]
+        return [Other(kind, sides.unescaped(text), there, here) for (kind, text, there), here in columns]
+
+    def is_otherwise(self, kind: str, text: str) -> bool:
+        """Whether a text of which the twin's answer was of this kind is answered otherwise."""
+        asked = {"fault": "tree", "refused": "literal"}.get(kind, kind)
+        return bool(self.ask([(asked, text)], "again"))
+
+    def is_classed_otherwise(self, c: str) -> bool:
+        """Whether both class the character otherwise by the known rules."""
+        if c not in self.classed:
+            found = [self.both.run_both((before + c).encode())["print"] for before in CLASSES]
+            differing = [not here.is_same(there) for here, there in found]
+            written = found[-1][1].out.decode() if differing[-1] else ""
+            self.classed[c] = any(differing) and known.explains(c, written)
+        return self.classed[c]
+
+    def is_known(self, text: str, is_otherwise: typing.Callable[[str], bool]) -> bool:
+        """Whether the text is answered otherwise by the known rules alone."""
+        by_rule = {c for c in set(text) if c > "\x7f" and self.is_classed_otherwise(c)}
+        others = known.replaced(text, by_rule)
+        return bool(others) and not any(map(is_otherwise, others))
+
+    def judge(self, text: str, said: str, is_otherwise: typing.Callable[[str], bool]) -> None:
+        """Counts a text that is answered otherwise, and tells it where the known rules don't explain it."""
+        def is_new(text: str) -> bool:
+            return is_otherwise(text) and not self.is_known(text, is_otherwise)
+
+        if self.is_known(text, is_otherwise):
+            self.figures["known differences"] += 1
+            return
+        least = shrunk(text, is_new) if self.figures["differs"] < MOST_CUT else text
+        self.tell("differs", f"{said}, of {least!r}", text.encode())
+
+    def lines(self, asked: list, where: str) -> None:
+        """Asks of these texts as lines."""
+        for other in self.ask(asked, where):
+            said = f"{where}: the twin says {other.kind} {other.there}, {other.here}"
+            self.judge(other.text, said, lambda text: self.is_otherwise(other.kind, text))
+
+    def runs(self, text: bytes, where: str) -> None:
+        """Runs both programs on the text, with both words."""
+        self.figures["runs"] += 4
+        self.figures["characters of runs"] += len(text.decode(errors="replace"))
+        for word, (here, there) in self.both.run_both(text).items():
+            self.figures[f"texts of runs with status {there.status} of {word}"] += 1
+            for side, ran in (("tokens", here), ("the twin", there)):
+                if ran.status not in (0, 1, 2):
+                    self.tell("crashed", f"{where}: {side} {word} of {sides.short(text)}: {ran}", text)
+            if sides.is_slow(here, there):
+                self.tell("slow", f"{where}: {word} took {here.seconds:.2f} s, the twin {there.seconds:.2f} s", text)
+            if not here.is_same(there):
+                self.judge_runs(text, word, f"{where}: {word}: {here}; the twin: {there}")
+
+    def judge_runs(self, text: bytes, word: str, said: str) -> None:
+        def is_otherwise(text: str) -> bool:
+            here, there = self.both.run_both(text.encode())[word]
+            return not here.is_same(there)
+
+        try:
+            self.judge(text.decode(), said, is_otherwise)
+        except UnicodeDecodeError:
+            self.tell("differs", f"{said}, of {sides.short(text)}", text)
+
+    def tell(self, what: str, said: str, text: bytes) -> None:
+        self.figures[what] += 1
+        print(f"{what}: {said}", flush=True)
+        if self.keep:
+            (self.keep / f"{what}-{self.figures[what]}").write_bytes(text)
+
+    def round(self, seed: str, files: list[str]) -> None:
+        draw = random.Random(seed)
+        asked = [(kind, text) for text in many(texts.short_text, draw, 6000) for kind in STREAM]
+        asked += [(kind, text) for text in many(texts.literal_text, draw, 1500) for kind in ("tree", *LITERAL)]
+        asked += [(kind, text) for text in many(texts.content, draw, 400) for kind in CONTENT]
+        parts = [texts.broken_file(draw, files) for _ in range(60)] if files else []
+        asked += [(kind, text) for text in parts[:40] if len(text) <= 1000 for kind in STREAM]
+        if self.both.has_lines():
+            self.figures["characters"] += sum(len(text) for kind, text in asked if kind in ("tree", CONTENT[0]))
+            self.lines(asked, seed)
+        for text in [*many(texts.short_text, draw, 40), *parts[40:]]:
+            self.runs(text.encode(), seed)
+            if draw.random() < 0.2:
+                self.runs(texts.broken_bytes(draw, text.encode()), seed)
+
+    def characters(self) -> None:
+        """Asks about every character, and tells those that both class otherwise where no rule explains it."""
+        every = list(known.every_character())
+        self.figures["characters"] = len(every)
+        for begin in range(0, len(every), CHUNK):
+            asked = {before + c + after: c for c in every[begin:begin + CHUNK] for _, before, after in AROUND}
+            found = self.ask([(kind, before + c + after) for c in every[begin:begin + CHUNK]
+                              for kind, before, after in AROUND], "characters")
+            for other in found:
+                c = asked[other.text]
+                if self.is_classed_otherwise(c):
+                    self.figures["known differences"] += 1
+                else:
+                    said = f"U+{ord(c):04X}: the twin says {other.kind} {other.there}, {other.here}"
+                    self.tell("differs", f"{said}, of {other.text!r}", other.text.encode())
+        self.figures["characters that both class otherwise"] = sum(self.classed.values())
+
+    def beginnings(self) -> None:
+        """Asks about every beginning of the recorded answers' texts."""
+        columns = [line.split("\t") for line in (TOP / "crates/conformance/stdin").read_text().split("\n")[:-1]]
+        wholes = {sides.unescaped(text) for kind, text, _ in columns if kind in (*STREAM, "fault")}
+        wholes |= {f'r{"#" * hashes}""{"#" * hashes}' for hashes in (255, 256)}
+        every = sorted({text[:end] for text in wholes for end in range(len(text) + 1)})
+        self.figures["characters"] = sum(map(len, every))
+        self.lines([(kind, text) for text in every for kind in STREAM], "beginnings")
+
+    def report(self) -> int:
+        for name, count in sorted(self.figures.items()):
+            print(f"{name}: {count:,}")
+        wrong = sum(self.figures[what] for what in ("differs", "crashed", "slow"))
+        print(f"{wrong} differences, crashes and slow inputs")
+        return 1 if wrong else 0
+
+
+def many(make: typing.Callable[[random.Random], str], draw: random.Random, count: int) -> list[str]:
+    return [make(draw) for _ in range(count)]
+
+
+def shrunk(text: str, keeps: typing.Callable[[str], bool]) -> str:
+    """The text without parts that it can lose and still be kept."""
+    size = len(text) // 2
+    while size:
+        i = 0
+        while i < len(text):
+            shorter = text[:i] + text[i + size:]
+            if keeps(shorter):
+                text = shorter
+            else:
+                i += size
+        size //= 2
+    return text
+
+
+def files_below(folder: "pathlib.Path | None") -> list[str]:
+    found = []
+    for file in sorted(folder.rglob("*.rs")) if folder else []:
+        try:
+            found.append(file.read_bytes().decode())
+        except UnicodeDecodeError:
+            pass
+    return found
+
+
+def arguments() -> argparse.Namespace:
+    parser = argparse.ArgumentParser(usage=__doc__)
+    parser.add_argument("--twin", type=pathlib.Path, required=True)
+    parser.add_argument("--tokens", type=pathlib.Path, default=TOP / "crates/tokens/out/tokens")
+    parser.add_argument("--conformance", type=pathlib.Path, default=TOP / "crates/conformance/out/conformance")
+    parser.add_argument("--sources", type=pathlib.Path)
+    parser.add_argument("--seconds", type=float, default=60)
+    parser.add_argument("--rounds", type=int, default=sys.maxsize)
+    parser.add_argument("--first", type=int, default=0)
+    parser.add_argument("--seed", default="0")
+    parser.add_argument("--keep", type=pathlib.Path)
+    parser.add_argument("--characters", action="store_true")
+    parser.add_argument("--beginnings", action="store_true")
+    return parser.parse_args()
+
+
+def main() -> int:
+    asked = arguments()
+    known.check_tables()
+    if asked.keep:
+        asked.keep.mkdir(parents=True, exist_ok=True)
+    fuzzer = Fuzzer(sides.Sides(asked.tokens, asked.conformance, asked.twin), asked.keep)
+    if asked.characters or asked.beginnings:
+        fuzzer.characters() if asked.characters else fuzzer.beginnings()
+        return fuzzer.report()
+    files, begin, number = files_below(asked.sources), time.monotonic(), asked.first
+    end = begin + (asked.seconds if asked.rounds == sys.maxsize else float("inf"))
+    while time.monotonic() < end and number - asked.first < asked.rounds:
+        fuzzer.round(f"{asked.seed}:{number}", files)
+        number += 1
+    fuzzer.figures["rounds"] = number - asked.first
+    fuzzer.figures["seconds"] = int(time.monotonic() - begin)
+    return fuzzer.report()
+
+
+if __name__ == "__main__":
+    sys.exit(main())
