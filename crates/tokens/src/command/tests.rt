@@ -11,6 +11,9 @@ const ROW: &[u8] = b"fn f(x) { x + y }";
 
 const PRINTED: &[u8] = b"fn f (x) { x + y }\n";
 
+const LINES: &[u8] = b"1:0-1:2 ident\n1:3-1:4 ident\n1:4-1:7 group\n1:5-1:6 ident\n1:8-1:17 group\n\
+1:10-1:11 ident\n1:12-1:13 punct\n1:14-1:15 ident\n";
+
 const FAILED: &[u8] = b"input or output failed\n";
 
 fn one_word(alloc: Global, word: &str) -> Result<Vec<String>, AllocError> {
@@ -79,9 +82,7 @@ fn each_input_has_its_output_message_and_status(rt: HostRuntime) {
 
 #[test]
 fn each_tree_of_a_row_has_its_places(rt: HostRuntime) {
-    let lines = b"1:0-1:2 ident\n1:3-1:4 ident\n1:4-1:7 group\n1:5-1:6 ident\n1:8-1:17 group\n\
-1:10-1:11 ident\n1:12-1:13 punct\n1:14-1:15 ident\n";
-    check_input(&rt, "spans", ROW, lines, b"", 0);
+    check_input(&rt, "spans", ROW, LINES, b"", 0);
 }
 
 #[test]
@@ -136,6 +137,15 @@ fn words_without_memory_move_no_byte(rt: HostRuntime) {
     check_bytes(&rt, at, errors.bytes(), b"no memory\n");
 }
 
+/// Asserts that nothing is written where any of the reads fails that give the row, a byte each, and then its end.
+fn check_reads(rt: &(impl Abort + AllocGlobal), word: &str) {
+    let words = one_word(rt.alloc(), word).expect(rt, "no memory");
+    for reads in 0..=ROW.len() {
+        let reader = &mut FailingSource::new(ROW, 1, reads);
+        check_command(rt, &reads, words.as_slice(), reader, 2, b"", FAILED);
+    }
+}
+
 #[test]
 fn a_read_that_fails_writes_nothing(rt: HostRuntime) -> Result<(), Fail> {
     let words = one_word(rt.alloc(), "print")?;
@@ -144,6 +154,8 @@ fn a_read_that_fails_writes_nothing(rt: HostRuntime) -> Result<(), Fail> {
         let reader = &mut FailingSource::new(ROW, 4, reads);
         check_command(&rt, &reads, words.as_slice(), reader, 2, b"", FAILED);
     }
+    check_reads(&rt, "print");
+    check_reads(&rt, "spans");
     Ok(())
 }
 
@@ -173,8 +185,14 @@ fn nothing_is_read_after_the_end(rt: HostRuntime) {
 }
 
 /// Asserts what stands after so many writes of at most so many bytes, where the next one fails.
-fn check_front(rt: &(impl Abort + AllocGlobal), most: usize, writes: usize, front: &[u8]) {
-    let words = one_word(rt.alloc(), "print").expect(rt, "no memory");
+fn check_front(
+    rt: &(impl Abort + AllocGlobal),
+    word: &str,
+    most: usize,
+    writes: usize,
+    front: &[u8],
+) {
+    let words = one_word(rt.alloc(), word).expect(rt, "no memory");
     let mut writer = FailingSink::new(rt.alloc(), most, writes);
     let mut errors = MemorySink::new(rt.alloc());
     let reader = &mut FailingSource::new(ROW, 1, usize::MAX);
@@ -185,7 +203,7 @@ fn check_front(rt: &(impl Abort + AllocGlobal), most: usize, writes: usize, fron
         &mut writer,
         &mut errors,
     );
-    let at = (most, writes);
+    let at = (word, most, writes);
     check_status(rt, &at, status, 2);
     check_bytes(rt, &at, writer.bytes(), front);
     check_bytes(rt, &at, errors.bytes(), FAILED);
@@ -194,11 +212,18 @@ fn check_front(rt: &(impl Abort + AllocGlobal), most: usize, writes: usize, fron
 #[test]
 fn a_write_that_fails_leaves_a_beginning(rt: HostRuntime) {
     // How many bytes a write takes, how many writes there are, and what then stands.
-    check_front(&rt, 4, 0, b"");
-    check_front(&rt, 4, 1, b"fn f");
-    check_front(&rt, 4, 4, b"fn f (x) { x + y");
-    check_front(&rt, 1, 18, b"fn f (x) { x + y }");
-    check_front(&rt, 0, 9, b"");
+    check_front(&rt, "print", 4, 0, b"");
+    check_front(&rt, "print", 4, 1, b"fn f");
+    check_front(&rt, "print", 4, 4, b"fn f (x) { x + y");
+    check_front(&rt, "print", 0, 9, b"");
+    check_front(&rt, "spans", 0, 9, b"");
+    check_front(&rt, "spans", 14, 1, b"1:0-1:2 ident\n");
+    for writes in 0..PRINTED.len() {
+        check_front(&rt, "print", 1, writes, &PRINTED[..writes]);
+    }
+    for writes in 0..LINES.len() {
+        check_front(&rt, "spans", 1, writes, &LINES[..writes]);
+    }
 }
 
 #[test]
