@@ -4,19 +4,13 @@
 #![tactic(auto)]
 
 #[cfg(test)]
-mod building;
-#[cfg(test)]
 mod built_streams;
-#[cfg(test)]
-mod byte_cache;
 #[cfg(test)]
 mod checks;
 #[cfg(test)]
 mod cited_laws;
 #[cfg(test)]
 mod doc_comments;
-#[cfg(test)]
-mod group_spans;
 #[cfg(test)]
 mod iterators;
 #[cfg(test)]
@@ -28,18 +22,10 @@ mod new_trees;
 #[cfg(test)]
 mod parsing;
 #[cfg(test)]
-mod random_streams;
-#[cfg(test)]
 mod rows;
 #[cfg(test)]
 mod shown_trees;
 #[cfg(test)]
-mod sizes;
-#[cfg(test)]
 mod spacing;
 #[cfg(test)]
-mod spans;
-#[cfg(test)]
 mod streams;
-#[cfg(test)]
-mod tree_spans;
