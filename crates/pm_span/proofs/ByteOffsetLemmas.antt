@@ -10,10 +10,10 @@ use Rattle.std.specs.declared.cmp.Ordering.TheVariants.{Less, Equal, Greater}
 use Rattle.std.proofs.lemmas.List.{nil_from_length, length-take-le, take-take, drop-drop}
 use Rattle.std.proofs.lemmas.List.Elements.{All-cons, All-nil, All-head, All-filter}
 use Rattle.std.proofs.lemmas.Map.Lookups.{exact_unsigned}
-use Rattle.std.proofs.lemmas.Str.{chars-nil, encodes-chars, IsUtf8-nil}
+use Rattle.std.proofs.lemmas.Str.{chars-nil, encodes-chars, IsUtf8-nil, length-le-encodes}
 use Rattle.pm_span.specs.FileInfo.{IsByteOffset}
 use Rattle.pm_span.specs.Place.{byte_offset}
-use Rattle.pm_span.proofs.SeamLemmas.{boundary_at, front_at, rest_at, rest_bytes}
+use Rattle.pm_span.proofs.SeamLemmas.{boundary_at, byte_offset-add, byte_offset-rising, front_at, rest_at, rest_bytes}
 
 abbrev Known : List ℕ → ℕ × ℕ → Type 0
 Known text entry = IsByteOffset text entry.0 entry.1
@@ -109,3 +109,34 @@ on_from bytes text rest left k place n utf8 more same is sum cut =
     let here : chars left ≡ drop place (chars bytes) =
     cut ∙ (ap (drop n) is ∙ (drop-drop n k text ∙ (ap (λ m. drop m text) sum ∙ ap (drop place) (sym same)))) in
     ap (λ t. byte_offset t place + length left) (sym same) ∙ rest_bytes bytes left place utf8 more here
+
+-- each character takes a byte at least
+pub byte_offset-gap : (text : List ℕ) (j k : ℕ) → j ≤ k → k ≤ length text → byte_offset text j + (k - j) ≤ byte_offset text k
+byte_offset-gap text j k le within =
+    let e : byte_offset text k ≡ byte_offset text (j + (k - j)) = ap (byte_offset text) (omega arith) in
+    let rest = length-drop j text in
+    omega (
+      arith,
+      e,
+      byte_offset-add text j (k - j),
+      length-le-encodes (take (k - j) (drop j text)),
+      length-take-le (k - j) (drop j text) (omega arith),
+    )
+
+-- as many bytes as characters stand between two known places, and so before each place between them
+pub narrow_between :
+    {text : List ℕ} {j k m a b : ℕ} → IsByteOffset text j a → IsByteOffset text m b → j ≤ k → k ≤ m → b - a ≡ m - j
+    → a + (k - j) ≡ byte_offset text k
+narrow_between {text} {j} {k} {m} before after le below same =
+    omega (
+      arith,
+      before.value,
+      after.value,
+      after.within,
+      byte_offset-gap text j k le (omega (arith, after.within)),
+      byte_offset-gap text k m below after.within,
+    )
+
+-- known places in order
+pub known_order : {text : List ℕ} {j m a b : ℕ} → IsByteOffset text j a → IsByteOffset text m b → j ≤ m → a ≤ b
+known_order {text} {j} {m} before after le = omega (arith, before.value, after.value, byte_offset-rising text j m le)

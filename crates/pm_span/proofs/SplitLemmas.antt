@@ -1,5 +1,5 @@
 -- A text is cut at its first line feed.
-use Rattle.std.proofs.Common.{◌≡◌, ℕ, ◌+◌, ◌<◌, true, cond, not, List, [], ◌∷◌, ◌++◌, length, map, drop, get_or, append_assoc, append-nil, Option, Some, None, refl, sym, ap, subst, ◌∙◌, arith, length-append}
+use Rattle.std.proofs.Common.{◌≡◌, ℕ, ◌+◌, ◌<◌, true, cond, not, List, [], ◌∷◌, ◌++◌, length, drop, get_or, append_assoc, Option, Some, None, refl, sym, ap, subst, ◌∙◌, arith, length-append}
 use Rattle.std.specs.Borrow.{Bor}
 use Rattle.std.specs.Option.{MatchOption}
 use Rattle.std.specs.Str.{chars, IsUtf8, NoCharPasses, NonePass}
@@ -7,8 +7,8 @@ use Rattle.std.proofs.lemmas.Bool.{and_parts, and_from, not-true}
 use Rattle.std.proofs.lemmas.List.{drop_at, drop-drop}
 use Rattle.std.proofs.lemmas.Str.{chars_from_encodes, chars-append, IsUtf8-take, IsCharBoundary-before_ascii}
 use Rattle.std.proofs.lemmas.Str.Pattern.{IsSplitOnceResult, split_parts}
-use Rattle.pm_span.specs.FileInfo.{after_line_feeds_from, line_bytes}
-use Rattle.pm_span.specs.Place.{is_line_feed, byte_offset}
+use Rattle.pm_span.specs.FileInfo.{after_line_feeds_from}
+use Rattle.pm_span.specs.Place.{is_line_feed}
 use Rattle.pm_span.specs.Line.{is_one_line}
 use Rattle.pm_span.proofs.LineLemmas.{after_line_feeds_from-append}
 
@@ -59,39 +59,12 @@ after_line_feeds_from-split k n text line rest whole h e =
 pub split_size : (text line rest : List ℕ) → text ≡ line ++ (10 ∷ rest) → length text ≡ length line + (length rest + 1)
 split_size text line rest whole = omega (arith, ap length whole, length-append line (10 ∷ rest))
 
--- so many characters of the text were read, and the bytes before their lines were found
-pub record IsRead (text rest found : List ℕ) : Type 0 where
-  pub count : ℕ
-  pub left : rest ≡ drop count text
-  pub lines : found ++ map (byte_offset text) (after_line_feeds_from count rest) ≡ line_bytes text
-
 -- what is left after a line more
 pub left_after :
-    {text rest found : List ℕ} (line after : List ℕ) (read : IsRead text rest found) → rest ≡ line ++ (10 ∷ after)
-    → after ≡ drop (read.count + (length line + 1)) text
-left_after {text} {rest} line after read split =
+    (text : List ℕ) {rest : List ℕ} (count : ℕ) (line after : List ℕ) → rest ≡ drop count text → rest ≡ line ++ (10 ∷ after)
+    → after ≡ drop (count + (length line + 1)) text
+left_after text {rest} count line after left split =
     let one : rest ≡ (line ++ 10 ∷ []) ++ after = split ∙ sym (append_assoc line (10 ∷ []) after) in
     let size : length (line ++ 10 ∷ []) ≡ length line + 1 = length-append line (10 ∷ []) in
     sym (ap (drop (length line + 1)) one ∙ drop_at (line ++ 10 ∷ []) after _ size)
-    ∙ (ap (drop (length line + 1)) read.left ∙ drop-drop (length line + 1) read.count text)
-
-pub IsRead-line :
-    {text rest found : List ℕ} (line after : List ℕ) (n : ℕ) (read : IsRead text rest found) → rest ≡ line ++ (10 ∷ after)
-    → is_one_line line ≡ true → n ≡ byte_offset text (read.count + (length line + 1)) → IsRead text after (found ++ n ∷ [])
-IsRead-line {text} {rest} {found} line after n read split one is =
-    let m = read.count + (length line + 1) in
-    let more : after_line_feeds_from read.count rest ≡ m ∷ after_line_feeds_from m after =
-    after_line_feeds_from-split read.count m rest line after split one refl in
-    record {
-      count = m;
-      left = left_after line after read split;
-      lines = append_assoc found (n ∷ []) (map (byte_offset text) (after_line_feeds_from m after))
-          ∙ (ap (λ x. found ++ (x ∷ map (byte_offset text) (after_line_feeds_from m after))) is
-          ∙ (ap (λ xs. found ++ map (byte_offset text) xs) (sym more) ∙ read.lines));
-    }
-
--- the last line
-pub IsRead-end : {text rest found : List ℕ} → IsRead text rest found → is_one_line rest ≡ true → found ≡ line_bytes text
-IsRead-end {text} {rest} {found} read one =
-    sym (append-nil found)
-    ∙ (ap (λ xs. found ++ map (byte_offset text) xs) (sym (after_line_feeds_from-line read.count rest one)) ∙ read.lines)
+    ∙ (ap (drop (length line + 1)) left ∙ drop-drop (length line + 1) count text)

@@ -1,7 +1,7 @@
-ghost use Rattle.std.specs.Prelude.{◌≡◌, ◌+◌, ◌^◌, ◌<◌, ◌≤◌, false, length, IfOk};
+ghost use Rattle.std.specs.Prelude.{◌≡◌, ◌+◌, ◌^◌, ◌<◌, ◌≤◌, List, ℕ, length, IfOk, OnOk};
 ghost use Rattle.std.specs.Str.{chars};
-ghost use Rattle.pm_span.specs.FileInfo.{PlacedText, IsLineAt, IsByteOffset, after_line_feeds, all_ascii, line_bytes};
-ghost use Rattle.pm_span.specs.Place.{line, line_column, byte_offset, between};
+ghost use Rattle.pm_span.specs.FileInfo.{PlacedText, IsLineAt, IsByteOffset, AreEnds, after_line_feeds};
+ghost use Rattle.pm_span.specs.Place.{line_column, byte_offset, between};
 
 use crate::location::LineColumn;
 use crate::text::{char_count, skip_chars, skip_chars_back, split_line};
@@ -22,14 +22,14 @@ pub(crate) struct FileInfo {
     hi: u32,
     /// The places after each line feed, in characters from the start of the text.
     line_starts: Vec<u32>,
-    /// The bytes before each line, from the first on; none are kept where each character takes one byte.
-    byte_starts: Vec<usize>,
+    /// Where each line that isn't ASCII begins and ends.
+    wide_ends: Vec<KnownPlace>,
     /// Places inside long lines, in characters, each with the bytes before it.
     byte_offsets: BTreeMap<u32, usize>,
 }
 
 /// A place of a text, in characters, and the bytes before it.
-#[derive(Clone, Copy)]
+#[derive(Clone, Copy, Debug)]
 struct KnownPlace {
     place: u32,
     bytes: usize,
@@ -45,37 +45,75 @@ impl Model for FileInfo {
     ghost view = { λ file. record { text = chars (string_bytes file.text); lo = file.lo } };
 
     ghost invariant = { λ file. IsKept (chars (string_bytes file.text)) file.lo file.hi file.line_starts.items
-        file.byte_starts.items file.byte_offsets.entries };
+        file.wide_ends.items file.byte_offsets.entries };
 }
 
-/// The places after each line feed of the text, and the number of its characters.
-fn find_lines(alloc: Global, text: &str) -> Result<(Vec<u32>, u32), AllocError>
+/// What one pass over a text finds.
+#[derive(Drop)]
+struct Lines {
+    /// The places after each line feed.
+    starts: Vec<u32>,
+    /// Where each line that isn't ASCII begins and ends.
+    wide_ends: Vec<KnownPlace>,
+    /// How many characters the text has.
+    count: u32,
+}
+
+/// The lines of the text.
+fn find_lines(alloc: Global, text: &str) -> Result<Lines, AllocError>
     requires { length (chars text.now) < 2 ^ 32 }
-    ensures ok { IfOk result (λ found. (found.0.items ≡ after_line_feeds (chars text.now))
-        × (found.1 ≡ length (chars text.now))) }
+    ensures starts { IfOk result (λ lines. lines.starts.items ≡ after_line_feeds (chars text.now)) }
+    ensures ends { IfOk result (λ lines. AreEnds (chars text.now) lines.count lines.wide_ends.items) }
+    ensures count { IfOk result (λ lines. lines.count ≡ length (chars text.now)) }
 {
     let mut starts = Vec::new(alloc);
-    let mut count = 0;
+    let mut wide_ends = Vec::new(alloc);
+    let mut start = KnownPlace { place: 0, bytes: 0 };
     let mut rest = text;
     while let Some((line, after)) = split_line(rest) {
-        count += char_count(line) as u32 + 1;
-        starts.push(count)?;
+        let chars = char_count(line);
+        let next = KnownPlace {
+            place: start.place + chars as u32 + 1,
+            bytes: text.len() - after.len(),
+        };
+        starts.push(next.place)?;
+        if chars < line.len() {
+            push_ends(&mut wide_ends, start, next)?;
+        }
+        start = next;
         rest = after;
     }
-    Ok((starts, count + char_count(rest) as u32))
+    let chars = char_count(rest);
+    let end = KnownPlace {
+        place: start.place + chars as u32,
+        bytes: text.len(),
+    };
+    if chars < rest.len() {
+        push_ends(&mut wide_ends, start, end)?;
+    }
+    Ok(Lines {
+        starts,
+        wide_ends,
+        count: end.place,
+    })
 }
 
-/// The bytes before each line of the text.
-fn find_byte_starts(alloc: Global, text: &str) -> Result<Vec<usize>, AllocError>
-    ensures ok { IfOk result (λ starts. starts.items ≡ line_bytes (chars text.now)) }
+/// Keeps both ends of a line. The first one is kept already where the line before it is.
+fn push_ends(
+    ends: &mut Vec<KnownPlace>,
+    start: KnownPlace,
+    end: KnownPlace,
+) -> Result<(), AllocError>
+    ensures ok { OnOk result ((text : List ℕ) → AreEnds text start.place ends.old.items
+        → IsByteOffset text start.place start.bytes → IsByteOffset text end.place end.bytes
+        → start.place ≤ end.place → AreEnds text end.place ends.new.items) }
 {
-    let mut starts = vec![in alloc; 0]?;
-    let mut rest = text;
-    while let Some((_, after)) = split_line(rest) {
-        starts.push(text.len() - after.len())?;
-        rest = after;
+    match ends.last() {
+        Some(last) if last.place == start.place => {}
+        _ => ends.push(start)?,
     }
-    Ok(starts)
+    ends.push(end)?;
+    Ok(())
 }
 
 impl FileInfo {
@@ -84,18 +122,13 @@ impl FileInfo {
         requires { lo + length (chars text.now) < 2 ^ 32 }
         ensures ok { IfOk result (λ file. file ≡ record { text = chars text.now; lo = lo }) }
     {
-        let (line_starts, count) = find_lines(alloc, text)?;
-        let byte_starts = if count as usize == text.len() {
-            Vec::new(alloc)
-        } else {
-            find_byte_starts(alloc, text)?
-        };
+        let lines = find_lines(alloc, text)?;
         Ok(FileInfo {
             text: String::from_str(alloc, text)?,
             lo,
-            hi: lo + count,
-            line_starts,
-            byte_starts,
+            hi: lo + lines.count,
+            line_starts: lines.starts,
+            wide_ends: lines.wide_ends,
             byte_offsets: BTreeMap::new(alloc),
         })
     }
@@ -140,78 +173,76 @@ impl FileInfo {
         }
     }
 
-    /// The place where the line of a place ends: the start of the next line, or the end of the text.
-    fn line_end(&self, place: u32, line_feeds: usize) -> KnownPlace
-        requires within { place ≤ length self.now.text }
-        requires line { line self.now.text place ≡ line_feeds + 1 }
-        requires wide { all_ascii self.now.text ≡ false }
-        ensures value { IsByteOffset self.now.text result.place result.bytes }
-        ensures after { place ≤ result.place }
+    /// The nearest places on both sides of this one where a line that isn't ASCII begins or ends, or the text does.
+    fn ends_around(&self, place: u32) -> (KnownPlace, KnownPlace)
+        requires { place ≤ length self.now.text }
+        ensures before { IsByteOffset self.now.text result.0.place result.0.bytes × (result.0.place ≤ place) }
+        ensures after { IsByteOffset self.now.text result.1.place result.1.bytes × (place ≤ result.1.place) }
     {
-        match self.line_starts.get(line_feeds) {
-            Some(next_start) => KnownPlace {
-                place: *next_start,
-                bytes: self.byte_starts[line_feeds + 1],
-            },
+        let count = self.wide_ends.partition_point(|end| end.place <= place);
+        let before = if count == 0 {
+            KnownPlace { place: 0, bytes: 0 }
+        } else {
+            self.wide_ends[count - 1]
+        };
+        let after = match self.wide_ends.get(count) {
+            Some(end) => *end,
             None => KnownPlace {
                 place: self.hi - self.lo,
                 bytes: self.text.len(),
             },
-        }
+        };
+        (before, after)
     }
 
-    /// The last known place that isn't after this one, from the start of its line on.
-    fn known_before(&self, place: u32, line_start: KnownPlace) -> KnownPlace
-        requires known { IsByteOffset self.now.text line_start.place line_start.bytes }
-        requires before { line_start.place ≤ place }
+    /// The last known place that isn't after this one, from `start` on.
+    fn known_before(&self, place: u32, start: KnownPlace) -> KnownPlace
+        requires known { IsByteOffset self.now.text start.place start.bytes }
+        requires before { start.place ≤ place }
         ensures value { IsByteOffset self.now.text result.place result.bytes }
         ensures before { result.place ≤ place }
     {
         match self.byte_offsets.range(..=place).next_back() {
-            Some((entry, bytes)) if *entry > line_start.place => KnownPlace {
+            Some((entry, bytes)) if *entry > start.place => KnownPlace {
                 place: *entry,
                 bytes: *bytes,
             },
-            _ => line_start,
+            _ => start,
         }
     }
 
-    /// The first known place that isn't before this one, up to the end of its line.
-    fn known_after(&self, place: u32, line_end: KnownPlace) -> KnownPlace
-        requires known { IsByteOffset self.now.text line_end.place line_end.bytes }
-        requires after { place ≤ line_end.place }
+    /// The first known place that isn't before this one, up to `end`.
+    fn known_after(&self, place: u32, end: KnownPlace) -> KnownPlace
+        requires known { IsByteOffset self.now.text end.place end.bytes }
+        requires after { place ≤ end.place }
         ensures value { IsByteOffset self.now.text result.place result.bytes }
         ensures after { place ≤ result.place }
     {
         match self.byte_offsets.range(place..).next() {
-            Some((entry, bytes)) if *entry < line_end.place => KnownPlace {
+            Some((entry, bytes)) if *entry < end.place => KnownPlace {
                 place: *entry,
                 bytes: *bytes,
             },
-            _ => line_end,
+            _ => end,
         }
     }
 
     /// The bytes before a place of the text, and how many characters were walked to count them.
     ///
-    /// It walks from the nearer one of the known places on both sides of it, and not at all in a text of ASCII
-    /// alone.
+    /// It walks from the nearer one of the known places on both sides of it, and not at all where all between
+    /// them is ASCII.
     fn count_bytes(&self, place: u32) -> (usize, u32)
         requires { place ≤ length self.now.text }
         ensures { result.0 ≡ byte_offset self.now.text place }
     {
-        if self.byte_starts.is_empty() {
-            return (place as usize, 0);
-        }
-        let (line_feeds, line_start) = self.line_at(place);
-        let line_start = KnownPlace {
-            place: line_start,
-            bytes: self.byte_starts[line_feeds],
-        };
-        let before = self.known_before(place, line_start);
-        let after = self.known_after(place, self.line_end(place, line_feeds));
+        let (start, end) = self.ends_around(place);
+        let before = self.known_before(place, start);
+        let after = self.known_after(place, end);
         let forwards = place - before.place;
         let backwards = after.place - place;
+        if after.bytes - before.bytes == (after.place - before.place) as usize {
+            return (before.bytes + forwards as usize, 0);
+        }
         let text = self.text.as_str();
         if backwards < forwards {
             let front = skip_chars_back(&text[..after.bytes], backwards as usize);

@@ -1,17 +1,19 @@
-use Rattle.std.proofs.Common.{◌≡◌, ◌+◌, ◌-◌, ◌∙◌, length, take, length-drop, eqb-true, sym, ap, arith}
+use Rattle.std.proofs.Common.{◌≡◌, ◌+◌, ◌-◌, ◌∙◌, length, take, length-drop, ap, arith}
 use Rattle.std.specs.Str.{chars}
 use Rattle.std.proofs.lemmas.List.{length-take-le}
-use Rattle.pm_span.specs.FileInfo.{all_ascii}
 use Rattle.pm_span.specs.Place.{byte_offset}
-use Rattle.pm_span.proofs.AsciiLemmas.{byte_offset-ascii, kept_none}
-use Rattle.pm_span.proofs.ByteOffsetLemmas.{known_boundary, known_front, known_rest, back_from, on_from}
+use Rattle.pm_span.proofs.ByteOffsetLemmas.{known_boundary, known_front, known_order, known_rest, narrow_between, back_from, on_from}
 use Rattle.pm_span.proofs.file_info.FileInfo.count_bytes.Goals as goal
 
-pub returns-then-is_empty : goal.returns-then-is_empty
-returns-then-is_empty c =
-    let ascii = sym (ap (λ file. all_ascii file.text) c.self.view_is) ∙ kept_none c.self.invariant
-    (omega (arith, c.self.inside.byte_starts.ok.0, eqb-true _ _ (sym c.is_empty.ensures ∙ c.if-is_empty.true))) in
-    sym (byte_offset-ascii c.args.self.now.text c.args.place ascii c.requires)
+pub overflow_sub-after : goal.overflow_sub-after
+overflow_sub-after c =
+    known_order c.known_before-before.ensures.value c.known_after-after.ensures.value
+    (omega (arith, c.known_before-before.ensures.before, c.known_after-after.ensures.after))
+
+pub returns-then-after-before : goal.returns-then-after-before
+returns-then-after-before c =
+    narrow_between c.known_before-before.ensures.value c.known_after-after.ensures.value c.known_before-before.ensures.before
+    c.known_after-after.ensures.after (c.if-after-before.true)
 
 pub range-requires-clause-end_boundary : goal.range-requires-clause-end_boundary
 range-requires-clause-end_boundary c =

@@ -10,7 +10,7 @@ invariant_of-self c =
     record {
       ends = c.self.invariant.ends;
       lines = c.self.invariant.lines;
-      bytes = c.self.invariant.bytes;
+      wide = c.self.invariant.wide;
       known = All-tried place c.count_bytes-bytes.result.0 c.self.inside.byte_offsets.entries c.insert.new.self.entries c.insert.result
           (record {
             within = omega (arith, c.requires, ap length text);

@@ -20,7 +20,7 @@ found text starts slice place n start e same within bound point is =
     (point (IsPartitionedBy-leb (λ y. y) slice place rising)) in
     let begins = is ∙ ap (λ xs. get_or (0 ∷ xs) n 0) e in
     let line = line_column_found text place n start within (omega (arith, ap length whole)) here begins in
-    record { value = line.1; within = line.0; known = omega (arith, ap length whole); begins = begins }
+    record { value = line.1; within = line.0 }
 
 pub returns-then-line_feeds-eq0 : goal.returns-then-line_feeds-eq0
 returns-then-line_feeds-eq0 c =
