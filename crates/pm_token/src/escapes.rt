@@ -40,6 +40,15 @@ impl Draft {
         }
     }
 
+    /// Nothing yet, with room for so many bytes. Fails where memory runs out.
+    pub(crate) fn with_room(alloc: Global, bytes: usize) -> Result<Draft, AllocError>
+        ensures { IfOk result (λ draft. draft ≡ []) }
+    {
+        Ok(Draft {
+            text: String::with_capacity(alloc, bytes)?,
+        })
+    }
+
     /// What is written, as the text of a token. Fails where memory runs out.
     pub(crate) fn finish(self, alloc: Global) -> Result<Symbol, AllocError>
         ensures ok { IfOk result (λ symbol. symbol ≡ self) }

@@ -26,7 +26,8 @@ impl Literal {
         ensures ok { IfOk result (λ literal.
             literal ≡ record { text = string_text (chars text.now); span = span }) }
     {
-        let mut draft = Draft::new(alloc);
+        // Most texts have nothing to escape. One that has grows.
+        let mut draft = Draft::with_room(alloc, text.len() + 2)?;
         draft.push('"')?;
         draft.push_content('"', text)?;
         draft.push('"')?;
