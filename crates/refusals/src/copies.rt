@@ -1,0 +1,80 @@
+//! What is copied of a stream, and what is taken out of it.
+
+use crate::fails::Fail;
+use crate::shown::show_stream;
+use crate::watched::watched;
+use proc_macro2::{SourceMap, TokenStream, TokenTree};
+use std::alloc::Global;
+use std::io::Write;
+
+/// Copies the stream of a text, or parts of it, and writes the stream again.
+pub fn run<W: Write>(alloc: Global, out: &mut W, call: &str, text: &str) -> Result<(), Fail> {
+    let stream = TokenStream::from_str(text, &mut SourceMap::new(alloc))?;
+    for _ in 0..2 {
+        match call {
+            "stream" => copy_stream(out, &stream)?,
+            "tree" => copy_tree(out, &stream)?,
+            "inside" => copy_inside(out, &stream)?,
+            "into_iter" => take_trees(out, stream.clone()?)?,
+            "alone_into_iter" => take_trees(
+                out,
+                TokenStream::from_str(text, &mut SourceMap::new(alloc))?,
+            )?,
+            "iterator" => copy_iterator(out, stream.clone()?)?,
+            _ => return Err(Fail::NoCase),
+        }
+        show_stream(out, &stream)?;
+    }
+    Ok(())
+}
+
+fn copy_stream<W: Write>(out: &mut W, stream: &TokenStream) -> Result<(), Fail> {
+    let answer = watched!(out; {
+        let copy: Result<_, _> = stream.clone();
+        copy
+    });
+    writeln!(out, "{answer:?}")?;
+    Ok(())
+}
+
+// Copies the first tree.
+fn copy_tree<W: Write>(out: &mut W, stream: &TokenStream) -> Result<(), Fail> {
+    let Some(tree) = stream.trees().first() else {
+        return Err(Fail::NoCase);
+    };
+    let answer = watched!(out; {
+        let copy: Result<_, _> = tree.clone();
+        copy
+    });
+    writeln!(out, "{answer:?}")?;
+    Ok(())
+}
+
+// Asks the first tree, a group, for its stream.
+fn copy_inside<W: Write>(out: &mut W, stream: &TokenStream) -> Result<(), Fail> {
+    let Some(TokenTree::Group(group)) = stream.trees().first() else {
+        return Err(Fail::NoCase);
+    };
+    let answer = watched!(out; group.stream());
+    writeln!(out, "{answer:?}")?;
+    Ok(())
+}
+
+fn take_trees<W: Write>(out: &mut W, stream: TokenStream) -> Result<(), Fail> {
+    let answer = watched!(out; stream.into_iter());
+    writeln!(out, "{answer:?}")?;
+    Ok(())
+}
+
+// Copies the iterator over the trees after the first.
+fn copy_iterator<W: Write>(out: &mut W, stream: TokenStream) -> Result<(), Fail> {
+    let mut trees = stream.into_iter()?;
+    let _ = trees.next();
+    let answer = watched!(out; {
+        let copy: Result<_, _> = trees.clone();
+        copy
+    });
+    writeln!(out, "{answer:?}")?;
+    writeln!(out, "{trees:?}")?;
+    Ok(())
+}

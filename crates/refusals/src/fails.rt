@@ -1,0 +1,26 @@
+//! Why a case was not run.
+
+use proc_macro2::{IdentError, ParseError};
+use std::alloc::AllocError;
+use std::io;
+use thiserror::Error;
+
+/// Why a case was not run.
+#[derive(Debug, Drop, Error)]
+pub enum Fail {
+    /// The arguments name no case.
+    #[error("no such case")]
+    NoCase,
+    /// The output was not written.
+    #[error(transparent)]
+    Io(#[from] io::Error),
+    /// A text that the case is about was not parsed.
+    #[error(transparent)]
+    Text(#[from] ParseError),
+    /// A name that the case is about is none.
+    #[error(transparent)]
+    Name(#[from] IdentError),
+    /// Memory ran out, though none was refused.
+    #[error(transparent)]
+    Memory(#[from(alloc)] AllocError),
+}

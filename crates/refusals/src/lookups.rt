@@ -1,0 +1,88 @@
+//! What the spans of a text's trees are asked of their map.
+
+use crate::fails::Fail;
+use crate::parsing::map_of_x;
+use crate::shown::show_map;
+use crate::watched::watched;
+use proc_macro2::{SourceMap, Span, TokenStream};
+use std::alloc::{AllocError, Global};
+use std::io::Write;
+use std::ops::Range;
+
+/// Asks for the files, bytes or texts of all spans of a text's trees, and of 0..0.
+pub fn run<W: Write>(alloc: Global, out: &mut W, call: &str, text: &str) -> Result<(), Fail> {
+    let mut map = map_of_x(alloc, u32::MAX)?;
+    let spans = spans_of(alloc, text, &mut map)?;
+    for _ in 0..2 {
+        match call {
+            "file" => {
+                let mut names = Vec::with_capacity(alloc, spans.len())?;
+                watched!(out; ask_files(&map, &spans, &mut names))?;
+                writeln!(out, "{names:?}")?;
+            }
+            "byte_range" => {
+                let mut ranges = Vec::with_capacity(alloc, spans.len())?;
+                watched!(out; ask_bytes(&mut map, &spans, &mut ranges))?;
+                writeln!(out, "{ranges:?}")?;
+            }
+            "source_text" => {
+                let mut texts = Vec::with_capacity(alloc, spans.len())?;
+                watched!(out; ask_texts(&mut map, &spans, &mut texts))?;
+                writeln!(out, "{texts:?}")?;
+            }
+            _ => return Err(Fail::NoCase),
+        }
+        show_map(out, &map)?;
+    }
+    Ok(())
+}
+
+// 0..0, and the spans of the trees of the text, which becomes a file of the map.
+fn spans_of(alloc: Global, text: &str, map: &mut SourceMap) -> Result<Vec<Span>, Fail> {
+    let mut spans = Vec::new(alloc);
+    spans.push(Span::call_site())?;
+    for tree in TokenStream::from_str(text, map)?.trees() {
+        spans.push(tree.span())?;
+    }
+    Ok(spans)
+}
+
+// There is room for the answers, so only a look-up takes memory here and in the like of it.
+fn ask_files(
+    map: &SourceMap,
+    spans: &[Span],
+    names: &mut Vec<Result<String, AllocError>>,
+) -> Result<(), AllocError> {
+    for span in spans {
+        if map.holds(*span) {
+            names.push(span.file(map))?;
+        }
+    }
+    Ok(())
+}
+
+fn ask_bytes(
+    map: &mut SourceMap,
+    spans: &[Span],
+    ranges: &mut Vec<Range<usize>>,
+) -> Result<(), AllocError> {
+    for span in spans {
+        if map.holds(*span) {
+            ranges.push(span.byte_range(map))?;
+        }
+    }
+    Ok(())
+}
+
+fn ask_texts(
+    map: &mut SourceMap,
+    spans: &[Span],
+    texts: &mut Vec<Result<Option<String>, AllocError>>,
+) -> Result<(), AllocError> {
+    for span in spans {
+        if map.holds(*span) {
+            texts.push(span.source_text(map))?;
+        }
+    }
+    Ok(())
+}

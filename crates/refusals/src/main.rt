@@ -1,0 +1,60 @@
+//! Does one call of the library twice, and writes what each answered and what stood after it.
+//!
+//! It is for `checks/refusals`, which runs each case once for each time that the first call asks for memory, and
+//! refuses it that time. The three arguments name what is asked, the call, and what it is asked of.
+#![tactic(auto)]
+
+mod building;
+mod copies;
+mod fails;
+mod literals;
+mod lookups;
+mod names;
+mod parsing;
+mod reading;
+mod shown;
+mod unfailing;
+mod watched;
+
+use fails::Fail;
+use std::alloc::Global;
+use std::env;
+use std::io::Write;
+
+fn main(rt: HostRuntime) -> Result<(), Fail> {
+    let alloc = rt.alloc();
+    let words: Vec<String> = env::args(&rt)?.skip(1).collect(alloc)?;
+    match words.as_slice() {
+        [subject, call, input] => run(
+            alloc,
+            &mut rt.stdout(),
+            subject.as_str(),
+            call.as_str(),
+            input.as_str(),
+        ),
+        _ => Err(Fail::NoCase),
+    }
+}
+
+// Runs the case.
+fn run<W: Write>(
+    alloc: Global,
+    out: &mut W,
+    subject: &str,
+    call: &str,
+    input: &str,
+) -> Result<(), Fail> {
+    match subject {
+        "parse" => parsing::run(alloc, out, call, input),
+        "look" => lookups::run(alloc, out, call, input),
+        "name" => names::run(alloc, out, call, input),
+        "literal" => literals::run(alloc, out, call, input),
+        "value" => literals::run_value(alloc, out, call, input),
+        "make" => building::run_new(alloc, out, call),
+        "extend" => building::run_extend(alloc, out, call, input),
+        "read" => reading::run(alloc, out, call, input),
+        "copy" => copies::run(alloc, out, call, input),
+        "unfailing" => unfailing::run(alloc, out, call, input),
+        _ => Err(Fail::NoCase),
+    }
+}

@@ -1,0 +1,24 @@
+//! Identifiers from their names.
+
+use crate::fails::Fail;
+use crate::watched::watched;
+use proc_macro2::{Ident, IdentError, Span};
+use std::alloc::Global;
+use std::io::Write;
+
+/// Makes an identifier of the name.
+pub fn run<W: Write>(alloc: Global, out: &mut W, call: &str, name: &str) -> Result<(), Fail> {
+    for _ in 0..2 {
+        let answer = watched!(out; made(alloc, call, name)).ok_or(Fail::NoCase)?;
+        writeln!(out, "{answer:?}")?;
+    }
+    Ok(())
+}
+
+fn made(alloc: Global, call: &str, name: &str) -> Option<Result<Ident, IdentError>> {
+    match call {
+        "new" => Some(Ident::new(alloc, name, Span::call_site())),
+        "new_raw" => Some(Ident::new_raw(alloc, name, Span::call_site())),
+        _ => None,
+    }
+}

@@ -1,0 +1,53 @@
+//! What is read of a stream: its printed text, and its trees.
+
+use crate::fails::Fail;
+use crate::shown::{show_stream, show_tree};
+use crate::watched::watched;
+use proc_macro2::{SourceMap, TokenStream, TokenTree};
+use std::alloc::{AllocError, Global};
+use std::io::Write;
+
+/// No walk of a case takes more steps.
+const STEPS: usize = 100;
+
+/// Prints the stream of the text, or walks over its trees.
+pub fn run<W: Write>(alloc: Global, out: &mut W, call: &str, text: &str) -> Result<(), Fail> {
+    let stream = TokenStream::from_str(text, &mut SourceMap::new(alloc))?;
+    for _ in 0..2 {
+        match call {
+            "print" => {
+                let answer = watched!(out; {
+                    let text: Result<_, _> = format!(in alloc; "{stream}");
+                    text
+                });
+                writeln!(out, "{answer:?}")?;
+            }
+            "walk" => {
+                let mut trees = Vec::with_capacity(alloc, STEPS)?;
+                let refusals = watched!(out; walk(&stream, &mut trees))?;
+                writeln!(out, "{refusals} refusals")?;
+                for tree in trees {
+                    show_tree(out, tree)?;
+                }
+            }
+            _ => return Err(Fail::NoCase),
+        }
+        show_stream(out, &stream)?;
+    }
+    Ok(())
+}
+
+// Walks over the stream and puts its trees into the list, which has room for them. A step that is refused is taken
+// again. Answers how many were.
+fn walk<'a>(stream: &'a TokenStream, trees: &mut Vec<&'a TokenTree>) -> Result<usize, AllocError> {
+    let mut walk = stream.walk();
+    let mut refusals = 0;
+    for _ in 0..STEPS {
+        match walk.next() {
+            Ok(Some(tree)) => trees.push(tree)?,
+            Ok(None) => return Ok(refusals),
+            Err(_) => refusals = 1,
+        }
+    }
+    Ok(refusals)
+}

@@ -1,0 +1,65 @@
+//! What stands, written whole.
+
+use crate::fails::Fail;
+use pm_span::parts::span_of;
+use proc_macro2::{SourceMap, Span, TokenStream, TokenTree};
+use std::io;
+use std::io::Write;
+
+/// No map of a case has more positions.
+const POSITIONS: u32 = 10_000;
+
+/// Writes what the stream prints, and a line for each of its trees, each group before those inside it.
+pub fn show_stream<W: Write>(out: &mut W, stream: &TokenStream) -> Result<(), Fail> {
+    writeln!(out, "stream {stream}")?;
+    let mut walk = stream.walk();
+    for _ in 0..u64::MAX {
+        let Some(tree) = walk.next()? else {
+            break;
+        };
+        show_tree(out, tree)?;
+    }
+    Ok(())
+}
+
+/// Writes the kind, the text and the span of a tree.
+pub fn show_tree<W: Write>(out: &mut W, tree: &TokenTree) -> io::Result<()> {
+    let span = tree.span();
+    match tree {
+        TokenTree::Group(group) => {
+            let delimiter = group.delimiter();
+            writeln!(out, "group {delimiter:?} {span:?}")
+        }
+        TokenTree::Ident(ident) => writeln!(out, "ident {ident} {span:?}"),
+        TokenTree::Punct(mark) => {
+            let spacing = mark.spacing();
+            writeln!(out, "punct {mark} {spacing:?} {span:?}")
+        }
+        TokenTree::Literal(literal) => writeln!(out, "literal {literal} {span:?}"),
+    }
+}
+
+/// Writes the span and the text of each file of the map, which are found by the spans that it holds.
+pub fn show_map<W: Write>(out: &mut W, map: &SourceMap) -> io::Result<()> {
+    let mut lo = 0;
+    for at in 0..POSITIONS {
+        if !map.holds(span_of(at, at)) {
+            return Ok(());
+        }
+        let is_last_of_file = !map.holds(span_of(at, at + 1));
+        if is_last_of_file && lo <= at {
+            show_file(out, map, span_of(lo, at))?;
+            lo = at + 1;
+        }
+    }
+    Ok(())
+}
+
+// Writes the span and its text.
+fn show_file<W: Write>(out: &mut W, map: &SourceMap, span: Span) -> io::Result<()> {
+    if map.holds(span) {
+        let text = span.source_str(map);
+        writeln!(out, "file {span:?} {text:?}")?;
+    }
+    Ok(())
+}

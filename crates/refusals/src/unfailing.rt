@@ -1,0 +1,231 @@
+//! Calls that answer the same, whatever memory there is. Most of them take none.
+
+use crate::fails::Fail;
+use crate::watched::watched;
+use proc_macro2::rustc_literal_escaper::{
+    MixedUnit, Mode, check_for_errors, check_raw_byte_str, check_raw_c_str, check_raw_str,
+    unescape_byte, unescape_byte_str, unescape_c_str, unescape_char, unescape_str,
+};
+use proc_macro2::{
+    Delimiter, Group, Ident, LexError, LineColumn, Literal, NonZeroChar, NonZeroU8, ParseError,
+    Punct, SourceMap, Spacing, Span, TokenStream, TokenTree,
+};
+use std::alloc::Global;
+use std::hash::{DefaultHasher, Hash, Hasher};
+use std::io::Write;
+use std::ops::Bound;
+
+/// Does all calls about streams, maps, spans, .. on the text.
+pub fn run<W: Write>(alloc: Global, out: &mut W, call: &str, text: &str) -> Result<(), Fail> {
+    for _ in 0..2 {
+        match call {
+            "streams" => ask_streams(alloc, out, text)?,
+            "maps" => ask_maps(alloc, out, text)?,
+            "spans" => ask_spans(alloc, out, text)?,
+            "look_ups" => look_up(alloc, out, text)?,
+            "groups" => ask_groups(alloc, out, text)?,
+            "marks" => ask_marks(out)?,
+            "names" => ask_names(alloc, out, text)?,
+            "literals" => ask_literals(alloc, out, text)?,
+            "iterators" => ask_iterators(alloc, out, text)?,
+            "faults" => ask_faults(alloc, out, text)?,
+            "contents" => ask_contents(out, text)?,
+            "raw_contents" => ask_raw_contents(out, text)?,
+            "units" => ask_units(out)?,
+            _ => return Err(Fail::NoCase),
+        }
+    }
+    Ok(())
+}
+
+fn parsed(alloc: Global, text: &str) -> Result<TokenStream, ParseError> {
+    TokenStream::from_str(text, &mut SourceMap::new(alloc))
+}
+
+fn ask_streams<W: Write>(alloc: Global, out: &mut W, text: &str) -> Result<(), Fail> {
+    let stream = parsed(alloc, text)?;
+    let other = parsed(alloc, text)?;
+    let answers = watched!(out; (
+        TokenStream::new(alloc).is_empty(),
+        stream.is_empty(),
+        stream.trees().len(),
+        stream.is_well_spaced(),
+        stream.same_tokens(&other),
+    ));
+    writeln!(out, "{answers:?}")?;
+    Ok(())
+}
+
+fn ask_maps<W: Write>(alloc: Global, out: &mut W, text: &str) -> Result<(), Fail> {
+    let mut map = SourceMap::new(alloc);
+    let stream = TokenStream::from_str(text, &mut map)?;
+    let Some(tree) = stream.trees().first() else {
+        return Err(Fail::NoCase);
+    };
+    let span = tree.span();
+    let answers = watched!(out; {
+        let new = SourceMap::new(alloc);
+        let small = SourceMap::with_limit(alloc, 4);
+        let before = map.holds(span);
+        map.invalidate();
+        (new.holds(span), small.holds(Span::call_site()), before, map.holds(span))
+    });
+    writeln!(out, "{answers:?}")?;
+    Ok(())
+}
+
+fn ask_spans<W: Write>(alloc: Global, out: &mut W, text: &str) -> Result<(), Fail> {
+    let stream = parsed(alloc, text)?;
+    let [first, .., last] = stream.trees() else {
+        return Err(Fail::NoCase);
+    };
+    let (first, last) = (first.span(), last.span());
+    let answers = watched!(out; (
+        Span::call_site(),
+        Span::mixed_site(),
+        Span::def_site(),
+        first.resolved_at(last),
+        first.located_at(last),
+        first.local_file(),
+        first.eq(&last),
+        first.eq(&first),
+    ));
+    writeln!(out, "{answers:?}")?;
+    Ok(())
+}
+
+fn look_up<W: Write>(alloc: Global, out: &mut W, text: &str) -> Result<(), Fail> {
+    let mut map = SourceMap::new(alloc);
+    let stream = TokenStream::from_str(text, &mut map)?;
+    let [first, .., last] = stream.trees() else {
+        return Err(Fail::NoCase);
+    };
+    let (first, last) = (first.span(), last.span());
+    if !map.holds(last) {
+        return Err(Fail::NoCase);
+    }
+    let places = watched!(out; {
+        let places: (LineColumn, LineColumn) = (last.start(&map), last.end(&map));
+        (places, places.0 < places.1, last.byte_range(&mut map), last.join(first, &map))
+    });
+    let source = last.source_str(&map);
+    writeln!(out, "{places:?} {source:?}")?;
+    Ok(())
+}
+
+fn ask_groups<W: Write>(alloc: Global, out: &mut W, text: &str) -> Result<(), Fail> {
+    let stream = parsed(alloc, text)?;
+    let Some(TokenTree::Group(group)) = stream.trees().first() else {
+        return Err(Fail::NoCase);
+    };
+    let inside = parsed(alloc, text)?;
+    let answers = watched!(out; {
+        let mut new = Group::new(Delimiter::Brace, inside);
+        new.set_span(group.span());
+        let mut tree = TokenTree::from(new);
+        let before = tree.span();
+        tree.set_span(Span::call_site());
+        let span = group.delim_span();
+        let spans = (group.span(), group.span_open(), group.span_close(), span.join(), span.open(), span.close());
+        (group.delimiter(), group.stream_ref().trees().len(), spans, before, tree)
+    });
+    writeln!(out, "{answers:?}")?;
+    Ok(())
+}
+
+fn ask_marks<W: Write>(out: &mut W) -> Result<(), Fail> {
+    let span = Span::call_site();
+    let answers = watched!(out; {
+        let mut mark = Punct::new('+', Spacing::Joint);
+        mark.set_span(span);
+        let copy: Result<_, _> = mark.clone();
+        (Punct::is_punct_char('+'), mark.as_char(), mark.spacing(), mark.span(), copy, TokenTree::from(mark))
+    });
+    writeln!(out, "{answers:?}")?;
+    Ok(())
+}
+
+fn ask_names<W: Write>(alloc: Global, out: &mut W, text: &str) -> Result<(), Fail> {
+    let mut name = Ident::new(alloc, text, Span::call_site())?;
+    let raw = Ident::new_raw(alloc, text, Span::call_site())?;
+    let answers = watched!(out; {
+        let mut hasher = DefaultHasher::new();
+        name.hash(&mut hasher);
+        name.set_span(Span::call_site());
+        let hash = hasher.finish();
+        (name == raw, name == name, name.cmp(&raw), name < raw, hash == 0, name.eq_str(text), raw.eq_str(text), name.span())
+    });
+    let tree = watched!(out; TokenTree::from(name));
+    writeln!(out, "{answers:?} {tree:?}")?;
+    Ok(())
+}
+
+fn ask_literals<W: Write>(alloc: Global, out: &mut W, text: &str) -> Result<(), Fail> {
+    let mut literal = Literal::from_str(text, &mut SourceMap::new(alloc))?;
+    let answers = watched!(out; {
+        let part = literal.subspan(Bound::Included(1), Bound::Excluded(3));
+        let span = literal.span();
+        literal.set_span(Span::call_site());
+        (Literal::is_whole(text), span, part, literal.text().len(), TokenTree::from(literal))
+    });
+    writeln!(out, "{answers:?}")?;
+    Ok(())
+}
+
+fn ask_iterators<W: Write>(alloc: Global, out: &mut W, text: &str) -> Result<(), Fail> {
+    let mut trees = parsed(alloc, text)?.into_iter()?;
+    let answers = watched!(out; {
+        let before = trees.size_hint();
+        let first = trees.next();
+        (before, first, trees.next(), trees.size_hint())
+    });
+    writeln!(out, "{answers:?}")?;
+    Ok(())
+}
+
+fn ask_faults<W: Write>(alloc: Global, out: &mut W, text: &str) -> Result<(), Fail> {
+    let fault: LexError = match parsed(alloc, text) {
+        Err(ParseError::Lex(fault)) => fault,
+        _ => return Err(Fail::NoCase),
+    };
+    let span = watched!(out; fault.span());
+    writeln!(out, "{span:?} {fault}")?;
+    Ok(())
+}
+
+fn ask_contents<W: Write>(out: &mut W, text: &str) -> Result<(), Fail> {
+    let answers = watched!(out; (
+        unescape_str(text).last(),
+        unescape_byte_str(text).last(),
+        unescape_c_str(text).last(),
+        check_for_errors(text, Mode::Str).last(),
+        unescape_char(text),
+        unescape_byte(text),
+    ));
+    writeln!(out, "{answers:?}")?;
+    Ok(())
+}
+
+fn ask_raw_contents<W: Write>(out: &mut W, text: &str) -> Result<(), Fail> {
+    let answers = watched!(out; (
+        check_raw_str(text).last(),
+        check_raw_byte_str(text).last(),
+        check_raw_c_str(text).last(),
+        check_for_errors(text, Mode::RawStr).last(),
+    ));
+    writeln!(out, "{answers:?}")?;
+    Ok(())
+}
+
+fn ask_units<W: Write>(out: &mut W) -> Result<(), Fail> {
+    let answers = watched!(out; (
+        NonZeroChar::new('a'),
+        NonZeroU8::new(0),
+        Mode::CStr.in_double_quotes(),
+        Mode::CStr.prefix_noraw(),
+        MixedUnit::try_from('é'),
+        MixedUnit::try_from(0),
+    ));
+    writeln!(out, "{answers:?}")?;
+    Ok(())
+}
