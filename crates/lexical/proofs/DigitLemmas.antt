@@ -6,15 +6,15 @@ use Rattle.std.proofs.lemmas.Bool.{both_ways, and_parts}
 use Rattle.unicode_ident.proofs.Computing.{unicode_ident}
 use Rattle.lexical.specs.Class.{is_ident_continue}
 use Rattle.lexical.specs.Text.{first_passes}
-use Rattle.lexical.specs.Form.{Then, Run}
+use Rattle.lexical.specs.Form.{Run}
+use Rattle.lexical.specs.Rule.{Then, Stands, find}
 use Rattle.lexical.specs.Token as tokens
 use Rattle.lexical.specs.Mark.{joint_before}
-use Rattle.lexical.specs.Number.{End, Integer, Number}
+use Rattle.lexical.specs.Number.{Number, end, integer, number}
 use Rattle.lexical.specs.Piece.{Kind, Piece, Leaf, IsPiece}
 use Rattle.lexical.specs.Cover.{onto, StandBefore}
 use Rattle.lexical.specs.Quiet.{is_quiet, ends_quiet}
 use Rattle.lexical.specs.Finder.{Answer, find_run}
-use Rattle.lexical.specs.NumberFinder.{find_number}
 use Rattle.lexical.specs.PieceFinder.{literal_kind, tagged, found}
 use Rattle.lexical.specs.declared.class.Start.TheVariants as starts
 use Rattle.lexical.proofs.FinderLemmas.{finds_run, found_is, one_split}
@@ -33,21 +33,21 @@ pub digit_piece : (first : Bool) (k : Kind) (p r : List ℕ) → IsPiece first k
     → (k ≡ Leaf (tokens.Literal p)) × Number p r
 digit_piece first k p r h digit = by_text (p ++ r) digit (found_complete first k p r h)
   where
-    by_found : (text : List ℕ) (o : Answer) → find_number text ≡ o → tagged literal_kind o ≡ Some (k, p, r)
+    by_found : (text : List ℕ) (o : Answer) → find number text ≡ o → tagged literal_kind o ≡ Some (k, p, r)
         → (k ≡ Leaf (tokens.Literal p)) × Number p r
     by_found text None e is = absurd (cc)
     by_found text (Some x) e is =
         let same : ◌≡◌ {A = Kind × List ℕ × List ℕ} (literal_kind x.0 x.1, x.0, x.1) (k, p, r) = cc in
         let piece : x.0 ≡ p = ap (λ y. y.1) same in
         let rest : x.1 ≡ r = ap (λ y. y.2) same in
-        let number = (found_is find_number Number finds_number text x.0 x.1 e).1 in
-        (sym (ap (λ y. y.0) same) ∙ ap (λ q. Leaf (tokens.Literal q)) piece, subst (Number p) rest (subst (λ q. Number q x.1) piece number))
+        let is = (found_is (find number) Number finds_number text x.0 x.1 e).1 in
+        (sym (ap (λ y. y.0) same) ∙ ap (λ q. Leaf (tokens.Literal q)) piece, subst (Number p) rest (subst (λ q. Number q x.1) piece is))
 
     by_text : (text : List ℕ) → first_passes is_ascii_digit text ≡ true → found first text ≡ Some (k, p, r)
         → (k ≡ Leaf (tokens.Literal p)) × Number p r
     by_text [] digit e = absurd (both_ways _ refl digit)
     by_text (c ∷ text) digit e =
-        by_found (c ∷ text) (find_number (c ∷ text)) refl
+        by_found (c ∷ text) (find number (c ∷ text)) refl
         (sym (from_start first (c ∷ text) c text starts.Digit refl (start_digit c digit)) ∙ e)
 
 -- pieces only add to the length
@@ -92,7 +92,7 @@ dot_stands : (r : List ℕ) → IsPiece false (Leaf (tokens.Mark 46 (joint_befor
 dot_stands r = (refl, inl (((46, refl, refl), refl), refl))
 
 -- an integer, a dot, and what goes on with a digit: the last piece there is the dot or a number
-pub fraction_ends : (p D W v : List ℕ) (us : List Piece) → Then Integer End p (onto us v) → list_all is_ident_continue D ≡ true
+pub fraction_ends : (p D W v : List ℕ) (us : List Piece) → Stands (Then integer end) p (onto us v) → list_all is_ident_continue D ≡ true
     → list_all is_ident_continue W ≡ true → first_passes is_ascii_digit W ≡ true → StandBefore false us v → ends_quiet us ≡ true
     → p ++ onto us v ≡ D ++ (46 ∷ (W ++ v)) → ⊥
 unfolding unicode_ident

@@ -3,8 +3,8 @@ use Rattle.std.proofs.Common.{◌≡◌, ℕ, Bool, true, false, cond, ◌==◌,
 use Rattle.std.specs.List.{list_all}
 use Rattle.std.proofs.lemmas.Bool.{cond-true, cond-false, cond_both, and_parts, and_from}
 use Rattle.lexical.specs.Text.{begins_any, first_passes}
-use Rattle.lexical.specs.Form.{Form, HasNone, Then, Either, NotAt, Exactly, One, Run}
-use Rattle.lexical.specs.Finder.{Answer, Finder, Finds, while_front, while_rest, behind, and_find, or_find, if_passes, find_then, find_else, find_if, find_not_at, find_where, find_one, find_run, find_text}
+use Rattle.lexical.specs.Form.{Form, HasNone, Then, Either, NotAt, NotBefore, Exactly, One, Run}
+use Rattle.lexical.specs.Finder.{Answer, Finder, Finds, while_front, while_rest, behind, and_find, or_find, unless_next, if_passes, find_then, find_else, find_if, find_not_at, find_not_before, find_where, find_one, find_run, find_text}
 
 -- what was found is of the form
 abbrev pub IsSplit : Form → List ℕ → List ℕ × List ℕ → Type 0
@@ -118,6 +118,21 @@ finds_not_at fronts f A h = record {
       λ text. cond_both (begins_any fronts text) None (f text) (λ o. IfSome o (IsSplit (NotAt fronts A) text))
       (λ e. tt) (λ e. not_at_sound A fronts text (f text) e (h.sound text));
   complete = λ p r is. cond-false _ _ _ is.1 ∙ h.complete p r is.0;
+}
+
+-- ---- `NotBefore`
+
+not_before_sound : (passes : ℕ → Bool) (A : Form) (text : List ℕ) (o : Answer) → IfSome o (IsSplit A text)
+    → IfSome (unless_next passes o) (IsSplit (NotBefore passes A) text)
+not_before_sound passes A text None is = tt
+not_before_sound passes A text (Some x) is =
+    cond_both (first_passes passes x.1) None (Some x) (λ o. IfSome o (IsSplit (NotBefore passes A) text))
+    (λ e. tt) (λ e. (is.0, (is.1, e)))
+
+pub finds_not_before : (passes : ℕ → Bool) (f : Finder) (A : Form) → Finds f A → Finds (find_not_before passes f) (NotBefore passes A)
+finds_not_before passes f A h = record {
+  sound = λ text. not_before_sound passes A text (f text) (h.sound text);
+  complete = λ p r is. ap (unless_next passes) (h.complete p r is.0) ∙ cond-false _ _ _ is.1;
 }
 
 -- ---- a form whose pieces pass

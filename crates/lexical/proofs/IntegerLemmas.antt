@@ -6,12 +6,13 @@ use Rattle.std.proofs.lemmas.Bool.{both_ways, and_parts, and_right, false_from_n
 use Rattle.unicode_ident.proofs.Computing.{unicode_ident}
 use Rattle.lexical.specs.Class.{is_ident_continue}
 use Rattle.lexical.specs.Text.{begins_with, begins_any, first_passes}
-use Rattle.lexical.specs.Form.{Form, Then, Either, Exactly, One, Run}
-use Rattle.lexical.specs.Number.{is_underscore, End, base_prefixes, Decimal, is_digit_or_underscore_in, DigitsIn, Based, Integer, Number}
+use Rattle.lexical.specs.Rule.{Then, Stands}
+use Rattle.lexical.specs.Number as rule
+use Rattle.lexical.specs.Number.{is_underscore, base_prefixes, is_digit_or_underscore_in, Number, number}
 use Rattle.lexical.proofs.ClassLemmas.{any_of}
 use Rattle.lexical.proofs.QuotedLemmas.{stops}
-use Rattle.lexical.proofs.StableLemmas.{Sub, Stable, AllIn, stops_within, stable_one, stable_text, stable_run, stable_not_before, stable_then, stable_either, on_one, on_text, on_run, on_then, on_either, on_not_before}
-use Rattle.lexical.proofs.NumberLemmas.{goes_on, continue_goes_on, digit_continues, underscore_continues, stable_end, on_suffix, stable_digits, on_digits, stable_float, no_new_float}
+use Rattle.lexical.proofs.StableLemmas.{Sub, Stable, AllIn, Looks, Within, stops_within, stable, all_in}
+use Rattle.lexical.proofs.NumberLemmas.{goes_on, continue_goes_on, digit_continues, underscore_continues, digits_continue, looks_end, within_suffix, stable_digits, stable_float, no_new_float}
 
 -- ---- the digits of an integer
 
@@ -36,63 +37,18 @@ module _ (base : ℕ) (small : base ≤ 36) where
     | inr u ↦ underscore_continues c u
   ]
 
-  on_digits_in : AllIn is_ident_continue (DigitsIn base)
-  on_digits_in =
-      on_not_before is_ident_continue is_ascii_digit
-      (Then (Run is_underscore) (Then (One (λ c. is_digit c base)) (Run (is_digit_or_underscore_in base))))
-      (on_then is_ident_continue (Run is_underscore)
-      (Then (One (λ c. is_digit c base)) (Run (is_digit_or_underscore_in base)))
-      (on_run is_ident_continue is_underscore underscore_continues)
-      (on_then is_ident_continue (One (λ c. is_digit c base)) (Run (is_digit_or_underscore_in base))
-      (on_one is_ident_continue (λ c. is_digit c base) base_digit_continues)
-      (on_run is_ident_continue (is_digit_or_underscore_in base) base_digits_continue)))
+  looks_digits_in : Looks is_ident_continue (rule.digits_in base)
+  looks_digits_in = (digit_continues, (inl underscore_continues, (inl tt, base_digits_continue)))
 
-  stable_digits_in : Stable is_ident_continue (DigitsIn base)
-  stable_digits_in =
-      stable_not_before is_ident_continue is_ascii_digit
-      (Then (Run is_underscore) (Then (One (λ c. is_digit c base)) (Run (is_digit_or_underscore_in base))))
-      digit_continues
-      (stable_then is_ident_continue (Run is_underscore)
-      (Then (One (λ c. is_digit c base)) (Run (is_digit_or_underscore_in base)))
-      (stable_run is_ident_continue is_underscore underscore_continues)
-      (stable_then is_ident_continue (One (λ c. is_digit c base)) (Run (is_digit_or_underscore_in base))
-      (stable_one is_ident_continue (λ c. is_digit c base))
-      (stable_run is_ident_continue (is_digit_or_underscore_in base) base_digits_continue)))
-
-  -- and behind a prefix
-  on_prefixed : (front : List ℕ) → list_all is_ident_continue front ≡ true → AllIn is_ident_continue (Then (Exactly front) (DigitsIn base))
-  on_prefixed front all = on_then is_ident_continue (Exactly front) (DigitsIn base) (on_text is_ident_continue front all) on_digits_in
-
-  stable_prefixed : (front : List ℕ) → Stable is_ident_continue (Then (Exactly front) (DigitsIn base))
-  stable_prefixed front = stable_then is_ident_continue (Exactly front) (DigitsIn base) (stable_text is_ident_continue front) stable_digits_in
+  within_digits_in : Within is_ident_continue (rule.digits_in base)
+  within_digits_in = (underscore_continues, (base_digit_continues, base_digits_continue))
 
 -- ---- integers
-
--- the prefixes, without `0x`
-abbrev BasedLow : Form
-BasedLow = Either (Then (Exactly (codes "0o")) (DigitsIn 8)) (Then (Exactly (codes "0b")) (DigitsIn 2))
 
 prefixes_continue : (list_all is_ident_continue (codes "0x") ≡ true)
     × (list_all is_ident_continue (codes "0o") ≡ true) × (list_all is_ident_continue (codes "0b") ≡ true)
 unfolding unicode_ident
 prefixes_continue = (refl, refl, refl)
-
-on_integer : AllIn is_ident_continue Integer
-on_integer p r is = elim is [
-  | inl decimal ↦ on_digits p r decimal.0
-  | inr based ↦ on_either is_ident_continue (Then (Exactly (codes "0x")) (DigitsIn 16)) BasedLow
-      (on_prefixed 16 (omega arith) (codes "0x") prefixes_continue.0)
-      (on_either is_ident_continue (Then (Exactly (codes "0o")) (DigitsIn 8))
-      (Then (Exactly (codes "0b")) (DigitsIn 2)) (on_prefixed 8 (omega arith) (codes "0o") prefixes_continue.1)
-      (on_prefixed 2 (omega arith) (codes "0b") prefixes_continue.2))
-      p r based
-]
-
-stable_based : Stable is_ident_continue Based
-stable_based = stable_either is_ident_continue (Then (Exactly (codes "0x")) (DigitsIn 16)) BasedLow (stable_prefixed 16 (omega arith) (codes "0x"))
-    (stable_either is_ident_continue (Then (Exactly (codes "0o")) (DigitsIn 8))
-    (Then (Exactly (codes "0b")) (DigitsIn 2)) (stable_prefixed 8 (omega arith) (codes "0o"))
-    (stable_prefixed 2 (omega arith) (codes "0b")))
 
 -- no prefix of a base newly stands
 no_new_prefix : (x c : ℕ) (t r s : List ℕ) → is_ident_continue x ≡ true → first_passes is_ident_continue s ≡ false
@@ -107,7 +63,7 @@ letters_continue : (is_ident_continue 120 ≡ true) × (is_ident_continue 111 �
 unfolding unicode_ident
 letters_continue = (refl, refl, refl)
 
-stable_decimal : Stable is_ident_continue Decimal
+stable_decimal : Stable is_ident_continue (Stands rule.decimal)
 stable_decimal p b r s ends is =
     let d = is.0 in
     let text : (u : List ℕ) → p ++ (b ++ u) ≡ d.first.0 ∷ ((d.back ++ b) ++ u) =
@@ -122,17 +78,27 @@ stable_decimal p b r s ends is =
           (or_from _ _ (no_new_prefix 98 d.first.0 (d.back ++ b) r s letters_continue.2 ends e.0) refl)),
     )
 
-pub stable_integer : Stable is_ident_continue (Then Integer End)
-stable_integer = stable_then is_ident_continue Integer End (stable_either is_ident_continue Decimal Based stable_decimal stable_based) stable_end
+pub stable_integer : Stable is_ident_continue (Stands (Then rule.integer rule.end))
+stable_integer = stable is_ident_continue (Then rule.integer rule.end) (
+  inl (stable_decimal, ((inl tt, looks_digits_in 16 (omega arith)), ((inl tt, looks_digits_in 8 (omega arith)), (inl tt, looks_digits_in 2 (omega arith))))),
+  looks_end is_ident_continue (λ c is. is),
+)
 
-pub on_integer_end : AllIn is_ident_continue (Then Integer End)
-on_integer_end = on_then is_ident_continue Integer End on_integer (λ q t h. on_suffix q t h.0)
+pub on_integer_end : AllIn is_ident_continue (Stands (Then rule.integer rule.end))
+on_integer_end =
+    all_in is_ident_continue (Then rule.integer rule.end) (
+      (
+        (digit_continues, digits_continue),
+        ((prefixes_continue.0, within_digits_in 16 (omega arith)), ((prefixes_continue.1, within_digits_in 8 (omega arith)), (prefixes_continue.2, within_digits_in 2 (omega arith)))),
+      ),
+      within_suffix is_ident_continue (λ c is. is),
+    )
 
 -- ---- numbers
 
 -- a number is one before any text that doesn't go on with it
 pub number_before : (p r s : List ℕ) → first_passes goes_on s ≡ false → Number p r → Number p s
-unfolding Number
+unfolding number
 number_before p r s ends is = elim is [
   | inl float ↦ inl (stable_float p [] r s ends float)
   | inr int ↦ inr (

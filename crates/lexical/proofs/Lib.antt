@@ -16,6 +16,8 @@ pub mod ManyLemmas
 pub mod CodeLemmas
 pub mod HashLemmas
 pub mod QuotedFinderLemmas
+pub mod RuleLemmas
+pub mod RuleSteps
 pub mod NumberFinderLemmas
 pub mod LiteralFinderLemmas
 pub mod PieceLemmas

@@ -6,15 +6,18 @@ use Rattle.std.proofs.lemmas.Bool.{both_ways, and_parts, or_cases, or_right}
 use Rattle.unicode_ident.proofs.Computing.{unicode_ident}
 use Rattle.lexical.specs.Class.{is_ident_start, is_ident_continue}
 use Rattle.lexical.specs.Text.{first_passes}
-use Rattle.lexical.specs.Form.{Form, HasNone, Then, Run}
-use Rattle.lexical.specs.Number.{is_digit_or_underscore, Digits, Exponent, End, bars_dot, is_exponent_letter, Dotted, Float, Integer, Number}
+use Rattle.lexical.specs.Form.{Form, HasNone, Run}
+use Rattle.lexical.specs.Rule as rules
+use Rattle.lexical.specs.Rule.{Then, Stands}
+use Rattle.lexical.specs.Number as rule
+use Rattle.lexical.specs.Number.{is_digit_or_underscore, Digits, bars_dot, is_exponent_letter, Number, number}
 use Rattle.lexical.specs.Literal.{QuotedLiteral, Literal, AnyLiteral}
 use Rattle.lexical.specs.Piece.{Piece}
 use Rattle.lexical.specs.Cover.{onto, StandBefore}
 use Rattle.lexical.specs.Quiet.{ends_quiet}
 use Rattle.lexical.proofs.QuotedLemmas.{stops, stop_ends}
-use Rattle.lexical.proofs.StableLemmas.{Stable, stops_within, inside, all_append, on_run, stable_run}
-use Rattle.lexical.proofs.NumberLemmas.{goes_on, continue_goes_on, digits_continue, letter_continues, stable_end, on_digits, stable_digits, stable_exponent, stable_float, stable_exponential, on_float, all_back}
+use Rattle.lexical.proofs.StableLemmas.{Stable, stops_within, inside, all_append, all_in, stable_run}
+use Rattle.lexical.proofs.NumberLemmas.{goes_on, continue_goes_on, digits_continue, letter_continues, stable_end, on_digits, stable_digits, stable_exponent, Dotted, float_is, is_float, stable_float, stable_exponential, on_float, all_back}
 use Rattle.lexical.proofs.IntegerLemmas.{stable_integer, stop_is_calm}
 use Rattle.lexical.proofs.NumberCutLemmas.{fronts_compared, number_cut, exponent_front}
 use Rattle.lexical.proofs.LiteralLemmas.{quoted_stable}
@@ -83,7 +86,7 @@ none_left b (c ∷ d) s each ends =
 
 -- ---- no float stands newly
 
-module _ (p v s : List ℕ) (us : List Piece) (int : Then Integer End p (onto us v)) (stand : StandBefore false us v)
+module _ (p v s : List ℕ) (us : List Piece) (int : Stands (Then rule.integer rule.end) p (onto us v)) (stand : StandBefore false us v)
     (quiet : ends_quiet us ≡ true)
     (name : EndsName (onto us []) v) (calm : first_passes is_ident_continue s ≡ false) where
   -- a float with a dot is its digits, the dot and what follows that
@@ -91,7 +94,7 @@ module _ (p v s : List ℕ) (us : List Piece) (int : Then Integer End p (onto us
   dotted_text q r h = h.whole ∙ ap (λ x. h.front ++ x) (h.second.whole ∙ ap (λ x. x ++ h.second.back) h.second.first.0)
 
   -- no exponent goes past the name, as a number would
-  none_past : (q d : List ℕ) (h : Dotted q (d ++ s)) → p ++ onto us [] ≡ q ++ d → (x t m : List ℕ) (c : ℕ) → Exponent x t
+  none_past : (q d : List ℕ) (h : Dotted q (d ++ s)) → p ++ onto us [] ≡ q ++ d → (x t m : List ℕ) (c : ℕ) → Stands rule.exponent x t
       → x ≡ (h.second.second.back ++ d) ++ (c ∷ m) → v ≡ c ∷ (m ++ t) → ⊥
   none_past q d h whole x t m c is text rest =
       let after = h.second.second in
@@ -106,7 +109,7 @@ module _ (p v s : List ℕ) (us : List Piece) (int : Then Integer End p (onto us
       let all : list_all is_ident_continue h.second.back ≡ true =
       ap (list_all is_ident_continue) after.whole
       ∙ all_append is_ident_continue after.front after.back
-      (on_run is_ident_continue is_digit_or_underscore digits_continue after.front (after.back ++ (d ++ s)) after.first)
+      (all_in is_ident_continue (rules.Run is_digit_or_underscore) digits_continue after.front (after.back ++ (d ++ s)) after.first)
       (ap (list_all is_ident_continue) (sym later) ∙ each) in
       let digit : first_passes is_ascii_digit h.second.back ≡ true =
       ap (first_passes is_ascii_digit) after.whole
@@ -118,13 +121,13 @@ module _ (p v s : List ℕ) (us : List Piece) (int : Then Integer End p (onto us
       ∙ (sym (append_assoc p (onto us []) v) ∙ (ap (λ z. z ++ v) front ∙ append_assoc h.front (46 ∷ h.second.back) v)) in
       fraction_ends p h.front h.second.back v us int (on_digits h.front (h.back ++ (d ++ s)) h.first) all digit stand quiet text_is
 
-  exponent_still : (q d : List ℕ) (h : Dotted q (d ++ s)) → p ++ onto us [] ≡ q ++ d → HasNone Exponent (h.second.second.back ++ (d ++ s))
-      → HasNone Exponent (h.second.second.back ++ (d ++ v))
+  exponent_still : (q d : List ℕ) (h : Dotted q (d ++ s)) → p ++ onto us [] ≡ q ++ d → HasNone (Stands rule.exponent) (h.second.second.back ++ (d ++ s))
+      → HasNone (Stands rule.exponent) (h.second.second.back ++ (d ++ v))
   exponent_still q d h whole none x t e is =
       let y = h.second.second.back in
       elim (fronts_compared (y ++ d) v x t (append_assoc y d v ∙ e)) [
         | inl within ↦ none x (within.0 ++ s) (sym (append_assoc y d s) ∙ (ap (λ z. z ++ s) within.1 ∙ append_assoc x within.0 s))
-            (stable_exponent x within.0 v s calm (subst (Exponent x) within.2 is))
+            (stable_exponent x within.0 v s calm (subst (Stands rule.exponent x) within.2 is))
         | inr past ↦ none_past q d h whole x t past.1 past.0 is past.2 past.3
       ]
 
@@ -161,10 +164,10 @@ module _ (p v s : List ℕ) (us : List Piece) (int : Then Integer End p (onto us
               back = tail.back;
               whole = tail.whole;
               first = elim tail.first [
-                | inl is ↦ inl (moved Exponent stable_exponent tail.front tail.back d s v name.stops is)
+                | inl is ↦ inl (moved (Stands rule.exponent) stable_exponent tail.front tail.back d s v name.stops is)
                 | inr none ↦ inr (
-                  subst (HasNone Exponent) (text tail.front tail.back after.back v tail.whole)
-                      (exponent_still q d h whole (subst (HasNone Exponent) (sym (text tail.front tail.back after.back s tail.whole)) none.0)),
+                  subst (HasNone (Stands rule.exponent)) (text tail.front tail.back after.back v tail.whole)
+                      (exponent_still q d h whole (subst (HasNone (Stands rule.exponent)) (sym (text tail.front tail.back after.back s tail.whole)) none.0)),
                   none.1,
                 )
               ];
@@ -177,17 +180,19 @@ module _ (p v s : List ℕ) (us : List Piece) (int : Then Integer End p (onto us
       text : (a b w r : List ℕ) → w ≡ a ++ b → w ++ (d ++ r) ≡ a ++ (b ++ (d ++ r))
       text a b w r e = ap (λ z. z ++ (d ++ r)) e ∙ append_assoc a b (d ++ r)
 
-  float_still : (q d : List ℕ) → p ++ onto us [] ≡ q ++ d → Float q (d ++ s) → Float q (d ++ v)
-  float_still q d whole (inl dotted) = inl (dotted_still q d whole dotted)
-  float_still q d whole (inr exponential) = inr (stable_exponential q d s v name.stops exponential)
+  float_still : (q d : List ℕ) → p ++ onto us [] ≡ q ++ d → Stands rule.float q (d ++ s) → Stands rule.float q (d ++ v)
+  float_still q d whole is = is_float q (d ++ v) (elim (float_is q (d ++ s) is) [
+    | inl dotted ↦ inl (dotted_still q d whole dotted)
+    | inr exponential ↦ inr (stable_exponential q d s v name.stops exponential)
+  ])
 
-  none_before_name : first_passes goes_on s ≡ false → HasNone Float (p ++ onto us v) → HasNone Float (p ++ onto us s)
+  none_before_name : first_passes goes_on s ≡ false → HasNone (Stands rule.float) (p ++ onto us v) → HasNone (Stands rule.float) (p ++ onto us s)
   none_before_name ends none q t e is =
       let split : (r : List ℕ) → p ++ onto us r ≡ (p ++ onto us []) ++ r =
       λ r. ap (λ z. p ++ z) (onto_split us r) ∙ sym (append_assoc p (onto us []) r) in
       let within = inside goes_on (p ++ onto us []) s q t ends (on_float q t is) (sym (split s) ∙ e) in
       none q (within.0 ++ v) (split v ∙ (ap (λ z. z ++ v) within.1 ∙ append_assoc q within.0 v))
-      (float_still q within.0 within.1 (subst (Float q) within.2 is))
+      (float_still q within.0 within.1 (subst (Stands rule.float q) within.2 is))
 
 -- ---- literals
 
@@ -195,7 +200,7 @@ module _ (p v s : List ℕ) (us : List Piece) (int : Then Integer End p (onto us
 -- or of any text behind a piece that is neither a mark nor a number
 pub number_broken : (p : List ℕ) (us : List Piece) (v s : List ℕ) → stops s ≡ true → (v ≡ []) ⊎ (ends_quiet us ≡ true)
     → Number p (onto us v) → StandBefore false us v → Number p (onto us s)
-unfolding Number
+unfolding number
 number_broken p us v s e at is stand = by_end at
   where
     ends : first_passes goes_on s ≡ false
@@ -207,13 +212,13 @@ number_broken p us v s e at is stand = by_end at
 
     by_name : EndsName (onto us []) v → ends_quiet us ≡ true → Number p (onto us s)
     by_name name quiet = elim is [
-      | inl float ↦ inl (subst (Float p) (sym (onto_split us s))
-          (stable_float p (onto us []) v s ends (subst (Float p) (onto_split us v) float)))
+      | inl float ↦ inl (subst (Stands rule.float p) (sym (onto_split us s))
+          (stable_float p (onto us []) v s ends (subst (Stands rule.float p) (onto_split us v) float)))
       | inr int ↦ inr (
         none_before_name p v s us int.1 stand quiet name (stops_within is_ident_continue goes_on continue_goes_on s ends) ends int.0,
-        subst (Then Integer End p) (sym (onto_split us s))
+        subst (Stands (Then rule.integer rule.end) p) (sym (onto_split us s))
             (stable_integer p (onto us []) v s (stops_within is_ident_continue goes_on continue_goes_on s ends)
-            (subst (Then Integer End p) (onto_split us v) int.1)),
+            (subst (Stands (Then rule.integer rule.end) p) (onto_split us v) int.1)),
       )
     ]
 

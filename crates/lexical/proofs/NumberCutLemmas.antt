@@ -4,15 +4,18 @@ use Rattle.std.specs.List.{list_all}
 use Rattle.std.proofs.lemmas.Bool.{both_ways, and_parts}
 use Rattle.lexical.specs.Class.{is_ident_continue}
 use Rattle.lexical.specs.Text.{first_passes}
-use Rattle.lexical.specs.Form.{HasNone, Perhaps, One, Run}
-use Rattle.lexical.specs.Number.{is_underscore, is_exponent_letter, is_sign, Digits, Exponent, Float, Number}
-use Rattle.lexical.proofs.StableLemmas.{AllIn, stops_within, inside, all_append, on_one, on_then, on_run}
-use Rattle.lexical.proofs.NumberLemmas.{goes_on, continue_goes_on, underscore_continues, letter_continues, Power, on_digits, stable_float, on_float, float_ends, all_back}
+use Rattle.lexical.specs.Form.{HasNone, Perhaps, One}
+use Rattle.lexical.specs.Rule as rules
+use Rattle.lexical.specs.Rule.{Stands}
+use Rattle.lexical.specs.Number as rule
+use Rattle.lexical.specs.Number.{is_underscore, is_exponent_letter, is_sign, Number, number}
+use Rattle.lexical.proofs.StableLemmas.{stops_within, inside, all_append, all_in}
+use Rattle.lexical.proofs.NumberLemmas.{goes_on, continue_goes_on, underscore_continues, letter_continues, on_power, stable_float, on_float, float_ends, all_back}
 use Rattle.lexical.proofs.IntegerLemmas.{stable_integer}
 
 -- nothing that goes on with an identifier follows a number
 pub number_ends : (p r : List ℕ) → Number p r → first_passes is_ident_continue r ≡ false
-unfolding Number
+unfolding number
 number_ends p r is = elim is [ inl float ↦ float_ends p r float | inr int ↦ int.1.second.1 ]
 
 -- of two fronts of one text one goes on from the other
@@ -31,21 +34,21 @@ fronts_compared (a ∷ y) v (c ∷ x) t e =
 -- ---- neither text goes on with a number
 
 -- no float stands newly
-pub none_swapped : (b r s : List ℕ) → first_passes goes_on r ≡ false → first_passes goes_on s ≡ false → HasNone Float (b ++ r)
-    → HasNone Float (b ++ s)
+pub none_swapped : (b r s : List ℕ) → first_passes goes_on r ≡ false → first_passes goes_on s ≡ false → HasNone (Stands rule.float) (b ++ r)
+    → HasNone (Stands rule.float) (b ++ s)
 none_swapped b r s old new none q t e is =
     let within = inside goes_on b s q t new (on_float q t is) e in
     none q (within.0 ++ r) (ap (λ x. x ++ r) within.1 ∙ append_assoc q within.0 r)
-    (stable_float q within.0 s r old (subst (Float q) within.2 is))
+    (stable_float q within.0 s r old (subst (Stands rule.float q) within.2 is))
 
 -- and the number stays one, however far behind it one text becomes the other
 pub number_cut : (p b r s : List ℕ) → first_passes goes_on r ≡ false → first_passes goes_on s ≡ false → Number p (b ++ r)
     → Number p (b ++ s)
-unfolding Number
+unfolding number
 number_cut p b r s old new is = elim is [
   | inl float ↦ inl (stable_float p b r s new float)
   | inr int ↦ inr (
-    subst (HasNone Float) (append_assoc p b s) (none_swapped (p ++ b) r s old new (subst (HasNone Float) (sym (append_assoc p b r)) int.0)),
+    subst (HasNone (Stands rule.float)) (append_assoc p b s) (none_swapped (p ++ b) r s old new (subst (HasNone (Stands rule.float)) (sym (append_assoc p b r)) int.0)),
     stable_integer p b r s (stops_within is_ident_continue goes_on continue_goes_on s new) int.1,
   )
 ]
@@ -65,15 +68,12 @@ past_continues (d ∷ a) z (k ∷ y) m c all out e =
     let more = past_continues a z y m c (and_parts _ _ all).1 out tail in
     (more.0, ap₂ (λ x xs. x ∷ xs) head more.1, more.2)
 
-on_power : AllIn is_ident_continue Power
-on_power = on_then is_ident_continue (Run is_underscore) Digits (on_run is_ident_continue is_underscore underscore_continues) on_digits
-
-none_in_power : (x t y m : List ℕ) (c : ℕ) → Power x t → is_ident_continue c ≡ false → x ≡ y ++ (c ∷ m) → ⊥
+none_in_power : (x t y m : List ℕ) (c : ℕ) → Stands rule.power x t → is_ident_continue c ≡ false → x ≡ y ++ (c ∷ m) → ⊥
 none_in_power x t y m c is out e =
     both_ways _ out (and_parts _ _ (all_back is_ident_continue y (c ∷ m) (ap (list_all is_ident_continue) (sym e) ∙ on_power x t is))).0
 
 -- what stands before such a character behind the letter and the `_` of an exponent: it is the sign
-none_past_sign : (sign power t y m : List ℕ) (c : ℕ) → Perhaps (One is_sign) sign (power ++ t) → Power power t
+none_past_sign : (sign power t y m : List ℕ) (c : ℕ) → Perhaps (One is_sign) sign (power ++ t) → Stands rule.power power t
     → is_ident_continue c ≡ false → sign ++ power ≡ y ++ (c ∷ m) → y ≡ []
 none_past_sign sign power t y m c (inr none) is out e = absurd (none_in_power power t y m c is out (ap (λ x. x ++ power) (sym none.1) ∙ e))
 none_past_sign sign power t [] m c (inl one) is out e = refl
@@ -83,15 +83,15 @@ none_past_sign sign power t (d ∷ y) m c (inl one) is out e =
     absurd (none_in_power power t y m c is out later)
 
 -- up to a character that goes on with no identifier an exponent is made of others
-pub exponent_front : (x t y m : List ℕ) (c : ℕ) → Exponent x t → is_ident_continue c ≡ false → x ≡ y ++ (c ∷ m)
+pub exponent_front : (x t y m : List ℕ) (c : ℕ) → Stands rule.exponent x t → is_ident_continue c ≡ false → x ≡ y ++ (c ∷ m)
     → list_all is_ident_continue y ≡ true
 exponent_front x t y m c is out e =
     let lines = is.second in
     let signed = lines.second in
     let front : list_all is_ident_continue (is.front ++ lines.front) ≡ true =
     all_append is_ident_continue is.front lines.front
-    (on_one is_ident_continue is_exponent_letter letter_continues is.front (is.back ++ t) is.first)
-    (on_run is_ident_continue is_underscore underscore_continues lines.front (lines.back ++ t) lines.first) in
+    (all_in is_ident_continue (rules.One is_exponent_letter) letter_continues is.front (is.back ++ t) is.first)
+    (all_in is_ident_continue (rules.Run is_underscore) underscore_continues lines.front (lines.back ++ t) lines.first) in
     let past = past_continues (is.front ++ lines.front) lines.back y m c front out
     (append_assoc is.front lines.front lines.back ∙ (ap (λ z. is.front ++ z) (sym lines.whole) ∙ (sym is.whole ∙ e))) in
     let none = none_past_sign signed.front signed.back t past.0 m c signed.first signed.second out (sym signed.whole ∙ past.2) in

@@ -1,22 +1,24 @@
 -- The parts of a number, and floats, stay what they are where something follows that doesn't go on with them.
-use Rattle.std.proofs.Common.{◌≡◌, ℕ, Bool, true, false, not, ◌||◌, ◌==◌, List, [], ◌∷◌, ◌++◌, codes, refl, sym, ap, ◌∙◌, subst, inl, inr, append_assoc, append-nil, eqb-true}
+use Rattle.std.proofs.Common.{◌≡◌, ◌⊎◌, ℕ, Bool, true, false, not, ◌||◌, ◌==◌, List, [], ◌∷◌, ◌++◌, codes, refl, sym, ap, ◌∙◌, subst, inl, inr, append_assoc, append-nil, eqb-true}
 use Rattle.std.specs.List.{list_all}
 use Rattle.std.specs.Char.{is_ascii_digit}
 use Rattle.std.proofs.lemmas.Bool.{both_ways, and_parts, or_left, or_right, or_cases, agree_below_at}
 use Rattle.unicode_ident.proofs.Computing.{unicode_ident}
 use Rattle.lexical.specs.Class.{is_ident_start, is_ident_continue}
 use Rattle.lexical.specs.Text.{first_passes}
-use Rattle.lexical.specs.Form.{Form, HasNone, Then, Perhaps, Exactly, One, Run}
+use Rattle.lexical.specs.Form.{Form, HasNone, Perhaps, One, Run}
+use Rattle.lexical.specs.Rule as rules
+use Rattle.lexical.specs.Rule.{Then, Stands, perhaps}
 use Rattle.lexical.specs.Identifier.{Name}
-use Rattle.lexical.specs.Quoted.{Suffix}
-use Rattle.lexical.specs.Number.{is_underscore, is_digit_or_underscore, Digits, End, bars_dot, Dot, is_exponent_letter, is_sign, Exponent, Fraction, Dotted, Exponential, Float}
+use Rattle.lexical.specs.Quoted.{Suffix, suffix}
+use Rattle.lexical.specs.Number as rule
+use Rattle.lexical.specs.Number.{is_underscore, is_digit_or_underscore, Digits, bars_dot, is_exponent_letter, is_sign}
 use Rattle.lexical.specs.Finder.{while_front, while_rest}
 use Rattle.lexical.proofs.FinderLemmas.{finds_run}
 use Rattle.lexical.proofs.WordLemmas.{NotEmpty, some_one, some_then, shows_one, shows_then}
 use Rattle.lexical.proofs.ClassLemmas.{digit_below}
 use Rattle.lexical.proofs.PieceFacts.{start_continues}
-use Rattle.lexical.proofs.QuotedLemmas.{stops}
-use Rattle.lexical.proofs.StableLemmas.{Sub, Stable, StaysNone, Extends, AllIn, stable_widen, some_second, stable_one, stable_text, stable_run, stable_not_before, stable_then, stable_local, stable_either, stable_perhaps, first_none, inside, all_within, on_one, on_text, on_run, on_then, on_either, on_perhaps, on_not_before, local_run, local_perhaps_one, extends_run, extends_then, extends_one_then}
+use Rattle.lexical.proofs.StableLemmas.{Sub, Stable, StaysNone, Extends, AllIn, Looks, Within, some_second, stable, first_none, inside, all_in, local_run, local_perhaps_one, extends_run, extends_then, extends_one_then}
 
 -- ---- classes
 
@@ -68,138 +70,130 @@ name_stands c text is =
       record { front = c ∷ []; back = while_front is_ident_continue text; whole = refl; first = (c, refl, is); second = run.1 },
     )
 
-name_none : StaysNone is_ident_continue Name
-name_none =
-    first_none is_ident_continue Name is_ident_start start_continues
-    (shows_then is_ident_start (One is_ident_start) (Run is_ident_continue) (shows_one is_ident_start)) name_stands
+module _ (class : ℕ → Bool) (within : Sub is_ident_continue class) where
+  continues : (passes : ℕ → Bool) → Sub passes is_ident_continue → Sub passes class
+  continues passes on c is = within c (on c is)
 
-stable_name : Stable is_ident_continue Name
-stable_name =
-    stable_then is_ident_continue (One is_ident_start) (Run is_ident_continue)
-    (stable_one is_ident_continue is_ident_start) (stable_run is_ident_continue is_ident_continue (λ c is. is))
+  name_none : StaysNone class Name
+  name_none = first_none class Name is_ident_start (continues is_ident_start start_continues) (shows_then is_ident_start _ _ (shows_one is_ident_start)) name_stands
+
+  pub looks_end : Looks class rule.end
+  looks_end = (within, ((inl tt, within), tt, name_none))
+
+  pub within_suffix : Within class suffix
+  within_suffix = ((continues is_ident_start start_continues, within), refl)
 
 pub stable_suffix : Stable is_ident_continue Suffix
-stable_suffix = stable_perhaps is_ident_continue Name stable_name name_none
+stable_suffix = stable is_ident_continue suffix (looks_end is_ident_continue (λ c is. is)).1
 
-pub stable_end : Stable is_ident_continue End
-stable_end = stable_not_before is_ident_continue is_ident_continue Suffix (λ c is. is) stable_suffix
-
-pub on_suffix : AllIn is_ident_continue Suffix
-on_suffix = on_perhaps is_ident_continue Name (on_then is_ident_continue (One is_ident_start) (Run is_ident_continue)
-    (on_one is_ident_continue is_ident_start start_continues) (on_run is_ident_continue is_ident_continue (λ c is. is)))
-
-on_end : AllIn goes_on End
-on_end p r is = all_within goes_on is_ident_continue continue_goes_on p (on_suffix p r is.0)
+pub stable_end : Stable is_ident_continue (Stands rule.end)
+stable_end = stable is_ident_continue rule.end (looks_end is_ident_continue (λ c is. is))
 
 -- ---- digits and exponents
 
+some_digits : NotEmpty Digits
+some_digits = some_then _ _ (some_one is_ascii_digit)
+
+some_power : NotEmpty (Stands rule.power)
+some_power = some_second _ Digits some_digits
+
+some_signed : NotEmpty (Stands (Then (perhaps (rules.One is_sign)) rule.power))
+some_signed = some_second _ (Stands rule.power) some_power
+
+module _ (class : ℕ → Bool) (within : Sub is_ident_continue class) where
+  looks_digits : Looks class rule.digits
+  looks_digits = (inl tt, continues class within is_digit_or_underscore digits_continue)
+
+  looks_exponent : Looks class rule.exponent
+  looks_exponent = (inl tt, (inr (local_run is_underscore, some_signed), (inr (local_perhaps_one is_sign, some_power), (inr (local_run is_underscore, some_digits), looks_digits))))
+
+  looks_exponential : Looks class (Then rule.digits (Then rule.exponent rule.end))
+  looks_exponential = (inl looks_digits, (inl looks_exponent, looks_end class within))
+
+  within_digits : Within class rule.digits
+  within_digits = (continues class within is_ascii_digit digit_continues, continues class within is_digit_or_underscore digits_continue)
+
+  within_power : Within class rule.power
+  within_power = (continues class within is_underscore underscore_continues, within_digits)
+
+  within_exponent : Sub is_sign class → Within class rule.exponent
+  within_exponent signs = (
+    continues class within is_exponent_letter letter_continues,
+    (continues class within is_underscore underscore_continues, ((signs, refl), within_power)),
+  )
+
 pub stable_digits : Stable is_ident_continue Digits
-stable_digits =
-    stable_then is_ident_continue (One is_ascii_digit) (Run is_digit_or_underscore)
-    (stable_one is_ident_continue is_ascii_digit)
-    (stable_run is_ident_continue is_digit_or_underscore digits_continue)
+stable_digits = stable is_ident_continue rule.digits (looks_digits is_ident_continue (λ c is. is))
+
+pub stable_exponent : Stable is_ident_continue (Stands rule.exponent)
+stable_exponent = stable is_ident_continue rule.exponent (looks_exponent is_ident_continue (λ c is. is))
 
 pub on_digits : AllIn is_ident_continue Digits
-on_digits =
-    on_then is_ident_continue (One is_ascii_digit) (Run is_digit_or_underscore)
-    (on_one is_ident_continue is_ascii_digit digit_continues)
-    (on_run is_ident_continue is_digit_or_underscore digits_continue)
+on_digits = all_in is_ident_continue rule.digits (within_digits is_ident_continue (λ c is. is))
 
-some_digits : NotEmpty Digits
-some_digits = some_then (One is_ascii_digit) (Run is_digit_or_underscore) (some_one is_ascii_digit)
+pub on_power : AllIn is_ident_continue (Stands rule.power)
+on_power = all_in is_ident_continue rule.power (within_power is_ident_continue (λ c is. is))
 
--- what follows the letter, and what follows the sign
-abbrev pub Power : Form
-Power = Then (Run is_underscore) Digits
+on_exponent : Within goes_on rule.exponent
+on_exponent = within_exponent goes_on continue_goes_on sign_goes_on
 
-abbrev SignedPower : Form
-SignedPower = Then (Perhaps (One is_sign)) Power
-
-some_power : NotEmpty Power
-some_power = some_second (Run is_underscore) Digits some_digits
-
-some_signed : NotEmpty SignedPower
-some_signed = some_second (Perhaps (One is_sign)) Power some_power
-
-pub stable_exponent : Stable is_ident_continue Exponent
-stable_exponent =
-    stable_then is_ident_continue (One is_exponent_letter) (Then (Run is_underscore) SignedPower)
-    (stable_one is_ident_continue is_exponent_letter)
-    (stable_local is_ident_continue (Run is_underscore) SignedPower (local_run is_underscore) some_signed
-    (stable_local is_ident_continue (Perhaps (One is_sign)) Power (local_perhaps_one is_sign) some_power
-    (stable_local is_ident_continue (Run is_underscore) Digits (local_run is_underscore) some_digits stable_digits)))
-
-extends_exponent : Extends Exponent
-extends_exponent = extends_one_then is_exponent_letter (Then (Run is_underscore) SignedPower)
-    (extends_then (Run is_underscore) SignedPower (local_run is_underscore) some_signed
-    (extends_then (Perhaps (One is_sign)) Power (local_perhaps_one is_sign) some_power
+extends_exponent : Extends (Stands rule.exponent)
+extends_exponent = extends_one_then is_exponent_letter _
+    (extends_then (Run is_underscore) _ (local_run is_underscore) some_signed
+    (extends_then (Perhaps (One is_sign)) _ (local_perhaps_one is_sign) some_power
     (extends_then (Run is_underscore) Digits (local_run is_underscore) some_digits
     (extends_one_then is_ascii_digit (Run is_digit_or_underscore) (extends_run is_digit_or_underscore)))))
 
--- what goes on with an identifier goes on with a number
-continues : (passes : ℕ → Bool) → Sub passes is_ident_continue → Sub passes goes_on
-continues passes within c is = continue_goes_on c (within c is)
-
-on_number_digits : AllIn goes_on Digits
-on_number_digits p r is = all_within goes_on is_ident_continue continue_goes_on p (on_digits p r is)
-
-on_exponent : AllIn goes_on Exponent
-on_exponent =
-    on_then goes_on (One is_exponent_letter) (Then (Run is_underscore) SignedPower)
-    (on_one goes_on is_exponent_letter (continues is_exponent_letter letter_continues))
-    (on_then goes_on (Run is_underscore) SignedPower (on_run goes_on is_underscore (continues is_underscore underscore_continues))
-    (on_then goes_on (Perhaps (One is_sign)) Power (on_perhaps goes_on (One is_sign) (on_one goes_on is_sign sign_goes_on))
-    (on_then goes_on (Run is_underscore) Digits (on_run goes_on is_underscore (continues is_underscore underscore_continues)) on_number_digits)))
-
-exponent_none : StaysNone goes_on Exponent
+exponent_none : StaysNone goes_on (Stands rule.exponent)
 exponent_none b r s ends none q t e is =
-    let within = inside goes_on b s q t ends (on_exponent q t is) e in
+    let within = inside goes_on b s q t ends (all_in goes_on rule.exponent on_exponent q t is) e in
     let more = extends_exponent q t (within.0 ++ r) is in
     none more.0 more.1 (ap (λ x. x ++ r) within.1 ∙ (append_assoc q within.0 r ∙ more.2)) more.3
 
 -- ---- floats
 
-abbrev AfterDot : Form
-AfterDot = Then (Run is_digit_or_underscore) (Then (Perhaps Exponent) End)
+-- those with a dot, and those without
+abbrev pub Dotted : Form
+Dotted = Stands (Then rule.digits rule.fraction)
 
-stable_fraction : Stable goes_on Fraction
-stable_fraction = stable_then goes_on Dot AfterDot (stable_not_before goes_on bars_dot (Exactly (codes ".")) dot_goes_on (stable_text goes_on (codes ".")))
-    (stable_then goes_on (Run is_digit_or_underscore) (Then (Perhaps Exponent) End)
-    (stable_run goes_on is_digit_or_underscore (continues is_digit_or_underscore digits_continue))
-    (stable_then goes_on (Perhaps Exponent) End
-    (stable_perhaps goes_on Exponent
-    (stable_widen is_ident_continue goes_on Exponent continue_goes_on stable_exponent) exponent_none)
-    (stable_widen is_ident_continue goes_on End continue_goes_on stable_end)))
+abbrev pub Exponential : Form
+Exponential = Stands (Then rule.digits (Then rule.exponent rule.end))
+
+pub float_is : (p r : List ℕ) → Stands rule.float p r → Dotted p r ⊎ Exponential p r
+float_is p r is = elim is.second [
+  | inl x ↦ inl (record { front = is.front; back = is.back; whole = is.whole; first = is.first; second = x })
+  | inr y ↦ inr (record { front = is.front; back = is.back; whole = is.whole; first = is.first; second = y })
+]
+
+pub is_float : (p r : List ℕ) → Dotted p r ⊎ Exponential p r → Stands rule.float p r
+is_float p r (inl x) = record { front = x.front; back = x.back; whole = x.whole; first = x.first; second = inl x.second }
+is_float p r (inr y) = record { front = y.front; back = y.back; whole = y.whole; first = y.first; second = inr y.second }
 
 pub stable_exponential : Stable is_ident_continue Exponential
-stable_exponential =
-    stable_then is_ident_continue Digits (Then Exponent End) stable_digits
-    (stable_then is_ident_continue Exponent End stable_exponent stable_end)
+stable_exponential = stable is_ident_continue (Then rule.digits (Then rule.exponent rule.end)) (looks_exponential is_ident_continue (λ c is. is))
 
-pub stable_float : Stable goes_on Float
-stable_float = stable_either goes_on Dotted Exponential
-    (stable_then goes_on Digits Fraction (stable_widen is_ident_continue goes_on Digits continue_goes_on stable_digits) stable_fraction)
-    (stable_widen is_ident_continue goes_on Exponential continue_goes_on stable_exponential)
+pub stable_float : Stable goes_on (Stands rule.float)
+stable_float =
+    let digits = looks_digits goes_on continue_goes_on in
+    let exponent = looks_exponent goes_on continue_goes_on in
+    let end = looks_end goes_on continue_goes_on in
+    stable goes_on rule.float (inl digits, ((inl (dot_goes_on, tt), (inl digits.1, (inl (exponent, tt, exponent_none), end))), (inl exponent, end)))
 
 dot_is_on : list_all goes_on (codes ".") ≡ true
 unfolding unicode_ident
 dot_is_on = refl
 
-pub on_float : AllIn goes_on Float
-on_float = on_either goes_on Dotted Exponential
-    (on_then goes_on Digits Fraction on_number_digits
-    (on_then goes_on Dot AfterDot (on_not_before goes_on bars_dot (Exactly (codes "."))
-    (on_text goes_on (codes ".") dot_is_on))
-    (on_then goes_on (Run is_digit_or_underscore) (Then (Perhaps Exponent) End)
-    (on_run goes_on is_digit_or_underscore (continues is_digit_or_underscore digits_continue))
-    (on_then goes_on (Perhaps Exponent) End (on_perhaps goes_on Exponent on_exponent) on_end))))
-    (on_then goes_on Digits (Then Exponent End) on_number_digits (on_then goes_on Exponent End on_exponent on_end))
+pub on_float : AllIn goes_on (Stands rule.float)
+on_float =
+    let digits = within_digits goes_on continue_goes_on in
+    let end = within_suffix goes_on continue_goes_on in
+    all_in goes_on rule.float (digits, ((dot_is_on, (digits.1, ((on_exponent, refl), end))), (on_exponent, end)))
 
 -- ---- no float newly stands
 
 -- nothing that goes on with an identifier follows a float
-pub float_ends : (p r : List ℕ) → Float p r → first_passes is_ident_continue r ≡ false
-float_ends p r is = elim is [ inl dotted ↦ dotted.second.second.second.second.1 | inr exponential ↦ exponential.second.second.1 ]
+pub float_ends : (p r : List ℕ) → Stands rule.float p r → first_passes is_ident_continue r ≡ false
+float_ends p r is = elim is.second [ inl fraction ↦ fraction.second.second.second.1 | inr exponent ↦ exponent.second.1 ]
 
 pub all_back : (passes : ℕ → Bool) (xs ys : List ℕ) → list_all passes (xs ++ ys) ≡ true → list_all passes ys ≡ true
 all_back passes [] ys h = h
@@ -223,14 +217,15 @@ takes_all p s q t (c ∷ d) all e f stops = absurd (both_ways _ (ap (first_passe
 
 -- where one is made of such characters and none follows it, no float newly stands
 pub no_new_float : (p r s : List ℕ) → list_all is_ident_continue p ≡ true → first_passes is_ident_continue r ≡ false
-    → first_passes goes_on s ≡ false → HasNone Float (p ++ r) → HasNone Float (p ++ s)
+    → first_passes goes_on s ≡ false → HasNone (Stands rule.float) (p ++ r)
+    → HasNone (Stands rule.float) (p ++ s)
 no_new_float p r s all calm ends none q t e is =
     let within = inside goes_on p s q t ends (on_float q t is) e in
     let empty = takes_all p s q t within.0 all within.1 within.2 (float_ends q t is) in
     let same : q ≡ p = sym (within.1 ∙ (ap (λ x. q ++ x) empty ∙ append-nil q)) in
     let rest : t ≡ s = within.2 ∙ ap (λ x. x ++ s) empty in
-    let here : Float p s = subst (λ x. Float x s) same (subst (Float q) rest is) in
-    elim here [
+    let here : Stands rule.float p s = subst (λ x. Stands rule.float x s) same (subst (Stands rule.float q) rest is) in
+    elim (float_is p s here) [
       | inl dotted ↦ no_dotted p s all dotted
-      | inr exponential ↦ none p r refl (inr (stable_exponential p [] s r calm exponential))
+      | inr exponential ↦ none p r refl (is_float p r (inr (stable_exponential p [] s r calm exponential)))
     ]

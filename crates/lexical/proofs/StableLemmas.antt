@@ -1,9 +1,11 @@
 -- Forms that keep their pieces where what follows them becomes something else.
-use Rattle.std.proofs.Common.{◌≡◌, ℕ, ◌≤◌, Bool, true, false, List, [], ◌∷◌, ◌++◌, length, refl, sym, ap, ap₂, ◌∙◌, subst, arith, inl, inr, append_assoc, length-append}
+use Rattle.std.proofs.Common.{◌≡◌, ◌⊎◌, ℕ, ◌≤◌, Bool, true, false, List, [], ◌∷◌, ◌++◌, length, refl, sym, ap, ap₂, ◌∙◌, subst, arith, inl, inr, append_assoc, length-append}
 use Rattle.std.specs.List.{list_all}
 use Rattle.std.proofs.lemmas.Bool.{both_ways, and_parts, and_from, false_from_ne_true}
 use Rattle.lexical.specs.Text.{first_passes}
-use Rattle.lexical.specs.Form.{Form, HasNone, Then, NotBefore, Either, Perhaps, Exactly, One, Run}
+use Rattle.lexical.specs.Form.{Form, HasNone, Then, Else, Perhaps, One, Run}
+use Rattle.lexical.specs.Rule as rules
+use Rattle.lexical.specs.Rule.{Rule, Stands}
 use Rattle.lexical.specs.Finder.{while_front, while_rest}
 use Rattle.lexical.proofs.FinderLemmas.{finds_run}
 use Rattle.lexical.proofs.WordLemmas.{NotEmpty, Shows}
@@ -32,10 +34,6 @@ pub stops_within : (passes class : ℕ → Bool) → Sub passes class → (s : L
 stops_within passes class within [] ends = refl
 stops_within passes class within (c ∷ s) ends = false_from_ne_true _ (λ is. both_ways _ ends (within c is))
 
--- a wider class leaves fewer texts to follow
-pub stable_widen : (narrow wide : ℕ → Bool) (A : Form) → Sub narrow wide → Stable narrow A → Stable wide A
-stable_widen narrow wide A within stable p b r s ends is = stable p b r s (stops_within narrow wide within s ends) is
-
 pub cons_of : (xs : List ℕ) → 1 ≤ length xs → (c : ℕ) × (more : List ℕ) × (xs ≡ c ∷ more)
 cons_of [] h = absurd (omega arith)
 cons_of (c ∷ more) h = (c, more, refl)
@@ -43,7 +41,18 @@ cons_of (c ∷ more) h = (c, more, refl)
 pub some_second : (A B : Form) → NotEmpty B → NotEmpty (Then A B)
 some_second A B some p r is = let long = some is.back r is.second in omega (arith, ap length is.whole, length-append is.front is.back)
 
--- ---- the words on forms
+-- ---- rules
+
+-- the characters behind its pieces that a rule looks at are of the class
+abbrev pub Looks : (ℕ → Bool) → Rule → Type 0
+Looks class (rules.One passes) = Unit {0}
+Looks class (rules.Run passes) = Sub passes class
+Looks class (rules.Exactly text) = Unit {0}
+Looks class (rules.Then a b) = (Looks class a ⊎ (Local (Stands a) × NotEmpty (Stands b))) × Looks class b
+Looks class (rules.Either a b) = Looks class a × Looks class b
+Looks class (rules.Else a b) = Looks class a × Looks class b × StaysNone class (Stands a)
+Looks class (rules.NotAt fronts a) = Stable class (Stands (rules.NotAt fronts a))
+Looks class (rules.NotBefore passes a) = Sub passes class × Looks class a
 
 module _ (class : ℕ → Bool) where
   pub stops_stable : (passes : ℕ → Bool) → Sub passes class → (b r s : List ℕ) → first_passes class s ≡ false
@@ -51,17 +60,8 @@ module _ (class : ℕ → Bool) where
   stops_stable passes within [] r s ends stops = stops_within passes class within s ends
   stops_stable passes within (c ∷ b) r s ends stops = stops
 
-  pub stable_one : (passes : ℕ → Bool) → Stable class (One passes)
-  stable_one passes p b r s ends is = is
-
-  pub stable_text : (text : List ℕ) → Stable class (Exactly text)
-  stable_text text p b r s ends is = is
-
   pub stable_run : (passes : ℕ → Bool) → Sub passes class → Stable class (Run passes)
   stable_run passes within p b r s ends is = record { each = is.each; stops = stops_stable passes within b r s ends is.stops }
-
-  pub stable_not_before : (passes : ℕ → Bool) (A : Form) → Sub passes class → Stable class A → Stable class (NotBefore passes A)
-  stable_not_before passes A within stable p b r s ends is = (stable p b r s ends is.0, stops_stable passes within b r s ends is.1)
 
   pub stable_then : (A B : Form) → Stable class A → Stable class B → Stable class (Then A B)
   stable_then A B one other p b r s ends is = record {
@@ -75,7 +75,7 @@ module _ (class : ℕ → Bool) where
   }
 
   -- where the second form has no empty piece, the first needs no more than its next character
-  pub stable_local : (A B : Form) → Local A → NotEmpty B → Stable class B → Stable class (Then A B)
+  stable_local : (A B : Form) → Local A → NotEmpty B → Stable class B → Stable class (Then A B)
   stable_local A B local some stable p b r s ends is =
       let cell = cons_of is.back (some is.back (b ++ r) is.second) in
       record {
@@ -89,14 +89,30 @@ module _ (class : ℕ → Bool) where
         second = stable is.back b r s ends is.second;
       }
 
-  pub stable_either : (A B : Form) → Stable class A → Stable class B → Stable class (Either A B)
-  stable_either A B one other p b r s ends is = elim is [ inl x ↦ inl (one p b r s ends x) | inr y ↦ inr (other p b r s ends y) ]
-
-  pub stable_perhaps : (A : Form) → Stable class A → StaysNone class A → Stable class (Perhaps A)
-  stable_perhaps A stable none p b r s ends is = elim is [
-    | inl x ↦ inl (stable p b r s ends x)
-    | inr y ↦ inr (subst (HasNone A) (append_assoc p b s) (none (p ++ b) r s ends (subst (HasNone A) (sym (append_assoc p b r)) y.0)), y.1)
+  stable_else : (A B : Form) → Stable class A → StaysNone class A → Stable class B → Stable class (Else A B)
+  stable_else A B one none other p b r s ends is = elim is [
+    | inl x ↦ inl (one p b r s ends x)
+    | inr y ↦ inr (
+      subst (HasNone A) (append_assoc p b s) (none (p ++ b) r s ends (subst (HasNone A) (sym (append_assoc p b r)) y.0)),
+      other p b r s ends y.1,
+    )
   ]
+
+  pub stable : (rule : Rule) → Looks class rule → Stable class (Stands rule)
+  stable (rules.One passes) looks = λ p b r s ends is. is
+  stable (rules.Run passes) looks = stable_run passes looks
+  stable (rules.Exactly text) looks = λ p b r s ends is. is
+  stable (rules.Then a b) looks = elim looks.0 [
+    | inl far ↦ stable_then (Stands a) (Stands b) (stable a far) (stable b looks.1)
+    | inr near ↦ stable_local (Stands a) (Stands b) near.0 near.1 (stable b looks.1)
+  ]
+  stable (rules.Either a b) looks = λ p between r s ends is. elim is [
+    | inl x ↦ inl (stable a looks.0 p between r s ends x)
+    | inr y ↦ inr (stable b looks.1 p between r s ends y)
+  ]
+  stable (rules.Else a b) looks = stable_else (Stands a) (Stands b) (stable a looks.0) looks.2 (stable b looks.1)
+  stable (rules.NotAt fronts a) looks = looks
+  stable (rules.NotBefore passes a) looks = λ p b r s ends is. (stable a looks.1 p b r s ends is.0, stops_stable passes looks.0 b r s ends is.1)
 
   -- a form that stands wherever its first character does
   pub first_none : (A : Form) (passes : ℕ → Bool) → Sub passes class → Shows passes A
@@ -123,6 +139,17 @@ module _ (class : ℕ → Bool) where
 abbrev pub AllIn : (ℕ → Bool) → Form → Type 0
 AllIn class A = (p r : List ℕ) → A p r → list_all class p ≡ true
 
+-- the rule's characters are of the class
+abbrev pub Within : (ℕ → Bool) → Rule → Type 0
+Within class (rules.One passes) = Sub passes class
+Within class (rules.Run passes) = Sub passes class
+Within class (rules.Exactly text) = list_all class text ≡ true
+Within class (rules.Then a b) = Within class a × Within class b
+Within class (rules.Either a b) = Within class a × Within class b
+Within class (rules.Else a b) = Within class a × Within class b
+Within class (rules.NotAt fronts a) = Within class a
+Within class (rules.NotBefore passes a) = Within class a
+
 module _ (class : ℕ → Bool) where
   pub all_append : (xs ys : List ℕ) → list_all class xs ≡ true → list_all class ys ≡ true → list_all class (xs ++ ys) ≡ true
   all_append [] ys h j = j
@@ -132,28 +159,17 @@ module _ (class : ℕ → Bool) where
   all_within passes within [] h = refl
   all_within passes within (x ∷ xs) h = let parts = and_parts _ _ h in and_from _ _ (within x parts.0) (all_within passes within xs parts.1)
 
-  pub on_one : (passes : ℕ → Bool) → Sub passes class → AllIn class (One passes)
-  on_one passes within p r is = ap (list_all class) is.1 ∙ and_from _ _ (within is.0 is.2) refl
-
-  pub on_text : (text : List ℕ) → list_all class text ≡ true → AllIn class (Exactly text)
-  on_text text h p r is = ap (list_all class) is ∙ h
-
-  pub on_run : (passes : ℕ → Bool) → Sub passes class → AllIn class (Run passes)
-  on_run passes within p r is = all_within passes within p is.each
-
-  pub on_then : (A B : Form) → AllIn class A → AllIn class B → AllIn class (Then A B)
-  on_then A B one other p r is =
+  pub all_in : (rule : Rule) → Within class rule → AllIn class (Stands rule)
+  all_in (rules.One passes) within = λ p r is. ap (list_all class) is.1 ∙ and_from _ _ (within is.0 is.2) refl
+  all_in (rules.Run passes) within = λ p r is. all_within passes within p is.each
+  all_in (rules.Exactly text) within = λ p r is. ap (list_all class) is ∙ within
+  all_in (rules.Then a b) within = λ p r is.
       ap (list_all class) is.whole
-      ∙ all_append is.front is.back (one is.front (is.back ++ r) is.first) (other is.back r is.second)
-
-  pub on_either : (A B : Form) → AllIn class A → AllIn class B → AllIn class (Either A B)
-  on_either A B one other p r is = elim is [ inl x ↦ one p r x | inr y ↦ other p r y ]
-
-  pub on_perhaps : (A : Form) → AllIn class A → AllIn class (Perhaps A)
-  on_perhaps A on p r is = elim is [ inl x ↦ on p r x | inr y ↦ ap (list_all class) y.1 ]
-
-  pub on_not_before : (passes : ℕ → Bool) (A : Form) → AllIn class A → AllIn class (NotBefore passes A)
-  on_not_before passes A on p r is = on p r is.0
+      ∙ all_append is.front is.back (all_in a within.0 is.front (is.back ++ r) is.first) (all_in b within.1 is.back r is.second)
+  all_in (rules.Either a b) within = λ p r is. elim is [ inl x ↦ all_in a within.0 p r x | inr y ↦ all_in b within.1 p r y ]
+  all_in (rules.Else a b) within = λ p r is. elim is [ inl x ↦ all_in a within.0 p r x | inr y ↦ all_in b within.1 p r y.1 ]
+  all_in (rules.NotAt fronts a) within = λ p r is. all_in a within p r is.0
+  all_in (rules.NotBefore passes a) within = λ p r is. all_in a within p r is.0
 
 -- ---- forms that look at one character, and that stand whatever follows
 

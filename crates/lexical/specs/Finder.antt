@@ -1,6 +1,6 @@
 -- Functions that find the piece of a form at the front of a text, one for each word that forms are made of.
 use Rattle.std.specs.Prelude.{ℕ, Bool, ◌≡◌, zero, suc, List, [], ◌∷◌, ◌++◌, length, Option, Some, None, IfSome, cond, ◌==◌}
-use Rattle.lexical.specs.Text.{begins_any}
+use Rattle.lexical.specs.Text.{begins_any, first_passes}
 use Rattle.lexical.specs.Form.{Form}
 
 -- the piece, and what follows it
@@ -65,6 +65,15 @@ find_if holds f text = cond holds (f text) None
 -- `NotAt`
 abbrev pub find_not_at : List (List ℕ) → Finder → Finder
 find_not_at fronts f text = cond (begins_any fronts text) None (f text)
+
+-- what was found, if no character that passes follows
+abbrev pub unless_next : (ℕ → Bool) → Answer → Answer
+unless_next passes None = None
+unless_next passes (Some x) = cond (first_passes passes x.1) None (Some x)
+
+-- `NotBefore`
+abbrev pub find_not_before : (ℕ → Bool) → Finder → Finder
+find_not_before passes f text = unless_next passes (f text)
 
 -- what was found, if its text and what follows it pass
 abbrev pub if_passes : (List ℕ → List ℕ → Bool) → Answer → Answer

@@ -4,12 +4,17 @@ use Rattle.std.specs.List.{list_any}
 use Rattle.std.specs.Cmp.Lexicographic.{pointwise}
 use Rattle.lexical.specs.Class.{is_ident_start, is_ident_continue}
 use Rattle.lexical.specs.Text.{begins_any}
-use Rattle.lexical.specs.Form.{Form, Then, NotAt, Where, One, Run}
+use Rattle.lexical.specs.Form.{Form, NotAt, Where}
+use Rattle.lexical.specs.Rule.{Rule, One, Run, Then, Stands}
 use Rattle.lexical.specs.Token.{raw_front}
 
 -- `name`: a start of an identifier and all the continues that follow it
+abbrev pub name : Rule
+name = Then (One is_ident_start) (Run is_ident_continue)
+
+-- what it says
 abbrev pub Name : Form
-Name = Then (One is_ident_start) (Run is_ident_continue)
+Name = Stands name
 
 -- `reserved-prefix`: how a literal with letters before its quote begins
 abbrev pub literal_prefixes : List (List ℕ)

@@ -21,12 +21,13 @@ pub mod Quiet
 pub mod Found
 pub mod Ascii
 pub mod Finder
+pub mod Rule
 pub mod CommentFinder
 pub mod EscapeFinder
 pub mod QuotedFinder
-pub mod NumberFinder
 pub mod IdentifierFinder
 pub mod MarkFinder
 pub mod DelimiterFinder
 pub mod PieceFinder
 pub mod Reading
+pub mod Step

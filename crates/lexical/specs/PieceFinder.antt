@@ -13,7 +13,8 @@ use Rattle.lexical.specs.IdentifierFinder.{find_plain, find_raw, name_kind, raw_
 use Rattle.lexical.specs.MarkFinder.{find_mark, find_lone_quote, mark_kind, quote_kind}
 use Rattle.lexical.specs.DelimiterFinder.{find_opener, find_closer, opener_kind, closer_kind}
 use Rattle.lexical.specs.QuotedFinder.{find_quoted}
-use Rattle.lexical.specs.NumberFinder.{find_number}
+use Rattle.lexical.specs.Number.{number}
+use Rattle.lexical.specs.Rule.{find}
 use Rattle.lexical.specs.CommentFinder.{find_comment, comment_kind}
 use Rattle.lexical.specs.declared.class.Start.{Start}
 use Rattle.lexical.specs.declared.class.Start.TheVariants as starts
@@ -30,7 +31,7 @@ find_white = find_one is_white
 
 -- `literal`
 abbrev pub find_literal : Finder
-find_literal = find_else find_quoted find_number
+find_literal = find_else find_quoted (find number)
 
 -- ---- their kinds, by the piece p and what follows it
 
@@ -103,7 +104,7 @@ found_quoted text = tagged literal_kind (find_quoted text)
 
 -- the number at the front of a text
 abbrev pub found_number : List ℕ → Found
-found_number text = tagged literal_kind (find_number text)
+found_number text = tagged literal_kind (find number text)
 
 -- the identifier or the literal at the front of a text that begins with a letter
 abbrev pub found_at_letter : List ℕ → Found

@@ -3,8 +3,9 @@ use Rattle.std.specs.Prelude.{ℕ, Bool, true, false, not, ◌&&◌, ◌||◌, �
 use Rattle.std.specs.List.{list_any, fold}
 use Rattle.std.specs.Char.{is_ascii, is_digit, is_ascii_hexdigit, digit_value}
 use Rattle.lexical.specs.Character.{underscore}
-use Rattle.lexical.specs.Form.{Form, Then, NotAt, Where, Either, Perhaps, Many, Exactly, One, Run}
-use Rattle.lexical.specs.Identifier.{Name}
+use Rattle.lexical.specs.Form.{Form, Then, NotAt, Where, Either, Many, Exactly, One, Run}
+use Rattle.lexical.specs.Rule.{Rule, Stands, perhaps}
+use Rattle.lexical.specs.Identifier.{name}
 
 -- whether the character is one of these
 abbrev pub is_one_of : List ℕ → ℕ → Bool
@@ -113,8 +114,12 @@ CUnit = BodyUnit is_c_plain CEscape
 -- ---- cooked strings
 
 -- `suffix`: the longest name, where one starts there
+abbrev pub suffix : Rule
+suffix = perhaps name
+
+-- what it says
 abbrev pub Suffix : Form
-Suffix = Perhaps Name
+Suffix = Stands suffix
 
 -- `string-body`: units up to what closes the literal, that, and a suffix
 abbrev pub Body : Form → List ℕ → Form

@@ -6,7 +6,7 @@ use Rattle.std.specs.Str.{chars, IsAscii}
 use Rattle.std.specs.Fmt.{decimal, signed_decimal}
 use Rattle.std.specs.Int.{w128}
 use Rattle.std.specs.Str.Parse.{AllDigits, IsNumeral}
-use Rattle.std.proofs.lemmas.Bool.{both_ways, and_parts, and_from, or_left, or_cases, le-leb, false_from_ne_true, cond-false}
+use Rattle.std.proofs.lemmas.Bool.{both_ways, and_parts, and_from, or_left, or_cases, le-leb, false_from_ne_true}
 use Rattle.std.proofs.lemmas.Fmt.{decimal_is_IsNumeral_wide, IsAscii-decimal_wide}
 use Rattle.std.proofs.lemmas.Str.{chars-append, chars-IsAscii, IsUtf8-from_ascii}
 use Rattle.std.proofs.lemmas.Str.Ascii.{IsAscii-cons}
@@ -14,14 +14,14 @@ use Rattle.std.proofs.lemmas.Str.Parse.{digit_from_value}
 use Rattle.unicode_ident.proofs.Computing.{unicode_ident}
 use Rattle.lexical.specs.Ascii.{all_ascii}
 use Rattle.lexical.specs.Text.{begins_with, begins_any, first_passes}
-use Rattle.lexical.specs.Number.{Number, Digits, is_digit_or_underscore, base_prefixes}
+use Rattle.lexical.specs.Number.{Number, Digits, is_digit_or_underscore, base_prefixes, number, tail}
+use Rattle.lexical.specs.Rule.{find}
 use Rattle.lexical.specs.Literal.{Literal}
 use Rattle.lexical.specs.Finder.{behind, and_find}
-use Rattle.lexical.specs.NumberFinder.{find_number, find_tail}
 use Rattle.lexical.proofs.StripLemmas.{is_ascii}
 use Rattle.lexical.proofs.TextLemmas.{begins_splits}
 use Rattle.lexical.proofs.FinderLemmas.{found_is}
-use Rattle.lexical.proofs.NumberFinderLemmas.{finds_digits, finds_number}
+use Rattle.lexical.proofs.NumberFinderLemmas.{finds_digits, finds_number, number_decimal}
 use Rattle.pm_token.specs.Integer.{suffix_text}
 use Rattle.pm_token.specs.LiteralText.{IsWholeLiteral}
 use Rattle.pm_token.specs.declared.literals.integers.Suffix.{Suffix}
@@ -35,13 +35,13 @@ is_base_letter c = (c == 120) || ((c == 111) || (c == 98))
 
 -- what ends a number behind its digits, goes on with none of them, makes no prefix of a zero, and is ASCII
 record EndsInteger (suffix : List ℕ) : Type 0 where
-  ends : find_tail suffix ≡ Some (suffix, [])
+  ends : find tail suffix ≡ Some (suffix, [])
   stops : first_passes is_digit_or_underscore suffix ≡ false
   no_prefix : first_passes is_base_letter suffix ≡ false
   ascii : all_ascii suffix ≡ true
 
 suffix_ends : (suffix : Suffix) → EndsInteger (suffix_text suffix)
-unfolding unicode_ident
+unfolding unicode_ident find
 suffix_ends Nothing = record { ends = refl; stops = refl; no_prefix = refl; ascii = refl }
 suffix_ends U8 = record { ends = refl; stops = refl; no_prefix = refl; ascii = refl }
 suffix_ends U16 = record { ends = refl; stops = refl; no_prefix = refl; ascii = refl }
@@ -104,8 +104,8 @@ digits_or_underscores (c ∷ digits) all = let parts = and_parts _ _ all in and_
 -- ---- integers
 
 integer_found : (c : ℕ) (digits : List ℕ) (suffix : Suffix) → list_all is_ascii_digit (c ∷ digits) ≡ true
-    → find_number ((c ∷ digits) ++ suffix_text suffix) ≡ Some ((c ∷ digits) ++ suffix_text suffix, [])
-unfolding find_number
+    → find number ((c ∷ digits) ++ suffix_text suffix) ≡ Some ((c ∷ digits) ++ suffix_text suffix, [])
+unfolding find
 integer_found c digits suffix all =
     let parts = and_parts _ _ all in
     let front : Digits (c ∷ digits) (suffix_text suffix) = record {
@@ -115,8 +115,8 @@ integer_found c digits suffix all =
       first = (c, refl, parts.0);
       second = record { each = digits_or_underscores digits parts.1; stops = (suffix_ends suffix).stops };
     } in
-    cond-false _ _ _ (no_prefix c (digits ++ suffix_text suffix) (no_letter digits suffix parts.1))
-    ∙ (ap (and_find find_tail) (finds_digits.complete (c ∷ digits) (suffix_text suffix) front) ∙ ap (behind (c ∷ digits)) (suffix_ends suffix).ends)
+    number_decimal _ (no_prefix c (digits ++ suffix_text suffix) (no_letter digits suffix parts.1))
+    ∙ (ap (and_find (find tail)) (finds_digits.complete (c ∷ digits) (suffix_text suffix) front) ∙ ap (behind (c ∷ digits)) (suffix_ends suffix).ends)
 
 -- digits and such a suffix are a literal, which begins with a digit
 integer_literal : (digits : List ℕ) (suffix : Suffix) → IsNumeral 10 digits
@@ -125,7 +125,7 @@ unfolding Literal
 integer_literal [] suffix numeral = absurd (omega (arith, numeral.0))
 integer_literal (c ∷ digits) suffix numeral =
     let all = digits_pass (c ∷ digits) numeral.1 in
-    (inr (found_is find_number Number finds_number _ _ _ (integer_found c digits suffix all)).1, (and_parts _ _ all).0)
+    (inr (found_is (find number) Number finds_number _ _ _ (integer_found c digits suffix all)).1, (and_parts _ _ all).0)
 
 pub unsigned_whole : (n : ℕ) (suffix : Suffix) → n < 2 ^ 128 → IsWholeLiteral (decimal n ++ suffix_text suffix)
 unsigned_whole n suffix h =
