@@ -6,8 +6,7 @@ use Rattle.std.specs.Int.{is_in_range}
 use Rattle.std.specs.List.{fold, list_all}
 use Rattle.std.proofs.lemmas.Bool.{cases_lt, both_ways, and_parts, or_cases, cond-true, cond-false, cond_both, leb-true, agree_below_at, false_from_ne_true, lt-ltb}
 use Rattle.std.proofs.lemmas.Bool.Decides.{nat_tests}
-use Rattle.lexical.specs.Quoted.{is_octal_digit, hex_value, is_scalar, is_code}
-use Rattle.lexical.specs.EscapeFinder.{is_code_digit}
+use Rattle.lexical.specs.Quoted.{is_octal_digit, hex_value, is_scalar, is_code, is_code_digit}
 
 -- the value with one digit more
 abbrev pub value_step : ℕ → ℕ → ℕ

@@ -5,7 +5,9 @@ use Rattle.std.specs.Char.{is_ascii, is_ascii_hexdigit}
 use Rattle.lexical.specs.Class.{is_ident_continue}
 use Rattle.lexical.specs.Text.{begins_with, begins_any, first_passes}
 use Rattle.lexical.specs.Form.{Form, Then, Either, Exactly, One, Many, Each}
-use Rattle.lexical.specs.Quoted.{is_string_plain, is_byte_plain, is_c_plain, Simple, LowPair, HexPair, NonzeroPair, Hex, Unicode, Escape, StringEscape, ByteEscape, CEscape, Newline, BodyUnit, Suffix, Body, Cooked, Str}
+use Rattle.lexical.specs.Rule.{Rule, Stands}
+use Rattle.lexical.specs.Quoted as rule
+use Rattle.lexical.specs.Quoted.{is_string_plain, is_byte_plain, is_c_plain, StringEscape, ByteEscape, CEscape, Newline, BodyUnit, Suffix, Body, Cooked, Str}
 use Rattle.lexical.specs.RawString.{RawUnit, RawQuotes, Raw}
 use Rattle.lexical.specs.SingleQuoted.{is_char_plain, is_byte_char_plain, SingleUnit, SingleQuoted}
 use Rattle.lexical.specs.Literal.{QuotedLiteral, Literal, AnyLiteral, IsLiteralToken}
@@ -16,11 +18,11 @@ use Rattle.lexical.proofs.IntegerLemmas.{number_before_stop}
 
 -- ---- forms that don't look at what follows
 
-free_hex_pair : Free HexPair
+free_hex_pair : Free (Stands rule.hex_pair)
 free_hex_pair = free_then (One is_ascii_hexdigit) (One is_ascii_hexdigit) (free_one is_ascii_hexdigit) (free_one is_ascii_hexdigit)
 
 -- two digits tell whether both are zero
-free_nonzero_pair : Free NonzeroPair
+free_nonzero_pair : Free (Stands rule.nonzero_pair)
 free_nonzero_pair p r s is =
     let pair = is.0 in
     let two : p ≡ pair.first.0 ∷ pair.second.0 ∷ [] = pair.whole ∙ (ap (λ x. x ++ pair.back) pair.first.1 ∙ ap (λ x. pair.first.0 ∷ x) pair.second.1) in (
@@ -28,18 +30,18 @@ free_nonzero_pair p r s is =
       ap (λ q. begins_any (codes "00" ∷ []) (q ++ s)) two ∙ (ap (λ q. begins_any (codes "00" ∷ []) (q ++ r)) (sym two) ∙ is.1),
     )
 
-free_escape : (letters : List ℕ) (Pair : Form) (allowed : ℕ → Bool) → Free Pair → Free (Escape letters Pair allowed)
-free_escape letters Pair allowed free = free_either (Simple letters) (Either (Hex Pair) (Unicode allowed)) (λ p r s is. is)
-    (free_either (Hex Pair) (Unicode allowed) (free_hex Pair free) (free_unicode allowed))
+free_escape : (letters : List ℕ) (pair : Rule) (allowed : ℕ → Bool) → Free (Stands pair) → Free (Stands (rule.escape_of letters pair allowed))
+free_escape letters pair allowed free = free_either (Stands (rule.simple letters)) _ (λ p r s is. is)
+    (free_either (Stands (rule.hex pair)) (Stands (rule.unicode allowed)) (free_hex pair free) (free_unicode allowed))
 
 free_string_escape : Free StringEscape
-free_string_escape = free_escape (codes "nrt\\0'\"") LowPair (λ n. true) free_low_pair
+free_string_escape = free_escape (codes "nrt\\0'\"") rule.low_pair (λ n. true) free_low_pair
 
 free_byte_escape : Free ByteEscape
-free_byte_escape = free_escape (codes "nrt\\0'\"") HexPair (λ n. false) free_hex_pair
+free_byte_escape = free_escape (codes "nrt\\0'\"") rule.hex_pair (λ n. false) free_hex_pair
 
 free_c_escape : Free CEscape
-free_c_escape = free_escape (codes "nrt\\'\"") NonzeroPair (λ n. nat_lt 0 n) free_nonzero_pair
+free_c_escape = free_escape (codes "nrt\\'\"") rule.nonzero_pair (λ n. nat_lt 0 n) free_nonzero_pair
 
 -- ---- where a text that goes on with no identifier takes the place of what follows
 

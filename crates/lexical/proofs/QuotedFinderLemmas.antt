@@ -1,40 +1,36 @@
 -- Quoted literals are found.
-use Rattle.std.proofs.Common.{◌≡◌, ℕ, Bool, true, false, not, ◌&&◌, ◌||◌, ◌==◌, List, [], ◌∷◌, ◌++◌, codes, nat_le, length, Some, refl, ap, ◌∙◌}
+use Rattle.std.proofs.Common.{◌≡◌, ℕ, Bool, true, false, not, ◌&&◌, ◌||◌, ◌==◌, List, [], ◌∷◌, ◌++◌, codes, nat_le, length, Option, Some, refl, ap, ◌∙◌}
 use Rattle.std.specs.List.{list_all}
-use Rattle.std.specs.Char.{is_ascii_hexdigit}
+use Rattle.std.specs.Str.{chars}
 use Rattle.std.proofs.lemmas.Bool.{both_ways, and_from}
 use Rattle.lexical.specs.Text.{begins_any}
-use Rattle.lexical.specs.Form.{Form, Then, Either, Exactly, One, Run}
-use Rattle.lexical.specs.Quoted.{is_one_of, is_octal_digit, is_code, LowPair, HexPair, NonzeroPair, Hex, Unicode, Escape, Newline, Continuation, BodyUnit, Suffix, Body, Cooked, Str}
+use Rattle.lexical.specs.Form.{Form, Then, Either, Exactly}
+use Rattle.lexical.specs.Quoted.{is_one_of, letters, pair, is_code_digit, code_digits, escape, Newline, Continuation, BodyUnit, Suffix, Body, Cooked, Str}
 use Rattle.lexical.specs.Literal.{QuotedLiteral}
 use Rattle.lexical.specs.RawString.{Hashes, RawUnit, RawQuotes, Raw}
 use Rattle.lexical.specs.SingleQuoted.{is_char_plain, is_byte_char_plain, SingleQuoted, Character, Byte}
 use Rattle.lexical.specs.Finder.{Finder, Finds}
-use Rattle.lexical.specs.EscapeFinder.{letters_of, allows_code, find_pair, find_hex, is_code_digit, find_digits, find_unicode, find_escape}
+use Rattle.lexical.specs.Rule.{Stands, find}
+use Rattle.lexical.specs.Reading as answers
+use Rattle.lexical.specs.Step.{Passes, Reads}
+use Rattle.lexical.specs.declared.cursor.Cursor.{Cursor}
 use Rattle.lexical.specs.QuotedFinder.{is_plain, find_newline, find_escaped, find_unit, find_suffix, find_body, string_front, find_cooked, is_raw, raw_front, find_hashes, find_raw_unit, find_raw_quotes, find_raw_string, find_single, find_character, find_byte, find_string, find_quoted}
 use Rattle.lexical.specs.declared.quoted.StringKind.{StringKind}
 use Rattle.lexical.specs.declared.quoted.StringKind.TheVariants as kinds
 use Rattle.lexical.proofs.TextLemmas.{begins_front}
-use Rattle.lexical.proofs.FinderLemmas.{finds_then, finds_not_at, finds_where, finds_one, finds_run, finds_text, found_is, then_whole}
+use Rattle.lexical.proofs.FinderLemmas.{finds_then, finds_not_at, finds_where, finds_one, finds_run, finds_text, then_whole}
 use Rattle.lexical.proofs.NameFinderLemmas.{finds_name}
+use Rattle.lexical.proofs.RuleLemmas as rules
+use Rattle.lexical.proofs.RuleLemmas.{Clear}
+use Rattle.lexical.proofs.RuleSteps.{answers_read}
 use Rattle.lexical.proofs.WordLemmas.{Disjoint, apart_sym, apart_either, either_apart, finds_apart, finds_perhaps, finds_next, NotEmpty, some_one, some_text, some_then, some_either, shows_one, shows_text, shows_front, apart_char, differ, apart_fronts}
 use Rattle.lexical.proofs.ManyLemmas.{finds_many_then}
 
 -- ---- the forms of each kind
 
--- the digits that may stand behind `x`
-abbrev pub PairOf : StringKind → Form
-PairOf kinds.Plain = LowPair
-PairOf kinds.Byte = HexPair
-PairOf kinds.C = NonzeroPair
-
--- an escape
-abbrev pub EscapeOf : StringKind → Form
-EscapeOf kind = Escape (letters_of kind) (PairOf kind) (allows_code kind)
-
 -- a unit
 abbrev pub UnitOf : StringKind → Form
-UnitOf kind = BodyUnit (is_plain kind) (EscapeOf kind)
+UnitOf kind = BodyUnit (is_plain kind) (Stands (escape kind))
 
 -- a string with escapes
 abbrev pub CookedOf : StringKind → Form
@@ -46,63 +42,67 @@ RawOf kind = Raw (raw_front kind) (is_raw kind)
 
 -- ---- escapes
 
-finds_hex_pair : Finds (find_pair kinds.Byte) HexPair
-finds_hex_pair = finds_then _ _ _ _ (finds_one is_ascii_hexdigit) (finds_one is_ascii_hexdigit)
-
-finds_pair : (kind : StringKind) → Finds (find_pair kind) (PairOf kind)
-finds_pair kinds.Plain = finds_then _ _ _ _ (finds_one is_octal_digit) (finds_one is_ascii_hexdigit)
-finds_pair kinds.Byte = finds_hex_pair
-finds_pair kinds.C = finds_not_at (codes "00" ∷ []) _ _ finds_hex_pair
-
-finds_hex : (kind : StringKind) → Finds (find_hex kind) (Hex (PairOf kind))
-finds_hex kind = finds_then _ _ _ _ (finds_text (codes "x")) (finds_pair kind)
-
-finds_digits : Finds find_digits (Then (One is_ascii_hexdigit) (Run is_code_digit))
-finds_digits = finds_then _ _ _ _ (finds_one is_ascii_hexdigit) (finds_run is_code_digit)
-
 -- a character's code has digits and `_` only
-pub digits_all : (text front rest : List ℕ) → find_digits text ≡ Some (front, rest) → list_all is_code_digit front ≡ true
-digits_all text front rest e =
-    let h = (found_is _ _ finds_digits text front rest e).1 in
-    let all : list_all is_code_digit (h.first.0 ∷ h.back) ≡ true = and_from _ _ (ap (λ b. b || (h.first.0 == 95)) h.first.2) h.second.each in
-    ap (list_all is_code_digit) (h.whole ∙ ap (λ x. x ++ h.back) h.first.1) ∙ all
+digits_is : (at to : Cursor) (h : Passes code_digits at to) → (chars at.rest.now ≡ h.front ++ chars to.rest.now) × Stands code_digits h.front (chars to.rest.now)
+digits_is at to h = rules.found_is code_digits (tt, tt) (chars at.rest.now) h.front (chars to.rest.now) h.found
 
-finds_unicode : (kind : StringKind) → Finds (find_unicode kind) (Unicode (allows_code kind))
-finds_unicode kind = finds_then _ _ _ _ (finds_text (codes "u{")) (finds_then _ _ _ _
-    (finds_where (λ p r. is_code (allows_code kind) p) _ _ (finds_then _ _ _ _ (finds_one is_ascii_hexdigit) (finds_run _))) (finds_text (codes "}")))
+pub digits_whole : (at to : Cursor) (h : Passes code_digits at to) → chars at.rest.now ≡ h.front ++ chars to.rest.now
+digits_whole at to h = (digits_is at to h).0
+
+pub digits_all : (at to : Cursor) (h : Passes code_digits at to) → list_all is_code_digit h.front ≡ true
+digits_all at to h =
+    let is = (digits_is at to h).1 in
+    let all : list_all is_code_digit (is.first.0 ∷ is.back) ≡ true = and_from _ _ (ap (λ b. b || (is.first.0 == 95)) is.first.2) is.second.each in
+    ap (list_all is_code_digit) (is.whole ∙ ap (λ x. x ++ is.back) is.first.1) ∙ all
 
 -- no letter is `x` or `u`, or a line end
-no_letter : (kind : StringKind) → (is_one_of (letters_of kind) 120 ≡ false)
-    × (is_one_of (letters_of kind) 117 ≡ false) × (is_one_of (letters_of kind) 10 ≡ false)
-    × (is_one_of (letters_of kind) 13 ≡ false)
+no_letter : (kind : StringKind) → (is_one_of (letters kind) 120 ≡ false)
+    × (is_one_of (letters kind) 117 ≡ false) × (is_one_of (letters kind) 10 ≡ false)
+    × (is_one_of (letters kind) 13 ≡ false)
 no_letter kinds.Plain = (refl, refl, refl, refl)
 no_letter kinds.Byte = (refl, refl, refl, refl)
 no_letter kinds.C = (refl, refl, refl, refl)
 
-pub finds_escape : (kind : StringKind) → Finds (find_escape kind) (EscapeOf kind)
-finds_escape kind =
-    let out = no_letter kind in
-    finds_apart _ _ _ _ (finds_one (is_one_of (letters_of kind)))
-    (finds_apart _ _ _ _ (finds_hex kind) (finds_unicode kind) (apart_fronts (codes "x") (codes "u{") _ _ refl))
-    (apart_either _ _ _ (apart_char _ 120 _ _ (shows_one _) (shows_front 120 [] _) out.0)
-    (apart_char _ 117 _ _ (shows_one _) (shows_front 117 (codes "{") _) out.1))
+clear_pair : (kind : StringKind) → Clear (pair kind)
+clear_pair kinds.Plain = (tt, tt)
+clear_pair kinds.Byte = (tt, tt)
+clear_pair kinds.C = (tt, tt)
+
+clear_escape : (kind : StringKind) → Clear (escape kind)
+clear_escape kind =
+    let out = no_letter kind in (
+      tt,
+      ((tt, clear_pair kind), (tt, ((tt, tt), tt)), apart_fronts (codes "x") (codes "u{") _ _ refl),
+      apart_either _ _ _ (apart_char _ 120 _ _ (shows_one _) (shows_front 120 [] _) out.0)
+          (apart_char _ 117 _ _ (shows_one _) (shows_front 117 (codes "{") _) out.1),
+    )
+
+pub finds_escape : (kind : StringKind) → Finds (find (escape kind)) (Stands (escape kind))
+finds_escape kind = rules.exact (escape kind) (clear_escape kind)
+
+pub passes_escape : (kind : StringKind) (at to : Cursor) → Passes (escape kind) at to → answers.Passes (find (escape kind) (chars at.rest.now)) at to
+passes_escape kind at to is = answers_read (escape kind) (escape kind) (clear_escape kind) at (Some to) refl is
+
+pub reads_escape : (kind : StringKind) (at : Cursor) (result : Option Cursor) → Reads (escape kind) at result
+    → answers.Reads (find (escape kind) (chars at.rest.now)) at result
+reads_escape kind at result is = answers_read (escape kind) (escape kind) (clear_escape kind) at result refl is
 
 -- ---- units
 
 finds_newline : Finds find_newline Newline
 finds_newline = finds_text (codes "\r\n")
 
-line_apart_escape : (kind : StringKind) → Disjoint Continuation (EscapeOf kind)
+line_apart_escape : (kind : StringKind) → Disjoint Continuation (Stands (escape kind))
 line_apart_escape kind =
     let out = no_letter kind in
-    let other : (n : ℕ) (more : List ℕ) → is_one_of (letters_of kind) n ≡ false → (n == 120) ≡ false
-    → (n == 117) ≡ false → Disjoint (Exactly (n ∷ more)) (EscapeOf kind) =
+    let other : (n : ℕ) (more : List ℕ) → is_one_of (letters kind) n ≡ false → (n == 120) ≡ false
+    → (n == 117) ≡ false → Disjoint (Exactly (n ∷ more)) (Stands (escape kind)) =
     λ n more letter x u. apart_either _ _ _ (apart_sym _ _ (apart_char _ n _ _ (shows_one _) (shows_text n more) letter))
     (apart_either _ _ _ (apart_sym _ _ (apart_char (λ d. d == 120) n _ _ (shows_front 120 [] _) (shows_text n more) x))
     (apart_sym _ _ (apart_char (λ d. d == 117) n _ _ (shows_front 117 (codes "{") _) (shows_text n more) u))) in
     either_apart _ _ _ (other 10 [] out.2 refl refl) (other 13 (codes "\n") out.3 refl refl)
 
-finds_escaped : (kind : StringKind) → Finds (find_escaped kind) (Either Continuation (EscapeOf kind))
+finds_escaped : (kind : StringKind) → Finds (find_escaped kind) (Either Continuation (Stands (escape kind)))
 finds_escaped kind = finds_apart _ _ _ _
     (finds_apart _ _ _ _ (finds_text (codes "\n")) finds_newline (apart_char (λ d. d == 10) 13 _ _ (shows_text 10 []) (shows_text 13 (codes "\n")) refl))
     (finds_escape kind) (line_apart_escape kind)
@@ -180,7 +180,7 @@ finds_raw_string kind = finds_then _ _ _ _ (finds_text (raw_front kind)) (finds_
 -- ---- single quotes
 
 finds_single : (front : List ℕ) (plain : ℕ → Bool) (kind : StringKind) → plain 92 ≡ false
-    → Finds (find_single front plain kind) (SingleQuoted front plain (EscapeOf kind))
+    → Finds (find_single front plain kind) (SingleQuoted front plain (Stands (escape kind)))
 finds_single front plain kind out = finds_then _ _ _ _ (finds_text front)
     (finds_then _ _ _ _ (finds_apart _ _ _ _ (finds_one plain)
     (finds_then _ _ _ _ (finds_text (codes "\\")) (finds_escape kind))

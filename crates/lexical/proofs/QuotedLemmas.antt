@@ -9,7 +9,9 @@ use Rattle.lexical.proofs.ClassLemmas.{any_of}
 use Rattle.lexical.specs.Text.{first_passes}
 use Rattle.lexical.specs.Form.{Form, HasNone, Then, Either, Exactly, One, Many, Each}
 use Rattle.lexical.specs.Identifier.{Name}
-use Rattle.lexical.specs.Quoted.{Simple, is_octal_digit, Hex, LowPair, Code, Unicode, StringEscape, Newline, Continuation, BodyUnit}
+use Rattle.lexical.specs.Rule.{Rule, Stands}
+use Rattle.lexical.specs.Quoted as rule
+use Rattle.lexical.specs.Quoted.{is_octal_digit, Newline, Continuation, BodyUnit}
 
 -- ---- forms that don't look at what follows
 
@@ -44,7 +46,7 @@ free_many A free p r s is = record { units = is.units; whole = is.whole; each = 
 -- ---- a string's units
 
 -- a code looks as far as the brace behind it
-free_braced : (allowed : ℕ → Bool) → Free (Then (Code allowed) (Exactly (codes "}")))
+free_braced : (allowed : ℕ → Bool) → Free (Then (Stands (rule.code allowed)) (Exactly (codes "}")))
 free_braced allowed p r s is =
     let digits = is.first.0 in
     let stops : first_passes (λ c. is_ascii_hexdigit c || (c == 95)) (is.back ++ s) ≡ false =
@@ -66,18 +68,14 @@ free_braced allowed p r s is =
       second = is.second;
     }
 
-pub free_unicode : (allowed : ℕ → Bool) → Free (Unicode allowed)
-free_unicode allowed = free_then (Exactly (codes "u{")) (Then (Code allowed) (Exactly (codes "}"))) (free_text (codes "u{")) (free_braced allowed)
+pub free_unicode : (allowed : ℕ → Bool) → Free (Stands (rule.unicode allowed))
+free_unicode allowed = free_then (Exactly (codes "u{")) (Then (Stands (rule.code allowed)) (Exactly (codes "}"))) (free_text (codes "u{")) (free_braced allowed)
 
-pub free_low_pair : Free LowPair
+pub free_low_pair : Free (Stands rule.low_pair)
 free_low_pair = free_then (One is_octal_digit) (One is_ascii_hexdigit) (free_one is_octal_digit) (free_one is_ascii_hexdigit)
 
-pub free_hex : (Pair : Form) → Free Pair → Free (Hex Pair)
-free_hex Pair free = free_then (Exactly (codes "x")) Pair (free_text (codes "x")) free
-
-free_string_escape : Free StringEscape
-free_string_escape = free_either (Simple (codes "nrt\\0'\"")) (Either (Hex LowPair) (Unicode (λ n. true))) (λ p r s is. is)
-    (free_either (Hex LowPair) (Unicode (λ n. true)) (free_hex LowPair free_low_pair) (free_unicode (λ n. true)))
+pub free_hex : (pair : Rule) → Free (Stands pair) → Free (Stands (rule.hex pair))
+free_hex pair free = free_then (Exactly (codes "x")) (Stands pair) (free_text (codes "x")) free
 
 pub free_unit : (plain : ℕ → Bool) (Escape : Form) → Free Escape → Free (BodyUnit plain Escape)
 free_unit plain Escape free = free_either (One plain) (Either Newline (Then (Exactly (codes "\\")) (Either Continuation Escape))) (free_one plain)

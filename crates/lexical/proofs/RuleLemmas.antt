@@ -2,9 +2,9 @@
 use Rattle.std.proofs.Common.{◌≡◌, ℕ, List, ◌++◌, Some, None}
 use Rattle.lexical.specs.Form.{HasNone}
 use Rattle.lexical.specs.Finder.{Finds}
-use Rattle.lexical.specs.Rule.{Rule, One, Run, Exactly, Then, Either, Else, NotAt, NotBefore, Stands, find}
+use Rattle.lexical.specs.Rule.{Rule, One, Run, Exactly, Then, Either, Else, NotAt, NotBefore, Where, Stands, find}
 use Rattle.lexical.proofs.FinderLemmas as finders
-use Rattle.lexical.proofs.FinderLemmas.{finds_then, finds_not_at, finds_not_before, finds_one, finds_run, finds_text}
+use Rattle.lexical.proofs.FinderLemmas.{finds_then, finds_not_at, finds_not_before, finds_where, finds_one, finds_run, finds_text}
 use Rattle.lexical.proofs.WordLemmas.{Disjoint, finds_apart, finds_else}
 
 -- the rules of each `Either` in the rule stand apart
@@ -17,6 +17,7 @@ Clear (Either a b) = Clear a × Clear b × Disjoint (Stands a) (Stands b)
 Clear (Else a b) = Clear a × Clear b
 Clear (NotAt fronts a) = Clear a
 Clear (NotBefore passes a) = Clear a
+Clear (Where test a) = Clear a
 
 pub exact : (rule : Rule) → Clear rule → Finds (find rule) (Stands rule)
 unfolding find
@@ -28,6 +29,7 @@ exact (Either a b) clear = finds_apart _ _ _ _ (exact a clear.0) (exact b clear.
 exact (Else a b) clear = finds_else _ _ _ _ (exact a clear.0) (exact b clear.1)
 exact (NotAt fronts a) clear = finds_not_at fronts _ _ (exact a clear)
 exact (NotBefore passes a) clear = finds_not_before passes _ _ (exact a clear)
+exact (Where test a) clear = finds_where (λ p r. test p) _ _ (exact a clear)
 
 -- ---- and so, for all rules
 

@@ -2,9 +2,9 @@
 use Rattle.std.proofs.Common.{◌≡◌, ℕ, Bool, true, false, cond, List, [], ◌++◌, length, Option, Some, None, refl, sym, ap, ◌∙◌, subst, arith, length-append}
 use Rattle.std.specs.Str.{chars}
 use Rattle.std.proofs.lemmas.Bool.{cond-true, cond-false}
-use Rattle.lexical.specs.Text.{first_passes}
-use Rattle.lexical.specs.Finder.{and_find, behind, or_find, unless_next, find_one, find_run, find_text}
-use Rattle.lexical.specs.Rule.{Rule, One, Run, Exactly, Then, Either, Else, NotBefore, find, nothing, perhaps}
+use Rattle.lexical.specs.Text.{begins_any, first_passes}
+use Rattle.lexical.specs.Finder.{and_find, behind, or_find, unless_next, if_passes, find_one, find_run, find_text}
+use Rattle.lexical.specs.Rule.{Rule, One, Run, Exactly, Then, Either, Else, NotAt, NotBefore, Where, find, nothing, perhaps}
 use Rattle.lexical.specs.Quoted.{suffix}
 use Rattle.lexical.specs.QuotedFinder.{find_suffix}
 use Rattle.lexical.specs.Reading as answers
@@ -104,6 +104,17 @@ pub before_lacks : (passes : ℕ → Bool) (a : Rule) (at to : Cursor) → Passe
 unfolding find
 before_lacks passes a at to h e = ap (unless_next passes) h.found ∙ cond-true _ _ _ e
 
+-- ---- `Where`
+
+pub where_passes : (test : List ℕ → Bool) (a : Rule) (at to : Cursor) (h : Passes a at to) → test h.front ≡ true → Passes (Where test a) at to
+unfolding find
+where_passes test a at to h e = record { front = h.front; found = ap (if_passes (λ p r. test p)) h.found ∙ cond-true _ _ _ e; count = h.count }
+
+pub where_lacks : (test : List ℕ → Bool) (a : Rule) (at to : Cursor) (h : Passes a at to) → test h.front ≡ false
+    → find (Where test a) (chars at.rest.now) ≡ None
+unfolding find
+where_lacks test a at to h e = ap (if_passes (λ p r. test p)) h.found ∙ cond-false _ _ _ e
+
 -- ---- what is found, word by word
 
 pub find_then : (a b : Rule) (text : List ℕ) → find (Then a b) text ≡ and_find (find b) (find a text)
@@ -122,6 +133,14 @@ pub find_not_before : (passes : ℕ → Bool) (a : Rule) (text : List ℕ) → f
 unfolding find
 find_not_before passes a text = refl
 
+pub find_not_at : (fronts : List (List ℕ)) (a : Rule) (text : List ℕ) → find (NotAt fronts a) text ≡ cond (begins_any fronts text) None (find a text)
+unfolding find
+find_not_at fronts a text = refl
+
+pub find_where : (test : List ℕ → Bool) (a : Rule) (text : List ℕ) → find (Where test a) text ≡ if_passes (λ p r. test p) (find a text)
+unfolding find
+find_where test a text = refl
+
 pub find_exactly : (front text : List ℕ) → find (Exactly front) text ≡ find_text front text
 unfolding find
 find_exactly front text = refl
@@ -132,4 +151,4 @@ find_nothing text = refl
 
 -- ---- all of them
 
-pub ruleset steps = (find_then, find_either, find_other, find_not_before, find_exactly, find_nothing, length-append, one_reads, run_passes, suffix_passes, then_passes, then_reads, then_lacks, then_fails, either_first, either_reads, else_first, else_reads, perhaps_stays, before_passes, before_lacks)
+pub ruleset steps = (find_then, find_either, find_other, find_not_at, find_not_before, find_where, find_exactly, find_nothing, length-append, one_reads, run_passes, suffix_passes, then_passes, then_reads, then_lacks, then_fails, either_first, either_reads, else_first, else_reads, perhaps_stays, before_passes, before_lacks)

@@ -53,6 +53,7 @@ Looks class (rules.Either a b) = Looks class a × Looks class b
 Looks class (rules.Else a b) = Looks class a × Looks class b × StaysNone class (Stands a)
 Looks class (rules.NotAt fronts a) = Stable class (Stands (rules.NotAt fronts a))
 Looks class (rules.NotBefore passes a) = Sub passes class × Looks class a
+Looks class (rules.Where test a) = Looks class a
 
 module _ (class : ℕ → Bool) where
   pub stops_stable : (passes : ℕ → Bool) → Sub passes class → (b r s : List ℕ) → first_passes class s ≡ false
@@ -113,6 +114,7 @@ module _ (class : ℕ → Bool) where
   stable (rules.Else a b) looks = stable_else (Stands a) (Stands b) (stable a looks.0) looks.2 (stable b looks.1)
   stable (rules.NotAt fronts a) looks = looks
   stable (rules.NotBefore passes a) looks = λ p b r s ends is. (stable a looks.1 p b r s ends is.0, stops_stable passes looks.0 b r s ends is.1)
+  stable (rules.Where test a) looks = λ p b r s ends is. (stable a looks p b r s ends is.0, is.1)
 
   -- a form that stands wherever its first character does
   pub first_none : (A : Form) (passes : ℕ → Bool) → Sub passes class → Shows passes A
@@ -149,6 +151,7 @@ Within class (rules.Either a b) = Within class a × Within class b
 Within class (rules.Else a b) = Within class a × Within class b
 Within class (rules.NotAt fronts a) = Within class a
 Within class (rules.NotBefore passes a) = Within class a
+Within class (rules.Where test a) = Within class a
 
 module _ (class : ℕ → Bool) where
   pub all_append : (xs ys : List ℕ) → list_all class xs ≡ true → list_all class ys ≡ true → list_all class (xs ++ ys) ≡ true
@@ -170,6 +173,7 @@ module _ (class : ℕ → Bool) where
   all_in (rules.Else a b) within = λ p r is. elim is [ inl x ↦ all_in a within.0 p r x | inr y ↦ all_in b within.1 p r y.1 ]
   all_in (rules.NotAt fronts a) within = λ p r is. all_in a within p r is.0
   all_in (rules.NotBefore passes a) within = λ p r is. all_in a within p r is.0
+  all_in (rules.Where test a) within = λ p r is. all_in a within p r is.0
 
 -- ---- forms that look at one character, and that stand whatever follows
 

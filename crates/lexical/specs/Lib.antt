@@ -23,7 +23,6 @@ pub mod Ascii
 pub mod Finder
 pub mod Rule
 pub mod CommentFinder
-pub mod EscapeFinder
 pub mod QuotedFinder
 pub mod IdentifierFinder
 pub mod MarkFinder

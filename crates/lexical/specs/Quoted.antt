@@ -3,9 +3,12 @@ use Rattle.std.specs.Prelude.{ℕ, Bool, true, false, not, ◌&&◌, ◌||◌, �
 use Rattle.std.specs.List.{list_any, fold}
 use Rattle.std.specs.Char.{is_ascii, is_digit, is_ascii_hexdigit, digit_value}
 use Rattle.lexical.specs.Character.{underscore}
-use Rattle.lexical.specs.Form.{Form, Then, NotAt, Where, Either, Many, Exactly, One, Run}
+use Rattle.lexical.specs.Form.{Form, Then, Either, Many, Exactly, One}
+use Rattle.lexical.specs.Rule as rules
 use Rattle.lexical.specs.Rule.{Rule, Stands, perhaps}
 use Rattle.lexical.specs.Identifier.{name}
+use Rattle.lexical.specs.declared.quoted.StringKind.{StringKind}
+use Rattle.lexical.specs.declared.quoted.StringKind.TheVariants.{Plain, Byte, C}
 
 -- whether the character is one of these
 abbrev pub is_one_of : List ℕ → ℕ → Bool
@@ -14,28 +17,40 @@ is_one_of characters c = list_any (λ d. d == c) characters
 -- ---- what stands behind a backslash
 
 -- `simple-escape`: one of these letters
-abbrev pub Simple : List ℕ → Form
-Simple letters = One (is_one_of letters)
+abbrev pub simple : List ℕ → Rule
+simple letters = rules.One (is_one_of letters)
+
+-- and which of them
+abbrev pub letters : StringKind → List ℕ
+letters Plain = codes "nrt\\0'\""
+letters Byte = codes "nrt\\0'\""
+letters C = codes "nrt\\'\""
 
 -- a digit from 0 to 7
 abbrev pub is_octal_digit : ℕ → Bool
 is_octal_digit c = is_digit c 8
 
 -- two hex digits, the first 0 to 7
-abbrev pub LowPair : Form
-LowPair = Then (One is_octal_digit) (One is_ascii_hexdigit)
+abbrev pub low_pair : Rule
+low_pair = rules.Then (rules.One is_octal_digit) (rules.One is_ascii_hexdigit)
 
 -- two hex digits
-abbrev pub HexPair : Form
-HexPair = Then (One is_ascii_hexdigit) (One is_ascii_hexdigit)
+abbrev pub hex_pair : Rule
+hex_pair = rules.Then (rules.One is_ascii_hexdigit) (rules.One is_ascii_hexdigit)
 
 -- two hex digits, not both zero
-abbrev pub NonzeroPair : Form
-NonzeroPair = NotAt (codes "00" ∷ []) HexPair
+abbrev pub nonzero_pair : Rule
+nonzero_pair = rules.NotAt (codes "00" ∷ []) hex_pair
+
+-- the digits behind `x`
+abbrev pub pair : StringKind → Rule
+pair Plain = low_pair
+pair Byte = hex_pair
+pair C = nonzero_pair
 
 -- `hex-escape`: `x` and two digits
-abbrev pub Hex : Form → Form
-Hex Pair = Then (Exactly (codes "x")) Pair
+abbrev pub hex : Rule → Rule
+hex pair = rules.Then (rules.Exactly (codes "x")) pair
 
 -- the number that hex digits write, whatever `_` stand between them
 abbrev pub hex_value : List ℕ → ℕ
@@ -49,29 +64,45 @@ is_scalar n = nat_lt n 0xD800 || (nat_le 0xE000 n && nat_lt n 0x11_0000)
 abbrev pub is_code : (ℕ → Bool) → List ℕ → Bool
 is_code allowed p = nat_le (length (filter is_ascii_hexdigit p)) 6 && (is_scalar (hex_value p) && allowed (hex_value p))
 
--- a hex digit and all the hex digits and `_` that follow, where they write a character
-abbrev pub Code : (ℕ → Bool) → Form
-Code allowed = Where (is_code allowed) (Then (One is_ascii_hexdigit) (Run (λ c. is_ascii_hexdigit c || (c == underscore))))
+-- a hex digit or `_`
+abbrev pub is_code_digit : ℕ → Bool
+is_code_digit c = is_ascii_hexdigit c || (c == underscore)
+
+-- a hex digit and all the hex digits and `_` that follow
+abbrev pub code_digits : Rule
+code_digits = rules.Then (rules.One is_ascii_hexdigit) (rules.Run is_code_digit)
+
+-- and these where they write a character that is allowed
+abbrev pub code : (ℕ → Bool) → Rule
+code allowed = rules.Where (is_code allowed) code_digits
 
 -- `unicode-escape`: `u{`, a character's code and `}`
-abbrev pub Unicode : (ℕ → Bool) → Form
-Unicode allowed = Then (Exactly (codes "u{")) (Then (Code allowed) (Exactly (codes "}")))
+abbrev pub unicode : (ℕ → Bool) → Rule
+unicode allowed = rules.Then (rules.Exactly (codes "u{")) (rules.Then (code allowed) (rules.Exactly (codes "}")))
+
+-- whether the escape of a character may give this one: of a byte none, of a C string all but zero
+abbrev pub allows : StringKind → ℕ → Bool
+allows Plain n = true
+allows Byte n = false
+allows C n = nat_lt 0 n
 
 -- one of these letters, `x` and such a pair, or the code of a character that is allowed
-abbrev pub Escape : List ℕ → Form → (ℕ → Bool) → Form
-Escape letters Pair allowed = Either (Simple letters) (Either (Hex Pair) (Unicode allowed))
+abbrev pub escape_of : List ℕ → Rule → (ℕ → Bool) → Rule
+escape_of letters pair allowed = rules.Either (simple letters) (rules.Either (hex pair) (unicode allowed))
 
--- `string-escape`
+-- `string-escape`, `byte-escape`, `c-string-escape`
+abbrev pub escape : StringKind → Rule
+escape kind = escape_of (letters kind) (pair kind) (allows kind)
+
+-- what they say
 abbrev pub StringEscape : Form
-StringEscape = Escape (codes "nrt\\0'\"") LowPair (λ n. true)
+StringEscape = Stands (escape Plain)
 
--- `byte-escape`: no character's code is allowed
 abbrev pub ByteEscape : Form
-ByteEscape = Escape (codes "nrt\\0'\"") HexPair (λ n. false)
+ByteEscape = Stands (escape Byte)
 
--- `c-string-escape`: none that gives zero
 abbrev pub CEscape : Form
-CEscape = Escape (codes "nrt\\'\"") NonzeroPair (λ n. nat_lt 0 n)
+CEscape = Stands (escape C)
 
 -- ---- the body
 

@@ -4,8 +4,8 @@ use Rattle.std.specs.Char.{is_ascii}
 use Rattle.lexical.specs.Character.{carriage_return, double_quote, hash_sign}
 use Rattle.lexical.specs.Class.{is_ident_start, is_ident_continue}
 use Rattle.lexical.specs.Finder.{Finder, find_then, find_next, find_else, find_not_at, find_where, find_one, find_run, find_text, find_nothing, find_many}
-use Rattle.lexical.specs.EscapeFinder.{find_escape}
-use Rattle.lexical.specs.Quoted.{is_string_plain, is_byte_plain, is_c_plain}
+use Rattle.lexical.specs.Rule.{find}
+use Rattle.lexical.specs.Quoted.{is_string_plain, is_byte_plain, is_c_plain, escape}
 use Rattle.lexical.specs.SingleQuoted.{is_char_plain, is_byte_char_plain}
 use Rattle.lexical.specs.declared.quoted.StringKind.{StringKind}
 use Rattle.lexical.specs.declared.quoted.StringKind.TheVariants.{Plain, Byte, C}
@@ -24,7 +24,7 @@ find_newline = find_text (codes "\r\n")
 
 -- what may stand behind a backslash
 abbrev pub find_escaped : StringKind → Finder
-find_escaped kind = find_else (find_else (find_text (codes "\n")) find_newline) (find_escape kind)
+find_escaped kind = find_else (find_else (find_text (codes "\n")) find_newline) (find (escape kind))
 
 -- a unit
 abbrev pub find_unit : StringKind → Finder
@@ -85,7 +85,7 @@ find_raw_string kind = find_then (find_text (raw_front kind)) (find_next find_ha
 
 -- one character or an escape
 abbrev pub find_single_unit : (ℕ → Bool) → StringKind → Finder
-find_single_unit plain kind = find_else (find_one plain) (find_then (find_text (codes "\\")) (find_escape kind))
+find_single_unit plain kind = find_else (find_one plain) (find_then (find_text (codes "\\")) (find (escape kind)))
 
 -- the quote behind it, and the suffix
 abbrev pub find_single_end : Finder

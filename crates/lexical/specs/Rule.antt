@@ -2,7 +2,7 @@
 use Rattle.std.specs.Prelude.{ℕ, Bool, List, []}
 use Rattle.lexical.specs.Form as forms
 use Rattle.lexical.specs.Form.{Form}
-use Rattle.lexical.specs.Finder.{Finder, find_then, find_else, find_not_at, find_not_before, find_one, find_run, find_text}
+use Rattle.lexical.specs.Finder.{Finder, find_then, find_else, find_not_at, find_not_before, find_where, find_one, find_run, find_text}
 
 -- a rule, by the words that forms are made of
 pub data Rule : Type 0 where
@@ -22,6 +22,8 @@ pub data Rule : Type 0 where
   NotAt : List (List ℕ) → Rule → Rule
   -- a piece of the rule, before no character that passes
   NotBefore : (ℕ → Bool) → Rule → Rule
+  -- a piece of the rule whose text passes
+  Where : (List ℕ → Bool) → Rule → Rule
 
 -- what the rule says: the text p is a piece of it, before r
 abbrev pub Stands : Rule → Form
@@ -33,6 +35,7 @@ Stands (Either a b) = forms.Either (Stands a) (Stands b)
 Stands (Else a b) = forms.Else (Stands a) (Stands b)
 Stands (NotAt fronts a) = forms.NotAt fronts (Stands a)
 Stands (NotBefore passes a) = forms.NotBefore passes (Stands a)
+Stands (Where test a) = forms.Where test (Stands a)
 
 -- the piece of the rule at the front of a text, and what follows it
 unfoldable pub find : Rule → Finder
@@ -44,6 +47,7 @@ find (Either a b) text = find_else (find a) (find b) text
 find (Else a b) text = find_else (find a) (find b) text
 find (NotAt fronts a) text = find_not_at fronts (find a) text
 find (NotBefore passes a) text = find_not_before passes (find a) text
+find (Where test a) text = find_where (λ p r. test p) (find a) text
 
 -- the empty text
 abbrev pub nothing : Rule

@@ -1,13 +1,15 @@
 //! Escapes: what stands behind a backslash.
+#![tactic(auto, using(crate::proofs::RuleSteps::steps))]
 
 ghost use Rattle.std.specs.Prelude.{◌≡◌, IsTrue, codes};
 ghost use Rattle.std.specs.Char.{is_ascii_hexdigit};
 ghost use Rattle.std.specs.List.{list_all};
 ghost use Rattle.std.specs.Str.{chars};
-ghost use Rattle.lexical.specs.Finder.{find_else, find_one, find_text, find_then};
-ghost use Rattle.lexical.specs.Quoted.{is_code, is_octal_digit, is_one_of};
-ghost use Rattle.lexical.specs.EscapeFinder.{allows_code, find_code, find_digits, find_escape, find_hex, find_hex_pair, find_pair, find_unicode, is_code_digit, letters_of};
-ghost use Rattle.lexical.specs.Reading.{Reads};
+ghost use Rattle.lexical.specs.Quoted as rule;
+ghost use Rattle.lexical.specs.Quoted.{is_code, is_code_digit, is_octal_digit, is_one_of};
+ghost use Rattle.lexical.specs.Reading as answers;
+ghost use Rattle.lexical.specs.Rule.{Either, Exactly, One, Then, find};
+ghost use Rattle.lexical.specs.Step.{Reads};
 
 use crate::cursor::Cursor;
 use crate::quoted::StringKind;
@@ -16,7 +18,7 @@ use crate::text::{before, begins, split_first};
 
 /// Whether the letter is a simple escape, by the rule `simple-escape`.
 fn is_letter(c: char, kind: StringKind) -> bool
-    ensures { result ≡ is_one_of (letters_of kind) c }
+    ensures { result ≡ is_one_of (rule.letters kind) c }
 {
     match c {
         'n' | 'r' | 't' | '\\' | '\'' | '"' => true,
@@ -27,35 +29,35 @@ fn is_letter(c: char, kind: StringKind) -> bool
 
 /// The place after the letter of a simple escape.
 fn simple(at: Cursor<'_>, kind: StringKind) -> Option<Cursor<'_>>
-    ensures { Reads (find_one (is_one_of (letters_of kind)) (chars at.entry.rest.now)) at.entry result }
+    ensures { Reads (One (is_one_of (rule.letters kind))) at.entry result }
 {
     one(at, |c| is_letter(c, kind))
 }
 
 /// The place after a hex digit.
 fn hex_digit(at: Cursor<'_>) -> Option<Cursor<'_>>
-    ensures { Reads (find_one is_ascii_hexdigit (chars at.entry.rest.now)) at.entry result }
+    ensures { Reads (One is_ascii_hexdigit) at.entry result }
 {
     one(at, |c| c.is_ascii_hexdigit())
 }
 
 /// The place after a digit from 0 to 7.
 fn octal_digit(at: Cursor<'_>) -> Option<Cursor<'_>>
-    ensures { Reads (find_one is_octal_digit (chars at.entry.rest.now)) at.entry result }
+    ensures { Reads (One is_octal_digit) at.entry result }
 {
     one(at, |c| matches!(c, '0'..='7'))
 }
 
 /// The place after two hex digits.
 fn hex_pair(at: Cursor<'_>) -> Option<Cursor<'_>>
-    ensures { Reads (find_hex_pair (chars at.entry.rest.now)) at.entry result }
+    ensures { Reads rule.hex_pair at.entry result }
 {
     hex_digit(hex_digit(at)?)
 }
 
 /// The place after two hex digits that may stand behind `x`.
 fn pair(at: Cursor<'_>, kind: StringKind) -> Option<Cursor<'_>>
-    ensures { Reads (find_pair kind (chars at.entry.rest.now)) at.entry result }
+    ensures { Reads (rule.pair kind) at.entry result }
 {
     match kind {
         StringKind::Plain => hex_digit(octal_digit(at)?),
@@ -71,7 +73,7 @@ fn pair(at: Cursor<'_>, kind: StringKind) -> Option<Cursor<'_>>
 
 /// The place after `x` and its two digits, by the rule `hex-escape`.
 fn hex(at: Cursor<'_>, kind: StringKind) -> Option<Cursor<'_>>
-    ensures { Reads (find_hex kind (chars at.entry.rest.now)) at.entry result }
+    ensures { Reads (rule.hex (rule.pair kind)) at.entry result }
 {
     pair(at.past("x")?, kind)
 }
@@ -85,14 +87,14 @@ fn goes_on(c: char) -> bool
 
 /// The place after a hex digit and all the hex digits and `_` that follow it.
 fn digits(at: Cursor<'_>) -> Option<Cursor<'_>>
-    ensures { Reads (find_digits (chars at.entry.rest.now)) at.entry result }
+    ensures { Reads rule.code_digits at.entry result }
 {
     Some(skip_while(hex_digit(at)?, goes_on))
 }
 
 /// Whether the escape of a character may give this one.
 fn allows(kind: StringKind, value: u32) -> bool
-    ensures { result ≡ allows_code kind value }
+    ensures { result ≡ rule.allows kind value }
 {
     match kind {
         StringKind::Plain => true,
@@ -107,7 +109,7 @@ const MOST_DIGITS: u32 = 6;
 /// Whether the hex digits, six at most, write a character that is allowed.
 fn writes_character(text: &str, kind: StringKind) -> bool
     requires { IsTrue (list_all is_code_digit (chars text.now)) }
-    ensures { result ≡ is_code (allows_code kind) (chars text.now) }
+    ensures { result ≡ is_code (rule.allows kind) (chars text.now) }
 {
     let mut value: u32 = 0;
     let mut count: u32 = 0;
@@ -127,7 +129,7 @@ fn writes_character(text: &str, kind: StringKind) -> bool
 
 /// The place after the code of a character.
 fn code(at: Cursor<'_>, kind: StringKind) -> Option<Cursor<'_>>
-    ensures { Reads (find_code kind (chars at.entry.rest.now)) at.entry result }
+    ensures { Reads (rule.code (rule.allows kind)) at.entry result }
 {
     let end = digits(at)?;
     if !writes_character(before(at.rest, end.rest), kind) {
@@ -138,21 +140,21 @@ fn code(at: Cursor<'_>, kind: StringKind) -> Option<Cursor<'_>>
 
 /// The place after a character's code and `}`.
 fn braced(at: Cursor<'_>, kind: StringKind) -> Option<Cursor<'_>>
-    ensures { Reads (find_then (find_code kind) (find_text (codes "}")) (chars at.entry.rest.now)) at.entry result }
+    ensures { Reads (Then (rule.code (rule.allows kind)) (Exactly (codes "}"))) at.entry result }
 {
     code(at, kind)?.past("}")
 }
 
 /// The place after `u{`, a character's code and `}`, by the rule `unicode-escape`.
 fn unicode(at: Cursor<'_>, kind: StringKind) -> Option<Cursor<'_>>
-    ensures { Reads (find_unicode kind (chars at.entry.rest.now)) at.entry result }
+    ensures { Reads (rule.unicode (rule.allows kind)) at.entry result }
 {
     braced(at.past("u{")?, kind)
 }
 
 /// The place after `x` and two digits, or the code of a character.
 fn long_escape(at: Cursor<'_>, kind: StringKind) -> Option<Cursor<'_>>
-    ensures { Reads (find_else (find_hex kind) (find_unicode kind) (chars at.entry.rest.now)) at.entry result }
+    ensures { Reads (Either (rule.hex (rule.pair kind)) (rule.unicode (rule.allows kind))) at.entry result }
 {
     match hex(at, kind) {
         Some(end) => Some(end),
@@ -161,8 +163,9 @@ fn long_escape(at: Cursor<'_>, kind: StringKind) -> Option<Cursor<'_>>
 }
 
 /// The place after an escape: a letter, `x` and two digits, or the code of a character.
+#[tactic(auto, using(crate::proofs::QuotedFinderLemmas::passes_escape, crate::proofs::QuotedFinderLemmas::reads_escape, crate::proofs::RuleSteps::steps))]
 pub fn escape(at: Cursor<'_>, kind: StringKind) -> Option<Cursor<'_>>
-    ensures { Reads (find_escape kind (chars at.entry.rest.now)) at.entry result }
+    ensures { answers.Reads (find (rule.escape kind) (chars at.entry.rest.now)) at.entry result }
 {
     match simple(at, kind) {
         Some(end) => Some(end),

@@ -3,9 +3,10 @@
 ghost use Rattle.std.specs.Prelude.{codes};
 ghost use Rattle.std.specs.Str.{chars};
 ghost use Rattle.lexical.specs.Finder.{find_text, find_then};
-ghost use Rattle.lexical.specs.EscapeFinder.{find_escape};
+ghost use Rattle.lexical.specs.Quoted as rule;
 ghost use Rattle.lexical.specs.QuotedFinder.{find_byte, find_character, find_single_end, find_single_unit};
 ghost use Rattle.lexical.specs.Reading.{Reads};
+ghost use Rattle.lexical.specs.Rule.{find};
 ghost use Rattle.lexical.specs.SingleQuoted.{is_byte_char_plain, is_char_plain};
 ghost use Rattle.lexical.specs.declared.quoted.StringKind.TheVariants as kinds;
 
@@ -16,7 +17,7 @@ use crate::skip::one;
 
 /// The place after a backslash and an escape.
 fn escaped(at: Cursor<'_>, kind: StringKind) -> Option<Cursor<'_>>
-    ensures { Reads (find_then (find_text (codes "\\")) (find_escape kind) (chars at.entry.rest.now)) at.entry result }
+    ensures { Reads (find_then (find_text (codes "\\")) (find (rule.escape kind)) (chars at.entry.rest.now)) at.entry result }
 {
     escape(at.past("\\")?, kind)
 }

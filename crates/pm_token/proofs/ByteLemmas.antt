@@ -6,7 +6,9 @@ use Rattle.std.specs.Char.{is_ascii, is_ascii_hexdigit}
 use Rattle.std.proofs.lemmas.Bool.{agree_below_at, cond_both, and_from, and_parts, ltb-true, lt-ltb, not-true}
 use Rattle.lexical.specs.Text.{begins_any}
 use Rattle.lexical.specs.Form.{Each}
-use Rattle.lexical.specs.Quoted.{HexPair, ByteEscape, ByteUnit, is_byte_plain}
+use Rattle.lexical.specs.Rule.{Stands}
+use Rattle.lexical.specs.Quoted as rule
+use Rattle.lexical.specs.Quoted.{ByteEscape, ByteUnit, is_byte_plain}
 use Rattle.lexical.specs.SingleQuoted.{is_byte_char_plain, SingleUnit, Byte}
 use Rattle.lexical.specs.Literal.{IsLiteralToken}
 use Rattle.lexical.specs.Literal as literals
@@ -20,7 +22,7 @@ use Rattle.pm_token.proofs.EscapedLemmas.{is_plain, Allows, written_stands, lett
 glyph_hex : (d : ℕ) → d < 16 → is_ascii_hexdigit (digit_glyph true d) ≡ true
 glyph_hex d low = agree_below_at (λ x. is_ascii_hexdigit (digit_glyph true x)) (λ x. true) 16 d refl low
 
-pub pair_hex : (b : ℕ) (r : List ℕ) → b < 256 → HexPair (hex_pair b) r
+pub pair_hex : (b : ℕ) (r : List ℕ) → b < 256 → Stands rule.hex_pair (hex_pair b) r
 pair_hex b r low = record {
   front = digit_glyph true (b / 16) ∷ [];
   back = digit_glyph true (b % 16) ∷ [];
@@ -35,7 +37,7 @@ pair_nonzero b r low some = not-true _ (
     sym (ap (λ zero. zero || not (begins_any (codes "00" ∷ []) (hex_pair b))) some)
     ∙ agree_below_at (λ x. (x == 0) || not (begins_any (codes "00" ∷ []) (hex_pair x))) (λ x. true) 256 b refl low)
 
-hex_escape : (p r : List ℕ) → HexPair p r → ByteEscape (codes "x" ++ p) r
+hex_escape : (p r : List ℕ) → Stands rule.hex_pair p r → ByteEscape (codes "x" ++ p) r
 hex_escape p r is = inr (inl (record { front = codes "x"; back = p; whole = refl; first = refl; second = is }))
 
 -- ---- one byte

@@ -11,7 +11,8 @@ use Rattle.std.proofs.lemmas.Str.{is_utf8-from_IsUtf8, encode_ascii, IsUtf8-appe
 use Rattle.std.proofs.lemmas.List.{take_at, take_all, drop_at}
 use Rattle.lexical.specs.Text.{first_passes}
 use Rattle.lexical.specs.Form.{Each}
-use Rattle.lexical.specs.Quoted.{is_octal_digit, NonzeroPair, CEscape, CUnit, CStr, is_c_plain}
+use Rattle.lexical.specs.Quoted as rule
+use Rattle.lexical.specs.Quoted.{is_octal_digit, CEscape, CUnit, CStr, is_c_plain}
 use Rattle.lexical.specs.SingleQuoted.{SingleUnit}
 use Rattle.lexical.specs.Literal.{IsLiteralToken}
 use Rattle.lexical.specs.Literal as literals
@@ -34,7 +35,7 @@ allows_c c scalar some = record {
   zeros = λ r e. absurd (both_ways _ some e);
   other = λ r plain. cond_both (is_bare c) (c ∷ []) (escape_unicode c) (λ p. SingleUnit is_c_plain CEscape p r)
       (λ e. inl (c, refl, and_from _ _ (string_plain c plain) (ap not some)))
-      (λ e. unicode (codes "nrt\\'\"") NonzeroPair (λ n. nat_lt 0 n) is_c_plain c r scalar (not_zero c some));
+      (λ e. unicode (codes "nrt\\'\"") rule.nonzero_pair (λ n. nat_lt 0 n) is_c_plain c r scalar (not_zero c some));
 }
 
 char_unit : (c : ℕ) (r : List ℕ) → IsScalar c → (c == 0) ≡ false → CUnit (part_text (Char c)) r

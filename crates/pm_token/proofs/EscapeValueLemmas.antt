@@ -3,7 +3,9 @@ use Rattle.std.proofs.Common.{◌≡◌, ℕ, ◌<◌, Bool, true, false, not, �
 use Rattle.std.specs.Char.{is_ascii}
 use Rattle.std.specs.List.{list_all}
 use Rattle.std.proofs.lemmas.Bool.{agree_below, agree_below_at, and_parts, both_ways, cond-false, false_from_ne_true, not-true, or_cases}
-use Rattle.lexical.specs.Quoted.{is_one_of, Simple, StringEscape, ByteEscape, CEscape}
+use Rattle.lexical.specs.Rule.{Stands}
+use Rattle.lexical.specs.Quoted as rule
+use Rattle.lexical.specs.Quoted.{is_one_of, StringEscape, ByteEscape, CEscape}
 use Rattle.literal_escaper.specs.Escape.{escape, letter, letter_unit}
 use Rattle.literal_escaper.specs.Kind.{Kind, byte_kind, c_kind, string_kind}
 use Rattle.literal_escaper.specs.Units.{c_char}
@@ -41,7 +43,7 @@ abbrev AreLetters : (ℕ → Bool) → List ℕ → Type 0
 AreLetters passes letters = (c : ℕ) → is_one_of letters c ≡ true → is_letter passes c ≡ true
 
 letter_escapes : {U : Type 0} (kind : Kind U) (spell : U → List ℕ) (makes : Makes) (passes : ℕ → Bool) (letters back r : List ℕ)
-    → Spells spell kind.of_char makes.of_char passes → AreLetters passes letters → Simple letters back r
+    → Spells spell kind.of_char makes.of_char passes → AreLetters passes letters → Stands (rule.simple letters) back r
     → EscapesAs kind spell (92 ∷ back) (escape_value makes back)
 unfolding escape
 letter_escapes kind spell makes passes letters back r spells are simple =

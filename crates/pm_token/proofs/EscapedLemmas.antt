@@ -7,7 +7,9 @@ use Rattle.std.specs.Char.Escape.{escape_unicode}
 use Rattle.std.proofs.lemmas.Bool.{cond_both, and_from, and_parts, or_from, not-true, eqb-false, le-leb}
 use Rattle.lexical.specs.Text.{first_passes}
 use Rattle.lexical.specs.Form.{Form, Then, Exactly, Many, Each}
-use Rattle.lexical.specs.Quoted.{is_one_of, is_octal_digit, is_scalar, hex_value, is_string_plain, Code, LowPair, Escape, StringEscape, BodyUnit, StringUnit, Suffix, Str}
+use Rattle.lexical.specs.Rule.{Rule, Stands}
+use Rattle.lexical.specs.Quoted as rule
+use Rattle.lexical.specs.Quoted.{is_one_of, is_octal_digit, is_scalar, hex_value, is_string_plain, StringEscape, BodyUnit, StringUnit, Suffix, Str}
 use Rattle.lexical.specs.SingleQuoted.{is_char_plain, SingleUnit, Character}
 use Rattle.lexical.specs.Literal.{IsLiteralToken}
 use Rattle.lexical.specs.Literal as literals
@@ -59,7 +61,7 @@ written_stands class Escape plain quote c rest r allows is =
 -- ---- characters of strings
 
 code : (allowed : ℕ → Bool) (c : ℕ) (p r : List ℕ) (is : IsCoded c p) → IsScalar c → allowed c ≡ true
-    → Code allowed (digits_of (is.first ∷ is.others)) (125 ∷ r)
+    → Stands (rule.code allowed) (digits_of (is.first ∷ is.others)) (125 ∷ r)
 code allowed c p r is scalar fits =
     let digits = is.first ∷ is.others in
     let count : length (filter is_ascii_hexdigit (digits_of digits)) ≤ 6 = omega (arith, length_digits digits is.hex, is.few) in
@@ -75,13 +77,13 @@ code allowed c p r is scalar fits =
     )
 
 -- the escape by a character's number
-pub unicode : (letters : List ℕ) (Pair : Form) (allowed class : ℕ → Bool) (c : ℕ) (r : List ℕ) → IsScalar c → allowed c ≡ true
-    → SingleUnit class (Escape letters Pair allowed) (escape_unicode c) r
-unicode letters Pair allowed class c r scalar fits =
+pub unicode : (letters : List ℕ) (pair : Rule) (allowed class : ℕ → Bool) (c : ℕ) (r : List ℕ) → IsScalar c → allowed c ≡ true
+    → SingleUnit class (Stands (rule.escape_of letters pair allowed)) (escape_unicode c) r
+unicode letters pair allowed class c r scalar fits =
     let is = coded c scalar in
     let digits = digits_of (is.first ∷ is.others) in
-    subst (λ q. SingleUnit class (Escape letters Pair allowed) q r) (sym is.whole)
-    (behind_backslash class (Escape letters Pair allowed) (117 ∷ 123 ∷ (digits ++ 125 ∷ [])) r (inr (inr (record {
+    subst (λ q. SingleUnit class (Stands (rule.escape_of letters pair allowed)) q r) (sym is.whole)
+    (behind_backslash class (Stands (rule.escape_of letters pair allowed)) (117 ∷ 123 ∷ (digits ++ 125 ∷ [])) r (inr (inr (record {
       front = codes "u{";
       back = digits ++ 125 ∷ [];
       whole = refl;
@@ -113,7 +115,7 @@ allows_char class quote c scalar within = record {
   letter = λ letter r is. inl (letter, refl, letter_of_all letter is);
   zeros = λ r e. zeros_of_string r;
   other = λ r plain. cond_both (is_bare c) (c ∷ []) (escape_unicode c) (λ p. SingleUnit class StringEscape p r)
-      (λ e. inl (c, refl, within c plain)) (λ e. unicode (codes "nrt\\0'\"") LowPair (λ n. true) class c r scalar refl);
+      (λ e. inl (c, refl, within c plain)) (λ e. unicode (codes "nrt\\0'\"") rule.low_pair (λ n. true) class c r scalar refl);
 }
 
 -- ---- bodies

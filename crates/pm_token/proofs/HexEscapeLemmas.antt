@@ -4,7 +4,9 @@ use Rattle.std.specs.Char.{digit_value, is_ascii_hexdigit}
 use Rattle.std.specs.Int.{is_in_range}
 use Rattle.std.proofs.lemmas.Bool.{agree_below_at, and_from, and_parts, both_ways, cond_both, cond-false, cond-true, false_from_ne_true, lt-ltb, ltb-false, not-true, or_cases}
 use Rattle.lexical.specs.Text.{begins_any}
-use Rattle.lexical.specs.Quoted.{is_octal_digit, hex_value, Hex, HexPair, LowPair, NonzeroPair}
+use Rattle.lexical.specs.Rule.{Stands}
+use Rattle.lexical.specs.Quoted as rule
+use Rattle.lexical.specs.Quoted.{is_octal_digit, hex_value}
 use Rattle.literal_escaper.specs.Escape.{escape, hex_escape, is_hex}
 use Rattle.literal_escaper.specs.Kind.{Kind, byte_kind, c_kind, string_kind}
 use Rattle.literal_escaper.specs.Units.{byte_unit}
@@ -81,7 +83,7 @@ octal_hex c h = cond_both (nat_lt c 128) true false (λ b. is_ascii_hexdigit c �
         ∙ cond-false _ _ _ (above e 123 (omega arith)))))) in
         both_ways (nat_lt (digit_value c) 8) (ap (λ d. nat_lt d 8) value) h
 
-pub low_pair : (back r : List ℕ) → Hex LowPair back r → EscapesAs string_kind one (92 ∷ back) (escape_value numbers back)
+pub low_pair : (back r : List ℕ) → Stands (rule.hex rule.low_pair) back r → EscapesAs string_kind one (92 ∷ back) (escape_value numbers back)
 low_pair back r is =
     let a = is.second.first.0 in
     let b = is.second.second.0 in
@@ -93,7 +95,7 @@ low_pair back r is =
     pair_escapes string_kind one numbers a b back whole (octal_hex a is.second.first.2) is.second.second.2
     (record { unit = 16 * digit_value a + digit_value b; is = cond-true _ _ _ small; value_is = refl })
 
-pub hex_pair : (back r : List ℕ) → Hex HexPair back r → EscapesAs byte_kind one (92 ∷ back) (escape_value numbers back)
+pub hex_pair : (back r : List ℕ) → Stands (rule.hex rule.hex_pair) back r → EscapesAs byte_kind one (92 ∷ back) (escape_value numbers back)
 hex_pair back r is =
     let a = is.second.first.0 in
     let b = is.second.second.0 in
@@ -109,7 +111,7 @@ zero_digit c h zero =
     128 c refl (hex_low c h) in
     eqb-true c 48 (sym (ap (λ b. b && (c == 48)) h) ∙ (sym agree ∙ and_from _ _ h (ap (λ n. n == 0) zero)))
 
-pub nonzero_pair : (back r : List ℕ) → Hex NonzeroPair back r → EscapesAs c_kind unit_bytes (92 ∷ back) (escape_value utf8 back)
+pub nonzero_pair : (back r : List ℕ) → Stands (rule.hex rule.nonzero_pair) back r → EscapesAs c_kind unit_bytes (92 ∷ back) (escape_value utf8 back)
 nonzero_pair back r is =
     let pair = is.second.0 in
     let a = pair.first.0 in

@@ -4,7 +4,9 @@ use Rattle.std.specs.Prelude.{filter, cond}
 use Rattle.std.specs.Char.{digit_value, is_ascii_hexdigit}
 use Rattle.std.specs.List.{fold, list_all}
 use Rattle.std.proofs.lemmas.Bool.{agree_below_at, and_from, and_parts, cond_both, cond-false, cond-true, false_from_ne_true, not-true, or_cases}
-use Rattle.lexical.specs.Quoted.{is_scalar, is_code, hex_value, Unicode}
+use Rattle.lexical.specs.Rule.{Stands}
+use Rattle.lexical.specs.Quoted as rule
+use Rattle.lexical.specs.Quoted.{is_scalar, is_code, hex_value}
 use Rattle.literal_escaper.specs.Escape.{closed, code_unit, coded, escape, is_code_character, is_hex, unicode_escape}
 use Rattle.literal_escaper.specs.Kind.{Kind, character}
 use Rattle.literal_escaper.specs.Text.{while_front, while_rest}
@@ -128,7 +130,7 @@ code_in n (c ∷ cs) all =
     (λ e. code_in n cs parts.1 ∙ ap (λ m. fold value_step m cs) (sym (cond-true _ _ _ (sym (ap (λ b. b || (c == 95)) e) ∙ parts.0))))
 
 pub unicode_escapes : {U : Type 0} (kind : Kind U) (spell : U → List ℕ) (makes : Makes) (allowed : ℕ → Bool) (back r : List ℕ)
-    → Spells spell (λ c. kind.of_code (Ok c)) makes.of_char allowed → Unicode allowed back r
+    → Spells spell (λ c. kind.of_code (Ok c)) makes.of_char allowed → Stands (rule.unicode allowed) back r
     → EscapesAs kind spell (92 ∷ back) (escape_value makes back)
 unicode_escapes kind spell makes allowed back r spells is =
     let code = is.second.first in

@@ -1,12 +1,26 @@
-use Rattle.std.proofs.Common.{ap, ◌∙◌}
+use Rattle.std.proofs.Common.{ap, sym, ◌∙◌}
 use Rattle.std.specs.List.{list_all}
-use Rattle.std.specs.Str.{chars}
-use Rattle.lexical.specs.EscapeFinder.{is_code_digit}
-use Rattle.lexical.proofs.QuotedFinderLemmas.{digits_all}
+use Rattle.lexical.specs.Quoted.{is_code, is_code_digit, code_digits, allows}
+use Rattle.lexical.proofs.RuleSteps.{where_passes, where_lacks}
+use Rattle.lexical.proofs.QuotedFinderLemmas.{digits_whole, digits_all}
 use Rattle.lexical.proofs.escapes.code.Goals as goal
+
+pub before-requires : goal.before-requires
+before-requires c = (c.in_ok-end.ensures.front, digits_whole _ _ c.in_ok-end.ensures)
 
 pub writes_character-requires : goal.writes_character-requires
 writes_character-requires c =
     let pass = c.in_ok-end.ensures in
-    ap (list_all is_code_digit) (c.before-2.ensures pass.front pass.whole)
-    ∙ digits_all (chars c.args.at.rest.now) pass.front (chars c.in_ok-end.end.rest.now) pass.found
+    ap (list_all is_code_digit) (c.before-2.ensures pass.front (digits_whole _ _ pass)) ∙ digits_all _ _ pass
+
+pub returns-then-not-writes_character : goal.returns-then-not-writes_character
+returns-then-not-writes_character c =
+    let pass = c.in_ok-end.ensures in
+    where_lacks (is_code (allows c.args.kind)) code_digits _ _ pass
+    (ap (is_code (allows c.args.kind)) (sym (c.before-2.ensures pass.front (digits_whole _ _ pass))) ∙ (sym c.writes_character.ensures ∙ c.if-not-writes_character.true))
+
+pub returns : goal.returns
+returns c =
+    let pass = c.in_ok-end.ensures in
+    where_passes (is_code (allows c.args.kind)) code_digits _ _ pass
+    (ap (is_code (allows c.args.kind)) (sym (c.before-2.ensures pass.front (digits_whole _ _ pass))) ∙ (sym c.writes_character.ensures ∙ c.if-not-writes_character.false))

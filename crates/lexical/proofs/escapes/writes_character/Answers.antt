@@ -1,6 +1,6 @@
 use Rattle.std.proofs.Common.{List, ℕ, sym}
 use Rattle.std.specs.Str.{chars}
-use Rattle.lexical.specs.EscapeFinder.{allows_code}
+use Rattle.lexical.specs.Quoted.{allows}
 use Rattle.lexical.proofs.CodeLemmas.{CountsTo, reads_digit, reads_line, digits_tail, no_code_long, no_code_great}
 use Rattle.lexical.proofs.escapes.writes_character.Goals as goal
 use Rattle.lexical.proofs.escapes.writes_character.Goals.{in-Some-to_digit, in_default-to_digit}
@@ -21,9 +21,9 @@ returns-then-count-gt-MOST_DIGITS c =
     let value : ℕ = c.match-to_digit.value in
     let count : ℕ = c.match-to_digit.count in
     sym (elim c.then-count-gt-MOST_DIGITS.branch [
-      | then-count-gt-MOST_DIGITS-via-then-count-gt-MOST_DIGITS w ↦ no_code_long (allows_code c.args.kind) value count after text counts w.if-count-gt-MOST_DIGITS.true
+      | then-count-gt-MOST_DIGITS-via-then-count-gt-MOST_DIGITS w ↦ no_code_long (allows c.args.kind) value count after text counts w.if-count-gt-MOST_DIGITS.true
       | then-count-gt-MOST_DIGITS-via-else-count-gt-MOST_DIGITS+then-value-gt1114111 w ↦
-          no_code_great (allows_code c.args.kind) value count after text counts w.if-value-gt1114111.true
+          no_code_great (allows c.args.kind) value count after text counts w.if-value-gt1114111.true
     ])
 
 pub loop-c-preserved : goal.loop-c-preserved

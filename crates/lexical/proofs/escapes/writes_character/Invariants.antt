@@ -3,7 +3,7 @@ use denote.Text.{Utf8}
 use denote.Shadow.{shadow}
 use Rattle.std.specs.List.{list_all}
 use Rattle.std.specs.Str.{chars}
-use Rattle.lexical.specs.EscapeFinder.{is_code_digit}
+use Rattle.lexical.specs.Quoted.{is_code_digit}
 use Rattle.lexical.proofs.CodeLemmas.{CountsTo}
 use Rattle.lexical.proofs.escapes.writes_character.Given as goal
 
