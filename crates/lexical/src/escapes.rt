@@ -1,14 +1,14 @@
 //! Escapes: what stands behind a backslash.
 #![tactic(auto, using(crate::proofs::RuleSteps::steps))]
 
-ghost use Rattle.std.specs.Prelude.{◌≡◌, IsTrue, codes};
+ghost use Rattle.std.specs.Prelude.{◌≡◌, IsTrue};
 ghost use Rattle.std.specs.Char.{is_ascii_hexdigit};
 ghost use Rattle.std.specs.List.{list_all};
 ghost use Rattle.std.specs.Str.{chars};
 ghost use Rattle.lexical.specs.Quoted as rule;
 ghost use Rattle.lexical.specs.Quoted.{is_code, is_code_digit, is_octal_digit, is_one_of};
 ghost use Rattle.lexical.specs.Reading as answers;
-ghost use Rattle.lexical.specs.Rule.{Either, Exactly, One, Then, find};
+ghost use Rattle.lexical.specs.Rule.{One, find};
 ghost use Rattle.lexical.specs.Step.{Reads};
 
 use crate::cursor::Cursor;
@@ -138,28 +138,11 @@ fn code(at: Cursor<'_>, kind: StringKind) -> Option<Cursor<'_>>
     Some(end)
 }
 
-/// The place after a character's code and `}`.
-fn braced(at: Cursor<'_>, kind: StringKind) -> Option<Cursor<'_>>
-    ensures { Reads (Then (rule.code (rule.allows kind)) (Exactly (codes "}"))) at.entry result }
-{
-    code(at, kind)?.past("}")
-}
-
 /// The place after `u{`, a character's code and `}`, by the rule `unicode-escape`.
 fn unicode(at: Cursor<'_>, kind: StringKind) -> Option<Cursor<'_>>
     ensures { Reads (rule.unicode (rule.allows kind)) at.entry result }
 {
-    braced(at.past("u{")?, kind)
-}
-
-/// The place after `x` and two digits, or the code of a character.
-fn long_escape(at: Cursor<'_>, kind: StringKind) -> Option<Cursor<'_>>
-    ensures { Reads (Either (rule.hex (rule.pair kind)) (rule.unicode (rule.allows kind))) at.entry result }
-{
-    match hex(at, kind) {
-        Some(end) => Some(end),
-        None => unicode(at, kind),
-    }
+    code(at.past("u{")?, kind)?.past("}")
 }
 
 /// The place after an escape: a letter, `x` and two digits, or the code of a character.
@@ -167,8 +150,11 @@ fn long_escape(at: Cursor<'_>, kind: StringKind) -> Option<Cursor<'_>>
 pub fn escape(at: Cursor<'_>, kind: StringKind) -> Option<Cursor<'_>>
     ensures { answers.Reads (find (rule.escape kind) (chars at.entry.rest.now)) at.entry result }
 {
-    match simple(at, kind) {
+    if let Some(end) = simple(at, kind) {
+        return Some(end);
+    }
+    match hex(at, kind) {
         Some(end) => Some(end),
-        None => long_escape(at, kind),
+        None => unicode(at, kind),
     }
 }

@@ -167,15 +167,6 @@ fn base_digits(at: Cursor<'_>, base: u32) -> Option<Cursor<'_>>
     Some(skip_base_digits(base_digit(at, base)?, base))
 }
 
-/// The place after `_`, and digits of the base behind them.
-fn some_digits(at: Cursor<'_>, base: u32) -> Option<Cursor<'_>>
-    requires low { 2 ≤ base }
-    requires high { base ≤ 36 }
-    ensures { Reads (Then (Run is_underscore) (rule.base_digits base)) at.entry result }
-{
-    base_digits(skip_underscores(at), base)
-}
-
 /// The place after the digits of the base, where none follows that is too large, by the rule
 /// `base-digits`.
 fn digits_in(at: Cursor<'_>, base: u32) -> Option<Cursor<'_>>
@@ -183,7 +174,7 @@ fn digits_in(at: Cursor<'_>, base: u32) -> Option<Cursor<'_>>
     requires high { base ≤ 36 }
     ensures { Reads (rule.digits_in base) at.entry result }
 {
-    let end = some_digits(at, base)?;
+    let end = base_digits(skip_underscores(at), base)?;
     if is_next(end, |c| c.is_ascii_digit()) {
         None
     } else {
@@ -214,13 +205,6 @@ fn based(at: Cursor<'_>) -> Option<Cursor<'_>>
     }
 }
 
-/// The place after such digits and the suffix.
-fn based_end(at: Cursor<'_>) -> Option<Cursor<'_>>
-    ensures { Reads (Then rule.based rule.end) at.entry result }
-{
-    end(based(at)?)
-}
-
 /// Whether the prefix of a base begins the text.
 #[tactic(auto)]
 fn begins_based(text: &str) -> bool
@@ -230,12 +214,12 @@ fn begins_based(text: &str) -> bool
 }
 
 /// The place after the number that stands at the place, by the rule `number`.
-#[tactic(auto, using(crate::proofs::NumberFinderLemmas::reads_based, crate::proofs::NumberFinderLemmas::reads_decimal))]
+#[tactic(auto, using(crate::proofs::NumberFinderLemmas::reads_based, crate::proofs::NumberFinderLemmas::reads_decimal, crate::proofs::RuleSteps::steps))]
 pub fn number(at: Cursor<'_>) -> Option<Cursor<'_>>
     ensures { answers.Reads (find rule.number (chars at.entry.rest.now)) at.entry result }
 {
     if begins_based(at.rest) {
-        based_end(at)
+        end(based(at)?)
     } else {
         decimal(at)
     }
