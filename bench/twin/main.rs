@@ -3,8 +3,10 @@
 //! `twin print` does what `tokens print` does, and `twin spans` what `tokens spans` does, on a stack that
 //! grows with the nesting of groups. `twin answers` reads lines as those of crates/conformance/stdin, and
 //! writes each with the crate's own answer. `twin lists SEED COUNT` writes such lines for lists of trees by
-//! chance.
+//! chance. `twin call WORD COUNT` reads a text, makes the call that the word names so many times, and prints the
+//! processor time that the calls took, in nanoseconds, and a number by which their answers are compared.
 mod answers;
+mod calls;
 mod lists;
 mod random_lists;
 mod spans;
@@ -92,6 +94,15 @@ fn lists(seed: u64, count: u64) -> io::Result<()> {
     out.flush()
 }
 
+/// Times calls on the text of standard input.
+fn call(word: &str, count: u32) -> io::Result<()> {
+    let Some(measured) = calls::measure(word, count, &io::read_to_string(io::stdin())?) else {
+        usage()
+    };
+    println!("{} {}", measured.time.as_nanos(), measured.check);
+    Ok(())
+}
+
 fn run(word: &str) -> io::Result<()> {
     let mut bytes = Vec::new();
     io::stdin().read_to_end(&mut bytes)?;
@@ -116,7 +127,7 @@ fn run(word: &str) -> io::Result<()> {
 }
 
 fn usage() -> ! {
-    eprintln!("usage: twin print|spans|answers, or twin lists SEED COUNT");
+    eprintln!("usage: twin print|spans|answers, twin lists SEED COUNT, or twin call WORD COUNT");
     exit(2)
 }
 
@@ -125,6 +136,10 @@ fn main() -> io::Result<()> {
     match words.iter().map(String::as_str).collect::<Vec<_>>().as_slice() {
         [word @ ("print" | "spans")] => run(word),
         ["answers"] => answers(),
+        ["call", word, count] => match count.parse() {
+            Ok(count) => call(word, count),
+            Err(_) => usage(),
+        },
         ["lists", seed, count] => {
             let [Ok(seed), Ok(count)] = [seed.parse(), count.parse()] else {
                 usage()
