@@ -1,0 +1,137 @@
+-- What the calls of a session answer.
+use Rattle.std.specs.Prelude.{ℕ, Bool, ◌≡◌, ◌↔◌, ◌≤◌, ◌+◌, List, flat_map, length, Option, Some, None, Result, Ok}
+use Rattle.std.specs.String.{string_bytes}
+use Rattle.std.specs.Str.{chars, IsUtf8, encode_utf8_all}
+use Rattle.slab.specs.Slab.{get, Updates}
+use Rattle.proc_macro2.specs.CString.{IsCStringText}
+use Rattle.proc_macro2.specs.Extent.{Extent}
+use Rattle.proc_macro2.specs.Files.{Files, next_lo, with_file}
+use Rattle.proc_macro2.specs.Forest.{Forest}
+use Rattle.proc_macro2.specs.IdentFault.{ident_fault}
+use Rattle.proc_macro2.specs.InOrder.{in_order}
+use Rattle.proc_macro2.specs.LiteralText.{IsWholeLiteral}
+use Rattle.proc_macro2.specs.Lookup.{HasName, IsTextOf}
+use Rattle.proc_macro2.specs.Parsing.{ParsesTo}
+use Rattle.proc_macro2.specs.Printed.{printed}
+use Rattle.proc_macro2.specs.declared.ConversionErrorKind.{ConversionErrorKind}
+use Rattle.proc_macro2.specs.declared.IdentError.TheVariants as faults
+use Rattle.pm_c.specs.Listing.{kept_text, records_from}
+use Rattle.pm_c.specs.declared.codes.TheConstants.{NAME_EMPTY, NAME_NUMBER, NAME_INVALID, NAME_RESERVED}
+use Rattle.pm_c.specs.declared.records.PmAnswer.{PmAnswer}
+use Rattle.pm_c.specs.declared.records.PmTree.{PmTree}
+use Rattle.pm_c.specs.declared.session.Session.{Session}
+
+-- the stream has this number now, which no stream had before
+pub record IsKept (old : Session) (stream : Forest) (new : Session) (number : ℕ) : Type 0 where
+  pub vacant : get old.streams number ≡ None
+  pub stands : Updates old.streams new.streams number (Some stream)
+  pub map : new.map ≡ old.map
+
+-- the text was parsed, it is a file of the map, and its stream has this number
+pub record IsRead (old : Session) (source : List ℕ) (new : Session) (number : ℕ) : Type 0 where
+  pub stream : Forest
+  pub parses : ParsesTo (next_lo old.map) source stream
+  pub vacant : get old.streams number ≡ None
+  pub stands : Updates old.streams new.streams number (Some stream)
+  pub map : new.map ≡ with_file old.map source
+
+-- a stream had this number, and none has it now; the others keep theirs
+pub record IsFreed (old : Session) (number : ℕ) (new : Session) : Type 0 where
+  pub stream : Forest
+  pub stood : get old.streams number ≡ Some stream
+  pub gone : Updates old.streams new.streams number None
+
+-- the answer counts the session's records, and the bytes of its text
+pub record HasCounts (session : Session) (answer : PmAnswer) : Type 0 where
+  pub number : answer.number ≡ length session.trees.items
+  pub bytes : answer.bytes ≡ length (string_bytes session.text)
+
+-- the session's records and text are the stream's
+pub record Lends (session : Session) (stream : Forest) : Type 0 where
+  pub trees : session.trees.items ≡ records_from 0 (in_order stream)
+  pub text : string_bytes session.text ≡ flat_map kept_text (in_order stream)
+
+-- the text was parsed, it is a file of the map, and the records and texts are those of its stream
+pub record IsReadAndListed (old : Session) (source : List ℕ) (new : Session) (answer : PmAnswer) : Type 0 where
+  pub stream : Forest
+  pub parses : ParsesTo (next_lo old.map) source stream
+  pub lends : Lends new stream
+  pub counts : HasCounts new answer
+  pub map : new.map ≡ with_file old.map source
+
+-- the records and texts are those of the stream of this number
+pub record IsListed (old : Session) (number : ℕ) (new : Session) (answer : PmAnswer) : Type 0 where
+  pub stream : Forest
+  pub stands : get old.streams number ≡ Some stream
+  pub lends : Lends new stream
+  pub counts : HasCounts new answer
+
+-- the session's text is the printed stream, and has so many bytes
+pub record HasPrinted (session : Session) (stream : Forest) (answer : PmAnswer) : Type 0 where
+  pub text : string_bytes session.text ≡ encode_utf8_all (printed stream)
+  pub bytes : answer.bytes ≡ length (string_bytes session.text)
+
+-- the session's text is the printed stream of this number
+pub record IsPrinted (old : Session) (number : ℕ) (new : Session) (answer : PmAnswer) : Type 0 where
+  pub stream : Forest
+  pub stands : get old.streams number ≡ Some stream
+  pub has : HasPrinted new stream answer
+
+-- the records and texts are the stream's
+pub record ListsAs (stream : Forest) (trees : List PmTree) (text : List ℕ) : Type 0 where
+  pub records : trees ≡ records_from 0 (in_order stream)
+  pub texts : text ≡ flat_map kept_text (in_order stream)
+
+-- the records and texts are those of a stream, which is printed
+pub record PrintsRecords (trees : List PmTree) (text : List ℕ) (new : Session) (answer : PmAnswer) : Type 0 where
+  pub stream : Forest
+  pub lists : ListsAs stream trees text
+  pub has : HasPrinted new stream answer
+
+-- the code says which fault the name has
+pub record NamesFault (raw : Bool) (name : List ℕ) (code : ℕ) : Type 0 where
+  pub empty : (code ≡ NAME_EMPTY) ↔ (ident_fault raw name ≡ Some faults.Empty)
+  pub number : (code ≡ NAME_NUMBER) ↔ (ident_fault raw name ≡ Some faults.Number)
+  pub invalid : (code ≡ NAME_INVALID) ↔ (ident_fault raw name ≡ Some faults.Invalid)
+  pub reserved : (code ≡ NAME_RESERVED) ↔ (ident_fault raw name ≡ Some faults.Reserved)
+
+-- the session's text is this, and the answer says how many bytes it has
+pub record HasText (session : Session) (text : List ℕ) (answer : PmAnswer) : Type 0 where
+  pub value : chars (string_bytes session.text) ≡ text
+  pub bytes : answer.bytes ≡ length (string_bytes session.text)
+
+-- the span between two positions
+abbrev pub span : ℕ → ℕ → Extent
+span lo hi = record { lo = lo; hi = hi }
+
+-- the session's text is a C string literal of these bytes
+pub record MakesCString (bytes : List ℕ) (session : Session) (answer : PmAnswer) : Type 0 where
+  pub text : IsCStringText bytes (chars (string_bytes session.text))
+  pub count : answer.bytes ≡ length (string_bytes session.text)
+
+-- the literal's value is the session's text, and the answer says how many bytes it has
+pub record HasTextValue (value : Result (List ℕ) ConversionErrorKind) (session : Session) (answer : PmAnswer) : Type 0 where
+  pub is : value ≡ Ok (chars (string_bytes session.text))
+  pub count : answer.bytes ≡ length (string_bytes session.text)
+
+-- the literal's value is the session's bytes, and the answer says how many they are
+pub record HasBytesValue (value : Result (List ℕ) ConversionErrorKind) (session : Session) (answer : PmAnswer) : Type 0 where
+  pub is : value ≡ Ok session.bytes.items
+  pub count : answer.bytes ≡ length session.bytes.items
+
+-- the text is a literal, and is the next file of the map: the answer says where it begins, and how many characters it has
+pub record IsReadLiteral (old : Session) (source : List ℕ) (new : Session) (answer : PmAnswer) : Type 0 where
+  pub whole : IsWholeLiteral source
+  pub number : answer.number ≡ next_lo old.map
+  pub count : answer.bytes ≡ length source
+  pub map : new.map ≡ with_file old.map source
+
+-- the session's text is the source text of the span
+pub record LendsSource (old : Session) (span : Extent) (session : Session) (answer : PmAnswer) : Type 0 where
+  pub text : IsTextOf old.map span (chars (string_bytes session.text))
+  pub count : answer.bytes ≡ length (string_bytes session.text)
+
+-- the session's text is the name of the file that has the span
+pub record LendsName (old : Session) (span : Extent) (session : Session) (answer : PmAnswer) : Type 0 where
+  pub text : HasName old.map span (chars (string_bytes session.text))
+  pub count : answer.bytes ≡ length (string_bytes session.text)

@@ -1,0 +1,52 @@
+-- The records of a stream's trees, and their texts.
+use Rattle.std.specs.Prelude.{ℕ, ◌+◌, List, [], ◌∷◌, length}
+use Rattle.std.specs.Str.{encode_utf8_all}
+use Rattle.proc_macro2.specs.Forest.{Forest, nil, leaf, group}
+use Rattle.proc_macro2.specs.TreeSpan.{extent_of}
+use Rattle.proc_macro2.specs.Written.{written}
+use Rattle.proc_macro2.specs.declared.Delimiter.{Delimiter}
+use Rattle.proc_macro2.specs.declared.Delimiter.TheVariants.{Parenthesis, Brace, Bracket, None}
+use Rattle.proc_macro2.specs.declared.Spacing.{Spacing}
+use Rattle.proc_macro2.specs.declared.Spacing.TheVariants.{Alone, Joint}
+use Rattle.proc_macro2.specs.declared.TokenTree.{TokenTree}
+use Rattle.proc_macro2.specs.declared.TokenTree.TheVariants.{Group, Ident, Punct, Literal}
+use Rattle.pm_c.specs.declared.records.PmTree.{PmTree}
+
+abbrev pub delimiter_number : Delimiter → ℕ
+delimiter_number Parenthesis = 0
+delimiter_number Brace = 1
+delimiter_number Bracket = 2
+delimiter_number None = 3
+
+abbrev pub spacing_number : Spacing → ℕ
+spacing_number Alone = 0
+spacing_number Joint = 1
+
+-- how many trees there are, without those inside of groups
+abbrev pub width : Forest → ℕ
+width nil = 0
+width (leaf token lo hi rest) = 1 + width rest
+width (group d lo hi inside rest) = 1 + width rest
+
+-- the text that is kept of a tree, in bytes: that of an identifier or a literal as it is written
+abbrev pub kept_text : TokenTree → List ℕ
+kept_text (Group g) = []
+kept_text (Ident i) = written i
+kept_text (Punct p) = []
+kept_text (Literal l) = encode_utf8_all l.text
+
+-- the record of a tree whose text begins at this byte
+abbrev pub record_of : ℕ → TokenTree → PmTree
+record_of start (Group g) =
+    record { kind = 0; detail = delimiter_number g.delimiter; lo = g.span.lo; hi = g.span.hi; start = 0; count = width g.stream }
+record_of start (Ident i) =
+    record { kind = 1; detail = 0; lo = i.span.lo; hi = i.span.hi; start = start; count = length (written i) }
+record_of start (Punct p) =
+    record { kind = 2; detail = spacing_number p.spacing; lo = p.span.lo; hi = p.span.hi; start = p.mark; count = 0 }
+record_of start (Literal l) =
+    record { kind = 3; detail = 0; lo = l.span.lo; hi = l.span.hi; start = start; count = length (encode_utf8_all l.text) }
+
+-- the records of trees in order, of which the first has its text at this byte, and each other behind the one before
+abbrev pub records_from : ℕ → List TokenTree → List PmTree
+records_from start [] = []
+records_from start (tree ∷ trees) = record_of start tree ∷ records_from (start + length (kept_text tree)) trees

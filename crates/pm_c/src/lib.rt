@@ -1,0 +1,505 @@
+//! Token streams for C: a session reads texts into streams, lists and prints them, makes literals and answers where
+//! things stand. `pm_c.h` says what each call does.
+#![tactic(auto)]
+
+mod build;
+mod checks;
+mod codes;
+mod handle;
+mod listing;
+mod records;
+mod session;
+
+ghost use Rattle.std.specs.Prelude.{◌≡◌, ◌↔◌, [], Err, false, true};
+ghost use Rattle.std.specs.Str.{chars, IsUtf8};
+ghost use Rattle.std.specs.String.{string_bytes};
+ghost use Rattle.proc_macro2.specs.Escaped.{byte_string_text, byte_text, character_text, string_text};
+ghost use Rattle.proc_macro2.specs.Files.{next_lo};
+ghost use Rattle.proc_macro2.specs.LiteralText.{IsWholeLiteral};
+ghost use Rattle.proc_macro2.specs.Lookup.{AreInOneFile, HasBytes, StartsAt, joined};
+ghost use Rattle.proc_macro2.specs.Parsing.{FaultAt};
+ghost use Rattle.proc_macro2.specs.Value.{byte_str_value, cstr_value, str_value};
+ghost use Rattle.proc_macro2.specs.declared.ConversionErrorKind.TheVariants.{InvalidLiteralKind};
+ghost use Rattle.pm_c.specs.Calls.{
+  HasBytesValue,
+  HasText,
+  HasTextValue,
+  IsFreed,
+  IsListed,
+  IsPrinted,
+  IsRead,
+  IsReadAndListed,
+  IsReadLiteral,
+  LendsName,
+  LendsSource,
+  MakesCString,
+  NamesFault,
+  PrintsRecords,
+  span,
+};
+ghost use Rattle.pm_c.specs.declared.codes.TheConstants.{DONE, FAULT, NOT_JOINED, NOT_LIVE, OTHER_KIND};
+
+use codes::{DONE, NO_MEMORY, NOT_LIVE};
+pub use handle::PmSession;
+pub use records::{PmAnswer, PmPlace, PmRange, PmTree};
+use session::Session;
+use std::alloc::Global;
+
+/// Makes a session, and puts its handle where a handle stands that isn't live.
+#[unsafe(no_mangle)]
+pub extern "C" fn pm_session_new(alloc: Global, out: &mut PmSession) -> u32
+    ensures { result ≡ DONE → out.new.live ≡ true }
+{
+    match Box::new(alloc, Session::new(alloc)) {
+        Ok(session) => {
+            *out = PmSession::of(session);
+            DONE
+        }
+        Err(_) => NO_MEMORY,
+    }
+}
+
+/// Frees a session and all that it holds. No copy of its handle may be used from then on.
+#[unsafe(no_mangle)]
+pub extern "C" fn pm_session_free(session: PmSession) -> u32
+    ensures { session.live ≡ false → result ≡ NOT_LIVE }
+{
+    match session.open() {
+        Some(inside) => {
+            drop(inside);
+            DONE
+        }
+        None => NOT_LIVE,
+    }
+}
+
+/// Reads a text into a stream of the session, and answers its number. The session's handle goes back by `back`, in
+/// this and in all calls.
+#[unsafe(no_mangle)]
+pub extern "C" fn pm_parse(session: PmSession, back: &mut PmSession, text: &[u8]) -> PmAnswer
+    ensures live { session.live ≡ true → back.new.live ≡ true }
+    ensures not_live { session.live ≡ false → result.code ≡ NOT_LIVE }
+    ensures utf8 { result.code ≡ DONE → IsUtf8 text.now }
+    ensures done { result.code ≡ DONE
+        → IsRead session.inside.value (chars text.now) back.new.inside.value result.number }
+    ensures fault { result.code ≡ FAULT → FaultAt (next_lo session.inside.value.map) (chars text.now) result.number }
+{
+    let Some(mut inside) = session.open() else {
+        return PmAnswer::refused(NOT_LIVE);
+    };
+    let answer = inside.parse(text);
+    *back = PmSession::of(inside);
+    answer
+}
+
+/// Reads a text, and lists its trees into the session's records and text.
+#[unsafe(no_mangle)]
+pub extern "C" fn pm_read(session: PmSession, back: &mut PmSession, text: &[u8]) -> PmAnswer
+    ensures live { session.live ≡ true → back.new.live ≡ true }
+    ensures not_live { session.live ≡ false → result.code ≡ NOT_LIVE }
+    ensures utf8 { result.code ≡ DONE → IsUtf8 text.now }
+    ensures done { result.code ≡ DONE
+        → IsReadAndListed session.inside.value (chars text.now) back.new.inside.value result }
+    ensures fault { result.code ≡ FAULT → FaultAt (next_lo session.inside.value.map) (chars text.now) result.number }
+{
+    let Some(mut inside) = session.open() else {
+        return PmAnswer::refused(NOT_LIVE);
+    };
+    let answer = inside.read(text);
+    *back = PmSession::of(inside);
+    answer
+}
+
+/// Lets a stream of the session go.
+#[unsafe(no_mangle)]
+pub extern "C" fn pm_stream_free(session: PmSession, back: &mut PmSession, stream: u32) -> u32
+    ensures live { session.live ≡ true → back.new.live ≡ true }
+    ensures not_live { session.live ≡ false → result ≡ NOT_LIVE }
+    ensures done { result ≡ DONE → IsFreed session.inside.value stream back.new.inside.value }
+{
+    let Some(mut inside) = session.open() else {
+        return NOT_LIVE;
+    };
+    let answer = inside.free(stream);
+    *back = PmSession::of(inside);
+    answer
+}
+
+/// Lists a stream into the session's records and text.
+#[unsafe(no_mangle)]
+pub extern "C" fn pm_list(session: PmSession, back: &mut PmSession, stream: u32) -> PmAnswer
+    ensures live { session.live ≡ true → back.new.live ≡ true }
+    ensures not_live { session.live ≡ false → result.code ≡ NOT_LIVE }
+    ensures done { result.code ≡ DONE → IsListed session.inside.value stream back.new.inside.value result }
+{
+    let Some(mut inside) = session.open() else {
+        return PmAnswer::refused(NOT_LIVE);
+    };
+    let answer = inside.list(stream);
+    *back = PmSession::of(inside);
+    answer
+}
+
+/// Prints a stream into the session's text.
+#[unsafe(no_mangle)]
+pub extern "C" fn pm_print(session: PmSession, back: &mut PmSession, stream: u32) -> PmAnswer
+    ensures live { session.live ≡ true → back.new.live ≡ true }
+    ensures not_live { session.live ≡ false → result.code ≡ NOT_LIVE }
+    ensures done { result.code ≡ DONE → IsPrinted session.inside.value stream back.new.inside.value result }
+{
+    let Some(mut inside) = session.open() else {
+        return PmAnswer::refused(NOT_LIVE);
+    };
+    let answer = inside.print(stream);
+    *back = PmSession::of(inside);
+    answer
+}
+
+/// Prints the stream that these records and texts list into the session's text.
+#[unsafe(no_mangle)]
+pub extern "C" fn pm_print_records(
+    session: PmSession,
+    back: &mut PmSession,
+    trees: &[PmTree],
+    text: &[u8],
+) -> PmAnswer
+    ensures live { session.live ≡ true → back.new.live ≡ true }
+    ensures not_live { session.live ≡ false → result.code ≡ NOT_LIVE }
+    ensures done { result.code ≡ DONE → PrintsRecords trees.now text.now back.new.inside.value result }
+{
+    let Some(mut inside) = session.open() else {
+        return PmAnswer::refused(NOT_LIVE);
+    };
+    let answer = inside.print_records(trees, text);
+    *back = PmSession::of(inside);
+    answer
+}
+
+/// Copies the session's text into a buffer of its length.
+#[unsafe(no_mangle)]
+pub extern "C" fn pm_copy_text(session: PmSession, back: &mut PmSession, into: &mut [u8]) -> u32
+    ensures live { session.live ≡ true → back.new.live ≡ true }
+    ensures not_live { session.live ≡ false → result ≡ NOT_LIVE }
+    ensures done { result ≡ DONE → into.new ≡ string_bytes session.inside.value.text }
+{
+    let Some(inside) = session.open() else {
+        return NOT_LIVE;
+    };
+    let answer = inside.copy_text(into);
+    *back = PmSession::of(inside);
+    answer
+}
+
+/// Copies the session's bytes into a buffer of their number.
+#[unsafe(no_mangle)]
+pub extern "C" fn pm_copy_bytes(session: PmSession, back: &mut PmSession, into: &mut [u8]) -> u32
+    ensures live { session.live ≡ true → back.new.live ≡ true }
+    ensures not_live { session.live ≡ false → result ≡ NOT_LIVE }
+    ensures done { result ≡ DONE → into.new ≡ session.inside.value.bytes.items }
+{
+    let Some(inside) = session.open() else {
+        return NOT_LIVE;
+    };
+    let answer = inside.copy_bytes(into);
+    *back = PmSession::of(inside);
+    answer
+}
+
+/// Copies the session's records into a buffer for as many.
+#[unsafe(no_mangle)]
+pub extern "C" fn pm_copy_trees(
+    session: PmSession,
+    back: &mut PmSession,
+    into: &mut [PmTree],
+) -> u32
+    ensures live { session.live ≡ true → back.new.live ≡ true }
+    ensures not_live { session.live ≡ false → result ≡ NOT_LIVE }
+    ensures done { result ≡ DONE → into.new ≡ session.inside.value.trees.items }
+{
+    let Some(inside) = session.open() else {
+        return NOT_LIVE;
+    };
+    let answer = inside.copy_trees(into);
+    *back = PmSession::of(inside);
+    answer
+}
+
+/// Which fault a name has: none is `DONE`.
+#[unsafe(no_mangle)]
+pub extern "C" fn pm_ident_check(alloc: Global, name: &[u8], raw: bool) -> u32
+    ensures { IsUtf8 name.now → NamesFault raw (chars name.now) result }
+{
+    checks::ident(alloc, name, raw)
+}
+
+/// Whether a text is a literal, or `-` and a number.
+#[unsafe(no_mangle)]
+pub extern "C" fn pm_literal_check(text: &[u8]) -> u32
+    ensures { (result ≡ DONE) ↔ (IsUtf8 text.now × IsWholeLiteral (chars text.now)) }
+{
+    checks::literal(text)
+}
+
+/// Reads the text of a literal, which becomes a file of the map: answers the position where it begins, and how many
+/// characters it has.
+#[unsafe(no_mangle)]
+pub extern "C" fn pm_read_literal(session: PmSession, back: &mut PmSession, text: &[u8]) -> PmAnswer
+    ensures live { session.live ≡ true → back.new.live ≡ true }
+    ensures not_live { session.live ≡ false → result.code ≡ NOT_LIVE }
+    ensures done { result.code ≡ DONE
+        → IsReadLiteral session.inside.value (chars text.now) back.new.inside.value result }
+{
+    let Some(mut inside) = session.open() else {
+        return PmAnswer::refused(NOT_LIVE);
+    };
+    let answer = inside.read_literal(text);
+    *back = PmSession::of(inside);
+    answer
+}
+
+/// The string literal of a text, as the session's text.
+#[unsafe(no_mangle)]
+pub extern "C" fn pm_string(session: PmSession, back: &mut PmSession, text: &[u8]) -> PmAnswer
+    ensures live { session.live ≡ true → back.new.live ≡ true }
+    ensures not_live { session.live ≡ false → result.code ≡ NOT_LIVE }
+    ensures utf8 { result.code ≡ DONE → IsUtf8 text.now }
+    ensures done { result.code ≡ DONE → HasText back.new.inside.value (string_text (chars text.now)) result }
+{
+    let Some(mut inside) = session.open() else {
+        return PmAnswer::refused(NOT_LIVE);
+    };
+    let answer = inside.string(text);
+    *back = PmSession::of(inside);
+    answer
+}
+
+/// The literal of a character, as the session's text.
+#[unsafe(no_mangle)]
+pub extern "C" fn pm_character(session: PmSession, back: &mut PmSession, character: u32) -> PmAnswer
+    ensures live { session.live ≡ true → back.new.live ≡ true }
+    ensures not_live { session.live ≡ false → result.code ≡ NOT_LIVE }
+    ensures done { result.code ≡ DONE → HasText back.new.inside.value (character_text character) result }
+{
+    let Some(mut inside) = session.open() else {
+        return PmAnswer::refused(NOT_LIVE);
+    };
+    let answer = inside.character(character);
+    *back = PmSession::of(inside);
+    answer
+}
+
+/// The literal of a byte, as the session's text.
+#[unsafe(no_mangle)]
+pub extern "C" fn pm_byte_character(session: PmSession, back: &mut PmSession, byte: u8) -> PmAnswer
+    ensures live { session.live ≡ true → back.new.live ≡ true }
+    ensures not_live { session.live ≡ false → result.code ≡ NOT_LIVE }
+    ensures done { result.code ≡ DONE → HasText back.new.inside.value (byte_text byte) result }
+{
+    let Some(mut inside) = session.open() else {
+        return PmAnswer::refused(NOT_LIVE);
+    };
+    let answer = inside.byte_character(byte);
+    *back = PmSession::of(inside);
+    answer
+}
+
+/// The byte string literal of some bytes, as the session's text.
+#[unsafe(no_mangle)]
+pub extern "C" fn pm_byte_string(session: PmSession, back: &mut PmSession, bytes: &[u8]) -> PmAnswer
+    ensures live { session.live ≡ true → back.new.live ≡ true }
+    ensures not_live { session.live ≡ false → result.code ≡ NOT_LIVE }
+    ensures done { result.code ≡ DONE → HasText back.new.inside.value (byte_string_text bytes.now) result }
+{
+    let Some(mut inside) = session.open() else {
+        return PmAnswer::refused(NOT_LIVE);
+    };
+    let answer = inside.byte_string(bytes);
+    *back = PmSession::of(inside);
+    answer
+}
+
+/// The C string literal of some bytes, as the session's text. None of them may be zero.
+#[unsafe(no_mangle)]
+pub extern "C" fn pm_c_string(session: PmSession, back: &mut PmSession, bytes: &[u8]) -> PmAnswer
+    ensures live { session.live ≡ true → back.new.live ≡ true }
+    ensures not_live { session.live ≡ false → result.code ≡ NOT_LIVE }
+    ensures done { result.code ≡ DONE → MakesCString bytes.now back.new.inside.value result }
+{
+    let Some(mut inside) = session.open() else {
+        return PmAnswer::refused(NOT_LIVE);
+    };
+    let answer = inside.c_string(bytes);
+    *back = PmSession::of(inside);
+    answer
+}
+
+/// The value of a string literal, as the session's text.
+#[unsafe(no_mangle)]
+pub extern "C" fn pm_str_value(session: PmSession, back: &mut PmSession, text: &[u8]) -> PmAnswer
+    ensures live { session.live ≡ true → back.new.live ≡ true }
+    ensures not_live { session.live ≡ false → result.code ≡ NOT_LIVE }
+    ensures done { result.code ≡ DONE → HasTextValue (str_value (chars text.now)) back.new.inside.value result }
+    ensures kind { result.code ≡ OTHER_KIND → str_value (chars text.now) ≡ Err InvalidLiteralKind }
+{
+    let Some(mut inside) = session.open() else {
+        return PmAnswer::refused(NOT_LIVE);
+    };
+    let answer = inside.str_value(text);
+    *back = PmSession::of(inside);
+    answer
+}
+
+/// The value of a byte string literal, as the session's bytes.
+#[unsafe(no_mangle)]
+pub extern "C" fn pm_byte_str_value(
+    session: PmSession,
+    back: &mut PmSession,
+    text: &[u8],
+) -> PmAnswer
+    ensures live { session.live ≡ true → back.new.live ≡ true }
+    ensures not_live { session.live ≡ false → result.code ≡ NOT_LIVE }
+    ensures done { result.code ≡ DONE
+        → HasBytesValue (byte_str_value (chars text.now)) back.new.inside.value result }
+    ensures kind { result.code ≡ OTHER_KIND → byte_str_value (chars text.now) ≡ Err InvalidLiteralKind }
+{
+    let Some(mut inside) = session.open() else {
+        return PmAnswer::refused(NOT_LIVE);
+    };
+    let answer = inside.byte_str_value(text);
+    *back = PmSession::of(inside);
+    answer
+}
+
+/// The value of a C string literal with its zero, as the session's bytes.
+#[unsafe(no_mangle)]
+pub extern "C" fn pm_cstr_value(session: PmSession, back: &mut PmSession, text: &[u8]) -> PmAnswer
+    ensures live { session.live ≡ true → back.new.live ≡ true }
+    ensures not_live { session.live ≡ false → result.code ≡ NOT_LIVE }
+    ensures done { result.code ≡ DONE → HasBytesValue (cstr_value (chars text.now)) back.new.inside.value result }
+    ensures kind { result.code ≡ OTHER_KIND → cstr_value (chars text.now) ≡ Err InvalidLiteralKind }
+{
+    let Some(mut inside) = session.open() else {
+        return PmAnswer::refused(NOT_LIVE);
+    };
+    let answer = inside.cstr_value(text);
+    *back = PmSession::of(inside);
+    answer
+}
+
+/// The line and column of a position.
+#[unsafe(no_mangle)]
+pub extern "C" fn pm_place_of(session: PmSession, back: &mut PmSession, position: u32) -> PmPlace
+    ensures live { session.live ≡ true → back.new.live ≡ true }
+    ensures not_live { session.live ≡ false → result.code ≡ NOT_LIVE }
+    ensures done { result.code ≡ DONE
+        → StartsAt session.inside.value.map (span position position) (record { line = result.line; column = result.column }) }
+{
+    let Some(inside) = session.open() else {
+        return PmPlace::refused(NOT_LIVE);
+    };
+    let answer = inside.place(position);
+    *back = PmSession::of(inside);
+    answer
+}
+
+/// The bytes of its file that a span takes.
+#[unsafe(no_mangle)]
+pub extern "C" fn pm_byte_range(
+    session: PmSession,
+    back: &mut PmSession,
+    lo: u32,
+    hi: u32,
+) -> PmRange
+    ensures live { session.live ≡ true → back.new.live ≡ true }
+    ensures not_live { session.live ≡ false → result.code ≡ NOT_LIVE }
+    ensures done { result.code ≡ DONE
+        → HasBytes session.inside.value.map (span lo hi) (record { start = result.start; end = result.end }) }
+{
+    let Some(mut inside) = session.open() else {
+        return PmRange::refused(NOT_LIVE);
+    };
+    let answer = inside.byte_range(lo, hi);
+    *back = PmSession::of(inside);
+    answer
+}
+
+/// The source text of a span, as the session's text.
+#[unsafe(no_mangle)]
+pub extern "C" fn pm_source_text(
+    session: PmSession,
+    back: &mut PmSession,
+    lo: u32,
+    hi: u32,
+) -> PmAnswer
+    ensures live { session.live ≡ true → back.new.live ≡ true }
+    ensures not_live { session.live ≡ false → result.code ≡ NOT_LIVE }
+    ensures done { result.code ≡ DONE → LendsSource session.inside.value (span lo hi) back.new.inside.value result }
+{
+    let Some(mut inside) = session.open() else {
+        return PmAnswer::refused(NOT_LIVE);
+    };
+    let answer = inside.source_text(lo, hi);
+    *back = PmSession::of(inside);
+    answer
+}
+
+/// The name of the file that a span is in, as the session's text.
+#[unsafe(no_mangle)]
+pub extern "C" fn pm_file_name(
+    session: PmSession,
+    back: &mut PmSession,
+    lo: u32,
+    hi: u32,
+) -> PmAnswer
+    ensures live { session.live ≡ true → back.new.live ≡ true }
+    ensures not_live { session.live ≡ false → result.code ≡ NOT_LIVE }
+    ensures done { result.code ≡ DONE → LendsName session.inside.value (span lo hi) back.new.inside.value result }
+{
+    let Some(mut inside) = session.open() else {
+        return PmAnswer::refused(NOT_LIVE);
+    };
+    let answer = inside.file_name(lo, hi);
+    *back = PmSession::of(inside);
+    answer
+}
+
+/// The span from where the first of two spans begins to where the last of them ends, where one file has both.
+#[unsafe(no_mangle)]
+pub extern "C" fn pm_join(
+    session: PmSession,
+    back: &mut PmSession,
+    lo: u32,
+    hi: u32,
+    other_lo: u32,
+    other_hi: u32,
+) -> PmRange
+    ensures live { session.live ≡ true → back.new.live ≡ true }
+    ensures not_live { session.live ≡ false → result.code ≡ NOT_LIVE }
+    ensures one_file { result.code ≡ DONE
+        → AreInOneFile session.inside.value.map (span lo hi) (span other_lo other_hi) }
+    ensures done { result.code ≡ DONE → span result.start result.end ≡ joined (span lo hi) (span other_lo other_hi) }
+    ensures not_joined { result.code ≡ NOT_JOINED
+        → AreInOneFile session.inside.value.map (span lo hi) (span other_lo other_hi) → ⊥ }
+{
+    let Some(inside) = session.open() else {
+        return PmRange::refused(NOT_LIVE);
+    };
+    let answer = inside.join(lo, hi, other_lo, other_hi);
+    *back = PmSession::of(inside);
+    answer
+}
+
+/// Takes all files of the session's map away but the empty one.
+#[unsafe(no_mangle)]
+pub extern "C" fn pm_forget(session: PmSession, back: &mut PmSession) -> u32
+    ensures live { session.live ≡ true → back.new.live ≡ true }
+    ensures not_live { session.live ≡ false → result ≡ NOT_LIVE }
+    ensures done { result ≡ DONE → back.new.inside.value.map.texts ≡ [] }
+{
+    let Some(mut inside) = session.open() else {
+        return NOT_LIVE;
+    };
+    inside.forget();
+    *back = PmSession::of(inside);
+    DONE
+}

@@ -1,0 +1,170 @@
+//! A session: a map, the streams that were read, and what is lent of them.
+ghost use Rattle.std.specs.Prelude.{◌≡◌, IfErr, IfOk, IsOk, OnOk};
+ghost use Rattle.std.specs.Str.{chars, IsUtf8};
+ghost use Rattle.proc_macro2.specs.Files.{next_lo, with_file};
+ghost use Rattle.proc_macro2.specs.Parsing.{FaultAt, ParsesTo};
+ghost use Rattle.pm_c.specs.Calls.{HasCounts, IsFreed, IsKept, IsListed, IsPrinted, IsRead, IsReadAndListed};
+ghost use Rattle.pm_c.specs.declared.codes.TheConstants.{DONE, FAULT};
+
+mod copies;
+mod lookups;
+mod makers;
+mod records;
+mod values;
+
+use crate::codes::{DONE, FAULT, MAP_FULL, NO_MEMORY, NO_STREAM, NOT_UTF8, TOO_LONG};
+use crate::listing::{ListError, list};
+use crate::records::{PmAnswer, PmTree};
+use crate::session::records::print;
+use pm_span::parts::bounds;
+use proc_macro2::{ParseError, SourceMap, TokenStream};
+use slab::Slab;
+use std::alloc::Global;
+use std::str;
+
+/// A map, the streams that were read with it, and what was last printed, listed or made.
+#[derive(Drop)]
+pub struct Session {
+    alloc: Global,
+    map: SourceMap,
+    streams: Slab<TokenStream>,
+    trees: Vec<PmTree>,
+    text: String,
+    bytes: Vec<u8>,
+}
+
+impl Session {
+    /// A session that has read nothing. It takes no memory.
+    pub(crate) fn new(alloc: Global) -> Session {
+        Session {
+            alloc,
+            map: SourceMap::new(alloc),
+            streams: Slab::new(alloc),
+            trees: Vec::new(alloc),
+            text: String::new(alloc),
+            bytes: Vec::new(alloc),
+        }
+    }
+
+    /// Reads a text into a stream of the session, and answers its number.
+    pub(crate) fn parse(&mut self, source: &[u8]) -> PmAnswer
+        ensures utf8 { result.code ≡ DONE → IsUtf8 source.now }
+        ensures done { result.code ≡ DONE → IsRead self.old (chars source.now) self.new result.number }
+        ensures fault { result.code ≡ FAULT → FaultAt (next_lo self.old.map) (chars source.now) result.number }
+    {
+        match self.stream_of(source) {
+            Ok(stream) => self.keep(stream),
+            Err(answer) => answer,
+        }
+    }
+
+    /// Reads a text, and lists its trees into the session's records and text. The stream isn't kept.
+    pub(crate) fn read(&mut self, source: &[u8]) -> PmAnswer
+        ensures utf8 { result.code ≡ DONE → IsUtf8 source.now }
+        ensures done { result.code ≡ DONE → IsReadAndListed self.old (chars source.now) self.new result }
+        ensures fault { result.code ≡ FAULT → FaultAt (next_lo self.old.map) (chars source.now) result.number }
+    {
+        match self.stream_of(source) {
+            Ok(stream) => {
+                let listed = list(&stream, &mut self.trees, &mut self.text);
+                self.answer_listed(listed)
+            }
+            Err(answer) => answer,
+        }
+    }
+
+    /// The stream of a text, or why there is none.
+    fn stream_of(&mut self, source: &[u8]) -> Result<TokenStream, PmAnswer>
+        ensures utf8 { OnOk result (IsUtf8 source.now) }
+        ensures parses { IfOk result (ParsesTo (next_lo self.old.map) (chars source.now)) }
+        ensures refused { IfErr result (λ answer. answer.code ≡ DONE → ⊥) }
+        ensures fault { IfErr result (λ answer. answer.code ≡ FAULT
+            → FaultAt (next_lo self.old.map) (chars source.now) answer.number) }
+        ensures read { OnOk result (self.new ≡ record self.old { map = with_file self.old.map (chars source.now) }) }
+    {
+        let Ok(text) = str::from_utf8(source) else {
+            return Err(PmAnswer::refused(NOT_UTF8));
+        };
+        match TokenStream::from_str(text, &mut self.map) {
+            Ok(stream) => Ok(stream),
+            Err(ParseError::Lex(error)) => {
+                let (lo, _) = bounds(error.span());
+                Err(PmAnswer {
+                    code: FAULT,
+                    number: lo,
+                    bytes: 0,
+                })
+            }
+            Err(ParseError::MapFull) => Err(PmAnswer::refused(MAP_FULL)),
+            Err(ParseError::Memory(_)) => Err(PmAnswer::refused(NO_MEMORY)),
+        }
+    }
+
+    /// Keeps a stream, and answers its number.
+    fn keep(&mut self, stream: TokenStream) -> PmAnswer
+        ensures done { result.code ≡ DONE → IsKept self.old stream self.new result.number }
+        ensures other { result.code ≡ FAULT → ⊥ }
+    {
+        match self.streams.insert(stream) {
+            Ok(key) => {
+                if key <= 0xFFFF_FFFF {
+                    PmAnswer::done(key as u32, 0)
+                } else {
+                    self.streams.try_remove(key);
+                    PmAnswer::refused(TOO_LONG)
+                }
+            }
+            Err(_) => PmAnswer::refused(NO_MEMORY),
+        }
+    }
+
+    /// Lets a stream go, whose number the next stream may get.
+    pub(crate) fn free(&mut self, number: u32) -> u32
+        ensures { result ≡ DONE → IsFreed self.old number self.new }
+    {
+        match self.streams.try_remove(number as usize) {
+            Some(_) => DONE,
+            None => NO_STREAM,
+        }
+    }
+
+    /// Lists a stream into the session's records and text.
+    pub(crate) fn list(&mut self, number: u32) -> PmAnswer
+        ensures { result.code ≡ DONE → IsListed self.old number self.new result }
+    {
+        let Some(stream) = self.streams.get(number as usize) else {
+            return PmAnswer::refused(NO_STREAM);
+        };
+        let listed = list(stream, &mut self.trees, &mut self.text);
+        self.answer_listed(listed)
+    }
+
+    /// How many records and bytes there are, once they are listed.
+    fn answer_listed(&self, listed: Result<(), ListError>) -> PmAnswer
+        ensures done { result.code ≡ DONE → IsOk listed }
+        ensures counts { result.code ≡ DONE → HasCounts self.now result }
+        ensures other { result.code ≡ FAULT → ⊥ }
+    {
+        if let Err(error) = listed {
+            return PmAnswer::refused(error.code());
+        }
+        let count = self.trees.len();
+        if count > 0xFFFF_FFFF {
+            return PmAnswer::refused(TOO_LONG);
+        }
+        PmAnswer::done(count as u32, self.text.len())
+    }
+
+    /// Prints a stream into the session's text.
+    pub(crate) fn print(&mut self, number: u32) -> PmAnswer
+        ensures { result.code ≡ DONE → IsPrinted self.old number self.new result }
+    {
+        let Some(stream) = self.streams.get(number as usize) else {
+            return PmAnswer::refused(NO_STREAM);
+        };
+        match print(stream, &mut self.text) {
+            Ok(()) => PmAnswer::done(number, self.text.len()),
+            Err(_) => PmAnswer::refused(NO_MEMORY),
+        }
+    }
+}

@@ -1,0 +1,133 @@
+//! The values of literals.
+ghost use Rattle.std.specs.Prelude.{◌≡◌, Err, IfErr, IfOk};
+ghost use Rattle.std.specs.Str.{chars};
+ghost use Rattle.proc_macro2.specs.Value.{byte_str_value, cstr_value, str_value};
+ghost use Rattle.proc_macro2.specs.declared.ConversionErrorKind.TheVariants.{InvalidLiteralKind};
+ghost use Rattle.pm_c.specs.Calls.{HasBytesValue, HasTextValue};
+ghost use Rattle.pm_c.specs.declared.codes.TheConstants.{DONE, OTHER_KIND};
+
+use crate::codes::{NO_LITERAL, NO_MEMORY, NOT_UNESCAPED, NOT_UTF8, OTHER_KIND};
+use crate::records::PmAnswer;
+use crate::session::Session;
+use proc_macro2::{ConversionErrorKind, EscapeError, Literal};
+use std::alloc::Global;
+use std::str;
+
+impl Session {
+    /// The value of a string literal, as the session's text.
+    pub(crate) fn str_value(&mut self, text: &[u8]) -> PmAnswer
+        ensures done { result.code ≡ DONE → HasTextValue (str_value (chars text.now)) self.new result }
+        ensures kind { result.code ≡ OTHER_KIND → str_value (chars text.now) ≡ Err InvalidLiteralKind }
+    {
+        let literal = match literal_of(self.alloc, text) {
+            Ok(literal) => literal,
+            Err(answer) => return answer,
+        };
+        match literal.str_value(self.alloc) {
+            Ok(value) => {
+                self.text = value;
+                PmAnswer::done(0, self.text.len())
+            }
+            Err(error) => refusal(error),
+        }
+    }
+
+    /// The value of a byte string literal, as the session's bytes.
+    pub(crate) fn byte_str_value(&mut self, text: &[u8]) -> PmAnswer
+        ensures done { result.code ≡ DONE → HasBytesValue (byte_str_value (chars text.now)) self.new result }
+        ensures kind { result.code ≡ OTHER_KIND → byte_str_value (chars text.now) ≡ Err InvalidLiteralKind }
+    {
+        let literal = match literal_of(self.alloc, text) {
+            Ok(literal) => literal,
+            Err(answer) => return answer,
+        };
+        match literal.byte_str_value(self.alloc) {
+            Ok(value) => {
+                self.bytes = value;
+                PmAnswer::done(0, self.bytes.len())
+            }
+            Err(error) => refusal(error),
+        }
+    }
+
+    /// The value of a C string literal, with the zero that ends it, as the session's bytes.
+    pub(crate) fn cstr_value(&mut self, text: &[u8]) -> PmAnswer
+        ensures done { result.code ≡ DONE → HasBytesValue (cstr_value (chars text.now)) self.new result }
+        ensures kind { result.code ≡ OTHER_KIND → cstr_value (chars text.now) ≡ Err InvalidLiteralKind }
+    {
+        let literal = match literal_of(self.alloc, text) {
+            Ok(literal) => literal,
+            Err(answer) => return answer,
+        };
+        match literal.cstr_value(self.alloc) {
+            Ok(value) => {
+                self.bytes = value;
+                PmAnswer::done(0, self.bytes.len())
+            }
+            Err(error) => refusal(error),
+        }
+    }
+}
+
+/// The literal that the whole text is.
+fn literal_of(alloc: Global, text: &[u8]) -> Result<Literal, PmAnswer>
+    ensures ok { IfOk result (λ literal. literal.text ≡ chars text.now) }
+    ensures done { IfErr result (λ answer. answer.code ≡ DONE → ⊥) }
+    ensures kind { IfErr result (λ answer. answer.code ≡ OTHER_KIND → ⊥) }
+{
+    let Ok(text) = str::from_utf8(text) else {
+        return Err(PmAnswer::refused(NOT_UTF8));
+    };
+    if !Literal::is_whole(text) {
+        return Err(PmAnswer::refused(NO_LITERAL));
+    }
+    match Literal::from_str_unchecked(alloc, text) {
+        Ok(literal) => Ok(literal),
+        Err(_) => Err(PmAnswer::refused(NO_MEMORY)),
+    }
+}
+
+/// Why there is no value.
+fn refusal(error: ConversionErrorKind) -> PmAnswer
+    ensures done { result.code ≡ DONE → ⊥ }
+    ensures kind { result.code ≡ OTHER_KIND → error ≡ InvalidLiteralKind }
+{
+    match error {
+        ConversionErrorKind::InvalidLiteralKind => PmAnswer::refused(OTHER_KIND),
+        ConversionErrorKind::FailedToUnescape(fault) => PmAnswer {
+            code: NOT_UNESCAPED,
+            number: fault_number(&fault),
+            bytes: 0,
+        },
+        ConversionErrorKind::Memory(_) => PmAnswer::refused(NO_MEMORY),
+    }
+}
+
+/// The number of a fault: the faults count from 0 in the order in which they are declared.
+fn fault_number(fault: &EscapeError) -> u32 {
+    match fault {
+        EscapeError::ZeroChars => 0,
+        EscapeError::MoreThanOneChar => 1,
+        EscapeError::LoneSlash => 2,
+        EscapeError::InvalidEscape => 3,
+        EscapeError::BareCarriageReturn => 4,
+        EscapeError::BareCarriageReturnInRawString => 5,
+        EscapeError::EscapeOnlyChar => 6,
+        EscapeError::TooShortHexEscape => 7,
+        EscapeError::InvalidCharInHexEscape => 8,
+        EscapeError::OutOfRangeHexEscape => 9,
+        EscapeError::NoBraceInUnicodeEscape => 10,
+        EscapeError::InvalidCharInUnicodeEscape => 11,
+        EscapeError::EmptyUnicodeEscape => 12,
+        EscapeError::UnclosedUnicodeEscape => 13,
+        EscapeError::LeadingUnderscoreUnicodeEscape => 14,
+        EscapeError::OverlongUnicodeEscape => 15,
+        EscapeError::LoneSurrogateUnicodeEscape => 16,
+        EscapeError::OutOfRangeUnicodeEscape => 17,
+        EscapeError::UnicodeEscapeInByte => 18,
+        EscapeError::NonAsciiCharInByte => 19,
+        EscapeError::NulInCStr => 20,
+        EscapeError::UnskippedWhitespaceWarning => 21,
+        EscapeError::MultipleSkippedLinesWarning => 22,
+    }
+}
