@@ -1,0 +1,54 @@
+//! What goes beyond the compiler's own library of tokens.
+use crate::Span;
+use std::fmt::{self, Debug};
+
+/// Forgets the texts that the thread has read, so that their memory is free again.
+///
+/// Spans of them are of no use from then on: to ask one where it stands panics, or answers of a later text.
+///
+/// # Panics
+///
+/// Inside a macro, where the spans are the compiler's.
+#[cfg(span_locations)]
+pub fn invalidate_current_thread_spans() {
+    assert!(
+        !crate::compiler::inside(),
+        "proc_macro2::extra::invalidate_current_thread_spans is not available in procedural macros"
+    );
+    crate::session::with(|session| session.forget());
+}
+
+/// The span of a group, with those of its two delimiters.
+#[derive(Clone, Copy)]
+pub struct DelimSpan {
+    join: Span,
+    open: Span,
+    close: Span,
+}
+
+impl DelimSpan {
+    pub(crate) fn new(join: Span, open: Span, close: Span) -> DelimSpan {
+        DelimSpan { join, open, close }
+    }
+
+    /// The span of the whole group.
+    pub fn join(&self) -> Span {
+        self.join
+    }
+
+    /// The span of its opening delimiter.
+    pub fn open(&self) -> Span {
+        self.open
+    }
+
+    /// The span of its closing delimiter.
+    pub fn close(&self) -> Span {
+        self.close
+    }
+}
+
+impl Debug for DelimSpan {
+    fn fmt(&self, f: &mut fmt::Formatter) -> fmt::Result {
+        Debug::fmt(&self.join, f)
+    }
+}

@@ -1,0 +1,154 @@
+//! A session of the proved library for each thread.
+use crate::ffi::{self, Answer, Handle, Record};
+use crate::parsed::Parsed;
+#[cfg(span_locations)]
+use crate::span::Place;
+use std::cell::RefCell;
+
+/// Why a text wasn't read.
+pub(crate) enum ReadError {
+    /// It has a fault at this position.
+    Fault(u32),
+    /// It doesn't go into the thread's map.
+    MapFull,
+}
+
+/// A live session, which stays on its thread.
+pub(crate) struct Session {
+    handle: Handle,
+}
+
+impl Session {
+    fn new() -> Session {
+        let mut handle = Handle::NONE;
+        let code = unsafe { ffi::pm_session_new(&mut handle) };
+        if code != ffi::DONE {
+            out_of_memory();
+        }
+        Session { handle }
+    }
+
+    /// The trees of a text, which becomes a file of the map.
+    pub(crate) fn read(&mut self, text: &str) -> Result<Parsed, ReadError> {
+        let answer = self.call(|session, back| unsafe { ffi::pm_read(session, back, text.as_ptr(), text.len()) });
+        let read = match answer.code {
+            ffi::DONE => {
+                let records = self.records(answer.number as usize);
+                Ok(Parsed::new(records, self.text(answer.bytes)))
+            }
+            ffi::FAULT => Err(ReadError::Fault(answer.number)),
+            ffi::MAP_FULL | ffi::TOO_LONG => Err(ReadError::MapFull),
+            code => refused(code),
+        };
+        // Without span locations nobody can ask where something stands, so the map need not grow.
+        #[cfg(not(span_locations))]
+        self.forget();
+        read
+    }
+
+    /// The printed text of the stream that these records and texts list; `None` where they list none.
+    pub(crate) fn print(&mut self, records: &[Record], text: &str) -> Option<String> {
+        let answer = self.call(|session, back| unsafe {
+            ffi::pm_print_records(session, back, records.as_ptr(), records.len(), text.as_ptr(), text.len())
+        });
+        match answer.code {
+            ffi::DONE => Some(self.text(answer.bytes)),
+            ffi::NO_MEMORY => out_of_memory(),
+            _ => None,
+        }
+    }
+
+    /// Where the text of a literal stands, which becomes a file of the map; `None` where it is no literal.
+    #[cfg(span_locations)]
+    pub(crate) fn read_literal(&mut self, text: &str) -> Option<Place> {
+        let answer =
+            self.call(|session, back| unsafe { ffi::pm_read_literal(session, back, text.as_ptr(), text.len()) });
+        match answer.code {
+            ffi::DONE => Some(Place::new(answer.number, answer.number + answer.bytes as u32)),
+            ffi::NO_MEMORY => out_of_memory(),
+            _ => None,
+        }
+    }
+
+    /// The session's bytes, which are so many.
+    #[cfg(procmacro2_semver_exempt)]
+    pub(crate) fn bytes(&mut self, count: usize) -> Vec<u8> {
+        let mut bytes = vec![0; count];
+        let into = bytes.as_mut_ptr();
+        let code = self.call(|session, back| unsafe { ffi::pm_copy_bytes(session, back, into, count) });
+        assert_eq!(code, ffi::DONE, "the library's bytes are as many as it told");
+        bytes
+    }
+
+    /// Takes all files of the map away but the empty one.
+    pub(crate) fn forget(&mut self) {
+        self.call(|session, back| unsafe { ffi::pm_forget(session, back) });
+    }
+
+    /// The text of a literal that the library makes.
+    pub(crate) fn make(&mut self, make: impl FnOnce(Handle, &mut Handle) -> Answer) -> String {
+        let answer = self.call(make);
+        match answer.code {
+            ffi::DONE => self.text(answer.bytes),
+            code => refused(code),
+        }
+    }
+
+    /// A call, which takes the handle and puts it back.
+    pub(crate) fn call<T>(&mut self, call: impl FnOnce(Handle, &mut Handle) -> T) -> T {
+        call(self.handle, &mut self.handle)
+    }
+
+    /// The session's text of so many bytes.
+    pub(crate) fn text(&mut self, bytes: usize) -> String {
+        let mut text = vec![0; bytes];
+        let into = text.as_mut_ptr();
+        let code = self.call(|session, back| unsafe { ffi::pm_copy_text(session, back, into, bytes) });
+        assert_eq!(code, ffi::DONE, "the library's text has the length that it told");
+        String::from_utf8(text).expect("the library's text is UTF-8")
+    }
+
+    /// The session's records, which are so many.
+    fn records(&mut self, count: usize) -> Vec<Record> {
+        let mut records = vec![Record::default(); count];
+        let into = records.as_mut_ptr();
+        let code = self.call(|session, back| unsafe { ffi::pm_copy_trees(session, back, into, count) });
+        assert_eq!(code, ffi::DONE, "the library's records are as many as it told");
+        records
+    }
+}
+
+impl Drop for Session {
+    fn drop(&mut self) {
+        unsafe { ffi::pm_session_free(self.handle) };
+    }
+}
+
+thread_local! {
+    static SESSION: RefCell<Session> = RefCell::new(Session::new());
+}
+
+/// Does something with the thread's session. Where the thread ends and its session is gone, it is a new one.
+pub(crate) fn with<T>(act: impl FnOnce(&mut Session) -> T) -> T {
+    let mut act = Some(act);
+    let done = SESSION.try_with(|session| act.take().map(|act| act(&mut session.borrow_mut())));
+    match (done, act) {
+        (Ok(Some(answer)), _) => answer,
+        (_, Some(act)) => act(&mut Session::new()),
+        _ => unreachable!("an action that wasn't taken is left"),
+    }
+}
+
+/// What a code means that no call should answer here.
+#[cold]
+pub(crate) fn refused(code: u32) -> ! {
+    if code == ffi::NO_MEMORY {
+        out_of_memory();
+    }
+    panic!("the token library answered code {code}")
+}
+
+#[cold]
+fn out_of_memory() -> ! {
+    panic!("out of memory for tokens")
+}

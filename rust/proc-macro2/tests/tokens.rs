@@ -1,0 +1,152 @@
+//! Reading, building, printing and showing tokens.
+use proc_macro2::{Delimiter, Group, Ident, Literal, Punct, Spacing, Span, TokenStream, TokenTree};
+use std::ffi::CStr;
+use std::panic;
+
+fn parse(text: &str) -> TokenStream {
+    text.parse().expect("the text is one")
+}
+
+fn ident(name: &str) -> Ident {
+    Ident::new(name, Span::call_site())
+}
+
+#[test]
+fn texts_are_read_and_printed() {
+    for (text, printed) in [
+        ("", ""),
+        ("a+=b", "a += b"),
+        ("{x}", "{ x }"),
+        ("{}", "{ }"),
+        ("f(a , [ 1 ])", "f (a , [1])"),
+        ("&'a str", "&'a str"),
+        ("/// x", "# [doc = \" x\"]"),
+        ("r#fn 0x1Fu8 'c' b\"\\0\"", "r#fn 0x1Fu8 'c' b\"\\0\""),
+        ("é // gone", "é"),
+    ] {
+        assert_eq!(parse(text).to_string(), printed, "{text}");
+    }
+    for text in ["(", "a)", "'", "\"", "/*", "r##", "1_f\u{301}32\u{0}"] {
+        assert!(text.parse::<TokenStream>().is_err(), "{text}");
+    }
+}
+
+#[test]
+fn trees_are_walked() {
+    let mut trees = parse("a (b {c}) + 1").into_iter();
+    assert_eq!(trees.size_hint(), (4, Some(4)));
+    assert!(matches!(trees.next(), Some(TokenTree::Ident(name)) if name == "a"));
+    let Some(TokenTree::Group(group)) = trees.next() else {
+        panic!("a group follows");
+    };
+    assert_eq!(group.delimiter(), Delimiter::Parenthesis);
+    assert_eq!(group.to_string(), "(b { c })");
+    assert_eq!(group.stream().into_iter().count(), 2);
+    let rest = trees.clone();
+    assert!(matches!(trees.next(), Some(TokenTree::Punct(mark)) if mark.as_char() == '+'));
+    assert!(matches!(trees.next(), Some(TokenTree::Literal(number)) if number.to_string() == "1"));
+    assert!(trees.next().is_none());
+    assert_eq!(rest.count(), 2);
+}
+
+#[test]
+fn streams_are_built() {
+    let mut stream = TokenStream::new();
+    assert!(stream.is_empty());
+    stream.extend([ident("x")]);
+    stream.extend([Punct::new('=', Spacing::Alone)]);
+    stream.extend([Literal::i32_suffixed(-3)]);
+    assert_eq!(stream.to_string(), "x = - 3i32");
+    assert_eq!(stream.clone().into_iter().count(), 4);
+    let shared = stream.clone();
+    stream.extend([parse("; y"), TokenStream::new(), parse("(z)")]);
+    stream.extend([Group::new(Delimiter::None, parse("p q"))]);
+    assert_eq!(stream.to_string(), "x = - 3i32 ; y (z) p q");
+    assert_eq!(shared.to_string(), "x = - 3i32");
+    let again: TokenStream = stream.into_iter().collect();
+    assert_eq!(again.to_string(), "x = - 3i32 ; y (z) p q");
+    let read: TokenStream = parse("a (b) c").into_iter().skip(1).collect();
+    assert_eq!(read.to_string(), "(b) c");
+}
+
+#[test]
+fn what_the_library_refuses_is_printed_all_the_same() {
+    let text = unsafe { Literal::from_str_unchecked("no literal") };
+    let stream = TokenStream::from(TokenTree::Group(Group::new(Delimiter::Brace, TokenTree::from(text).into())));
+    assert_eq!(stream.to_string(), "{ no literal }");
+}
+
+#[test]
+fn identifiers_are_checked_and_compared() {
+    assert_eq!(ident("a"), "a");
+    let raw = Ident::new_raw("fn", Span::call_site());
+    assert_eq!(raw, "r#fn");
+    assert_ne!(raw, "fn");
+    assert_ne!(raw, ident("fn"));
+    assert!(ident("a") < ident("b"));
+    for name in ["", "1", "a b", "a#", "'a", "r#a"] {
+        assert!(panic::catch_unwind(|| ident(name)).is_err(), "{name}");
+    }
+    assert!(panic::catch_unwind(|| Ident::new_raw("self", Span::call_site())).is_err());
+    assert!(panic::catch_unwind(|| Punct::new('_', Spacing::Alone)).is_err());
+}
+
+#[test]
+fn literals_are_made() {
+    for (literal, text) in [
+        (Literal::string("a\"b\n'"), r#""a\"b\n'""#),
+        (Literal::character('\''), r"'\''"),
+        (Literal::byte_character(0x1f), r"b'\x1F'"),
+        (Literal::byte_string(b"\x007"), r#"b"\x007""#),
+        (Literal::c_string(c"a\xff"), r#"c"a\xFF""#),
+        (Literal::u8_unsuffixed(255), "255"),
+        (Literal::i128_suffixed(-1), "-1i128"),
+        (Literal::f64_unsuffixed(10.0), "10.0"),
+        (Literal::f32_suffixed(0.5), "0.5f32"),
+    ] {
+        assert_eq!(literal.to_string(), text);
+    }
+    assert_eq!("-1u8".parse::<Literal>().expect("it is a number").to_string(), "-1u8");
+    for text in ["", "- 1", "a", "1 ", "-\"\"", "(1)"] {
+        assert!(text.parse::<Literal>().is_err(), "{text}");
+    }
+    let end: &CStr = c"";
+    assert_eq!(Literal::c_string(end).to_string(), "c\"\"");
+    assert!(panic::catch_unwind(|| Literal::f64_unsuffixed(f64::NAN)).is_err());
+}
+
+#[test]
+fn groups_may_nest_deep() {
+    let depth = 200_000;
+    let text = "(".repeat(depth) + &")".repeat(depth);
+    let read = parse(&text);
+    assert_eq!(read.to_string(), text);
+    let mut built = TokenStream::new();
+    for _ in 0..depth {
+        built = TokenStream::from(TokenTree::Group(Group::new(Delimiter::Parenthesis, built)));
+    }
+    assert_eq!(built.to_string(), text);
+}
+
+#[test]
+fn each_thread_has_a_session() {
+    let threads: Vec<_> = (0..4)
+        .map(|n| std::thread::spawn(move || parse(&format!("x{n}")).to_string()))
+        .collect();
+    for (n, thread) in threads.into_iter().enumerate() {
+        assert_eq!(thread.join().expect("the thread ends"), format!("x{n}"));
+    }
+}
+
+#[cfg(not(span_locations))]
+#[test]
+fn tokens_are_shown() {
+    let shown = format!("{:?}", parse("a + (r#b 1)"));
+    assert_eq!(
+        shown,
+        "TokenStream [Ident { sym: a }, Punct { char: '+', spacing: Alone }, Group { delimiter: Parenthesis, \
+         stream: TokenStream [Ident { sym: r#b }, Literal { lit: 1 }] }]"
+    );
+    assert_eq!(format!("{:?}", ident("a")), "Ident(a)");
+    assert_eq!(format!("{:?}", Span::call_site()), "Span");
+}
