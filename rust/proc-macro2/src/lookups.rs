@@ -69,7 +69,7 @@ fn told(session: &mut Session, answer: ffi::Answer) -> String {
 fn check(code: u32) {
     match code {
         ffi::DONE => {}
-        ffi::NOT_HELD => panic!("the thread has no text with this span"),
+        ffi::NOT_HELD => panic!("Invalid span with no related FileInfo! The thread has no text with it."),
         code => session::refused(code),
     }
 }

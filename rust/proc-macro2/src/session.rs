@@ -3,6 +3,7 @@ use crate::ffi::{self, Answer, Handle, Record};
 use crate::parsed::Parsed;
 #[cfg(span_locations)]
 use crate::span::Place;
+use std::alloc::{self, Layout};
 use std::cell::RefCell;
 
 /// Why a text wasn't read.
@@ -110,12 +111,26 @@ impl Session {
 
     /// The session's records, which are so many.
     fn records(&mut self, count: usize) -> Vec<Record> {
-        let mut records = vec![Record::default(); count];
+        let mut records = zeroed(count);
         let into = records.as_mut_ptr();
         let code = self.call(|session, back| unsafe { ffi::pm_copy_trees(session, back, into, count) });
         assert_eq!(code, ffi::DONE, "the library's records are as many as it told");
         records
     }
+}
+
+/// So many records of zeros, in memory that needn't be written first.
+fn zeroed(count: usize) -> Vec<Record> {
+    if count == 0 {
+        return Vec::new();
+    }
+    let layout = Layout::array::<Record>(count).expect("the records were in memory before");
+    let block = unsafe { alloc::alloc_zeroed(layout) };
+    if block.is_null() {
+        alloc::handle_alloc_error(layout);
+    }
+    // A record of zeros is one, and the block has the layout of a list of so many.
+    unsafe { Vec::from_raw_parts(block.cast(), count, count) }
 }
 
 impl Drop for Session {
