@@ -76,7 +76,7 @@ for name in syn quote unicode-ident; do
     fi
 done
 mkdir "$room/example" "$room/example/.cargo"
-cp -r example/Cargo.toml example/src "$room/example"
+cp -r example/Cargo.toml example/src example/derive "$room/example"
 cat > "$room/example/.cargo/config.toml" << END
 [source.crates-io]
 replace-with = "here"
@@ -86,5 +86,5 @@ directory = "$registry"
 proc-macro2 = { path = "$(pwd)/proc-macro2" }
 END
 example() { (cd "$room/example" && cargo run --offline --quiet -- src/main.rs); }
-try "a file parsed by syn and printed by quote over the package" example
+try "a file parsed by syn and printed by quote over the package, and a macro over it" example
 finish

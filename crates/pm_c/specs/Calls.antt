@@ -1,11 +1,11 @@
 -- What the calls of a session answer.
-use Rattle.std.specs.Prelude.{ℕ, Bool, ◌≡◌, ◌↔◌, ◌≤◌, ◌+◌, List, flat_map, length, Option, Some, None, Result, Ok}
+use Rattle.std.specs.Prelude.{ℕ, Bool, ◌≡◌, ◌↔◌, List, flat_map, length, Some, None, Result, Ok}
 use Rattle.std.specs.String.{string_bytes}
-use Rattle.std.specs.Str.{chars, IsUtf8, encode_utf8_all}
+use Rattle.std.specs.Str.{chars, encode_utf8_all}
 use Rattle.slab.specs.Slab.{get, Updates}
 use Rattle.proc_macro2.specs.CString.{IsCStringText}
 use Rattle.proc_macro2.specs.Extent.{Extent}
-use Rattle.proc_macro2.specs.Files.{Files, next_lo, with_file}
+use Rattle.proc_macro2.specs.Files.{next_lo, with_file}
 use Rattle.proc_macro2.specs.Forest.{Forest}
 use Rattle.proc_macro2.specs.IdentFault.{ident_fault}
 use Rattle.proc_macro2.specs.InOrder.{in_order}

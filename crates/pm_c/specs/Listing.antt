@@ -2,7 +2,6 @@
 use Rattle.std.specs.Prelude.{ℕ, ◌+◌, List, [], ◌∷◌, length}
 use Rattle.std.specs.Str.{encode_utf8_all}
 use Rattle.proc_macro2.specs.Forest.{Forest, nil, leaf, group}
-use Rattle.proc_macro2.specs.TreeSpan.{extent_of}
 use Rattle.proc_macro2.specs.Written.{written}
 use Rattle.proc_macro2.specs.declared.Delimiter.{Delimiter}
 use Rattle.proc_macro2.specs.declared.Delimiter.TheVariants.{Parenthesis, Brace, Bracket, None}
