@@ -7,14 +7,15 @@ Usage: bench/fuzz.py --twin TWIN [--sources FOLDER] [--seconds N | --rounds N] [
        bench/fuzz.py --twin TWIN --beginnings
 
 TWIN is the program that bench/twin/build.sh builds, FOLDER one of Rust files that are broken. Build `tokens` and
-`conformance` first; without `conformance` texts are asked by runs alone. Rounds go on for N seconds (60 if left out) or are so many. Each makes short texts of the grammar's
-pieces and of near misses, texts of literals and of their contents, and broken parts of the files. Most are asked as
-lines of recorded answers, many of them a run (fuzzing/sides.py says how), and some each by a run of `print` and of
-`spans` of both programs. A round depends on the seed and its number alone, so `--first` and `--rounds 1` repeat it.
+`conformance` first; without `conformance` texts are asked by runs alone. Rounds go on for N seconds (60 if left out) or
+are so many. Each makes short texts of the grammar's pieces and of near misses, texts of literals and of their contents,
+and broken parts of the files. Most are asked as lines of recorded answers, many of them a run (fuzzing/sides.py says
+how), and some each by a run of `print` and of `spans` of both programs. A round depends on the seed and its number
+alone, so `--first` and `--rounds 1` repeat it.
 
-`--characters` asks about each character alone, after `a`, `1`, `'`, `"`, `'a` and `r#`, between quotes, in a doc comment,
-and as the value of a string. `--beginnings` asks about every beginning of every text that the recorded answers have,
-and of raw strings with 255 and 256 hash signs.
+`--characters` asks about each character alone, after `a`, `1`, `'`, `"`, `'a` and `r#`, between quotes, in a doc
+comment, and as the value of a string. `--beginnings` asks about every beginning of every text that the recorded
+answers have, and of raw strings with 255 and 256 hash signs.
 
 Told are: each text that is answered otherwise, cut down to what still is; each run that a signal stops or whose status
 is none of 0, 1 and 2; each that takes over 0.1 seconds and 5 times what the twin takes, five times in a row; and at
@@ -178,14 +179,22 @@ class Fuzzer:
             asked = {before + c + after: c for c in every[begin:begin + CHUNK] for _, before, after in AROUND}
             found = self.ask([(kind, before + c + after) for c in every[begin:begin + CHUNK]
                               for kind, before, after in AROUND], "characters")
+            differing = collections.defaultdict(list)
             for other in found:
-                c = asked[other.text]
-                if self.is_classed_otherwise(c):
-                    self.figures["known differences"] += 1
-                else:
-                    said = f"U+{ord(c):04X}: the twin says {other.kind} {other.there}, {other.here}"
-                    self.tell("differs", f"{said}, of {other.text!r}", other.text.encode())
-        self.figures["characters that both class otherwise"] = sum(self.classed.values())
+                differing[asked[other.text]].append(other)
+            for c, others in differing.items():
+                self.judge_character(c, others)
+
+    def judge_character(self, c: str, others: list[Other]) -> None:
+        """Counts the texts of a character that are answered otherwise, and tells them where no rule explains them."""
+        written = "".join(sides.unescaped(other.there) for other in others if other.kind == "string")
+        if known.explains(c, written):
+            self.figures["characters that both class otherwise"] += 1
+            self.figures["known differences"] += len(others)
+            return
+        for other in others:
+            said = f"U+{ord(c):04X}: the twin says {other.kind} {other.there}, {other.here}"
+            self.tell("differs", f"{said}, of {other.text!r}", other.text.encode())
 
     def beginnings(self) -> None:
         """Asks about every beginning of the recorded answers' texts."""

@@ -23,8 +23,8 @@ def every_character():
 
 
 def explains(c: str, written: str) -> bool:
-    """Whether the rules explain that both class the character otherwise. `written` is what the twin prints of a doc
-    comment of it alone, or empty where that is the same here."""
+    """Whether the rules explain that both class the character otherwise. `written` is the literal of a string
+    of it alone that the twin writes, or what it prints of such a doc comment; and empty where that is the same here."""
     category = unicodedata.category(c)
     if category == "Cn" or c in LEFT_OUT:
         return True
