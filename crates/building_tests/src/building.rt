@@ -3,7 +3,7 @@ use pm_span::parts::span_of;
 use pm_stream::parts::group;
 use pm_token::parts::punct;
 use proc_macro2::{
-    Delimiter, Group, Ident, IdentError, Literal, Spacing, Span, TokenStream, TokenTree,
+    Delimiter, Group, Ident, IdentError, Literal, SourceMap, Spacing, Span, TokenStream, TokenTree,
 };
 use std::alloc::{AllocError, Global};
 use std::process::Abort;
@@ -151,6 +151,28 @@ fn a_stream_that_is_extended_leaves_its_clone(rt: HostRuntime) -> Result<(), Fai
     stream.extend_idents([x(alloc)?])?;
     check_printed(&rt, &stream, "x x")?;
     check_printed(&rt, &kept, "x")?;
+    Ok(())
+}
+
+#[test]
+fn a_stream_is_extended_by_its_own_clone(rt: HostRuntime) -> Result<(), Fail> {
+    let alloc = rt.alloc();
+    let mut stream = TokenStream::from_str("a +", &mut SourceMap::new(alloc))?;
+    let kept = stream.clone()?;
+    stream.extend_streams([kept.clone()?])?;
+    check_printed(&rt, &stream, "a + a +")?;
+    check_printed(&rt, &kept, "a +")?;
+    Ok(())
+}
+
+#[test]
+fn a_stream_of_a_group_that_is_extended_leaves_the_group(rt: HostRuntime) -> Result<(), Fail> {
+    let alloc = rt.alloc();
+    let group = grouped(Delimiter::Parenthesis, only_x(alloc)?);
+    let mut inside = group.stream()?;
+    inside.extend_groups([group.clone()?])?;
+    check_printed(&rt, &inside, "x (x)")?;
+    check_printed(&rt, &group.stream()?, "x")?;
     Ok(())
 }
 

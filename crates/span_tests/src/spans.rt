@@ -139,14 +139,24 @@ fn look_ups_are_the_same_in_every_order(rt: HostRuntime) -> Result<(), Fail> {
     Ok(())
 }
 
+/// Asserts that the map holds no span that begins after 0, of those up to `most`.
+fn check_only_file_0(rt: &impl Abort, map: &SourceMap, most: u32) {
+    for lo in 1..=most {
+        for hi in lo..=most {
+            assert!(rt; !map.holds(span_of(lo, hi)), "of {lo}..{hi}");
+        }
+    }
+}
+
 #[test]
 fn after_invalidate_texts_begin_at_1_again(rt: HostRuntime) -> Result<(), Fail> {
     let map = &mut SourceMap::with_limit(rt.alloc(), 5);
     check_spans(&rt, map, "1", &[(1, 2)])?;
     check_spans(&rt, map, "1", &[(3, 4)])?;
     map.invalidate();
-    assert!(rt; !map.holds(span_of(1, 2)), "no text is left");
+    check_only_file_0(&rt, map, 5);
     check_text(&rt, map, (0, 0), None)?;
+    check_places(&rt, map, (0, 0), [(1, 0), (1, 0), (0, 0)]);
     check_spans(&rt, map, "1", &[(1, 2)])?;
     assert!(rt;
         TokenStream::from_str("123", map).is_err(),

@@ -1,7 +1,7 @@
 // The iterator over the trees of a stream, which gives them away.
 use crate::built_streams::one;
 use crate::checks::{displays, shows};
-use proc_macro2::{SourceMap, TokenStream, token_stream};
+use proc_macro2::{SourceMap, TokenStream, TokenTree, token_stream};
 use std::alloc::{AllocError, Global};
 use std::process::Abort;
 use std::test::Fail;
@@ -52,6 +52,7 @@ fn a_copy_of_a_half_used_iterator_gives_the_rest(rt: HostRuntime) -> Result<(), 
     let _ = trees.next();
     let _ = trees.next();
     let copy = trees.clone()?;
+    assert_eq!(rt; trees.size_hint(), (2, Some(2)));
     assert_eq!(rt; copy.size_hint(), (2, Some(2)));
     gives(&rt, alloc, trees, "<(c d)><e>")?;
     gives(&rt, alloc, copy, "<(c d)><e>")?;
@@ -138,5 +139,59 @@ fn an_iterator_over_deep_groups_is_dropped_in_little_stack(rt: HostRuntime) -> R
     assert_eq!(rt; trees.size_hint(), (1, Some(1)));
     let mut given = parsed(alloc, text.as_str())?.into_iter()?;
     assert!(rt; given.next().is_some());
+    Ok(())
+}
+
+/// What an iterator says of how many items it gives, beside that they are 0 at least.
+#[derive(Clone, Copy)]
+enum Most {
+    Unknown,
+    Greatest,
+}
+
+/// The trees of another iterator, of whose number it says little.
+#[derive(Drop)]
+struct Hinting {
+    trees: token_stream::IntoIter,
+    most: Most,
+}
+
+impl Iterator for Hinting {
+    ghost use Rattle.std.specs.Iterator.{YieldsFirst, item_count};
+
+    type Item = TokenTree;
+
+    ghost next_gives = { YieldsFirst (λ it. it.trees) };
+
+    ghost remaining = { item_count (λ it. it.trees) };
+
+    fn next(&mut self) -> Option<TokenTree> {
+        self.trees.next()
+    }
+
+    fn size_hint(&self) -> (usize, Option<usize>) {
+        let _ = self.trees.size_hint();
+        match self.most {
+            Most::Unknown => (0, None),
+            Most::Greatest => (0, Some(usize::MAX)),
+        }
+    }
+}
+
+/// Asserts what `x` is extended to by an iterator over the trees of the text that hints at this many.
+fn extends(rt: &impl Abort, alloc: Global, text: &str, most: Most, want: &str) -> Result<(), Fail> {
+    let mut stream = parsed(alloc, "x")?;
+    let trees = parsed(alloc, text)?.into_iter()?;
+    stream.extend_trees(Hinting { trees, most })?;
+    displays(rt, alloc, &stream, want)?;
+    Ok(())
+}
+
+#[test]
+fn what_an_iterator_hints_at_changes_nothing(rt: HostRuntime) -> Result<(), Fail> {
+    for most in [Most::Unknown, Most::Greatest] {
+        extends(&rt, rt.alloc(), "a (b) +", most, "x a (b) +")?;
+        extends(&rt, rt.alloc(), "", most, "x")?;
+    }
     Ok(())
 }

@@ -53,6 +53,8 @@ fn a_text_past_the_limit_leaves_the_map_as_it_was(rt: HostRuntime) {
     check_limit(&rt, 6, false, true);
     check_limit(&rt, 7, true, false);
     check_limit(&rt, 9, true, true);
+    check_fits(&rt, &mut SourceMap::with_limit(rt.alloc(), 0), 0, "", false);
+    check_fits(&rt, &mut SourceMap::with_limit(rt.alloc(), 1), 1, "", true);
 }
 
 #[test]
