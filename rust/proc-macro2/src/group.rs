@@ -4,6 +4,7 @@ use crate::extra::DelimSpan;
 use crate::span::{Place, Repr as SpanRepr};
 use crate::trees::Trees;
 use crate::{Span, TokenStream};
+use proc_macro::Delimiter as CompilerDelimiter;
 use std::fmt::{self, Debug, Display};
 
 /// How a group is delimited.
@@ -63,10 +64,10 @@ impl Group {
         match stream.into_repr() {
             crate::stream::Repr::Compiler(stream) => {
                 let delimiter = match delimiter {
-                    Delimiter::Parenthesis => proc_macro::Delimiter::Parenthesis,
-                    Delimiter::Brace => proc_macro::Delimiter::Brace,
-                    Delimiter::Bracket => proc_macro::Delimiter::Bracket,
-                    Delimiter::None => proc_macro::Delimiter::None,
+                    Delimiter::Parenthesis => CompilerDelimiter::Parenthesis,
+                    Delimiter::Brace => CompilerDelimiter::Brace,
+                    Delimiter::Bracket => CompilerDelimiter::Bracket,
+                    Delimiter::None => CompilerDelimiter::None,
                 };
                 Group::compiler(proc_macro::Group::new(delimiter, stream.finish()))
             }
@@ -112,10 +113,10 @@ impl Group {
     pub fn delimiter(&self) -> Delimiter {
         match &self.repr {
             Repr::Compiler(group) => match group.delimiter() {
-                proc_macro::Delimiter::Parenthesis => Delimiter::Parenthesis,
-                proc_macro::Delimiter::Brace => Delimiter::Brace,
-                proc_macro::Delimiter::Bracket => Delimiter::Bracket,
-                proc_macro::Delimiter::None => Delimiter::None,
+                CompilerDelimiter::Parenthesis => Delimiter::Parenthesis,
+                CompilerDelimiter::Brace => Delimiter::Brace,
+                CompilerDelimiter::Bracket => Delimiter::Bracket,
+                CompilerDelimiter::None => Delimiter::None,
             },
             Repr::Own(group) => group.delimiter,
         }
