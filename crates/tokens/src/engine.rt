@@ -14,14 +14,12 @@ ghost use Rattle.tokens.specs.Spans.{HasRead};
 use crate::errors::RunError;
 use crate::mode::OutputMode;
 use crate::reading::read_to_end;
-use crate::room::text_with_room;
 use crate::sinks::ByteSink;
 use crate::sources::ByteSource;
 use crate::spans::span_lines;
 use crate::writing::write_blocks;
 use proc_macro2::{ParseError, SourceMap, TokenStream};
 use std::alloc::{AllocError, Global};
-use std::str;
 
 /// Reads source text to its end, and writes its tokens as `mode` says.
 ///
@@ -46,7 +44,7 @@ pub fn run<R: ByteSource, W: ByteSink>(
     write_blocks(writer, output.as_slice())
 }
 
-// What is written for the input, in blocks. The input's memory is given back before they are made.
+// What is written for the input, in blocks.
 fn output_of(alloc: Global, mode: OutputMode, input: Vec<u8>) -> Result<Vec<String>, RunError>
     ensures ok { IfOk result (λ output. IsOutput mode input.items (flat_map string_bytes output.items)) }
     ensures io { IsFalse (is_io result) }
@@ -58,17 +56,12 @@ fn output_of(alloc: Global, mode: OutputMode, input: Vec<u8>) -> Result<Vec<Stri
     // That a growth was refused can't be stated, only which inputs may come so far.
     ensures memory { result ≡ Err (RunError.Memory alloc_error) → IsReadable input.items }
 {
-    let Ok(text) = str::from_utf8(input.as_slice()) else {
+    let Ok(text) = String::from_utf8(input) else {
         return Err(RunError::NotUtf8);
     };
     let mut map = SourceMap::new(alloc);
-    match TokenStream::from_str(text, &mut map) {
-        Ok(stream) => {
-            let bytes = input.len();
-            // The map has the text.
-            drop(input);
-            Ok(written(alloc, mode, bytes, stream, map)?)
-        }
+    match TokenStream::from_str(text.as_str(), &mut map) {
+        Ok(stream) => Ok(written(alloc, mode, text, stream, map)?),
         Err(error) => Err(refusal(error, &map)),
     }
 }
@@ -89,12 +82,12 @@ fn refusal(error: ParseError, map: &SourceMap) -> RunError
     }
 }
 
-// What is written of the stream that a source of so many bytes parses to, which alone was read into
-// the map.
+// What is written of the stream that the text parses to, which alone was read into the map. It has the
+// text too, so the memory of this one is used anew or given back.
 fn written(
     alloc: Global,
     mode: OutputMode,
-    bytes: usize,
+    mut text: String,
     stream: TokenStream,
     map: SourceMap,
 ) -> Result<Vec<String>, AllocError>
@@ -106,12 +99,16 @@ fn written(
         OutputMode::Print => {
             // What is printed has no positions, and is about as long as the source.
             drop(map);
-            let mut text = text_with_room(alloc, bytes);
+            text.clear();
             write!(text, "{stream}\n")?;
             let mut blocks = Vec::new(alloc);
             blocks.push(text)?;
             Ok(blocks)
         }
-        OutputMode::Spans => span_lines(alloc, bytes, stream, &map),
+        OutputMode::Spans => {
+            let bytes = text.len();
+            drop(text);
+            span_lines(alloc, bytes, stream, &map)
+        }
     }
 }

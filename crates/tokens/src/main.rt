@@ -12,7 +12,6 @@ mod failing;
 mod messages;
 mod mode;
 mod reading;
-mod room;
 mod sinks;
 mod sources;
 mod spans;

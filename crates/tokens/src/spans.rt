@@ -5,7 +5,6 @@ ghost use Rattle.proc_macro2.specs.HeldSpans.{HoldsAll};
 ghost use Rattle.proc_macro2.specs.InOrder.{in_order};
 ghost use Rattle.tokens.specs.Spans.{HasRead, IsInSource, kind_of, kind_word, line_in, line_of, line_text, place_text, span_line};
 
-use crate::room::text_with_room;
 use itoa::Buffer;
 use proc_macro2::{LineColumn, SourceMap, Span, TokenStream, TokenTree};
 use std::alloc::{AllocError, Global};
@@ -61,8 +60,7 @@ fn lines_of(alloc: Global, bytes: usize, stream: &TokenStream) -> Result<Vec<Lin
     ensures { IfOk result (λ lines. lines.items ≡ map line_of (in_order stream.now)) }
 {
     let mut lines = Vec::new(alloc);
-    // Where there is no memory for so many, the list grows as it is filled.
-    let _ = lines.reserve(bytes / SOURCE_BYTES_PER_TREE);
+    lines.reserve(bytes / SOURCE_BYTES_PER_TREE)?;
     let mut walk = stream.walk();
     while let Some(tree) = walk.next()? {
         lines.push(Line {
@@ -105,7 +103,7 @@ fn next_block(alloc: Global, blocks: &mut Vec<String>, block: String) -> Result<
         return Ok(block);
     }
     blocks.push(block)?;
-    Ok(text_with_room(alloc, BLOCK + LONGEST_LINE))
+    String::with_capacity(alloc, BLOCK + LONGEST_LINE)
 }
 
 // The kind of a tree.
