@@ -56,38 +56,49 @@ pub fn run_new<W: Write>(alloc: Global, out: &mut W, call: &str) -> Result<(), F
     Ok(())
 }
 
-fn made<W: Write>(
-    alloc: Global,
-    out: &mut W,
-    call: &str,
-) -> Result<Result<TokenStream, AllocError>, Fail> {
-    Ok(match call {
-        "from_tree" => {
-            let tree = TokenTree::Literal(minus_three(alloc)?);
-            watched!(out; TokenStream::from_tree(alloc, tree))
-        }
-        "from_trees" => {
-            let trees = trees(alloc)?;
-            watched!(out; TokenStream::from_trees(alloc, trees))
-        }
-        "from_no_trees" => {
-            let trees: [TokenTree; 0] = [];
-            watched!(out; TokenStream::from_trees(alloc, trees))
-        }
-        "from_streams" => {
-            let stream = x_and_group(alloc)?;
-            watched!(out; TokenStream::from_streams(alloc, [stream]))
-        }
-        "from_no_streams" => {
-            let streams: [TokenStream; 0] = [];
-            watched!(out; TokenStream::from_streams(alloc, streams))
-        }
-        "collect" => {
-            let trees = trees(alloc)?;
-            watched!(out; trees.into_iter().collect(alloc))
-        }
-        _ => return Err(Fail::NoCase),
-    })
+// A stream, or that memory ran out.
+type Made = Result<TokenStream, AllocError>;
+
+fn made<W: Write>(alloc: Global, out: &mut W, call: &str) -> Result<Made, Fail> {
+    match call {
+        "from_tree" => from_tree(alloc, out),
+        "from_trees" => from_trees(alloc, out),
+        "from_no_trees" => from_no_trees(alloc, out),
+        "from_streams" => from_streams(alloc, out),
+        "from_no_streams" => from_no_streams(alloc, out),
+        "collect" => collected(alloc, out),
+        _ => Err(Fail::NoCase),
+    }
+}
+
+fn from_tree<W: Write>(alloc: Global, out: &mut W) -> Result<Made, Fail> {
+    let tree = TokenTree::Literal(minus_three(alloc)?);
+    Ok(watched!(out; TokenStream::from_tree(alloc, tree)))
+}
+
+fn from_trees<W: Write>(alloc: Global, out: &mut W) -> Result<Made, Fail> {
+    let trees = trees(alloc)?;
+    Ok(watched!(out; TokenStream::from_trees(alloc, trees)))
+}
+
+fn from_no_trees<W: Write>(alloc: Global, out: &mut W) -> Result<Made, Fail> {
+    let trees: [TokenTree; 0] = [];
+    Ok(watched!(out; TokenStream::from_trees(alloc, trees)))
+}
+
+fn from_streams<W: Write>(alloc: Global, out: &mut W) -> Result<Made, Fail> {
+    let stream = x_and_group(alloc)?;
+    Ok(watched!(out; TokenStream::from_streams(alloc, [stream])))
+}
+
+fn from_no_streams<W: Write>(alloc: Global, out: &mut W) -> Result<Made, Fail> {
+    let streams: [TokenStream; 0] = [];
+    Ok(watched!(out; TokenStream::from_streams(alloc, streams)))
+}
+
+fn collected<W: Write>(alloc: Global, out: &mut W) -> Result<Made, Fail> {
+    let trees = trees(alloc)?;
+    Ok(watched!(out; trees.into_iter().collect(alloc)))
 }
 
 /// Puts trees into a stream of `a`, `+` and `b`.
@@ -136,45 +147,88 @@ fn first_inside(alloc: Global, stream: &TokenStream) -> Result<TokenStream, Allo
     }
 }
 
+// Whether memory ran out.
+type Extended = Result<(), AllocError>;
+
 fn extended<W: Write>(
     alloc: Global,
     out: &mut W,
     stream: &mut TokenStream,
     call: &str,
-) -> Result<Result<(), AllocError>, Fail> {
-    Ok(match call {
-        "trees" => {
-            let trees = trees(alloc)?;
-            watched!(out; stream.extend_trees(trees))
-        }
-        "streams" => {
-            let new = x_and_group(alloc)?;
-            watched!(out; stream.extend_streams([new]))
-        }
-        "groups" => {
-            let group = group_of_y(alloc)?;
-            watched!(out; stream.extend_groups([group]))
-        }
-        "idents" => {
-            let x = ident(alloc, "x")?;
-            watched!(out; stream.extend_idents([x]))
-        }
-        "puncts" => {
-            let plus = Punct::new('+', Spacing::Alone);
-            watched!(out; stream.extend_puncts([plus]))
-        }
-        "literals" => {
-            let literal = minus_three(alloc)?;
-            watched!(out; stream.extend_literals([literal]))
-        }
-        "no_trees" => {
-            let trees: [TokenTree; 0] = [];
-            watched!(out; stream.extend_trees(trees))
-        }
-        "by_std" => {
-            let trees = trees(alloc)?;
-            watched!(out; stream.extend(trees))
-        }
-        _ => return Err(Fail::NoCase),
-    })
+) -> Result<Extended, Fail> {
+    match call {
+        "trees" => by_trees(alloc, out, stream),
+        "streams" => by_streams(alloc, out, stream),
+        "groups" => by_groups(alloc, out, stream),
+        "idents" => by_idents(alloc, out, stream),
+        "puncts" => by_puncts(out, stream),
+        "literals" => by_literals(alloc, out, stream),
+        "no_trees" => by_no_trees(out, stream),
+        "by_std" => by_std(alloc, out, stream),
+        _ => Err(Fail::NoCase),
+    }
+}
+
+fn by_trees<W: Write>(
+    alloc: Global,
+    out: &mut W,
+    stream: &mut TokenStream,
+) -> Result<Extended, Fail> {
+    let trees = trees(alloc)?;
+    Ok(watched!(out; stream.extend_trees(trees)))
+}
+
+fn by_streams<W: Write>(
+    alloc: Global,
+    out: &mut W,
+    stream: &mut TokenStream,
+) -> Result<Extended, Fail> {
+    let new = x_and_group(alloc)?;
+    Ok(watched!(out; stream.extend_streams([new])))
+}
+
+fn by_groups<W: Write>(
+    alloc: Global,
+    out: &mut W,
+    stream: &mut TokenStream,
+) -> Result<Extended, Fail> {
+    let group = group_of_y(alloc)?;
+    Ok(watched!(out; stream.extend_groups([group])))
+}
+
+fn by_idents<W: Write>(
+    alloc: Global,
+    out: &mut W,
+    stream: &mut TokenStream,
+) -> Result<Extended, Fail> {
+    let x = ident(alloc, "x")?;
+    Ok(watched!(out; stream.extend_idents([x])))
+}
+
+fn by_puncts<W: Write>(out: &mut W, stream: &mut TokenStream) -> Result<Extended, Fail> {
+    let plus = Punct::new('+', Spacing::Alone);
+    Ok(watched!(out; stream.extend_puncts([plus])))
+}
+
+fn by_literals<W: Write>(
+    alloc: Global,
+    out: &mut W,
+    stream: &mut TokenStream,
+) -> Result<Extended, Fail> {
+    let literal = minus_three(alloc)?;
+    Ok(watched!(out; stream.extend_literals([literal])))
+}
+
+fn by_no_trees<W: Write>(out: &mut W, stream: &mut TokenStream) -> Result<Extended, Fail> {
+    let trees: [TokenTree; 0] = [];
+    Ok(watched!(out; stream.extend_trees(trees)))
+}
+
+fn by_std<W: Write>(
+    alloc: Global,
+    out: &mut W,
+    stream: &mut TokenStream,
+) -> Result<Extended, Fail> {
+    let trees = trees(alloc)?;
+    Ok(watched!(out; stream.extend(trees)))
 }

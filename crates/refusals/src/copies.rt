@@ -11,21 +11,31 @@ use std::io::Write;
 pub fn run<W: Write>(alloc: Global, out: &mut W, call: &str, text: &str) -> Result<(), Fail> {
     let stream = TokenStream::from_str(text, &mut SourceMap::new(alloc))?;
     for _ in 0..2 {
-        match call {
-            "stream" => copy_stream(out, &stream)?,
-            "tree" => copy_tree(out, &stream)?,
-            "inside" => copy_inside(out, &stream)?,
-            "into_iter" => take_trees(out, stream.clone()?)?,
-            "alone_into_iter" => take_trees(
-                out,
-                TokenStream::from_str(text, &mut SourceMap::new(alloc))?,
-            )?,
-            "iterator" => copy_iterator(out, stream.clone()?)?,
-            _ => return Err(Fail::NoCase),
-        }
+        copy(alloc, out, call, text, &stream)?;
         show_stream(out, &stream)?;
     }
     Ok(())
+}
+
+fn copy<W: Write>(
+    alloc: Global,
+    out: &mut W,
+    call: &str,
+    text: &str,
+    stream: &TokenStream,
+) -> Result<(), Fail> {
+    match call {
+        "stream" => copy_stream(out, stream),
+        "tree" => copy_tree(out, stream),
+        "inside" => copy_inside(out, stream),
+        "into_iter" => take_trees(out, stream.clone()?),
+        "alone_into_iter" => take_trees(
+            out,
+            TokenStream::from_str(text, &mut SourceMap::new(alloc))?,
+        ),
+        "iterator" => copy_iterator(out, stream.clone()?),
+        _ => Err(Fail::NoCase),
+    }
 }
 
 fn copy_stream<W: Write>(out: &mut W, stream: &TokenStream) -> Result<(), Fail> {

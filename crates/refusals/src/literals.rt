@@ -79,22 +79,40 @@ fn signed(alloc: Global, call: &str) -> Option<Result<Literal, AllocError>> {
 pub fn run_value<W: Write>(alloc: Global, out: &mut W, call: &str, text: &str) -> Result<(), Fail> {
     let literal = Literal::from_str(text, &mut SourceMap::new(alloc))?;
     for _ in 0..2 {
-        match call {
-            "str_value" => {
-                let answer = watched!(out; literal.str_value(alloc));
-                writeln!(out, "{answer:?}")?;
-            }
-            "byte_str_value" => {
-                let answer = watched!(out; literal.byte_str_value(alloc));
-                writeln!(out, "{answer:?}")?;
-            }
-            "cstr_value" => {
-                let answer = watched!(out; literal.cstr_value(alloc));
-                writeln!(out, "{answer:?}")?;
-            }
-            _ => return Err(Fail::NoCase),
-        }
+        show_value(alloc, out, call, &literal)?;
         writeln!(out, "literal {literal}")?;
     }
+    Ok(())
+}
+
+fn show_value<W: Write>(
+    alloc: Global,
+    out: &mut W,
+    call: &str,
+    literal: &Literal,
+) -> Result<(), Fail> {
+    match call {
+        "str_value" => show_str(alloc, out, literal),
+        "byte_str_value" => show_byte_str(alloc, out, literal),
+        "cstr_value" => show_cstr(alloc, out, literal),
+        _ => Err(Fail::NoCase),
+    }
+}
+
+fn show_str<W: Write>(alloc: Global, out: &mut W, literal: &Literal) -> Result<(), Fail> {
+    let answer = watched!(out; literal.str_value(alloc));
+    writeln!(out, "{answer:?}")?;
+    Ok(())
+}
+
+fn show_byte_str<W: Write>(alloc: Global, out: &mut W, literal: &Literal) -> Result<(), Fail> {
+    let answer = watched!(out; literal.byte_str_value(alloc));
+    writeln!(out, "{answer:?}")?;
+    Ok(())
+}
+
+fn show_cstr<W: Write>(alloc: Global, out: &mut W, literal: &Literal) -> Result<(), Fail> {
+    let answer = watched!(out; literal.cstr_value(alloc));
+    writeln!(out, "{answer:?}")?;
     Ok(())
 }

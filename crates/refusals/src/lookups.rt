@@ -14,26 +14,60 @@ pub fn run<W: Write>(alloc: Global, out: &mut W, call: &str, text: &str) -> Resu
     let mut map = map_of_x(alloc, u32::MAX)?;
     let spans = spans_of(alloc, text, &mut map)?;
     for _ in 0..2 {
-        match call {
-            "file" => {
-                let mut names = Vec::with_capacity(alloc, spans.len())?;
-                watched!(out; ask_files(&map, &spans, &mut names))?;
-                writeln!(out, "{names:?}")?;
-            }
-            "byte_range" => {
-                let mut ranges = Vec::with_capacity(alloc, spans.len())?;
-                watched!(out; ask_bytes(&mut map, &spans, &mut ranges))?;
-                writeln!(out, "{ranges:?}")?;
-            }
-            "source_text" => {
-                let mut texts = Vec::with_capacity(alloc, spans.len())?;
-                watched!(out; ask_texts(&mut map, &spans, &mut texts))?;
-                writeln!(out, "{texts:?}")?;
-            }
-            _ => return Err(Fail::NoCase),
-        }
+        show(alloc, out, call, &mut map, &spans)?;
         show_map(out, &map)?;
     }
+    Ok(())
+}
+
+fn show<W: Write>(
+    alloc: Global,
+    out: &mut W,
+    call: &str,
+    map: &mut SourceMap,
+    spans: &[Span],
+) -> Result<(), Fail> {
+    match call {
+        "file" => show_files(alloc, out, map, spans),
+        "byte_range" => show_bytes(alloc, out, map, spans),
+        "source_text" => show_texts(alloc, out, map, spans),
+        _ => Err(Fail::NoCase),
+    }
+}
+
+fn show_files<W: Write>(
+    alloc: Global,
+    out: &mut W,
+    map: &SourceMap,
+    spans: &[Span],
+) -> Result<(), Fail> {
+    let mut names = Vec::with_capacity(alloc, spans.len())?;
+    watched!(out; ask_files(map, spans, &mut names))?;
+    writeln!(out, "{names:?}")?;
+    Ok(())
+}
+
+fn show_bytes<W: Write>(
+    alloc: Global,
+    out: &mut W,
+    map: &mut SourceMap,
+    spans: &[Span],
+) -> Result<(), Fail> {
+    let mut ranges = Vec::with_capacity(alloc, spans.len())?;
+    watched!(out; ask_bytes(map, spans, &mut ranges))?;
+    writeln!(out, "{ranges:?}")?;
+    Ok(())
+}
+
+fn show_texts<W: Write>(
+    alloc: Global,
+    out: &mut W,
+    map: &mut SourceMap,
+    spans: &[Span],
+) -> Result<(), Fail> {
+    let mut texts = Vec::with_capacity(alloc, spans.len())?;
+    watched!(out; ask_texts(map, spans, &mut texts))?;
+    writeln!(out, "{texts:?}")?;
     Ok(())
 }
 

@@ -14,25 +14,40 @@ const STEPS: usize = 100;
 pub fn run<W: Write>(alloc: Global, out: &mut W, call: &str, text: &str) -> Result<(), Fail> {
     let stream = TokenStream::from_str(text, &mut SourceMap::new(alloc))?;
     for _ in 0..2 {
-        match call {
-            "print" => {
-                let answer = watched!(out; {
-                    let text: Result<_, _> = format!(in alloc; "{stream}");
-                    text
-                });
-                writeln!(out, "{answer:?}")?;
-            }
-            "walk" => {
-                let mut trees = Vec::with_capacity(alloc, STEPS)?;
-                let refusals = watched!(out; walk(&stream, &mut trees))?;
-                writeln!(out, "{refusals} refusals")?;
-                for tree in trees {
-                    show_tree(out, tree)?;
-                }
-            }
-            _ => return Err(Fail::NoCase),
-        }
+        read(alloc, out, call, &stream)?;
         show_stream(out, &stream)?;
+    }
+    Ok(())
+}
+
+fn read<W: Write>(
+    alloc: Global,
+    out: &mut W,
+    call: &str,
+    stream: &TokenStream,
+) -> Result<(), Fail> {
+    match call {
+        "print" => print_stream(alloc, out, stream),
+        "walk" => show_walk(alloc, out, stream),
+        _ => Err(Fail::NoCase),
+    }
+}
+
+fn print_stream<W: Write>(alloc: Global, out: &mut W, stream: &TokenStream) -> Result<(), Fail> {
+    let answer = watched!(out; {
+        let text: Result<_, _> = format!(in alloc; "{stream}");
+        text
+    });
+    writeln!(out, "{answer:?}")?;
+    Ok(())
+}
+
+fn show_walk<W: Write>(alloc: Global, out: &mut W, stream: &TokenStream) -> Result<(), Fail> {
+    let mut trees = Vec::with_capacity(alloc, STEPS)?;
+    let refusals = watched!(out; walk(stream, &mut trees))?;
+    writeln!(out, "{refusals} refusals")?;
+    for tree in trees {
+        show_tree(out, tree)?;
     }
     Ok(())
 }

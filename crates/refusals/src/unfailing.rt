@@ -6,11 +6,13 @@ use proc_macro2::rustc_literal_escaper::{
     MixedUnit, Mode, check_for_errors, check_raw_byte_str, check_raw_c_str, check_raw_str,
     unescape_byte, unescape_byte_str, unescape_c_str, unescape_char, unescape_str,
 };
+use proc_macro2::token_stream::IntoIter;
 use proc_macro2::{
     Delimiter, Group, Ident, LexError, LineColumn, Literal, NonZeroChar, NonZeroU8, ParseError,
     Punct, SourceMap, Spacing, Span, TokenStream, TokenTree,
 };
 use std::alloc::Global;
+use std::cmp::Ordering;
 use std::hash::{DefaultHasher, Hash, Hasher};
 use std::io::Write;
 use std::ops::Bound;
@@ -18,24 +20,28 @@ use std::ops::Bound;
 /// Does all calls about streams, maps, spans, .. on the text.
 pub fn run<W: Write>(alloc: Global, out: &mut W, call: &str, text: &str) -> Result<(), Fail> {
     for _ in 0..2 {
-        match call {
-            "streams" => ask_streams(alloc, out, text)?,
-            "maps" => ask_maps(alloc, out, text)?,
-            "spans" => ask_spans(alloc, out, text)?,
-            "look_ups" => look_up(alloc, out, text)?,
-            "groups" => ask_groups(alloc, out, text)?,
-            "marks" => ask_marks(out)?,
-            "names" => ask_names(alloc, out, text)?,
-            "literals" => ask_literals(alloc, out, text)?,
-            "iterators" => ask_iterators(alloc, out, text)?,
-            "faults" => ask_faults(alloc, out, text)?,
-            "contents" => ask_contents(out, text)?,
-            "raw_contents" => ask_raw_contents(out, text)?,
-            "units" => ask_units(out)?,
-            _ => return Err(Fail::NoCase),
-        }
+        ask(alloc, out, call, text)?;
     }
     Ok(())
+}
+
+fn ask<W: Write>(alloc: Global, out: &mut W, call: &str, text: &str) -> Result<(), Fail> {
+    match call {
+        "streams" => ask_streams(alloc, out, text),
+        "maps" => ask_maps(alloc, out, text),
+        "spans" => ask_spans(alloc, out, text),
+        "look_ups" => look_up(alloc, out, text),
+        "groups" => ask_groups(alloc, out, text),
+        "marks" => ask_marks(out),
+        "names" => ask_names(alloc, out, text),
+        "literals" => ask_literals(alloc, out, text),
+        "iterators" => ask_iterators(alloc, out, text),
+        "faults" => ask_faults(alloc, out, text),
+        "contents" => ask_contents(out, text),
+        "raw_contents" => ask_raw_contents(out, text),
+        "units" => ask_units(out),
+        _ => Err(Fail::NoCase),
+    }
 }
 
 fn parsed(alloc: Global, text: &str) -> Result<TokenStream, ParseError> {
@@ -119,18 +125,35 @@ fn ask_groups<W: Write>(alloc: Global, out: &mut W, text: &str) -> Result<(), Fa
         return Err(Fail::NoCase);
     };
     let inside = parsed(alloc, text)?;
-    let answers = watched!(out; {
-        let mut new = Group::new(Delimiter::Brace, inside);
-        new.set_span(group.span());
-        let mut tree = TokenTree::from(new);
-        let before = tree.span();
-        tree.set_span(Span::call_site());
-        let span = group.delim_span();
-        let spans = (group.span(), group.span_open(), group.span_close(), span.join(), span.open(), span.close());
-        (group.delimiter(), group.stream_ref().trees().len(), spans, before, tree)
-    });
+    let answers = watched!(out; asked_of_a_group(group, inside));
     writeln!(out, "{answers:?}")?;
     Ok(())
+}
+
+type SixSpans = (Span, Span, Span, Span, Span, Span);
+
+fn asked_of_a_group(
+    group: &Group,
+    inside: TokenStream,
+) -> (Delimiter, usize, SixSpans, Span, TokenTree) {
+    let mut new = Group::new(Delimiter::Brace, inside);
+    new.set_span(group.span());
+    let mut tree = TokenTree::from(new);
+    let before = tree.span();
+    tree.set_span(Span::call_site());
+    (
+        group.delimiter(),
+        group.stream_ref().trees().len(),
+        spans_of(group),
+        before,
+        tree,
+    )
+}
+
+fn spans_of(group: &Group) -> SixSpans {
+    let span = group.delim_span();
+    let (whole, open, close) = (group.span(), group.span_open(), group.span_close());
+    (whole, open, close, span.join(), span.open(), span.close())
 }
 
 fn ask_marks<W: Write>(out: &mut W) -> Result<(), Fail> {
@@ -148,16 +171,37 @@ fn ask_marks<W: Write>(out: &mut W) -> Result<(), Fail> {
 fn ask_names<W: Write>(alloc: Global, out: &mut W, text: &str) -> Result<(), Fail> {
     let mut name = Ident::new(alloc, text, Span::call_site())?;
     let raw = Ident::new_raw(alloc, text, Span::call_site())?;
-    let answers = watched!(out; {
-        let mut hasher = DefaultHasher::new();
-        name.hash(&mut hasher);
-        name.set_span(Span::call_site());
-        let hash = hasher.finish();
-        (name == raw, name == name, name.cmp(&raw), name < raw, hash == 0, name.eq_str(text), raw.eq_str(text), name.span())
-    });
+    let answers = watched!(out; asked_of_names(&mut name, &raw, text));
     let tree = watched!(out; TokenTree::from(name));
     writeln!(out, "{answers:?} {tree:?}")?;
     Ok(())
+}
+
+fn asked_of_names(
+    name: &mut Ident,
+    raw: &Ident,
+    text: &str,
+) -> (bool, bool, Ordering, bool, bool, bool, bool, Span) {
+    let mut hasher = DefaultHasher::new();
+    name.hash(&mut hasher);
+    name.set_span(Span::call_site());
+    let hash = hasher.finish();
+    let (is_same, is_itself, order, is_less) = compared(name, raw);
+    let (is_text, is_raw_text) = (name.eq_str(text), raw.eq_str(text));
+    (
+        is_same,
+        is_itself,
+        order,
+        is_less,
+        hash == 0,
+        is_text,
+        is_raw_text,
+        name.span(),
+    )
+}
+
+fn compared(name: &Ident, raw: &Ident) -> (bool, bool, Ordering, bool) {
+    (*name == *raw, *name == *name, name.cmp(raw), *name < *raw)
 }
 
 fn ask_literals<W: Write>(alloc: Global, out: &mut W, text: &str) -> Result<(), Fail> {
@@ -174,13 +218,17 @@ fn ask_literals<W: Write>(alloc: Global, out: &mut W, text: &str) -> Result<(), 
 
 fn ask_iterators<W: Write>(alloc: Global, out: &mut W, text: &str) -> Result<(), Fail> {
     let mut trees = parsed(alloc, text)?.into_iter()?;
-    let answers = watched!(out; {
-        let before = trees.size_hint();
-        let first = trees.next();
-        (before, first, trees.next(), trees.size_hint())
-    });
+    let answers = watched!(out; two_taken(&mut trees));
     writeln!(out, "{answers:?}")?;
     Ok(())
+}
+
+type Hint = (usize, Option<usize>);
+
+fn two_taken(trees: &mut IntoIter) -> (Hint, Option<TokenTree>, Option<TokenTree>, Hint) {
+    let before = trees.size_hint();
+    let first = trees.next();
+    (before, first, trees.next(), trees.size_hint())
 }
 
 fn ask_faults<W: Write>(alloc: Global, out: &mut W, text: &str) -> Result<(), Fail> {
