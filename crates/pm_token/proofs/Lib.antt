@@ -18,6 +18,7 @@ pub mod CompareLemmas
 pub mod NameLemmas
 pub mod RawValueLemmas
 pub mod ReadLemmas
+pub mod SingleValueLemmas
 pub mod SuffixLemmas
 pub mod TextLemmas
 pub mod UnicodeEscapeLemmas
