@@ -253,11 +253,7 @@ fn a_column_has_five_escapes(rt: HostRuntime) {
 fn a_named_difference_is_wanted_in_place_of_the_answer(rt: HostRuntime) {
     agrees(&rt, "print\t'''\t'''\tfault\t1:0");
     differs(&rt, "print\t'''\t'''", "here: fault \"1:0\"\n");
-    differs(
-        &rt,
-        "print\t'''\t'''\tfault\t1:1",
-        "here: fault \"1:0\"\n",
-    );
+    differs(&rt, "print\t'''\t'''\tfault\t1:1", "here: fault \"1:0\"\n");
     differs(&rt, "print\ta\ta\tfault\t1:0", "here: print \"a\"\n");
     differs(&rt, "print\ta\ta\tprint\tb", "here: print \"a\"\n");
     is_refused(&rt, "print\ta\ta\tprint\ta");
