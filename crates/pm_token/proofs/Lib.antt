@@ -13,6 +13,7 @@ pub mod CStringLemmas
 pub mod CStringValueLemmas
 mod Examples
 mod JoinedExamples
+mod SingleExamples
 pub mod TestTokens
 pub mod CompareLemmas
 pub mod NameLemmas
