@@ -89,10 +89,11 @@ class Fuzzer:
         columns = [(line.split("\t"), here) for line, here in differing]
         return [Other(kind, sides.unescaped(text), there, here) for (kind, text, there), here in columns]
 
-    def is_otherwise(self, kind: str, text: str) -> bool:
-        """Whether a text of which the twin's answer was of this kind is answered otherwise."""
+    def said_otherwise(self, kind: str, text: str) -> "str | None":
+        """What is said here of a text of which the twin's answer was of this kind; None where it says the same."""
         asked = {"fault": "tree", "refused": "literal"}.get(kind, kind)
-        return bool(self.ask([(asked, text)], "again"))
+        others = self.ask([(asked, text)], "again")
+        return others[0].here if others else None
 
     def is_classed_otherwise(self, c: str) -> bool:
         """Whether both class the character otherwise by the known rules."""
@@ -103,18 +104,21 @@ class Fuzzer:
             self.classed[c] = any(differing) and known.explains(c, written)
         return self.classed[c]
 
-    def is_known(self, text: str, is_otherwise: typing.Callable[[str], bool]) -> bool:
+    def is_known(self, text: str, otherwise: typing.Callable[[str], "str | None"]) -> bool:
         """Whether the text is answered otherwise by the known rules alone."""
+        text, here = known.escaped_where_refused(text, otherwise)
+        if here is None:
+            return True
         by_rule = {c for c in set(text) if c > "\x7f" and self.is_classed_otherwise(c)}
         others = known.replaced(text, by_rule)
-        return bool(others) and not any(map(is_otherwise, others))
+        return bool(others) and all(known.escaped_where_refused(other, otherwise)[1] is None for other in others)
 
-    def judge(self, text: str, said: str, is_otherwise: typing.Callable[[str], bool]) -> None:
+    def judge(self, text: str, said: str, otherwise: typing.Callable[[str], "str | None"]) -> None:
         """Counts a text that is answered otherwise, and tells it where the known rules don't explain it."""
         def is_new(text: str) -> bool:
-            return is_otherwise(text) and not self.is_known(text, is_otherwise)
+            return otherwise(text) is not None and not self.is_known(text, otherwise)
 
-        if self.is_known(text, is_otherwise):
+        if self.is_known(text, otherwise):
             self.figures["known differences"] += 1
             return
         least = shrunk(text, is_new) if self.figures["differs"] < MOST_CUT else text
@@ -124,7 +128,7 @@ class Fuzzer:
         """Asks of these texts as lines."""
         for other in self.ask(asked, where):
             said = f"{where}: the twin says {other.kind} {other.there}, {other.here}"
-            self.judge(other.text, said, lambda text: self.is_otherwise(other.kind, text))
+            self.judge(other.text, said, lambda text: self.said_otherwise(other.kind, text))
 
     def runs(self, text: bytes, where: str) -> None:
         """Runs both programs on the text, with both words."""
@@ -141,12 +145,12 @@ class Fuzzer:
                 self.judge_runs(text, word, f"{where}: {word}: {here}; the twin: {there}")
 
     def judge_runs(self, text: bytes, word: str, said: str) -> None:
-        def is_otherwise(text: str) -> bool:
+        def otherwise(text: str) -> "str | None":
             here, there = self.both.run_both(text.encode())[word]
-            return not here.is_same(there)
+            return None if here.is_same(there) else here.err.decode()
 
         try:
-            self.judge(text.decode(), said, is_otherwise)
+            self.judge(text.decode(), said, otherwise)
         except UnicodeDecodeError:
             self.tell("differs", f"{said}, of {sides.short(text)}", text)
 
@@ -196,12 +200,12 @@ class Fuzzer:
             return
         for other in others:
             said = f"U+{ord(c):04X}: the twin says {other.kind} {other.there}, {other.here}"
-            self.tell("differs", f"{said}, of {other.text!r}", other.text.encode())
+            self.judge(other.text, said, lambda text: self.said_otherwise(other.kind, text))
 
     def beginnings(self) -> None:
         """Asks about every beginning of the recorded answers' texts."""
         columns = [line.split("\t") for line in (TOP / "crates/conformance/stdin").read_text().split("\n")[:-1]]
-        wholes = {sides.unescaped(text) for kind, text, _ in columns if kind in (*STREAM, "fault")}
+        wholes = {sides.unescaped(text) for kind, text, *_ in columns if kind in (*STREAM, "fault")}
         wholes |= {f'r{"#" * hashes}""{"#" * hashes}' for hashes in (255, 256)}
         every = sorted({text[:end] for text in wholes for end in range(len(text) + 1)})
         self.figures["characters"] = sum(map(len, every))

@@ -9,13 +9,21 @@ literal escapes it. A character that they class otherwise is explained where
 
 A text that both answer otherwise differs by these rules only where it has such a character, and is answered the same
 once each of them is replaced: by a letter, by a mark that continues identifiers, and by one that does neither.
+
+The crate takes a bare quote, LF, CR or tab between single quotes, and here no literal stands there. A text differs by
+this rule only where it is refused at such a literal, and is answered the same once that one is written by an escape, and
+each further one that it is refused at then.
 """
+import re
 import sys
+import typing
 import unicodedata
 
 LEFT_OUT = "\u200c\u200d\u30fb\uff65"
 HIDDEN = {"Mn", "Me", "Zs", "Zl", "Zp", "Cc", "Cf", "Co", "Cn"}
 STAND_INS = "é\u0301\u20ac"
+BARE = re.compile(r"b?'(['\n\r\t])'")
+ESCAPES = {"'": "'", "\n": "n", "\r": "r", "\t": "t"}
 
 
 def every_character():
@@ -36,6 +44,33 @@ def replaced(text: str, known: set) -> list[str]:
     if known.isdisjoint(text):
         return []
     return [text.translate({ord(c): stand_in for c in known.intersection(text)}) for stand_in in STAND_INS]
+
+
+def escaped_where_refused(text: str, otherwise: typing.Callable[[str], "str | None"]) -> tuple[str, "str | None"]:
+    """The text with an escape in each literal that the crate takes and that is refused here for what stands between its
+    single quotes, and what is said here of that text where the crate says otherwise. `otherwise` tells that of a text.
+    """
+    here = otherwise(text)
+    while here is not None:
+        place = place_refused(text, here)
+        found = place is not None and BARE.match(text, place)
+        if not found:
+            break
+        text = f"{text[:found.start(1)]}\\{ESCAPES[found[1]]}{text[found.end(1):]}"
+        here = otherwise(text)
+    return text, here
+
+
+def place_refused(text: str, here: str) -> "int | None":
+    """The place of the fault that is told of the text by line and column, and 0 of a text that is told to be no literal;
+    None where neither is told."""
+    if here.startswith("here: refused"):
+        return 0
+    told = re.search(r"fault \"?(\d+):(\d+)", here)
+    if not told:
+        return None
+    before = text.split("\n")[:int(told[1]) - 1]
+    return sum(len(line) + 1 for line in before) + int(told[2])
 
 
 def check_tables() -> None:

@@ -2,9 +2,10 @@
 //!
 //! `twin print` does what `tokens print` does, and `twin spans` what `tokens spans` does, on a stack that
 //! grows with the nesting of groups. `twin answers` reads lines as those of crates/conformance/stdin, and
-//! writes each with the crate's own answer. `twin lists SEED COUNT` writes such lines for lists of trees by
-//! chance. `twin call WORD COUNT` reads a text, makes the call that the word names so many times, and prints the
-//! processor time that the calls took, in nanoseconds, and a number by which their answers are compared.
+//! writes each with the crate's own answer, and with the two columns of a named difference where it has them.
+//! `twin lists SEED COUNT` writes such lines for lists of trees by chance. `twin call WORD COUNT` reads a text, makes
+//! the call that the word names so many times, and prints the processor time that the calls took, in nanoseconds, and
+//! a number by which their answers are compared.
 mod answers;
 mod calls;
 mod lists;
@@ -68,11 +69,14 @@ fn answers() -> io::Result<()> {
     out.flush()
 }
 
-/// The line with the crate's answer. `None` where it hasn't three columns, its kind isn't known, or its text has a
-/// wrong escape.
+/// The line with the crate's answer, and with the two columns of a named difference, where it has them. `None` where it
+/// has neither three columns nor five, its kind isn't known, or its text has a wrong escape.
 fn answered(line: &str) -> Option<String> {
-    let [asked, text, _] = line.split('\t').collect::<Vec<_>>().try_into().ok()?;
-    line_of(asked, &unescaped(text)?)
+    match line.split('\t').collect::<Vec<_>>()[..] {
+        [asked, text, _] => line_of(asked, &unescaped(text)?),
+        [asked, text, _, kind, wanted] => Some(format!("{}\t{kind}\t{wanted}", line_of(asked, &unescaped(text)?)?)),
+        _ => None,
+    }
 }
 
 /// The line of the crate's answer, where this is asked of the text.

@@ -250,6 +250,18 @@ fn a_column_has_five_escapes(rt: HostRuntime) {
 }
 
 #[test]
+fn a_named_difference_is_wanted_in_place_of_the_answer(rt: HostRuntime) {
+    agrees(&rt, "print\t'''\t'''\tfault\t1:0");
+    differs(&rt, "print\t'''\t'''", "here: fault \"1:0\"\n");
+    differs(&rt, "print\t'''\t'''\tfault\t1:1", "here: fault \"1:0\"\n");
+    differs(&rt, "print\ta\ta\tfault\t1:0", "here: print \"a\"\n");
+    differs(&rt, "print\ta\ta\tprint\tb", "here: print \"a\"\n");
+    is_refused(&rt, "print\ta\ta\tprint\ta");
+    is_refused(&rt, "print\ta\ta\tprint\t\\q");
+    is_refused(&rt, "print\ta\ta\tprint\tb\tb");
+}
+
+#[test]
 fn literals_are_answered_by_kind(rt: HostRuntime) {
     differs(&rt, "refused\t1\t", "here: literal \"1\"\n");
     differs(&rt, "literal\t- 1\t", "here: refused \"\"\n");

@@ -88,9 +88,55 @@ character_code : Reads (codes "'\\u{10__FFFF}'") []
 unfolding unicode_ident found find find_quoted find_many
 character_code = (piece_from_found false (codes "'\\u{10__FFFF}'") (codes "'\\u{10__FFFF}'") [] _ refl).1
 
-quote_between_quotes : Reads (codes "'''x") []
+escaped_quote : Reads (codes "'\\''") []
 unfolding unicode_ident found find find_quoted find_many
-quote_between_quotes = (piece_from_found false (codes "'''x") (codes "'''x") [] _ refl).1
+escaped_quote = (piece_from_found false (codes "'\\''") (codes "'\\''") [] _ refl).1
+
+bare_space : Reads (codes "' '") []
+unfolding unicode_ident found find find_quoted find_many
+bare_space = (piece_from_found false (codes "' '") (codes "' '") [] _ refl).1
+
+suffixed_byte : Reads (codes "b'\\''u8") []
+unfolding unicode_ident found find find_quoted find_many
+suffixed_byte = (piece_from_found false (codes "b'\\''u8") (codes "b'\\''u8") [] _ refl).1
+
+-- what only an escape may give: a quote, a line end, a tab
+quote_between_quotes : HasNoPiece false (codes "'''x")
+unfolding unicode_ident found find find_quoted find_many
+quote_between_quotes = none_from_found false (codes "'''x") refl
+
+line_between_quotes : HasNoPiece false (codes "'\n'")
+unfolding unicode_ident found find find_quoted find_many
+line_between_quotes = none_from_found false (codes "'\n'") refl
+
+return_between_quotes : HasNoPiece false (codes "'\r'")
+unfolding unicode_ident found find find_quoted find_many
+return_between_quotes = none_from_found false (codes "'\r'") refl
+
+tab_between_quotes : HasNoPiece false (codes "'\t'")
+unfolding unicode_ident found find find_quoted find_many
+tab_between_quotes = none_from_found false (codes "'\t'") refl
+
+byte_quote_between_quotes : HasNoPiece false (codes "b'''")
+unfolding unicode_ident found find find_quoted find_many
+byte_quote_between_quotes = none_from_found false (codes "b'''") refl
+
+byte_line_between_quotes : HasNoPiece false (codes "b'\n'")
+unfolding unicode_ident found find find_quoted find_many
+byte_line_between_quotes = none_from_found false (codes "b'\n'") refl
+
+byte_return_between_quotes : HasNoPiece false (codes "b'\r'")
+unfolding unicode_ident found find find_quoted find_many
+byte_return_between_quotes = none_from_found false (codes "b'\r'") refl
+
+byte_tab_between_quotes : HasNoPiece false (codes "b'\t'")
+unfolding unicode_ident found find find_quoted find_many
+byte_tab_between_quotes = none_from_found false (codes "b'\t'") refl
+
+-- a backslash and a line end give no character
+continued_character : HasNoPiece false (codes "'\\\n'")
+unfolding unicode_ident found find find_quoted find_many
+continued_character = none_from_found false (codes "'\\\n'") refl
 
 two_characters : HasNoPiece false (codes "'\r\n'")
 unfolding unicode_ident found find find_quoted find_many

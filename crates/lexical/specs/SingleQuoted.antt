@@ -1,9 +1,8 @@
 -- Characters and bytes.
-use Rattle.std.specs.Prelude.{ℕ, Bool, not, ◌&&◌, ◌==◌, List, codes}
+use Rattle.std.specs.Prelude.{ℕ, Bool, not, ◌&&◌, List, codes}
 use Rattle.std.specs.Char.{is_ascii}
-use Rattle.lexical.specs.Character.{backslash}
 use Rattle.lexical.specs.Form.{Form, Then, Either, Exactly, One}
-use Rattle.lexical.specs.Quoted.{StringEscape, ByteEscape, Suffix}
+use Rattle.lexical.specs.Quoted.{is_one_of, StringEscape, ByteEscape, Suffix}
 
 -- one character that passes, or a backslash and an escape
 abbrev pub SingleUnit : (ℕ → Bool) → Form → Form
@@ -13,9 +12,9 @@ SingleUnit plain Escape = Either (One plain) (Then (Exactly (codes "\\")) Escape
 abbrev pub SingleQuoted : List ℕ → (ℕ → Bool) → Form → Form
 SingleQuoted front plain Escape = Then (Exactly front) (Then (SingleUnit plain Escape) (Then (Exactly (codes "'")) Suffix))
 
--- any character but `\`, also `'` and the line ends
+-- any character but `'`, `\`, LF, CR and the tab
 abbrev pub is_char_plain : ℕ → Bool
-is_char_plain c = not (c == backslash)
+is_char_plain c = not (is_one_of (codes "'\\\n\r\t") c)
 
 -- and as a byte only ASCII
 abbrev pub is_byte_char_plain : ℕ → Bool

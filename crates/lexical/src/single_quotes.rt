@@ -1,6 +1,6 @@
 //! Characters and bytes.
 
-ghost use Rattle.std.specs.Prelude.{codes};
+ghost use Rattle.std.specs.Prelude.{◌≡◌, codes};
 ghost use Rattle.std.specs.Str.{chars};
 ghost use Rattle.lexical.specs.Finder.{find_text, find_then};
 ghost use Rattle.lexical.specs.Quoted as rule;
@@ -15,6 +15,16 @@ use crate::escapes::escape;
 use crate::quoted::{StringKind, suffix};
 use crate::skip::one;
 
+/// Whether the character stands for itself between single quotes.
+fn stands_bare(c: char) -> bool
+    ensures { result ≡ is_char_plain c }
+{
+    match c {
+        '\'' | '\\' | '\n' | '\r' | '\t' => false,
+        _ => true,
+    }
+}
+
 /// The place after a backslash and an escape.
 fn escaped(at: Cursor<'_>, kind: StringKind) -> Option<Cursor<'_>>
     ensures { Reads (find_then (find_text (codes "\\")) (find (rule.escape kind)) (chars at.entry.rest.now)) at.entry result }
@@ -22,21 +32,21 @@ fn escaped(at: Cursor<'_>, kind: StringKind) -> Option<Cursor<'_>>
     escape(at.past("\\")?, kind)
 }
 
-/// The place after one character, or a backslash and an escape.
+/// The place after one character that may stand bare, or a backslash and an escape.
 fn character_unit(at: Cursor<'_>) -> Option<Cursor<'_>>
     ensures { Reads (find_single_unit is_char_plain kinds.Plain (chars at.entry.rest.now)) at.entry result }
 {
-    match one(at, |c| c != '\\') {
+    match one(at, |c| stands_bare(c)) {
         Some(end) => Some(end),
         None => escaped(at, StringKind::Plain),
     }
 }
 
-/// The place after one character of ASCII, or a backslash and an escape.
+/// The place after one character of ASCII that may stand bare, or a backslash and an escape.
 fn byte_unit(at: Cursor<'_>) -> Option<Cursor<'_>>
     ensures { Reads (find_single_unit is_byte_char_plain kinds.Byte (chars at.entry.rest.now)) at.entry result }
 {
-    match one(at, |c| c != '\\' && c.is_ascii()) {
+    match one(at, |c| stands_bare(c) && c.is_ascii()) {
         Some(end) => Some(end),
         None => escaped(at, StringKind::Byte),
     }

@@ -15,7 +15,7 @@ use Rattle.lexical.specs.Literal as literals
 use Rattle.lexical.specs.Quoted.{ByteStr}
 use Rattle.lexical.proofs.QuotedLemmas.{EndsSuffix, stop_ends}
 use Rattle.pm_token.specs.Escaped.{hex_pair, written_byte, written, content, byte_text, byte_string_text}
-use Rattle.pm_token.proofs.EscapedLemmas.{is_plain, Allows, written_stands, letter_of_all, string_plain, not_backslash, body_unit, units_of, content_units, closed}
+use Rattle.pm_token.proofs.EscapedLemmas.{is_plain, Allows, written_stands, letter_of_all, string_plain, body_unit, units_of, content_units, closed}
 
 -- ---- hex digits
 
@@ -66,7 +66,7 @@ byte_plain : (d : ℕ) → d < 128 → is_plain 34 d ≡ true → is_byte_plain 
 byte_plain d low plain = and_from _ _ (string_plain d plain) (ascii_below d low)
 
 byte_char_plain : (d : ℕ) → d < 128 → is_plain 39 d ≡ true → is_byte_char_plain d ≡ true
-byte_char_plain d low plain = and_from _ _ (not_backslash 39 d plain) (ascii_below d low)
+byte_char_plain d low plain = and_from _ _ plain (ascii_below d low)
 
 -- ---- some bytes
 

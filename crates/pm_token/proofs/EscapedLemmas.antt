@@ -4,7 +4,7 @@ use Rattle.std.specs.Prelude.{filter}
 use Rattle.std.specs.List.{concat}
 use Rattle.std.specs.Char.{IsScalar, digit_char, is_ascii_hexdigit}
 use Rattle.std.specs.Char.Escape.{escape_unicode}
-use Rattle.std.proofs.lemmas.Bool.{cond_both, and_from, and_parts, or_from, not-true, eqb-false, le-leb}
+use Rattle.std.proofs.lemmas.Bool.{cond_both, and_from, and_parts, or_from, or_parts, not-true, eqb-false, le-leb}
 use Rattle.lexical.specs.Text.{first_passes}
 use Rattle.lexical.specs.Form.{Form, Then, Exactly, Many, Each}
 use Rattle.lexical.specs.Rule.{Rule, Stands}
@@ -24,9 +24,9 @@ use Rattle.pm_token.proofs.TextLemmas.{text_literal}
 
 -- ---- one character
 
--- neither CR nor a backslash nor this quote
+-- neither this quote nor a backslash, LF, CR or the tab
 abbrev pub is_plain : ℕ → ℕ → Bool
-is_plain quote c = not (c == 13) && (not (c == 92) && not (c == quote))
+is_plain quote c = not (is_one_of (quote ∷ codes "\\\n\r\t") c)
 
 -- what a kind of literal allows behind a backslash, and bare, of what is written for c
 pub record Allows (class : ℕ → Bool) (Escape : Form) (plain : ℕ → List ℕ) (quote c : ℕ) : Type 0 where
@@ -37,9 +37,15 @@ pub record Allows (class : ℕ → Bool) (Escape : Form) (plain : ℕ → List �
 behind_backslash : (class : ℕ → Bool) (Escape : Form) (back r : List ℕ) → Escape back r → SingleUnit class Escape (92 ∷ back) r
 behind_backslash class Escape back r is = inr (record { front = codes "\\"; back = back; whole = refl; first = refl; second = is })
 
+flipped : (c d : ℕ) → (c == d) ≡ false → (d == c) ≡ false
+flipped c d e = ne_eqb d c (λ same. eqb-false c d e (sym same))
+
 -- what is none of these stands for itself
-bare : (quote c : ℕ) → (c == 13) ≡ false → (c == 92) ≡ false → (c == quote) ≡ false → is_plain quote c ≡ true
-bare quote c cr backslash other = and_from _ _ (ap not cr) (and_from _ _ (ap not backslash) (ap not other))
+bare : (quote c : ℕ) → (c == 9) ≡ false → (c == 13) ≡ false → (c == 10) ≡ false → (c == 92) ≡ false → (c == quote) ≡ false
+    → is_plain quote c ≡ true
+bare quote c tab cr lf backslash other =
+    ap not (or_from _ _ (flipped c quote other) (or_from _ _ (flipped c 92 backslash)
+    (or_from _ _ (flipped c 10 lf) (or_from _ _ (flipped c 13 cr) (or_from _ _ (flipped c 9 tab) refl)))))
 
 -- whatever is written for a character, before anything
 pub written_stands : (class : ℕ → Bool) (Escape : Form) (plain : ℕ → List ℕ) (quote c : ℕ) (rest r : List ℕ)
@@ -49,11 +55,11 @@ written_stands class Escape plain quote c rest r allows is =
     (λ e. behind_backslash class Escape _ r (allows.zeros r (and_parts _ _ e).0).1)
     (λ e. cond_both (c == 0) _ _ (λ p. SingleUnit class Escape p r) (λ e. behind_backslash class Escape _ r (allows.zeros r e).0)
     (λ e. cond_both (c == 9) _ _ (λ p. SingleUnit class Escape p r) (λ e. short 116 refl)
-    (λ e. cond_both (c == 13) _ _ (λ p. SingleUnit class Escape p r) (λ e. short 114 refl)
+    (λ tab. cond_both (c == 13) _ _ (λ p. SingleUnit class Escape p r) (λ e. short 114 refl)
     (λ cr. cond_both (c == 10) _ _ (λ p. SingleUnit class Escape p r) (λ e. short 110 refl)
-    (λ e. cond_both (c == 92) _ _ (λ p. SingleUnit class Escape p r) (λ e. short 92 refl)
+    (λ lf. cond_both (c == 92) _ _ (λ p. SingleUnit class Escape p r) (λ e. short 92 refl)
     (λ backslash. cond_both (c == quote) _ _ (λ p. SingleUnit class Escape p r) (λ e. short quote is)
-    (λ other. allows.other r (bare quote c cr backslash other))))))))
+    (λ other. allows.other r (bare quote c tab cr lf backslash other))))))))
   where
     short : (letter : ℕ) → is_one_of (codes "nrt\\'\"") letter ≡ true → SingleUnit class Escape (92 ∷ letter ∷ []) r
     short letter is = behind_backslash class Escape (letter ∷ []) r (allows.letter letter r is)
@@ -120,20 +126,13 @@ allows_char class quote c scalar within = record {
 
 -- ---- bodies
 
-flipped : (c d : ℕ) → (c == d) ≡ false → (d == c) ≡ false
-flipped c d e = ne_eqb d c (λ same. eqb-false c d e (sym same))
-
 pub string_plain : (c : ℕ) → is_plain 34 c ≡ true → is_string_plain c ≡ true
 string_plain c is =
-    let parts = and_parts _ _ is in
-    let others = and_parts _ _ parts.1 in
-    ap not (or_from _ _ (flipped c 34 (not-true _ others.1))
-    (or_from _ _ (flipped c 92 (not-true _ others.0)) (or_from _ _ (flipped c 13 (not-true _ parts.0)) refl)))
+    let parts = or_parts (34 == c) _ (not-true _ is) in
+    let others = or_parts (92 == c) _ parts.1 in
+    let more = or_parts (13 == c) _ (or_parts (10 == c) _ others.1).1 in
+    ap not (or_from _ _ parts.0 (or_from _ _ others.0 (or_from _ _ more.0 refl)))
 
-pub not_backslash : (quote c : ℕ) → is_plain quote c ≡ true → not (c == 92) ≡ true
-not_backslash quote c is = (and_parts _ _ (and_parts (not (c == 13)) _ is).1).0
-
--- one character or an escape is a unit of a body
 pub body_unit : (class : ℕ → Bool) (Escape : Form) (p r : List ℕ) → SingleUnit class Escape p r → BodyUnit class Escape p r
 body_unit class Escape p r is = elim is [
   | inl one ↦ inl one
@@ -205,7 +204,7 @@ character_stands c r scalar ends = record {
     front = written 39 written_char c [];
     back = codes "'";
     whole = refl;
-    first = written_stands is_char_plain StringEscape written_char 39 c [] (39 ∷ r) (allows_char is_char_plain 39 c scalar (not_backslash 39)) refl;
+    first = written_stands is_char_plain StringEscape written_char 39 c [] (39 ∷ r) (allows_char is_char_plain 39 c scalar (λ d plain. plain)) refl;
     second = closed (codes "'") r ends;
   };
 }

@@ -13,11 +13,13 @@ pub mod CStringLemmas
 pub mod CStringValueLemmas
 mod Examples
 mod JoinedExamples
+mod SingleExamples
 pub mod TestTokens
 pub mod CompareLemmas
 pub mod NameLemmas
 pub mod RawValueLemmas
 pub mod ReadLemmas
+pub mod SingleValueLemmas
 pub mod SuffixLemmas
 pub mod TextLemmas
 pub mod UnicodeEscapeLemmas

@@ -112,13 +112,13 @@ byte_strings_come_back text all =
 
 -- ---- characters and bytes
 
-single_escape : (kind : Kind ℕ) (p : List ℕ) (c : ℕ) → Escapes kind p c → (single kind p).unit ≡ Ok c
+pub single_escape : (kind : Kind ℕ) (p : List ℕ) (c : ℕ) → Escapes kind p c → (single kind p).unit ≡ Ok c
 unfolding single
 single_escape kind p c is =
     ap (λ q. (single kind q).unit) is.whole
     ∙ ap (λ (x : Read ℕ). (only x.unit x.rest).unit) (ap (λ back. escape kind (is.letter ∷ back)) (sym (append-nil is.back)) ∙ is.gives [])
 
-single_stand : (kind : Kind ℕ) (c : ℕ) (p : List ℕ) → Stands kind 39 c p c → (single kind p).unit ≡ Ok c
+pub single_stand : (kind : Kind ℕ) (c : ℕ) (p : List ℕ) → Stands kind 39 c p c → (single kind p).unit ≡ Ok c
 unfolding single
 single_stand kind c p is =
     ap (λ q. (single kind q).unit) is.whole

@@ -13,6 +13,7 @@ pub mod Message
 pub mod Negative
 pub mod Outcome
 pub mod Text
+pub mod SingleValue
 pub mod Subspan
 pub mod Value
 pub mod ValueLaws

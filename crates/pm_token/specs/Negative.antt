@@ -1,7 +1,6 @@
 -- Negative literals in two parts, as streams have them.
 use Rattle.std.specs.Prelude.{ℕ, Bool, ◌==◌, List, drop}
 use Rattle.lexical.specs.Text.{first_passes}
-use Rattle.pm_span.specs.Extent.{Extent}
 use Rattle.pm_token.specs.Leaf.{Mark, Text}
 use Rattle.pm_token.specs.declared.marks.Spacing.TheVariants.{Alone}
 

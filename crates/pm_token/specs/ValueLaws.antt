@@ -4,15 +4,17 @@ use Rattle.std.specs.Char.{IsScalar}
 use Rattle.std.specs.List.{AllByRecursion, list_all}
 use Rattle.std.specs.Str.{encode_utf8_all}
 use Rattle.lexical.specs.Form.{Form, Many}
-use Rattle.lexical.specs.Quoted.{ByteStr, ByteUnit, CStr, CUnit, Str, StringUnit}
+use Rattle.lexical.specs.Quoted.{ByteStr, ByteUnit, CStr, CUnit, Str, StringUnit, Suffix}
+use Rattle.lexical.specs.SingleQuoted.{Byte, Character}
 use Rattle.literal_escaper.specs.Character.{carriage_return}
-use Rattle.literal_escaper.specs.Kind.{byte_kind, string_kind}
+use Rattle.literal_escaper.specs.Kind.{Kind, byte_kind, string_kind}
 use Rattle.literal_escaper.specs.Single.{single}
 use Rattle.pm_token.specs.declared.literals.conversion.ConversionErrorKind.{ConversionErrorKind}
 use Rattle.pm_token.specs.CString.{IsCStringText, has_no_zero}
 use Rattle.pm_token.specs.Content.{is_hash}
 use Rattle.pm_token.specs.Escaped.{byte_string_text, byte_text, character_text, string_text}
 use Rattle.pm_token.specs.Joined.{c_joined, string_joined}
+use Rattle.pm_token.specs.SingleValue.{byte_value, char_value}
 use Rattle.pm_token.specs.Text.{IsText}
 use Rattle.pm_token.specs.Value.{byte_str_value, cstr_value, ended, str_value}
 
@@ -40,6 +42,32 @@ CharactersComeBack = (c : ℕ) → IsScalar c
 abbrev pub BytesComeBack : Type 0
 BytesComeBack = (b : ℕ) → b < 256
     → (content : List ℕ) × (byte_text b ≡ codes "b'" ++ (content ++ codes "'")) × ((single byte_kind content).unit ≡ Ok b)
+
+-- what stands between the quotes of a literal is one unit, whatever suffix follows; where none does, it is the value
+pub record HasSingle (kind : Kind ℕ) (front text : List ℕ) (value : Result ℕ ConversionErrorKind) : Type 0 where
+  pub content : List ℕ
+  pub suffix : List ℕ
+  pub unit : ℕ
+  pub whole : text ≡ front ++ (content ++ (codes "'" ++ suffix))
+  pub is_suffix : Suffix suffix []
+  pub unit_is : (single kind content).unit ≡ Ok unit
+  pub value_is : suffix ≡ [] → value ≡ Ok unit
+
+-- so it is of every character
+abbrev pub CharactersHaveUnits : Type 0
+CharactersHaveUnits = (text : List ℕ) → Character text [] → HasSingle string_kind (codes "'") text (char_value text)
+
+-- and of every byte
+abbrev pub BytesHaveUnits : Type 0
+BytesHaveUnits = (text : List ℕ) → Byte text [] → HasSingle byte_kind (codes "b'") text (byte_value text)
+
+-- the value of the literal of a character is the character
+abbrev pub CharacterValuesComeBack : Type 0
+CharacterValuesComeBack = (c : ℕ) → IsScalar c → char_value (character_text c) ≡ Ok c
+
+-- that of the literal of a byte the byte
+abbrev pub ByteValuesComeBack : Type 0
+ByteValuesComeBack = (b : ℕ) → b < 256 → byte_value (byte_text b) ≡ Ok b
 
 -- a raw literal without a suffix: what it begins with, hash signs, and its body between quotes
 abbrev pub raw_text : List ℕ → List ℕ → List ℕ → List ℕ

@@ -11,10 +11,14 @@ ghost use Rattle.pm_token.specs.KindLaws.{
 ghost use Rattle.pm_token.specs.ValueLaws.{
   ByteStringsComeBack,
   ByteStringsHaveValues,
+  ByteValuesComeBack,
   BytesComeBack,
+  BytesHaveUnits,
   CStringsComeBack,
   CStringsHaveValues,
+  CharacterValuesComeBack,
   CharactersComeBack,
+  CharactersHaveUnits,
   RawByteStringsHaveBodies,
   RawCStringsHaveBodies,
   RawStringsHaveBodies,
@@ -42,6 +46,16 @@ pub fn values_come_back()
     ensures c_strings { CStringsComeBack }
     ensures characters { CharactersComeBack }
     ensures bytes { BytesComeBack }
+{}
+
+/// What stands between the quotes of a character or a byte is one unit, whatever suffix follows: it
+/// unescapes. Without a suffix this unit is the literal's value, as `char_value` and `byte_value` answer
+/// it. So the value of `Literal::character` is the character, and of `byte_character` the byte.
+pub fn single_values()
+    ensures characters { CharactersHaveUnits }
+    ensures bytes { BytesHaveUnits }
+    ensures made_characters { CharacterValuesComeBack }
+    ensures made_bytes { ByteValuesComeBack }
 {}
 
 /// A raw literal without a suffix always has its body as its value: a string's is the body, a byte

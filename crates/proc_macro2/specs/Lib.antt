@@ -4,6 +4,7 @@ pub use Rattle.lexical.specs.Cover
 pub use Rattle.lexical.specs.Mark
 pub use Rattle.lexical.specs.Piece
 pub use Rattle.lexical.specs.Quiet
+pub use Rattle.lexical.specs.SingleQuoted
 pub use Rattle.lexical.specs.Token
 pub use Rattle.literal_escaper.specs.Errors
 pub use Rattle.literal_escaper.specs.Items
@@ -32,6 +33,7 @@ pub use Rattle.pm_token.specs.Message
 pub use Rattle.pm_token.specs.Negative
 pub use Rattle.pm_token.specs.Outcome
 pub use Rattle.pm_token.specs.Text
+pub use Rattle.pm_token.specs.SingleValue
 pub use Rattle.pm_token.specs.Subspan
 pub use Rattle.pm_token.specs.Value
 pub use Rattle.pm_token.specs.ValueLaws

@@ -30,7 +30,9 @@ ghost use Rattle.proc_macro2.specs.Laws.{
 };
 
 pub use pm_stream::laws::printed_by_the_rule;
-pub use pm_token::laws::{cooked_values, made_literals, raw_values, values_come_back};
+pub use pm_token::laws::{
+    cooked_values, made_literals, raw_values, single_values, values_come_back,
+};
 
 /// A source has at most one cover by pieces, and parses to at most one stream. It parses or has a fault,
 /// never both and never neither, and its fault has one place.

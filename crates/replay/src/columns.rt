@@ -3,36 +3,46 @@ use std::alloc::{AllocError, Global};
 
 /// A recorded answer.
 ///
-/// On a line the three columns stand with a tab between them, text and answer escaped.
+/// On a line three columns stand with a tab between them, text and answer escaped. Two more name a
+/// difference from the Rust crate: the kind of the answer that is wanted here, and that answer.
 #[derive(Drop)]
 pub struct Recorded<'a> {
     /// What was asked, or that the text was refused.
     pub asked: &'a str,
     /// The text.
     pub text: String,
-    /// What was answered.
+    /// The kind of the answer that is wanted: what was asked, or that of a named difference.
+    pub kind: &'a str,
+    /// The answer that is wanted: the crate's, or that of a named difference.
     pub answer: String,
 }
 
-/// The recorded answer of a line; `None` where it hasn't three columns, or one has a wrong escape.
+/// The recorded answer of a line; `None` where it has neither three columns nor five, where one has
+/// a wrong escape, and where a named difference is none.
 ///
-/// `fault`, a tab, `(]`, a tab and `1:1` are the fault of `(]`.
+/// `fault`, a tab, `(]`, a tab and `1:1` are the fault of `(]`. `print`, a tab, `'''`, a tab, `'''`, a
+/// tab, `fault`, a tab and `1:0` are what the crate prints of `'''`, and the fault that is wanted.
 pub fn read_line<'a>(alloc: Global, line: &'a str) -> Result<Option<Recorded<'a>>, AllocError> {
     let mut columns = line.split('\t');
-    let (Some(asked), Some(text), Some(answer), None) = (
-        columns.next(),
-        columns.next(),
-        columns.next(),
-        columns.next(),
-    ) else {
+    let (Some(asked), Some(text), Some(answer)) = (columns.next(), columns.next(), columns.next())
+    else {
         return Ok(None);
     };
     let (Some(text), Some(answer)) = (unescaped(alloc, text)?, unescaped(alloc, answer)?) else {
         return Ok(None);
     };
+    let (kind, answer) = match (columns.next(), columns.next(), columns.next()) {
+        (None, _, _) => (asked, answer),
+        (Some(kind), Some(wanted), None) => match unescaped(alloc, wanted)? {
+            Some(wanted) if kind != asked || wanted != answer => (kind, wanted),
+            _ => return Ok(None),
+        },
+        _ => return Ok(None),
+    };
     Ok(Some(Recorded {
         asked,
         text,
+        kind,
         answer,
     }))
 }

@@ -15,7 +15,7 @@ use std::io::{BufRead, Write};
 pub struct Tally {
     /// The lines that were read.
     pub answers: u64,
-    /// Those whose answer is another one, or that are no recorded answer.
+    /// Those whose answer isn't the one that is wanted, or that are no recorded answer.
     pub differences: u64,
 }
 
@@ -25,7 +25,8 @@ pub struct Tally {
 /// UTF-8, one of writing, or out of memory; after it the beginning of what differs is written.
 ///
 /// Of the one line `fault`, a tab, `(]`, a tab and `1:1` it gives one answer and no difference, and
-/// nothing is written.
+/// nothing is written. A line that names a difference from the Rust crate is compared with what it
+/// wants here.
 pub fn replay<R: BufRead + Drop, W: Write>(
     alloc: Global,
     reader: R,
@@ -50,8 +51,8 @@ pub fn replay<R: BufRead + Drop, W: Write>(
     Ok(tally)
 }
 
-// What is told of a line whose answer isn't the library's, or that is no recorded answer; `None`
-// where the two answers are the same.
+// What is told of a line that wants another answer than the library's, or that is no recorded
+// answer; `None` where the two answers are the same.
 fn difference(alloc: Global, line: &str) -> Result<Option<String>, AllocError>
     ensures { IfOk result (λ told. IfSome told (λ report.
         IsReport line.now (string_bytes report))) }
@@ -60,7 +61,7 @@ fn difference(alloc: Global, line: &str) -> Result<Option<String>, AllocError>
         return Ok(Some(format!(in alloc; "no recorded answer: {line}\n")?));
     };
     let here = match answer_to(alloc, recorded.asked, recorded.text.as_str()) {
-        Ok(Some(found)) if found.kind == recorded.asked && found.said == recorded.answer => {
+        Ok(Some(found)) if found.kind == recorded.kind && found.said == recorded.answer => {
             return Ok(None);
         }
         Ok(Some(found)) => format!(in alloc; "{} {:?}", found.kind, found.said)?,

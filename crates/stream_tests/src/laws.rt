@@ -20,7 +20,7 @@ fn a_parsed_stream_comes_back_from_its_printed_text(rt: HostRuntime) {
     check_printed_twice(&rt, "/***/x", "x");
     check_printed_twice(&rt, "(/*ERROR*/)", "(/*ERROR*/)");
     check_printed_twice(&rt, "\u{FEFF}foo", "foo");
-    check_printed_twice(&rt, "'''", "'''");
+    check_printed_twice(&rt, "'\\''", "'\\''");
     check_printed_twice(&rt, "'r#prefix#lifetime", "'r#prefix # lifetime");
     check_printed_twice(&rt, "'a 'static 'r#gen", "'a 'static 'r#gen");
     check_printed_twice(&rt, "<<=", "<<=");

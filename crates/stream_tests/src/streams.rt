@@ -104,7 +104,7 @@ fn literals_are_read(rt: HostRuntime) {
     check_trees(&rt, "\"a\"r#b", "\"a\"r # b", 3);
     check_trees(&rt, "(/*ERROR*/)", "(/*ERROR*/)", 1);
     check_trees(&rt, "((/*ERROR*/))", "((/*ERROR*/))", 1);
-    check_trees(&rt, "'''", "'''", 1);
+    check_trees(&rt, "'\\''", "'\\''", 1);
     check_trees(&rt, "c\"a\\x80\" br\"\\\"", "c\"a\\x80\" br\"\\\"", 2);
 }
 
@@ -117,7 +117,12 @@ fn a_fault_in_a_literal_stands_where_it_begins(rt: HostRuntime) {
     check_fault(&rt, "b'\u{86}'", 1);
     check_fault(&rt, "'\r\n'", 1);
     check_fault(&rt, "\"a\"\u{301}", 4);
-    check_fault(&rt, "''''", 4);
+    check_fault(&rt, "'''", 1);
+    check_fault(&rt, "''''", 1);
+    check_fault(&rt, "b'''", 1);
+    check_fault(&rt, "'\n'", 1);
+    check_fault(&rt, "b'\t'", 1);
+    check_fault(&rt, "a '''", 3);
 }
 
 #[test]

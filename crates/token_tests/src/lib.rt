@@ -26,6 +26,8 @@ mod shown_parts;
 #[cfg(test)]
 mod shown_tokens;
 #[cfg(test)]
+mod single_values;
+#[cfg(test)]
 mod sizes;
 #[cfg(test)]
 mod source_map;

@@ -11,7 +11,7 @@ pub enum ConversionErrorKind {
     /// The last fault of the content, where a warning is none: `BareCarriageReturn` for `"a` CR LF
     /// `b"`.
     FailedToUnescape(EscapeError),
-    /// It isn't a string of the kind that was asked for, or it has a suffix: `1`, or `"a"s`.
+    /// It isn't a literal of the kind that was asked for, or it has a suffix: `1`, or `"a"s`.
     InvalidLiteralKind,
     /// Memory ran out.
     Memory(AllocError),

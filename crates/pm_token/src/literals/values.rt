@@ -1,15 +1,20 @@
 //! The values of literals.
-ghost use Rattle.std.specs.Prelude.{◌≡◌, [], Ok, IsOk};
+ghost use Rattle.std.specs.Prelude.{◌≡◌, ◌↔◌, [], Ok, IsOk, IfErr};
+ghost use Rattle.lexical.specs.SingleQuoted.{Byte, Character};
+ghost use Rattle.pm_token.specs.declared.literals.conversion.ConversionErrorKind.TheVariants.{InvalidLiteralKind};
+ghost use Rattle.pm_token.specs.SingleValue.{IsUnsuffixed, byte_value, char_value};
 ghost use Rattle.pm_token.specs.Value.{Answers, byte_str_value, bytes_of, cstr_value, str_value, text_of};
 
 mod content;
 mod raw;
+mod single;
 mod unescaped;
 
 use crate::literals::Literal;
 use crate::literals::conversion::ConversionErrorKind;
 use crate::literals::values::content::{cooked_content, raw_content};
 use crate::literals::values::raw::{raw_bytes, raw_c_string, raw_string};
+use crate::literals::values::single::{byte_of, character_of};
 use crate::literals::values::unescaped::{unescaped_bytes, unescaped_c_string, unescaped_string};
 use std::alloc::Global;
 
@@ -70,5 +75,35 @@ impl Literal {
             Some(content) => Ok(raw_c_string(alloc, content)?),
             None => Err(ConversionErrorKind::InvalidLiteralKind),
         }
+    }
+
+    /// The value of a character literal without a suffix (`character-value`): the character that stands
+    /// between its quotes, or that its escape means.
+    ///
+    /// `InvalidLiteralKind` is answered exactly of every other literal, and no other error: each such
+    /// character has a value, and no memory is taken.
+    ///
+    /// Of `'\''` it is `'`, and of `' '` the space. `'a'u8`, `"a"` and `b'a'` are refused.
+    pub fn char_value(&self) -> Result<char, ConversionErrorKind>
+        ensures ok { IsOk result ↔ IsUnsuffixed Character self.now.text }
+        ensures value { result ≡ char_value self.now.text }
+        ensures kind { IfErr result (λ error. error ≡ InvalidLiteralKind) }
+    {
+        // It computes nothing: proofs learn that the text is a literal's.
+        let _ = &self.text;
+        character_of(self.text())
+    }
+
+    /// The value of a byte literal without a suffix (`byte-value`), as `char_value` gives that of a
+    /// character.
+    ///
+    /// Of `b'\xFF'` it is 255. `b'a'u8` and `'a'` are refused.
+    pub fn byte_value(&self) -> Result<u8, ConversionErrorKind>
+        ensures ok { IsOk result ↔ IsUnsuffixed Byte self.now.text }
+        ensures value { result ≡ byte_value self.now.text }
+        ensures kind { IfErr result (λ error. error ≡ InvalidLiteralKind) }
+    {
+        let _ = &self.text;
+        byte_of(self.text())
     }
 }

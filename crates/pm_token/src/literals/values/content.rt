@@ -2,6 +2,7 @@
 ghost use Rattle.std.specs.Prelude.{◌≡◌, codes, IfSome, IsTrue, MatchOption, None, Some};
 ghost use Rattle.std.specs.Str.{IsUtf8, chars};
 ghost use Rattle.lexical.specs.Ascii.{all_ascii};
+ghost use Rattle.pm_token.specs.SingleValue.{single_content as single};
 ghost use Rattle.pm_token.specs.Content.{before, behind, cooked_content as cooked, hashed_content as hashed, raw_content as raw};
 
 /// What follows this ASCII front of the text.
@@ -30,6 +31,24 @@ pub fn cooked_content<'a>(text: &'a str, front: &str) -> Option<&'a str>
         (λ content. cooked front.now (chars text.now) ≡ Some (chars content.now)) }
 {
     before_quote(behind_front(text, front)?)
+}
+
+/// What stands before a single quote that ends the text.
+fn before_single_quote(text: &str) -> Option<&str>
+    ensures { MatchOption result (before (codes "'") (chars text.now) ≡ None)
+        (λ front. before (codes "'") (chars text.now) ≡ Some (chars front.now)) }
+{
+    text.strip_suffix('\'')
+}
+
+/// What stands behind this ASCII front, up to a single quote that ends the text, by the rule
+/// `single-content`.
+pub fn single_content<'a>(text: &'a str, front: &str) -> Option<&'a str>
+    requires { IsTrue (all_ascii front.now) }
+    ensures { MatchOption result (single front.now (chars text.now) ≡ None)
+        (λ content. single front.now (chars text.now) ≡ Some (chars content.now)) }
+{
+    before_single_quote(behind_front(text, front)?)
 }
 
 /// The text without the hash sign at its end.

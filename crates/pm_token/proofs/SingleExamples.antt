@@ -1,0 +1,37 @@
+-- Examples of the values of characters and bytes, by computation.
+use Rattle.std.proofs.Common.{◌≡◌, codes, Ok, Err, refl}
+use Rattle.literal_escaper.specs.Escape.{escape, hex_escape}
+use Rattle.literal_escaper.specs.Single.{single}
+use Rattle.pm_token.specs.declared.literals.conversion.ConversionErrorKind.TheVariants.{InvalidLiteralKind}
+use Rattle.pm_token.specs.Content.{behind, before}
+use Rattle.pm_token.specs.SingleValue.{byte_value, char_value}
+
+-- an escape, and not its backslash
+escaped_quote : char_value (codes "'\\''") ≡ Ok 39
+unfolding behind before single escape
+escaped_quote = refl
+
+space : char_value (codes "' '") ≡ Ok 32
+unfolding behind before single
+space = refl
+
+greatest_byte : byte_value (codes "b'\\xFF'") ≡ Ok 255
+unfolding behind before single escape hex_escape
+greatest_byte = refl
+
+-- a suffix, a string, and each for the other
+suffixed : char_value (codes "'a'u8") ≡ Err InvalidLiteralKind
+unfolding behind before
+suffixed = refl
+
+string : char_value (codes "\"a\"") ≡ Err InvalidLiteralKind
+unfolding behind before
+string = refl
+
+byte : char_value (codes "b'a'") ≡ Err InvalidLiteralKind
+unfolding behind before
+byte = refl
+
+character : byte_value (codes "'a'") ≡ Err InvalidLiteralKind
+unfolding behind before
+character = refl
