@@ -1,0 +1,3 @@
+mod ArrayLemmas
+mod SpacingLemmas
+mod FaultLemmas
