@@ -1,3 +1,5 @@
 mod ArrayLemmas
 mod SpacingLemmas
 mod FaultLemmas
+mod PartLemmas
+mod PushLemmas
