@@ -2,4 +2,5 @@ mod ArrayLemmas
 mod SpacingLemmas
 mod FaultLemmas
 mod PartLemmas
+mod DraftLemmas
 mod PushLemmas

@@ -1,5 +1,5 @@
 -- Lists that are respaced up to a place, each in the group that comes next in the one around it.
-use Rattle.std.proofs.Common.{◌≡◌, ℕ, ◌+◌, ◌*◌, ◌<◌, Option, Some, None, List, [], ◌∷◌, ◌++◌, length, refl, sym, ap, ap₂, subst, ◌∙◌, arith}
+use Rattle.std.proofs.Common.{◌≡◌, ℕ, ◌+◌, ◌*◌, ◌<◌, Option, Some, None, Result, Ok, Err, IfOk, List, [], ◌∷◌, ◌++◌, length, refl, sym, ap, ap₂, subst, ◌∙◌, arith}
 use Rattle.proc_macro2.specs.Forest.{Forest, nil, leaf, group, joined}
 use Rattle.proc_macro2.specs.Level.{before, forest}
 use Rattle.proc_macro2.specs.Size.{count}
@@ -202,3 +202,8 @@ pub all_done : (here : Part) (outer : List Part) (answer : Forest) → here.left
     → IsOnTheWay here outer answer → here.done ≡ answer
 all_done here outer answer none end was =
     sym (ended_here here none) ∙ (ap (λ o. unwound o (ended here)) (sym end) ∙ was.answer_is)
+
+pub result_is : {E : Type 0} (r : Result Forest E) (done answer : Forest) → IfOk r (λ f. f ≡ done) → done ≡ answer
+    → IfOk r (λ f. f ≡ answer)
+result_is (Ok f) done answer h e = h ∙ e
+result_is (Err error) done answer h e = tt
