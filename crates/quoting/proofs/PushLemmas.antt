@@ -1,5 +1,5 @@
 -- What is put into a stream by an iterator over one item.
-use Rattle.std.proofs.Common.{◌≡◌, ℕ, ◌+◌, List, [], ◌∷◌, ◌++◌, Option, Some, Result, Ok, Err, OnOk, OnErr, MatchResult, length, length-append, refl, sym, ap, ◌∙◌, arith}
+use Rattle.std.proofs.Common.{◌≡◌, List, [], ◌∷◌, ◌++◌, Option, Some, Result, Ok, Err, OnOk, OnErr, MatchResult, length, length-append, refl, sym, ap, ◌∙◌, arith}
 use Rattle.std.specs.Iterator.{Drains, Yields}
 use Rattle.proc_macro2.specs.Building.{PutsIn, gathered}
 use Rattle.proc_macro2.specs.Forest.{Forest, nil, joined}

@@ -1,16 +1,16 @@
 -- What respacing does.
-use Rattle.std.proofs.Common.{◌≡◌, ◌==◌, ℕ, Bool, true, false, not, ◌&&◌, Option, Some, None, List, [], ◌∷◌, IsTrue, if◌then◌else◌, refl, sym, ap, ap₂, ◌∙◌}
+use Rattle.std.proofs.Common.{◌≡◌, ◌==◌, ℕ, Bool, true, false, not, ◌&&◌, Option, Some, None, List, [], if◌then◌else◌, refl, sym, ap, ap₂, ◌∙◌}
 use Rattle.std.proofs.lemmas.Bool.{and_from, and_parts, both_ways}
 use Rattle.proc_macro2.specs.Character.{single_quote}
 use Rattle.proc_macro2.specs.Forest.{Forest, nil, leaf, group}
 use Rattle.proc_macro2.specs.Shown.{is_shown}
 use Rattle.proc_macro2.specs.Token.{Token, Name, Mark, Literal}
 use Rattle.proc_macro2.specs.WellSpaced.{fits, follows_joint, follows_quote, next_token, well_spaced, IsWellSpaced}
-use Rattle.quoting.specs.Choice.{IsChoiceFor, IsHopeless, KeepsAllItMay, KeepsThose, spacing_onto, spacings_onto, unspaced, unspaced_token}
+use Rattle.quoting.specs.Choice.{IsHopeless, KeepsAllItMay, KeepsThose, spacing_onto, spacings_onto, unspaced, unspaced_token}
 use Rattle.quoting.specs.Fault.{fault_or, first_fault, may_stand}
 use Rattle.quoting.specs.Respaced.{is_kept_joint, respaced, respaced_token}
 use Rattle.quoting.specs.declared.errors.QuoteError.{QuoteError}
-use Rattle.quoting.specs.declared.errors.QuoteError.TheVariants.{NoneGroup, LoneQuote, Memory}
+use Rattle.quoting.specs.declared.errors.QuoteError.TheVariants.{NoneGroup, LoneQuote}
 
 -- ---- what may come after a mark, whatever spacing it has itself
 

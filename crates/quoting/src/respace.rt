@@ -61,9 +61,9 @@ impl<'a> Model for Draft<'a> {
     ghost coded = { coded_part };
 
     ghost view = { λ draft. record {
-        whole = draft.stream.now;
-        done = done_of draft.changed draft.done draft.trees.now;
-        left = drop draft.done draft.trees.now;
+      whole = draft.stream.now;
+      done = done_of draft.changed draft.done draft.trees.now;
+      left = drop draft.done draft.trees.now;
     } };
 
     ghost invariant = { λ draft. (draft.done ≤ length draft.trees.now) × All GoesInside draft.trees.now
@@ -126,9 +126,7 @@ impl<'a> Draft<'a> {
         let Draft { changed, .. } = inner;
         match changed {
             None => self.keep(tree),
-            Some(changed) => {
-                self.replace(alloc, TokenTree::Group(regrouped(group, changed)))
-            }
+            Some(changed) => { self.replace(alloc, TokenTree::Group(regrouped(group, changed))) }
         }
     }
 
@@ -165,7 +163,11 @@ impl<'a> Draft<'a> {
         requires { self.left ≡ [] }
         ensures { IfOk result (λ stream. stream ≡ self.entry.done) }
     {
-        let Draft { stream, changed, .. } = self;
+        let Draft {
+            stream,
+            changed,
+            ..
+        } = self;
         match changed {
             Some(changed) => Ok(changed),
             None => stream.clone(),

@@ -1,4 +1,4 @@
-use Rattle.std.proofs.Common.{◌∙◌, ap, sym, None, Option}
+use Rattle.std.proofs.Common.{◌∙◌, ap, sym, Option}
 use Rattle.proc_macro2.specs.Forest.{Forest}
 use Rattle.quoting.proofs.DraftLemmas.{finished, part_of}
 use Rattle.quoting.proofs.respace.Draft.finish.Goals as goal

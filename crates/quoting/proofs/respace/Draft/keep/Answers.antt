@@ -1,4 +1,4 @@
-use Rattle.std.proofs.Common.{◌∙◌, ◌+◌, ap, sym, subst, Option, None, Some}
+use Rattle.std.proofs.Common.{◌∙◌, ◌+◌, ap, sym, subst, Option}
 use Rattle.proc_macro2.specs.Forest.{Forest, joined}
 use Rattle.proc_macro2.specs.Level.{alone}
 use Rattle.quoting.specs.Part.{Adds, done_of}
