@@ -1,6 +1,6 @@
 -- What is put into streams.
 use Rattle.std.specs.Prelude.{◌≡◌, List, [], ◌∷◌, Option, Some, if◌then◌else◌}
-use Rattle.std.specs.Iterator.{Drains}
+use Rattle.std.specs.Iterator.{Drains, Yields}
 use Rattle.pm_token.specs.Negative.{has_minus, minus_of, number_of}
 use Rattle.pm_stream.specs.Forest.{Forest, nil, joined}
 use Rattle.pm_stream.specs.Level.{alone, before}
@@ -33,3 +33,10 @@ GivesAnItem {U} {T} {A} becomes steps iterable =
 abbrev pub GivesAll : {U T A : Type 0} → (U → T → Type 0) → (T → Option A → T → Type 0) → U → (List A → Type 0) → Type 0
 GivesAll {U} {T} {A} becomes steps iterable holds =
     (it : T) × (items : List A) × becomes iterable it × Drains steps it items × holds items
+
+-- some items were put in, and the one that came after them was refused
+abbrev pub RefusesAnItem : {U T A B : Type 0} → (U → T → Type 0) → (T → Option A → T → Type 0) → (B → List A → B → Type 0)
+    → U → B → B → Type 0
+RefusesAnItem {U} {T} {A} becomes steps extends iterable old new =
+    (it : T) × (items : List A) × (refused : A) × (now : T) × (rest : T) × becomes iterable it × Yields steps it items now
+    × steps now (Some refused) rest × extends old items new

@@ -1,7 +1,7 @@
 //! Building and changing streams.
 ghost use Rattle.std.specs.Prelude.{◌≡◌, IfErr, IfOk, OnErr};
 ghost use Rattle.std.specs.Iterator.{ExtendsWithItems, IsFiniteIterable};
-ghost use Rattle.pm_stream.specs.Building.{GivesAll, GivesAnItem, PutsIn, gathered, split};
+ghost use Rattle.pm_stream.specs.Building.{GivesAll, GivesAnItem, PutsIn, RefusesAnItem, gathered, split};
 ghost use Rattle.pm_stream.specs.Forest.{Forest};
 
 mod collects;
@@ -73,6 +73,8 @@ impl TokenStream {
         ensures ran { ExtendsWithItems I.into_iter_gives I.IntoIter.next_gives (PutsIn split)
             trees self.old self.new result }
         ensures memory { OnErr result (GivesAnItem I.into_iter_gives I.IntoIter.next_gives trees) }
+        ensures refused { OnErr result (RefusesAnItem I.into_iter_gives I.IntoIter.next_gives (PutsIn split)
+            trees self.old self.new) }
     {
         for tree in trees {
             self.put(tree)?;
@@ -93,6 +95,8 @@ impl TokenStream {
         ensures ran { ExtendsWithItems I.into_iter_gives I.IntoIter.next_gives (PutsIn (λ stream. stream))
             streams self.old self.new result }
         ensures memory { OnErr result (GivesAnItem I.into_iter_gives I.IntoIter.next_gives streams) }
+        ensures refused { OnErr result (RefusesAnItem I.into_iter_gives I.IntoIter.next_gives
+            (PutsIn (λ stream. stream)) streams self.old self.new) }
     {
         for stream in streams {
             self.append(stream)?;

@@ -2,6 +2,7 @@ pub use Rattle.pm_stream.proofs.FaultLemmas
 pub use Rattle.pm_stream.proofs.InOrderLemmas
 pub use Rattle.pm_stream.proofs.SpanLemmas
 pub use Rattle.pm_stream.proofs.PlaceLemmas
+pub use Rattle.lexical.proofs.TextLemmas
 pub mod Places
 pub mod RunLemmas
 pub mod GiveLemmas
@@ -11,3 +12,4 @@ pub mod Returns
 pub mod BuiltLemmas
 pub mod CutLemmas
 pub mod LineLemmas
+pub mod WholeTrees

@@ -6,11 +6,14 @@ use Rattle.lexical.specs.Piece.{Piece}
 use Rattle.lexical.specs.Quiet.{ends_quiet}
 use Rattle.lexical.specs.Cover.{onto, IsCover}
 use Rattle.pm_token.specs.Text.{IsText}
+use Rattle.pm_stream.specs.Building.{split}
 use Rattle.pm_stream.specs.Forest.{Forest, IsBuilt, joined}
+use Rattle.pm_stream.specs.Level.{GoesInside, alone}
 use Rattle.pm_stream.specs.Parsing.{ParsesTo, FaultAt}
 use Rattle.pm_stream.specs.Printed.{printed}
 use Rattle.pm_stream.specs.Same.{Same}
 use Rattle.pm_stream.specs.WellSpaced.{IsWellSpaced}
+use Rattle.pm_stream.specs.declared.stream.TokenTree.{TokenTree}
 
 -- ---- one cover
 
@@ -89,3 +92,9 @@ JoinedTexts = (base first second : ℕ) (a b : List ℕ) (s t : Forest) → Pars
 abbrev pub BrokenLine : Type 0
 BrokenLine = (base first : ℕ) (source : List ℕ) (stream : Forest) (us vs : List Piece) → ParsesTo first source stream
     → IsCover (us ++ vs) source → IsTrue (ends_quiet us) → Gives base (onto us (codes "\n" ++ onto vs [])) stream
+
+-- ---- trees that are put in
+
+-- a tree that may be put into a stream stands there whole
+abbrev pub TreesStandWhole : Type 0
+TreesStandWhole = (tree : TokenTree) → GoesInside tree → split tree ≡ alone tree

@@ -1,10 +1,13 @@
 pub mod Laws
 pub mod GivesBack
+pub use Rattle.lexical.specs.Ascii
+pub use Rattle.lexical.specs.Character
 pub use Rattle.lexical.specs.Cover
 pub use Rattle.lexical.specs.Mark
 pub use Rattle.lexical.specs.Piece
 pub use Rattle.lexical.specs.Quiet
 pub use Rattle.lexical.specs.SingleQuoted
+pub use Rattle.lexical.specs.Text as Front
 pub use Rattle.lexical.specs.Token
 pub use Rattle.literal_escaper.specs.Errors
 pub use Rattle.literal_escaper.specs.Items
@@ -39,6 +42,7 @@ pub use Rattle.pm_token.specs.Value
 pub use Rattle.pm_token.specs.ValueLaws
 pub use Rattle.pm_token.specs.Written
 pub use Rattle.pm_stream.specs.Building
+pub use Rattle.pm_stream.specs.Codec
 pub use Rattle.pm_stream.specs.Delimited
 pub use Rattle.pm_stream.specs.DelimSpan
 pub use Rattle.pm_stream.specs.Events
@@ -52,6 +56,8 @@ pub use Rattle.pm_stream.specs.Printed
 pub use Rattle.pm_stream.specs.PrintedTree
 pub use Rattle.pm_stream.specs.Rule
 pub use Rattle.pm_stream.specs.Same
+pub use Rattle.pm_stream.specs.Shown
 pub use Rattle.pm_stream.specs.Size
+pub use Rattle.pm_stream.specs.SpacedTree
 pub use Rattle.pm_stream.specs.TreeSpan
 pub use Rattle.pm_stream.specs.WellSpaced

@@ -26,6 +26,7 @@ ghost use Rattle.proc_macro2.specs.Laws.{
   ParsedIsWellSpaced,
   ParsesOrFails,
   PrintedIsText,
+  TreesStandWhole,
   WellSpacedIsParsed,
 };
 
@@ -90,4 +91,13 @@ pub fn broken_line()
 pub fn spans_give_back()
     ensures each { SpansGiveBack }
     ensures listed { ListedGiveBack }
+{}
+
+/// A tree that a stream has, or that may be put into one again, stands whole where it is put in (`split`): only a
+/// negative literal that stands by itself becomes two trees.
+///
+/// `TokenStream::trees` and `into_iter` promise of each of their trees that it may be put in again. The literal
+/// `-3i32` that `Literal::i32_suffixed` makes is no such tree.
+pub fn trees_stand_whole()
+    ensures { TreesStandWhole }
 {}

@@ -1,0 +1,6 @@
+mod ArrayLemmas
+mod SpacingLemmas
+mod FaultLemmas
+mod PartLemmas
+mod DraftLemmas
+mod PushLemmas

@@ -1,0 +1,67 @@
+-- A list of trees that is respaced up to a place.
+use Rattle.std.specs.Prelude.{ℕ, ◌≡◌, refl, List, [], ◌∷◌, Option, Some, None, take}
+use Rattle.std.specs.Coded.{Coded, code_by, coded×, coded_list}
+use Rattle.proc_macro2.specs.Codec.{coded_forest}
+use Rattle.proc_macro2.specs.Forest.{Forest, nil, leaf, group, joined}
+use Rattle.proc_macro2.specs.Leaf.{mark_token}
+use Rattle.proc_macro2.specs.Level.{alone, forest}
+use Rattle.proc_macro2.specs.Token.{Token}
+use Rattle.proc_macro2.specs.contracts.TokenTree as tree
+use Rattle.proc_macro2.specs.declared.TokenTree.{TokenTree}
+use Rattle.proc_macro2.specs.declared.TokenTree.TheVariants.{Group, Ident, Punct, Literal}
+use Rattle.quoting.specs.Respaced.{respaced, respaced_token}
+
+-- a list's trees as they were, those that are respaced, and those that are left as they were
+pub record Part : Type 0 where
+  pub whole : Forest
+  pub done : Forest
+  pub left : List TokenTree
+
+-- as a pair of streams and a list
+abbrev pub coded_part : Coded Part
+coded_part = code_by (Forest × (Forest × List TokenTree)) (coded× coded_forest (coded× coded_forest (coded_list tree.the_row.coded)))
+    (λ part. (part.whole, (part.done, part.left)))
+    (λ fields. record { whole = fields.0; done = fields.1.0; left = fields.1.1 }) (λ _. refl)
+
+-- the trees that are respaced: those that were changed, or else the first ones as they were
+abbrev pub done_of : Option Forest → ℕ → List TokenTree → Forest
+done_of None count trees = forest (take count trees)
+done_of (Some changed) count trees = changed
+
+-- the list, once all of it is respaced
+abbrev pub ended : Part → Forest
+ended part = joined part.done (respaced (forest part.left))
+
+-- a tree that is no group, respaced
+abbrev pub respaced_alone : TokenTree → Option Token → Forest
+respaced_alone (Group g) next = alone (Group g)
+respaced_alone (Ident i) next = alone (Ident i)
+respaced_alone (Punct p) next = leaf (respaced_token (mark_token p) next) p.span.lo p.span.hi nil
+respaced_alone (Literal l) next = alone (Literal l)
+
+-- the first of the trees is a group of these
+abbrev pub IsOpen : List TokenTree → Forest → Type 0
+IsOpen [] inside = ⊥
+IsOpen (Group g ∷ after) inside = g.stream ≡ inside
+IsOpen (Ident i ∷ after) inside = ⊥
+IsOpen (Punct p ∷ after) inside = ⊥
+IsOpen (Literal l ∷ after) inside = ⊥
+
+-- these trees in the group that comes first
+abbrev pub enclosed : List TokenTree → Forest → Forest
+enclosed [] inside = nil
+enclosed (Group g ∷ after) inside = group g.delimiter g.span.lo g.span.hi inside nil
+enclosed (Ident i ∷ after) inside = nil
+enclosed (Punct p ∷ after) inside = nil
+enclosed (Literal l ∷ after) inside = nil
+
+-- the trees after the first
+abbrev pub others : List TokenTree → List TokenTree
+others [] = []
+others (tree ∷ trees) = trees
+
+-- the first of the trees that were left is done, as these trees; nothing else changed
+pub record Adds (old : Part) (first : Forest) (new : Part) : Type 0 where
+  pub whole : new.whole ≡ old.whole
+  pub done : new.done ≡ joined old.done first
+  pub left : new.left ≡ others old.left

@@ -1,0 +1,71 @@
+// The uses that the README of `quoting` shows.
+use proc_macro2::{
+    Delimiter, Group, Ident, Literal, Punct, SourceMap, Spacing, Span, TokenStream, TokenTree,
+};
+use quoting::{Quote, QuoteError};
+use std::alloc::Global;
+use std::process::Abort;
+use std::test::Fail;
+
+fn name(alloc: Global, text: &str) -> Result<TokenTree, Fail> {
+    Ok(TokenTree::Ident(Ident::new(alloc, text, Span::call_site())?))
+}
+
+fn check_printed(rt: &(impl Abort + AllocGlobal), quote: &Quote, want: &str) -> Result<(), Fail> {
+    let stream = quote.finish()?;
+    let text = format!(in rt.alloc(); "{stream}")?;
+    assert_eq!(rt; text.as_str(), want);
+    Ok(())
+}
+
+#[test]
+fn a_joint_mark_before_a_name_becomes_alone(rt: HostRuntime) -> Result<(), Fail> {
+    let mut quote = Quote::new(rt.alloc());
+    quote.push(TokenTree::Punct(Punct::new('&', Spacing::Joint)))?;
+    quote.push(name(rt.alloc(), "self")?)?;
+    check_printed(&rt, &quote, "& self")
+}
+
+#[test]
+fn a_lifetime_holds_together(rt: HostRuntime) -> Result<(), Fail> {
+    let mut quote = Quote::new(rt.alloc());
+    quote.push(TokenTree::Punct(Punct::new('&', Spacing::Alone)))?;
+    quote.push(TokenTree::Punct(Punct::new('\'', Spacing::Alone)))?;
+    quote.push(name(rt.alloc(), "a")?)?;
+    quote.push(name(rt.alloc(), "str")?)?;
+    check_printed(&rt, &quote, "& 'a str")
+}
+
+#[test]
+fn the_trees_of_a_text_go_between_others(rt: HostRuntime) -> Result<(), Fail> {
+    let alloc = rt.alloc();
+    let kind = TokenStream::from_str("std::vec::Vec<u8>", &mut SourceMap::new(alloc))?;
+    let mut quote = Quote::new(alloc);
+    quote.push(name(alloc, "x")?)?;
+    quote.push(TokenTree::Punct(Punct::new(':', Spacing::Alone)))?;
+    quote.push_stream(kind)?;
+    quote.push(TokenTree::Punct(Punct::new(',', Spacing::Joint)))?;
+    check_printed(&rt, &quote, "x : std :: vec :: Vec < u8 > ,")
+}
+
+#[test]
+fn a_negative_number_is_its_sign_and_the_rest(rt: HostRuntime) -> Result<(), Fail> {
+    let alloc = rt.alloc();
+    let mut quote = Quote::new(alloc);
+    quote.push(TokenTree::Punct(Punct::new('=', Spacing::Joint)))?;
+    quote.push(TokenTree::Literal(Literal::i32_suffixed(alloc, -3)?))?;
+    check_printed(&rt, &quote, "=- 3i32")
+}
+
+#[test]
+fn what_no_spacing_mends_is_told(rt: HostRuntime) -> Result<(), Fail> {
+    let alloc = rt.alloc();
+    let mut quote = Quote::new(alloc);
+    let inside = TokenStream::from_tree(alloc, name(alloc, "x")?)?;
+    quote.push(TokenTree::Group(Group::new(Delimiter::None, inside)))?;
+    assert!(rt; matches!(quote.finish(), Err(QuoteError::NoneGroup)));
+    let mut quote = Quote::new(alloc);
+    quote.push(TokenTree::Punct(Punct::new('\'', Spacing::Joint)))?;
+    assert!(rt; matches!(quote.finish(), Err(QuoteError::LoneQuote)));
+    Ok(())
+}
