@@ -3,8 +3,8 @@ use crate::ffi::{self, Answer, Handle, Record};
 use crate::parsed::Parsed;
 #[cfg(span_locations)]
 use crate::span::Place;
-use std::alloc::{self, Layout};
 use std::cell::RefCell;
+use std::mem::MaybeUninit;
 
 /// Why a text wasn't read.
 pub(crate) enum ReadError {
@@ -33,10 +33,7 @@ impl Session {
     pub(crate) fn read(&mut self, text: &str) -> Result<Parsed, ReadError> {
         let answer = self.call(|session, back| unsafe { ffi::pm_read(session, back, text.as_ptr(), text.len()) });
         let read = match answer.code {
-            ffi::DONE => {
-                let records = self.records(answer.number as usize);
-                Ok(Parsed::new(records, self.text(answer.bytes)))
-            }
+            ffi::DONE => Ok(self.listed(answer.number as usize, answer.bytes)),
             ffi::FAULT => Err(ReadError::Fault(answer.number)),
             ffi::MAP_FULL | ffi::TOO_LONG => Err(ReadError::MapFull),
             code => refused(code),
@@ -102,35 +99,41 @@ impl Session {
 
     /// The session's text of so many bytes.
     pub(crate) fn text(&mut self, bytes: usize) -> String {
-        let mut text = vec![0; bytes];
-        let into = text.as_mut_ptr();
-        let code = self.call(|session, back| unsafe { ffi::pm_copy_text(session, back, into, bytes) });
+        let mut text = Vec::with_capacity(bytes);
+        self.copy_text(&mut text.spare_capacity_mut()[..bytes]);
+        // SAFETY: so many bytes were written, and the session's text is UTF-8: `pm_copy_text` copies a string.
+        unsafe {
+            text.set_len(bytes);
+            String::from_utf8_unchecked(text)
+        }
+    }
+
+    /// The session's records and text, of which there are so many.
+    fn listed(&mut self, count: usize, bytes: usize) -> Parsed {
+        // SAFETY: both calls write all that they were given where they are done, and the session's text is UTF-8.
+        unsafe {
+            Parsed::read(count, bytes, |records, text| {
+                self.copy_records(records);
+                self.copy_text(text);
+            })
+        }
+    }
+
+    /// Writes the session's text, which has the length of the room for it.
+    fn copy_text(&mut self, into: &mut [MaybeUninit<u8>]) {
+        let (room, bytes) = (into.as_mut_ptr().cast(), into.len());
+        // SAFETY: there is room for so many bytes, and nothing else uses it.
+        let code = self.call(|session, back| unsafe { ffi::pm_copy_text(session, back, room, bytes) });
         assert_eq!(code, ffi::DONE, "the library's text has the length that it told");
-        String::from_utf8(text).expect("the library's text is UTF-8")
     }
 
-    /// The session's records, which are so many.
-    fn records(&mut self, count: usize) -> Vec<Record> {
-        let mut records = zeroed(count);
-        let into = records.as_mut_ptr();
-        let code = self.call(|session, back| unsafe { ffi::pm_copy_trees(session, back, into, count) });
+    /// Writes the session's records, which are as many as there is room for.
+    fn copy_records(&mut self, into: &mut [MaybeUninit<Record>]) {
+        let (room, count) = (into.as_mut_ptr().cast(), into.len());
+        // SAFETY: there is room for so many records, and nothing else uses it.
+        let code = self.call(|session, back| unsafe { ffi::pm_copy_trees(session, back, room, count) });
         assert_eq!(code, ffi::DONE, "the library's records are as many as it told");
-        records
     }
-}
-
-/// So many records of zeros, in memory that needn't be written first.
-fn zeroed(count: usize) -> Vec<Record> {
-    if count == 0 {
-        return Vec::new();
-    }
-    let layout = Layout::array::<Record>(count).expect("the records were in memory before");
-    let block = unsafe { alloc::alloc_zeroed(layout) };
-    if block.is_null() {
-        alloc::handle_alloc_error(layout);
-    }
-    // A record of zeros is one, and the block has the layout of a list of so many.
-    unsafe { Vec::from_raw_parts(block.cast(), count, count) }
 }
 
 impl Drop for Session {
