@@ -22,6 +22,7 @@ pub(crate) struct Session {
 impl Session {
     fn new() -> Session {
         let mut handle = Handle::NONE;
+        // SAFETY: a handle of no session stands there.
         let code = unsafe { ffi::pm_session_new(&mut handle) };
         if code != ffi::DONE {
             out_of_memory();
@@ -31,6 +32,7 @@ impl Session {
 
     /// The trees of a text, which becomes a file of the map.
     pub(crate) fn read(&mut self, text: &str) -> Result<Parsed, ReadError> {
+        // SAFETY: the pointer and the length are the text's.
         let answer = self.call(|session, back| unsafe { ffi::pm_read(session, back, text.as_ptr(), text.len()) });
         let read = match answer.code {
             ffi::DONE => Ok(self.listed(answer.number as usize, answer.bytes)),
@@ -46,6 +48,7 @@ impl Session {
 
     /// The printed text of the stream that these records and texts list; `None` where they list none.
     pub(crate) fn print(&mut self, records: &[Record], text: &str) -> Option<String> {
+        // SAFETY: the pointers and the lengths are those of the records and of the text.
         let answer = self.call(|session, back| unsafe {
             ffi::pm_print_records(session, back, records.as_ptr(), records.len(), text.as_ptr(), text.len())
         });
@@ -59,6 +62,7 @@ impl Session {
     /// Where the text of a literal stands, which becomes a file of the map; `None` where it is no literal.
     #[cfg(span_locations)]
     pub(crate) fn read_literal(&mut self, text: &str) -> Option<Place> {
+        // SAFETY: the pointer and the length are the text's.
         let answer =
             self.call(|session, back| unsafe { ffi::pm_read_literal(session, back, text.as_ptr(), text.len()) });
         match answer.code {
@@ -73,6 +77,7 @@ impl Session {
     pub(crate) fn bytes(&mut self, count: usize) -> Vec<u8> {
         let mut bytes = vec![0; count];
         let into = bytes.as_mut_ptr();
+        // SAFETY: there is room for so many bytes, and nothing else uses it.
         let code = self.call(|session, back| unsafe { ffi::pm_copy_bytes(session, back, into, count) });
         assert_eq!(code, ffi::DONE, "the library's bytes are as many as it told");
         bytes
@@ -80,6 +85,7 @@ impl Session {
 
     /// Takes all files of the map away but the empty one.
     pub(crate) fn forget(&mut self) {
+        // SAFETY: the handle is the session's.
         self.call(|session, back| unsafe { ffi::pm_forget(session, back) });
     }
 
@@ -92,7 +98,7 @@ impl Session {
         }
     }
 
-    /// A call, which takes the handle and puts it back.
+    /// A call, which takes the handle and puts it back: the library wants that no copy of it is used meanwhile.
     pub(crate) fn call<T>(&mut self, call: impl FnOnce(Handle, &mut Handle) -> T) -> T {
         call(self.handle, &mut self.handle)
     }
@@ -138,6 +144,7 @@ impl Session {
 
 impl Drop for Session {
     fn drop(&mut self) {
+        // SAFETY: the handle is live, and no copy of it is used from here on.
         unsafe { ffi::pm_session_free(self.handle) };
     }
 }
