@@ -3,10 +3,10 @@
 #
 #   rust/test.sh
 #
-# What isn't there is said and left out: a C compiler, cargo, and the distribution's packages librust-syn-dev,
-# librust-quote-dev and librust-unicode-ident-dev, which are looked for in CARGO_REGISTRY or /usr/share/cargo/registry.
-# Nothing is fetched. The archive is built by `rt lib` where it is older than its sources. The last line is
-# `N passed, M failed`, and the status is 1 if anything failed.
+# `./test` runs it after the gate. What isn't there is said and left out: a C compiler, cargo with Rust 1.88, and the
+# distribution's packages librust-syn-dev, librust-quote-dev and librust-unicode-ident-dev, which are looked for in
+# CARGO_REGISTRY or /usr/share/cargo/registry. Nothing is fetched. rust/archive.sh builds the archive where it is older
+# than its sources. The last line is `N passed, M failed`, and the status is 1 if anything failed.
 set -u
 cd "$(dirname "$0")" || exit 1
 room=$(mktemp -d)
@@ -34,14 +34,11 @@ finish() {
     exit
 }
 
-crates=$(cd .. && pwd)/crates
-export PM_C_LIB=$crates/pm_c/out
+PM_C_LIB=$(cd .. && pwd)/crates/pm_c/out
+export PM_C_LIB
 archive=$PM_C_LIB/libpm_c.a
-if [ ! -f "$archive" ] || [ -n "$(find "$crates" -path '*/out' -prune -o -newer "$archive" -name '*.rt' -print -quit)" ]; then
-    build() { (cd "$crates/pm_c" && rt lib); }
-    try "the archive" build
-    [ -f "$archive" ] || finish
-fi
+try "the archive" ./archive.sh
+[ "$failed" -eq 0 ] || finish
 
 cc=${CC:-cc}
 if command -v "$cc" > /dev/null; then
@@ -56,8 +53,9 @@ else
     echo "no C compiler: the demo is left out"
 fi
 
-if ! command -v cargo > /dev/null; then
-    echo "no cargo: the Cargo package is left out"
+minor=$(cargo --version 2> /dev/null | sed -n 's/^cargo 1\.\([0-9]*\)\..*/\1/p')
+if [ "${minor:-0}" -lt 88 ]; then
+    echo "no cargo of Rust 1.88 or later: the Cargo package, and syn and quote over it, are left out"
     finish
 fi
 export CARGO_TARGET_DIR=$room/target
@@ -69,12 +67,14 @@ try "the Cargo package with span locations" package --features span-locations
 try "the Cargo package with what is exempt from semantic versioning" exempt
 
 registry=${CARGO_REGISTRY:-/usr/share/cargo/registry}
+missing=()
 for name in syn quote unicode-ident; do
-    if ! compgen -G "$registry/$name-1*" > /dev/null; then
-        echo "no package $name in $registry: syn and quote are left out"
-        finish
-    fi
+    compgen -G "$registry/$name-1*" > /dev/null || missing+=("librust-$name-dev")
 done
+if [ ${#missing[@]} -gt 0 ]; then
+    echo "no ${missing[*]} in $registry: the example of syn and quote over the package is left out"
+    finish
+fi
 mkdir "$room/example" "$room/example/.cargo"
 cp -r example/Cargo.toml example/src example/derive "$room/example"
 cat > "$room/example/.cargo/config.toml" << END

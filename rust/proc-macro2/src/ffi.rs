@@ -1,4 +1,4 @@
-//! The calls of the proved library, as `pm_c.h` has them, and the heap that it asks for.
+//! The calls of the proved library, as `pm_c.h` has them.
 use std::ffi::c_void;
 
 /// A session's handle.
@@ -125,50 +125,4 @@ extern "C" {
     pub(crate) fn pm_byte_str_value(session: Handle, back: &mut Handle, text: *const u8, bytes: usize) -> Answer;
     pub(crate) fn pm_cstr_value(session: Handle, back: &mut Handle, text: *const u8, bytes: usize) -> Answer;
     pub(crate) fn pm_copy_bytes(session: Handle, back: &mut Handle, into: *mut u8, bytes: usize) -> u32;
-}
-
-/// The heap of the library: that of the C library, which aligns each block to 16 bytes.
-mod heap {
-    use std::ffi::c_void;
-
-    extern "C" {
-        fn malloc(bytes: usize) -> *mut c_void;
-        fn realloc(block: *mut c_void, bytes: usize) -> *mut c_void;
-        fn free(block: *mut c_void);
-    }
-
-    /// Whether there was memory, and the block, which is never null.
-    #[repr(C)]
-    pub(crate) struct Tried {
-        ok: bool,
-        block: *mut u8,
-    }
-
-    fn tried(block: *mut c_void) -> Tried {
-        match std::ptr::NonNull::new(block) {
-            Some(block) => Tried {
-                ok: true,
-                block: block.as_ptr().cast(),
-            },
-            None => Tried {
-                ok: false,
-                block: std::ptr::NonNull::<u128>::dangling().as_ptr().cast(),
-            },
-        }
-    }
-
-    #[no_mangle]
-    extern "C" fn rattle_alloc(bytes: usize, align: usize) -> Tried {
-        tried(unsafe { malloc(if bytes == 0 { align } else { bytes }) })
-    }
-
-    #[no_mangle]
-    extern "C" fn rattle_realloc(block: *mut u8, _kept: usize, bytes: usize, align: usize) -> Tried {
-        tried(unsafe { realloc(block.cast(), if bytes == 0 { align } else { bytes }) })
-    }
-
-    #[no_mangle]
-    extern "C" fn rattle_dealloc(block: *mut u8) {
-        unsafe { free(block.cast()) }
-    }
 }

@@ -125,6 +125,7 @@ impl Ident {
 /// Panics where the library says that no identifier has the name.
 #[track_caller]
 fn check(name: &str, raw: bool) {
+    // SAFETY: the pointer and the length are the name's.
     match unsafe { ffi::pm_ident_check(name.as_ptr(), name.len(), raw) } {
         ffi::DONE => {}
         ffi::NAME_EMPTY => panic!("Ident is not allowed to be empty; use Option<Ident>"),

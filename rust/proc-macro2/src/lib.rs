@@ -24,6 +24,7 @@ mod compiler;
 pub mod extra;
 mod ffi;
 mod group;
+mod heap;
 mod ident;
 mod lex_error;
 mod literal;

@@ -44,6 +44,7 @@ impl OwnLiteral {
 
 /// Whether the text is a literal, or `-` and a number.
 pub(crate) fn is_whole(text: &str) -> bool {
+    // SAFETY: the pointer and the length are the text's.
     match unsafe { ffi::pm_literal_check(text.as_ptr(), text.len()) } {
         ffi::DONE => true,
         ffi::NO_MEMORY => session::refused(ffi::NO_MEMORY),
@@ -139,6 +140,7 @@ impl Literal {
             return Literal::compiler(proc_macro::Literal::string(string));
         }
         Literal::made(session::with(|session| {
+            // SAFETY: the pointer and the length are the text's.
             session.make(|session, back| unsafe { ffi::pm_string(session, back, string.as_ptr(), string.len()) })
         }))
     }
@@ -149,6 +151,7 @@ impl Literal {
             return Literal::compiler(proc_macro::Literal::character(ch));
         }
         Literal::made(session::with(|session| {
+            // SAFETY: the handle is the session's.
             session.make(|session, back| unsafe { ffi::pm_character(session, back, ch as u32) })
         }))
     }
@@ -159,6 +162,7 @@ impl Literal {
             return Literal::compiler(proc_macro::Literal::byte_character(byte));
         }
         Literal::made(session::with(|session| {
+            // SAFETY: the handle is the session's.
             session.make(|session, back| unsafe { ffi::pm_byte_character(session, back, byte) })
         }))
     }
@@ -169,6 +173,7 @@ impl Literal {
             return Literal::compiler(proc_macro::Literal::byte_string(bytes));
         }
         Literal::made(session::with(|session| {
+            // SAFETY: the pointer and the length are those of the bytes.
             session.make(|session, back| unsafe { ffi::pm_byte_string(session, back, bytes.as_ptr(), bytes.len()) })
         }))
     }
@@ -180,6 +185,7 @@ impl Literal {
         }
         let bytes = string.to_bytes();
         Literal::made(session::with(|session| {
+            // SAFETY: the pointer and the length are those of the bytes.
             session.make(|session, back| unsafe { ffi::pm_c_string(session, back, bytes.as_ptr(), bytes.len()) })
         }))
     }

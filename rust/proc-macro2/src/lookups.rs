@@ -8,6 +8,7 @@ use std::ops::Range;
 /// The line and column of a position.
 pub(crate) fn line_column(position: u32) -> LineColumn {
     let found = session::with(|session| {
+        // SAFETY: the handle is the session's.
         session.call(|session, back| unsafe { ffi::pm_place_of(session, back, position) })
     });
     check(found.code);
@@ -20,6 +21,7 @@ pub(crate) fn line_column(position: u32) -> LineColumn {
 /// The bytes of its file that a span takes.
 pub(crate) fn byte_range(place: Place) -> Range<usize> {
     let found = session::with(|session| {
+        // SAFETY: the handle is the session's.
         session.call(|session, back| unsafe { ffi::pm_byte_range(session, back, place.lo, place.hi) })
     });
     check(found.code);
@@ -32,6 +34,7 @@ pub(crate) fn source_text(place: Place) -> Option<String> {
         return None;
     }
     Some(session::with(|session| {
+        // SAFETY: the handle is the session's.
         let answer =
             session.call(|session, back| unsafe { ffi::pm_source_text(session, back, place.lo, place.hi) });
         told(session, answer)
@@ -41,6 +44,7 @@ pub(crate) fn source_text(place: Place) -> Option<String> {
 /// The name of the file that a span is in.
 pub(crate) fn file(place: Place) -> String {
     session::with(|session| {
+        // SAFETY: the handle is the session's.
         let answer =
             session.call(|session, back| unsafe { ffi::pm_file_name(session, back, place.lo, place.hi) });
         told(session, answer)
@@ -50,6 +54,7 @@ pub(crate) fn file(place: Place) -> String {
 /// The span of both, where they are in one file.
 pub(crate) fn join(place: Place, other: Place) -> Option<Place> {
     let joined = session::with(|session| {
+        // SAFETY: the handle is the session's.
         session.call(|session, back| unsafe {
             ffi::pm_join(session, back, place.lo, place.hi, other.lo, other.hi)
         })

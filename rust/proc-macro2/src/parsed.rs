@@ -7,7 +7,10 @@ use crate::span::Place;
 use crate::text::Text;
 use crate::trees::Trees;
 use crate::{Delimiter, Group, Ident, Literal, Punct, Spacing, Span, TokenTree};
+use std::cell::Cell;
+use std::mem::{self, MaybeUninit};
 use std::rc::Rc;
+use std::{slice, str};
 
 pub(crate) const GROUP: u8 = 0;
 pub(crate) const IDENT: u8 = 1;
@@ -19,8 +22,9 @@ pub(crate) const LITERAL: u8 = 3;
 /// In a group's record `count` is how many trees stand right inside it, as the library says, and `start`, which the
 /// library leaves 0, how many records follow that are inside it at any depth.
 pub(crate) struct Parsed {
+    /// The memory behind the records has the text.
     records: Vec<Record>,
-    text: String,
+    bytes: usize,
     width: u32,
 }
 
@@ -32,34 +36,85 @@ pub(crate) struct Run {
     width: u32,
 }
 
+/// A list of at most so many records is short.
+const SHORT: usize = 256;
+
+thread_local! {
+    /// An empty list with the memory of one that is gone.
+    static SPARE: Cell<Vec<Record>> = const { Cell::new(Vec::new()) };
+}
+
 impl Parsed {
-    pub(crate) fn new(mut records: Vec<Record>, text: String) -> Parsed {
-        // The groups that are open, each with how many of its trees are still to come.
-        let mut open: Vec<(usize, u32)> = Vec::new();
-        let mut width = 0;
-        for at in 0..records.len() {
-            match open.last_mut() {
-                Some((_, left)) => *left -= 1,
-                None => width += 1,
-            }
-            if records[at].kind == GROUP {
-                open.push((at, records[at].count));
-            }
-            while let Some(&(group, 0)) = open.last() {
-                open.pop();
-                records[group].start = (at - group) as u32;
-            }
-        }
+    /// So many records and so many bytes of text, as the library lists them.
+    ///
+    /// # Safety
+    ///
+    /// `write` writes all of both, the text in UTF-8.
+    pub(crate) unsafe fn read(
+        count: usize,
+        bytes: usize,
+        write: impl FnOnce(&mut [MaybeUninit<Record>], &mut [MaybeUninit<u8>]),
+    ) -> Parsed {
+        let mut records = SPARE.try_with(Cell::take).unwrap_or_default();
+        records.reserve_exact(count + bytes.div_ceil(size_of::<Record>()));
+        let (front, behind) = records.spare_capacity_mut().split_at_mut(count);
+        // SAFETY: the records behind the first `count` have room for the text, and any bytes may stand in memory that
+        // isn't a value yet.
+        let text = unsafe { slice::from_raw_parts_mut(behind.as_mut_ptr().cast(), bytes) };
+        write(front, text);
+        // SAFETY: `write` wrote so many records.
+        unsafe { records.set_len(count) };
+        let width = set_sizes(&mut records);
         Parsed {
             records,
-            text,
+            bytes,
             width,
         }
     }
 
-    pub(crate) fn text(&self, start: u32, count: u32) -> &str {
-        &self.text[start as usize..start as usize + count as usize]
+    /// The texts of all identifiers and literals, one after another.
+    fn all_text(&self) -> &str {
+        let behind = self.records.as_ptr_range().end.cast();
+        // SAFETY: `read` had this text written there, in UTF-8, and the list was neither moved nor made longer since.
+        unsafe { str::from_utf8_unchecked(slice::from_raw_parts(behind, self.bytes)) }
     }
+
+    pub(crate) fn text(&self, start: u32, count: u32) -> &str {
+        &self.all_text()[start as usize..start as usize + count as usize]
+    }
+}
+
+/// The memory of a short list is kept for the thread's next one.
+impl Drop for Parsed {
+    fn drop(&mut self) {
+        if self.records.capacity() <= SHORT {
+            let mut records = mem::take(&mut self.records);
+            records.clear();
+            // Where the thread ends, it is freed.
+            let _ = SPARE.try_with(|spare| spare.set(records));
+        }
+    }
+}
+
+/// Sets in each group's record how many records are inside it, and says how many trees there are outside of groups.
+fn set_sizes(records: &mut [Record]) -> u32 {
+    // The groups that are open, each with how many of its trees are still to come.
+    let mut open: Vec<(usize, u32)> = Vec::new();
+    let mut width = 0;
+    for at in 0..records.len() {
+        match open.last_mut() {
+            Some((_, left)) => *left -= 1,
+            None => width += 1,
+        }
+        if records[at].kind == GROUP {
+            open.push((at, records[at].count));
+        }
+        while let Some(&(group, 0)) = open.last() {
+            open.pop();
+            records[group].start = (at - group) as u32;
+        }
+    }
+    width
 }
 
 impl Run {

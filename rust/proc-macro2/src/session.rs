@@ -3,8 +3,8 @@ use crate::ffi::{self, Answer, Handle, Record};
 use crate::parsed::Parsed;
 #[cfg(span_locations)]
 use crate::span::Place;
-use std::alloc::{self, Layout};
 use std::cell::RefCell;
+use std::mem::MaybeUninit;
 
 /// Why a text wasn't read.
 pub(crate) enum ReadError {
@@ -22,6 +22,7 @@ pub(crate) struct Session {
 impl Session {
     fn new() -> Session {
         let mut handle = Handle::NONE;
+        // SAFETY: a handle of no session stands there.
         let code = unsafe { ffi::pm_session_new(&mut handle) };
         if code != ffi::DONE {
             out_of_memory();
@@ -31,12 +32,10 @@ impl Session {
 
     /// The trees of a text, which becomes a file of the map.
     pub(crate) fn read(&mut self, text: &str) -> Result<Parsed, ReadError> {
+        // SAFETY: the pointer and the length are the text's.
         let answer = self.call(|session, back| unsafe { ffi::pm_read(session, back, text.as_ptr(), text.len()) });
         let read = match answer.code {
-            ffi::DONE => {
-                let records = self.records(answer.number as usize);
-                Ok(Parsed::new(records, self.text(answer.bytes)))
-            }
+            ffi::DONE => Ok(self.listed(answer.number as usize, answer.bytes)),
             ffi::FAULT => Err(ReadError::Fault(answer.number)),
             ffi::MAP_FULL | ffi::TOO_LONG => Err(ReadError::MapFull),
             code => refused(code),
@@ -49,6 +48,7 @@ impl Session {
 
     /// The printed text of the stream that these records and texts list; `None` where they list none.
     pub(crate) fn print(&mut self, records: &[Record], text: &str) -> Option<String> {
+        // SAFETY: the pointers and the lengths are those of the records and of the text.
         let answer = self.call(|session, back| unsafe {
             ffi::pm_print_records(session, back, records.as_ptr(), records.len(), text.as_ptr(), text.len())
         });
@@ -62,6 +62,7 @@ impl Session {
     /// Where the text of a literal stands, which becomes a file of the map; `None` where it is no literal.
     #[cfg(span_locations)]
     pub(crate) fn read_literal(&mut self, text: &str) -> Option<Place> {
+        // SAFETY: the pointer and the length are the text's.
         let answer =
             self.call(|session, back| unsafe { ffi::pm_read_literal(session, back, text.as_ptr(), text.len()) });
         match answer.code {
@@ -76,6 +77,7 @@ impl Session {
     pub(crate) fn bytes(&mut self, count: usize) -> Vec<u8> {
         let mut bytes = vec![0; count];
         let into = bytes.as_mut_ptr();
+        // SAFETY: there is room for so many bytes, and nothing else uses it.
         let code = self.call(|session, back| unsafe { ffi::pm_copy_bytes(session, back, into, count) });
         assert_eq!(code, ffi::DONE, "the library's bytes are as many as it told");
         bytes
@@ -83,6 +85,7 @@ impl Session {
 
     /// Takes all files of the map away but the empty one.
     pub(crate) fn forget(&mut self) {
+        // SAFETY: the handle is the session's.
         self.call(|session, back| unsafe { ffi::pm_forget(session, back) });
     }
 
@@ -95,46 +98,53 @@ impl Session {
         }
     }
 
-    /// A call, which takes the handle and puts it back.
+    /// A call, which takes the handle and puts it back: the library wants that no copy of it is used meanwhile.
     pub(crate) fn call<T>(&mut self, call: impl FnOnce(Handle, &mut Handle) -> T) -> T {
         call(self.handle, &mut self.handle)
     }
 
     /// The session's text of so many bytes.
     pub(crate) fn text(&mut self, bytes: usize) -> String {
-        let mut text = vec![0; bytes];
-        let into = text.as_mut_ptr();
-        let code = self.call(|session, back| unsafe { ffi::pm_copy_text(session, back, into, bytes) });
+        let mut text = Vec::with_capacity(bytes);
+        self.copy_text(&mut text.spare_capacity_mut()[..bytes]);
+        // SAFETY: so many bytes were written, and the session's text is UTF-8: `pm_copy_text` copies a string.
+        unsafe {
+            text.set_len(bytes);
+            String::from_utf8_unchecked(text)
+        }
+    }
+
+    /// The session's records and text, of which there are so many.
+    fn listed(&mut self, count: usize, bytes: usize) -> Parsed {
+        // SAFETY: both calls write all that they were given where they are done, and the session's text is UTF-8.
+        unsafe {
+            Parsed::read(count, bytes, |records, text| {
+                self.copy_records(records);
+                self.copy_text(text);
+            })
+        }
+    }
+
+    /// Writes the session's text, which has the length of the room for it.
+    fn copy_text(&mut self, into: &mut [MaybeUninit<u8>]) {
+        let (room, bytes) = (into.as_mut_ptr().cast(), into.len());
+        // SAFETY: there is room for so many bytes, and nothing else uses it.
+        let code = self.call(|session, back| unsafe { ffi::pm_copy_text(session, back, room, bytes) });
         assert_eq!(code, ffi::DONE, "the library's text has the length that it told");
-        String::from_utf8(text).expect("the library's text is UTF-8")
     }
 
-    /// The session's records, which are so many.
-    fn records(&mut self, count: usize) -> Vec<Record> {
-        let mut records = zeroed(count);
-        let into = records.as_mut_ptr();
-        let code = self.call(|session, back| unsafe { ffi::pm_copy_trees(session, back, into, count) });
+    /// Writes the session's records, which are as many as there is room for.
+    fn copy_records(&mut self, into: &mut [MaybeUninit<Record>]) {
+        let (room, count) = (into.as_mut_ptr().cast(), into.len());
+        // SAFETY: there is room for so many records, and nothing else uses it.
+        let code = self.call(|session, back| unsafe { ffi::pm_copy_trees(session, back, room, count) });
         assert_eq!(code, ffi::DONE, "the library's records are as many as it told");
-        records
     }
-}
-
-/// So many records of zeros, in memory that needn't be written first.
-fn zeroed(count: usize) -> Vec<Record> {
-    if count == 0 {
-        return Vec::new();
-    }
-    let layout = Layout::array::<Record>(count).expect("the records were in memory before");
-    let block = unsafe { alloc::alloc_zeroed(layout) };
-    if block.is_null() {
-        alloc::handle_alloc_error(layout);
-    }
-    // A record of zeros is one, and the block has the layout of a list of so many.
-    unsafe { Vec::from_raw_parts(block.cast(), count, count) }
 }
 
 impl Drop for Session {
     fn drop(&mut self) {
+        // SAFETY: the handle is live, and no copy of it is used from here on.
         unsafe { ffi::pm_session_free(self.handle) };
     }
 }

@@ -222,6 +222,7 @@ impl Span {
     ///
     /// It is exempt from semantic versioning.
     #[cfg(procmacro2_semver_exempt)]
+    #[allow(clippy::should_implement_trait)]
     pub fn eq(&self, other: &Span) -> bool {
         match (self.repr, other.repr) {
             (Repr::Own(place), Repr::Own(other)) => place == other,

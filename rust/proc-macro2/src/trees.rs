@@ -6,7 +6,7 @@ use crate::{Delimiter, Punct, Spacing, TokenTree};
 use std::fmt::{self, Debug, Display};
 use std::mem;
 use std::rc::Rc;
-use std::vec;
+use std::{slice, vec};
 
 /// Trees in order: those of a parsed text as the library lists them, or such as were put together.
 #[derive(Clone)]
@@ -33,10 +33,15 @@ pub(crate) enum TreesIter {
 
 impl Trees {
     pub(crate) fn is_empty(&self) -> bool {
+        self.len() == 0
+    }
+
+    /// How many trees there are, without those inside of groups.
+    fn len(&self) -> usize {
         match self {
-            Trees::Empty => true,
-            Trees::Parsed(run) => run.len() == 0,
-            Trees::Built(built) => built.trees.is_empty(),
+            Trees::Empty => 0,
+            Trees::Parsed(run) => run.len(),
+            Trees::Built(built) => built.trees.len(),
         }
     }
 
@@ -202,24 +207,32 @@ struct Listing {
 impl Listing {
     /// Adds trees. Groups may nest deep, so what follows an open group waits in a list.
     fn trees(&mut self, trees: &Trees) {
-        let mut open = vec![trees.clone().into_iter()];
+        let mut open = Vec::new();
+        open.extend(self.level(trees));
         while let Some(left) = open.last_mut() {
-            if let TreesIter::Parsed(run) = left {
-                run.list(&mut self.records, &mut self.text);
-                open.pop();
-                continue;
-            }
             match left.next() {
                 Some(TokenTree::Group(group)) => {
-                    let group = group.as_own().clone();
+                    let group = group.as_own();
                     self.opener(group.delimiter(), group.trees());
-                    open.push(group.trees().clone().into_iter());
+                    open.extend(self.level(group.trees()));
                 }
-                Some(tree) => self.leaf(&tree),
+                Some(tree) => self.leaf(tree),
                 None => {
                     open.pop();
                 }
             }
+        }
+    }
+
+    /// The trees that were put together, which are to be added one by one. Those of a parsed text are added at once.
+    fn level<'a>(&mut self, trees: &'a Trees) -> Option<slice::Iter<'a, TokenTree>> {
+        match trees {
+            Trees::Empty => None,
+            Trees::Parsed(run) => {
+                run.list(&mut self.records, &mut self.text);
+                None
+            }
+            Trees::Built(built) => Some(built.trees.iter()),
         }
     }
 
@@ -229,7 +242,6 @@ impl Listing {
     }
 
     fn opener(&mut self, delimiter: Delimiter, trees: &Trees) {
-        let count = trees.clone().into_iter().size_hint().0;
         self.records.push(Record {
             kind: parsed::GROUP,
             detail: match delimiter {
@@ -238,7 +250,7 @@ impl Listing {
                 Delimiter::Bracket => 2,
                 Delimiter::None => 3,
             },
-            count: count as u32,
+            count: trees.len() as u32,
             ..Record::default()
         });
     }

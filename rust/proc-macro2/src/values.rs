@@ -101,6 +101,7 @@ type ValueCall = unsafe extern "C" fn(Handle, &mut Handle, *const u8, usize) -> 
 
 /// How many bytes the value has, which the session holds then.
 fn ask(session: &mut Session, text: &str, value: ValueCall) -> Result<usize, ConversionErrorKind> {
+    // SAFETY: the pointer and the length are the text's, and only the library's calls are given to this function.
     let answer = session.call(|session, back| unsafe { value(session, back, text.as_ptr(), text.len()) });
     match answer.code {
         ffi::DONE => Ok(answer.bytes),

@@ -71,6 +71,7 @@ fn streams_are_built() {
 
 #[test]
 fn what_the_library_refuses_is_printed_all_the_same() {
+    // SAFETY: the wrapper relies on no literal being one: this is how streams come to be that the library refuses.
     let text = unsafe { Literal::from_str_unchecked("no literal") };
     let stream = TokenStream::from(TokenTree::Group(Group::new(Delimiter::Brace, TokenTree::from(text).into())));
     assert_eq!(stream.to_string(), "{ no literal }");
