@@ -3,7 +3,7 @@
 #
 #   rust/test.sh
 #
-# `./test` runs it after the gate. What isn't there is said and left out: a C compiler, cargo with Rust 1.88, and the
+# What isn't there is said and left out: a C compiler, cargo with Rust 1.88, and the
 # distribution's packages librust-syn-dev, librust-quote-dev and librust-unicode-ident-dev, which are looked for in
 # CARGO_REGISTRY or /usr/share/cargo/registry. Nothing is fetched. rust/archive.sh builds the archive where it is older
 # than its sources. The last line is `N passed, M failed`, and the status is 1 if anything failed.
