@@ -91,9 +91,11 @@ fn the_last_mark_is_alone_and_others_stay_joint(rt: HostRuntime) -> Result<(), F
     let want =
         "TokenStream [Punct { char: ':', spacing: Joint }, Punct { char: ':', spacing: Alone }]";
     assert_eq!(rt; shown.as_str(), want);
-    let text = format!(in alloc; "{stream}")?;
-    assert_eq!(rt; text.as_str(), "::");
-    Ok(())
+    let trees = vec![in alloc;
+        TokenTree::Punct(Punct::new(':', Spacing::Joint)),
+        TokenTree::Punct(Punct::new(':', Spacing::Joint)),
+    ]?;
+    check_printed(&rt, trees, "::")
 }
 
 #[test]

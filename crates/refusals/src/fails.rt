@@ -1,6 +1,7 @@
 //! Why a case was not run.
 
 use proc_macro2::{IdentError, ParseError};
+use quoting::QuoteError;
 use std::alloc::AllocError;
 use std::io;
 use thiserror::Error;
@@ -20,6 +21,9 @@ pub enum Fail {
     /// A name that the case is about is none.
     #[error(transparent)]
     Name(#[from] IdentError),
+    /// What was pushed to a quote has a fault.
+    #[error(transparent)]
+    Quote(#[from] QuoteError),
     /// Memory ran out, though none was refused.
     #[error(transparent)]
     Memory(#[from(alloc)] AllocError),

@@ -11,6 +11,7 @@ mod literals;
 mod lookups;
 mod names;
 mod parsing;
+mod quotes;
 mod reading;
 mod shown;
 mod unfailing;
@@ -54,6 +55,7 @@ fn run<W: Write>(
         "extend" => building::run_extend(alloc, out, call, input),
         "read" => reading::run(alloc, out, call, input),
         "copy" => copies::run(alloc, out, call, input),
+        "quote" => quotes::run(alloc, out, call),
         "unfailing" => unfailing::run(alloc, out, call, input),
         _ => Err(Fail::NoCase),
     }

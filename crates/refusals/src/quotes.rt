@@ -1,0 +1,59 @@
+//! What is pushed to a quote, and what it gives.
+
+use crate::fails::Fail;
+use crate::shown::show_stream;
+use crate::watched::watched;
+use proc_macro2::{Delimiter, Group, Ident, Punct, Spacing, Span, TokenStream, TokenTree};
+use quoting::Quote;
+use std::alloc::Global;
+use std::io::Write;
+
+/// Pushes to a quote of `x (+ y)`, whose `+` is Joint, or asks it for its stream, and writes what it gives then.
+pub fn run<W: Write>(alloc: Global, out: &mut W, call: &str) -> Result<(), Fail> {
+    for _ in 0..2 {
+        let mut quote = x_and_group(alloc)?;
+        match call {
+            "push" => push(alloc, out, &mut quote)?,
+            "push_stream" => push_stream(alloc, out, &mut quote)?,
+            "finish" => finish(out, &quote)?,
+            _ => return Err(Fail::NoCase),
+        }
+        show_stream(out, &quote.finish()?)?;
+    }
+    Ok(())
+}
+
+fn push<W: Write>(alloc: Global, out: &mut W, quote: &mut Quote) -> Result<(), Fail> {
+    let tree = name(alloc, "z")?;
+    let answer = watched!(out; quote.push(tree));
+    writeln!(out, "{answer:?}")?;
+    Ok(())
+}
+
+fn push_stream<W: Write>(alloc: Global, out: &mut W, quote: &mut Quote) -> Result<(), Fail> {
+    let stream = TokenStream::from_tree(alloc, name(alloc, "z")?)?;
+    let answer = watched!(out; quote.push_stream(stream));
+    writeln!(out, "{answer:?}")?;
+    Ok(())
+}
+
+fn finish<W: Write>(out: &mut W, quote: &Quote) -> Result<(), Fail> {
+    let answer = watched!(out; quote.finish());
+    writeln!(out, "{answer:?}")?;
+    Ok(())
+}
+
+// A quote that shares its trees with no stream, and whose list has no room.
+fn x_and_group(alloc: Global) -> Result<Quote, Fail> {
+    let plus = TokenTree::Punct(Punct::new('+', Spacing::Joint));
+    let inside = TokenStream::from_trees(alloc, [plus, name(alloc, "y")?])?;
+    let group = TokenTree::Group(Group::new(Delimiter::Parenthesis, inside));
+    let mut quote = Quote::new(alloc);
+    quote.push(name(alloc, "x")?)?;
+    quote.push(group)?;
+    Ok(quote)
+}
+
+fn name(alloc: Global, text: &str) -> Result<TokenTree, Fail> {
+    Ok(TokenTree::Ident(Ident::new(alloc, text, Span::call_site())?))
+}
