@@ -1,14 +1,15 @@
 //! Code that is put together from words, marks and trees.
 
 use crate::errors::WriteError;
-use proc_macro2::{Delimiter, Group, Ident, Punct, Spacing, Span, TokenStream, TokenTree};
+use proc_macro2::{Delimiter, Group, Ident, Punct, Span, TokenStream, TokenTree};
+use quoting::{Quote, QuoteError};
 use std::alloc::{AllocError, Global};
 
 /// Code, as far as it is built.
 #[derive(Drop)]
 pub struct Code {
     alloc: Global,
-    stream: TokenStream,
+    quote: Quote,
 }
 
 impl Code {
@@ -16,59 +17,46 @@ impl Code {
     pub fn new(alloc: Global) -> Code {
         Code {
             alloc,
-            stream: TokenStream::new(alloc),
+            quote: Quote::new(alloc),
         }
     }
 
     /// Puts a keyword or a plain name at the end.
     pub fn word(&mut self, word: &str) -> Result<(), WriteError> {
         let word = Ident::new(self.alloc, word, Span::call_site())?;
-        self.stream.extend_idents([word])?;
+        self.quote.push(TokenTree::Ident(word))?;
         Ok(())
     }
 
     /// Puts a name of the text at the end. It keeps its span, and is raw where it was.
     pub fn name(&mut self, name: &Ident) -> Result<(), AllocError> {
-        self.stream.extend_idents([name.clone()?])
+        self.quote.push(TokenTree::Ident(name.clone()?))
     }
 
     /// Puts a mark at the end.
     pub fn mark(&mut self, mark: Punct) -> Result<(), AllocError> {
-        self.stream.extend_puncts([mark])
+        self.quote.push(TokenTree::Punct(mark))
     }
 
-    /// Puts trees of the text at the end. If the last is a mark it becomes Alone, since what followed
-    /// it in the text does not follow here.
+    /// Puts trees of the text at the end.
     pub fn trees(&mut self, trees: &[TokenTree]) -> Result<(), AllocError> {
-        let Some((last, front)) = trees.split_last() else {
-            return Ok(());
-        };
-        for tree in front {
-            self.stream.extend_trees([tree.clone()?])?;
+        for tree in trees {
+            self.quote.push(tree.clone()?)?;
         }
-        match last {
-            TokenTree::Punct(mark) => self.stream.extend_puncts([parted(mark)]),
-            _ => self.stream.extend_trees([last.clone()?]),
-        }
+        Ok(())
     }
 
     /// Puts a group of this code at the end.
-    pub fn group(&mut self, delimiter: Delimiter, inside: Code) -> Result<(), AllocError> {
-        let Code { stream, .. } = inside;
-        self.stream.extend_groups([Group::new(delimiter, stream)])
+    pub fn group(&mut self, delimiter: Delimiter, inside: &Code) -> Result<(), QuoteError> {
+        let group = Group::new(delimiter, inside.finish()?);
+        self.quote.push(TokenTree::Group(group))?;
+        Ok(())
     }
 
-    /// The stream of the code.
-    pub fn into_stream(self) -> TokenStream {
-        let Code { stream, .. } = self;
-        stream
+    /// The stream of the code. A mark that was Joint becomes Alone where what follows it asks for that, as after the
+    /// last mark of a type. Fails where no spacing of the marks would come back from its printed text, and where memory
+    /// runs out.
+    pub fn finish(&self) -> Result<TokenStream, QuoteError> {
+        self.quote.finish()
     }
-}
-
-// The same mark, Alone.
-fn parted(mark: &Punct) -> Punct {
-    let span = mark.span();
-    let mut parted = Punct::new(mark.as_char(), Spacing::Alone);
-    parted.set_span(span);
-    parted
 }

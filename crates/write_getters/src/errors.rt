@@ -1,6 +1,7 @@
 //! Why getters are not written.
 
 use proc_macro2::IdentError;
+use quoting::QuoteError;
 use std::alloc::AllocError;
 use std::io;
 use thiserror::Error;
@@ -14,9 +15,9 @@ pub enum WriteError {
     /// A word of the code is no identifier.
     #[error(transparent)]
     Word(#[from] IdentError),
-    /// The code that was built would not come back from its printed text.
-    #[error("the getters are not well spaced")]
-    NotWellSpaced,
+    /// No spacing of its marks would let the code come back from its printed text, or memory for that ran out.
+    #[error(transparent)]
+    Quote(#[from] QuoteError),
     /// Memory ran out.
     #[error(transparent)]
     Memory(#[from(alloc)] AllocError),

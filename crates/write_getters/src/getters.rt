@@ -1,6 +1,8 @@
 //! The getters of a struct.
 ghost use Rattle.std.specs.Prelude.{◌≡◌, IfOk};
 ghost use Rattle.proc_macro2.specs.Forest.{Forest};
+ghost use Rattle.proc_macro2.specs.WellSpaced.{IsWellSpaced};
+ghost use Rattle.quoting.specs.Respaced.{respaced};
 ghost use Rattle.write_getters.specs.Answer.{IsFaithful};
 ghost use Rattle.write_getters.specs.Impl.{impl_of};
 
@@ -8,11 +10,12 @@ use crate::code::Code;
 use crate::errors::WriteError;
 use crate::fields::{Field, Struct, first_field};
 use proc_macro2::{Delimiter, Group, Ident, Punct, Spacing, Span, TokenStream, TokenTree, laws};
+use quoting::Quote;
 use std::alloc::Global;
 
 /// The `impl` of a struct, with a getter for each of its fields. It comes back from its printed text.
 ///
-/// Fails with `NotWellSpaced` where it would not, and where memory runs out. Of
+/// Fails with `Quote` where no spacing of its marks would, and where memory runs out. Of
 /// `struct P { x: u32 }` it is `impl P { pub fn x (& self) -> & u32 { & self . x } }`.
 pub fn getters(alloc: Global, item: &Struct<'_>) -> Result<TokenStream, WriteError>
     ensures back { IfOk result IsFaithful }
@@ -25,26 +28,24 @@ pub fn getters(alloc: Global, item: &Struct<'_>) -> Result<TokenStream, WriteErr
         push_getter(alloc, &field, &mut methods)?;
         left = after;
     }
-    let code = impl_of(alloc, item.name, methods.into_stream())?;
-    if !code.is_well_spaced() {
-        return Err(WriteError::NotWellSpaced);
-    }
+    let code = impl_of(alloc, item.name, methods.finish()?)?;
+    // What every stream is, and the law of those that are well spaced.
+    let _trees = code.trees();
     laws::printed_comes_back();
     Ok(code)
 }
 
-// The `impl` of the struct of this name, with these methods.
+// The `impl` of the struct of this name, with these methods. It is well spaced.
 fn impl_of(alloc: Global, name: &Ident, methods: TokenStream) -> Result<TokenStream, WriteError>
-    ensures { IfOk result (λ code. code ≡ impl_of name.now methods) }
+    ensures spaced { IfOk result IsWellSpaced }
+    ensures shape { IfOk result (λ code. code ≡ impl_of name.now (respaced methods)) }
 {
     let keyword = Ident::new(alloc, "impl", Span::call_site())?;
-    let body = Group::new(Delimiter::Brace, methods);
-    let trees = [
-        TokenTree::Ident(keyword),
-        TokenTree::Ident(name.clone()?),
-        TokenTree::Group(body),
-    ];
-    Ok(TokenStream::from_trees(alloc, trees)?)
+    let mut code = Quote::new(alloc);
+    code.push(TokenTree::Ident(keyword))?;
+    code.push(TokenTree::Ident(name.clone()?))?;
+    code.push(TokenTree::Group(Group::new(Delimiter::Brace, methods)))?;
+    Ok(code.finish()?)
 }
 
 // Puts the getter of a field at the end: `pub fn x (& self) -> & u32 { & self . x }`.
@@ -62,11 +63,11 @@ fn push_getter(alloc: Global, field: &Field<'_>, code: &mut Code) -> Result<(), 
     code.word("pub")?;
     code.word("fn")?;
     code.name(field.name)?;
-    code.group(Delimiter::Parenthesis, receiver)?;
+    code.group(Delimiter::Parenthesis, &receiver)?;
     code.mark(Punct::new('-', Spacing::Joint))?;
     code.mark(Punct::new('>', Spacing::Alone))?;
     code.mark(Punct::new('&', Spacing::Alone))?;
     code.trees(field.kind)?;
-    code.group(Delimiter::Brace, body)?;
+    code.group(Delimiter::Brace, &body)?;
     Ok(())
 }

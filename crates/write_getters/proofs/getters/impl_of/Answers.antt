@@ -1,16 +1,16 @@
-use Rattle.std.proofs.Common.{◌∙◌}
 use Rattle.std.specs.Str.{chars}
-use Rattle.write_getters.proofs.ArrayLemmas.{drained}
 use Rattle.write_getters.proofs.getters.impl_of.Goals as goal
 
-pub returns : goal.returns
+pub returns-clause-shape : goal.returns-clause-shape
 unfolding chars
-returns c =
-    let all = c.in_ok-from_trees.ensures.ok in
+returns-clause-shape c =
     rw (
-      drained all.0 all.1 all.3 ∙ all.2.0,
+      c.in_ok-push-3.ensures.ok,
+      c.in_ok-push-2.ensures.ok,
+      c.in_ok-push.ensures.ok,
+      c.new-code.ensures,
       c.in_ok-keyword.ensures.ok,
       c.call_site.ensures.value,
       c.in_ok-clone.ensures.cases,
-      c.new-body.ensures,
-    ) at all.4
+      c.new-2.ensures,
+    ) at c.in_ok-finish.ensures.ok.0
