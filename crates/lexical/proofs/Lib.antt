@@ -35,6 +35,7 @@ pub mod QuietLemmas
 pub mod DigitLemmas
 pub mod LiteralCutLemmas
 pub mod LeafLaws
+pub mod WalkLemmas
 mod Examples
 mod LiteralExamples
 mod NumberExamples

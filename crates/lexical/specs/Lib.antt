@@ -30,3 +30,4 @@ pub mod DelimiterFinder
 pub mod PieceFinder
 pub mod Reading
 pub mod Step
+pub mod Walk

@@ -29,9 +29,11 @@ mod raw_strings;
 mod single_quotes;
 mod skip;
 mod text;
+mod walk;
 
 pub use crate::gaps::past_white;
 pub use crate::identifiers::is_reserved;
 pub use crate::lexer::{literal_at, name_at, piece_at};
 pub use crate::marks::is_mark;
 pub use crate::piece::{Piece, PieceKind};
+pub use crate::walk::{PieceWalk, PlacedPiece, pieces};

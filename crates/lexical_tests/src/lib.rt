@@ -15,3 +15,5 @@ mod lexer;
 mod lexer_literals;
 #[cfg(test)]
 mod shown_units;
+#[cfg(test)]
+mod walk;

@@ -1,0 +1,36 @@
+-- The next piece of a walk.
+use Rattle.std.proofs.Common.{◌≡◌, ◌+◌, ◌++◌, ◌∙◌, false, length, take, drop, sym, ap, ap₂, subst}
+use Rattle.std.specs.Str.{chars, IsUtf8}
+use Rattle.lexical.specs.Found.{kind_of, IsPieceAt}
+use Rattle.lexical.specs.Piece.{IsPiece}
+use Rattle.lexical.specs.Walk.{IsNext}
+use Rattle.lexical.specs.declared.walk.PlacedPiece.{PlacedPiece}
+use Rattle.lexical.specs.declared.walk.PieceWalk.{PieceWalk}
+use Rattle.lexical.proofs.PieceFacts.{piece_front, piece_rest}
+
+-- what is cut off where a piece stands is that piece, and the rest follows it
+pub next_is : (at : PieceWalk) (next : PlacedPiece) (to : PieceWalk) → IsUtf8 at.rest.now
+    → IsPieceAt at.at_front (chars at.rest.now) next.piece
+    → next.text.now ≡ take next.piece.bytes at.rest.now → to.rest.now ≡ drop next.piece.bytes at.rest.now
+    → next.piece.bytes ≡ length next.text.now → IsUtf8 next.text.now
+    → next.place ≡ at.place → to.place ≡ at.place + next.piece.bytes → to.at_front ≡ false
+    → IsNext at next to
+next_is at next to utf8 found cut left size text place past behind =
+    let front : chars next.text.now ≡ found.front =
+        ap chars cut ∙ piece_front at.at_front at.rest.now next.piece utf8 found in
+    let rest : chars to.rest.now ≡ found.rest =
+        ap chars left ∙ piece_rest at.at_front at.rest.now next.piece utf8 found in
+    record {
+      whole = found.whole ∙ sym (ap₂ (λ p r. p ++ r) front rest);
+      stands =
+          subst (λ r. IsPiece at.at_front (kind_of next.piece.kind (chars next.text.now)) (chars next.text.now) r)
+          (sym rest)
+          (subst (λ p. IsPiece at.at_front (kind_of next.piece.kind p) p found.rest) (sym front) found.stands);
+      bytes = size;
+      count = found.chars ∙ sym (ap length front);
+      lends = found.lends;
+      utf8 = text;
+      place = place;
+      past = past ∙ ap (λ n. at.place + n) size;
+      behind = behind;
+    }

@@ -1,0 +1,20 @@
+-- The pieces of a text, one after the other.
+use Rattle.std.specs.Prelude.{◌≡◌, ◌+◌, ◌++◌, false, length}
+use Rattle.std.specs.Str.{chars, IsUtf8}
+use Rattle.lexical.specs.Found.{kind_of, LendsText}
+use Rattle.lexical.specs.Piece.{IsPiece}
+use Rattle.lexical.specs.declared.walk.PlacedPiece.{PlacedPiece}
+use Rattle.lexical.specs.declared.walk.PieceWalk.{PieceWalk}
+
+-- from one place to the other stands this piece, at its place and with its text; only the first stands at place 0
+pub record IsNext (at : PieceWalk) (next : PlacedPiece) (to : PieceWalk) : Type 0 where
+  pub whole : chars at.rest.now ≡ chars next.text.now ++ chars to.rest.now
+  pub stands : IsPiece at.at_front (kind_of next.piece.kind (chars next.text.now)) (chars next.text.now)
+      (chars to.rest.now)
+  pub bytes : next.piece.bytes ≡ length next.text.now
+  pub count : next.piece.chars ≡ length (chars next.text.now)
+  pub lends : LendsText next.piece.kind
+  pub utf8 : IsUtf8 next.text.now
+  pub place : next.place ≡ at.place
+  pub past : to.place ≡ at.place + length next.text.now
+  pub behind : to.at_front ≡ false
