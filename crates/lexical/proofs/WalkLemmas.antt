@@ -17,9 +17,9 @@ pub next_is : (at : PieceWalk) (next : PlacedPiece) (to : PieceWalk) → IsUtf8 
     → IsNext at next to
 next_is at next to utf8 found cut left size text place past behind =
     let front : chars next.text.now ≡ found.front =
-        ap chars cut ∙ piece_front at.at_front at.rest.now next.piece utf8 found in
+    ap chars cut ∙ piece_front at.at_front at.rest.now next.piece utf8 found in
     let rest : chars to.rest.now ≡ found.rest =
-        ap chars left ∙ piece_rest at.at_front at.rest.now next.piece utf8 found in
+    ap chars left ∙ piece_rest at.at_front at.rest.now next.piece utf8 found in
     record {
       whole = found.whole ∙ sym (ap₂ (λ p r. p ++ r) front rest);
       stands =

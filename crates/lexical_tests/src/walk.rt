@@ -4,11 +4,7 @@ use std::process::Abort;
 
 /// Asserts that the next pieces are of these kinds and texts, one right behind the other, the first
 /// at byte 0.
-fn check_walk(
-    rt: &impl Abort,
-    walk: &mut PieceWalk<'_>,
-    rows: &[(PieceKind<'_>, &str)],
-) {
+fn check_walk(rt: &impl Abort, walk: &mut PieceWalk<'_>, rows: &[(PieceKind<'_>, &str)]) {
     let mut place: usize = 0;
     for &(kind, text) in rows {
         let answer = walk
