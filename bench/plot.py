@@ -15,7 +15,9 @@ import pathlib
 import sys
 import tempfile
 
-from compare import measured, source
+sys.dont_write_bytecode = True
+
+from compare import measured, source  # noqa: E402
 
 MEGABYTE = 1_000_000
 SIZES = (0.1, 0.5, 1, 2, 3, 4, 5, 6, 7, 8, 9, 10)
