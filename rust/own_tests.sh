@@ -1,21 +1,37 @@
 #!/usr/bin/env bash
 # Runs syn's and quote's own tests over the Cargo package and over the public crate, and compares them test by test.
 #
-#   rust/own_tests.sh CRATE
+#   rust/own_tests.sh CRATE [TABLE]
 #
 # CRATE is the unpacked public crate proc-macro2. syn and quote are the distribution's, from CARGO_REGISTRY or
-# /usr/share/cargo/registry, and so are the crates that their tests want; nothing is fetched. Files of tests that want a
-# crate that isn't there are named and left out. Build the archive first, by rust/archive.sh. Each test that doesn't pass
-# over both has a line; the last line counts, and the status is 1 if a test fails over the package alone.
+# /usr/share/cargo/registry, and so are the crates that their tests want; nothing is fetched. Left out on both sides,
+# and named, are files of tests that fetch the Rust repository, and those that want a crate that isn't there. Build the
+# archive first, by rust/archive.sh.
+#
+# Each test that doesn't pass over both has a line, and the file TABLE gets a line for every test. A test fails here if
+# it passes over the public crate and not over the package. The last line is `N passed, M failed`: of the tests that
+# pass over the public crate, how many pass over the package too, and how many don't. The status is 1 if one doesn't.
 set -eu
 crate=$(cd "$1" && pwd)
+table=${2:+$(realpath "$2")}
 cd "$(dirname "$0")"
 registry=${CARGO_REGISTRY:-/usr/share/cargo/registry}
 PM_C_LIB=$(cd ../crates/pm_c/out && pwd)
 export PM_C_LIB
 room=$(mktemp -d)
 trap 'rm -rf "$room"' EXIT
-# The file of a source that says where crates are, and the tests of which crates are run, in this room.
+# What is built of no crate under test serves both sides.
+export CARGO_TARGET_DIR=$room/target INSTA_UPDATE=no
+
+# Takes a file of tests of this crate away, for this reason.
+leave_out() {
+    local name=$1 file=$2 reason=$3
+    rm "$file"
+    echo "$name/tests/$(basename "$file") $reason: left out on both sides"
+}
+
+# Says where crates are, and which is under test, and lays out syn and quote with the tests that can be run, in this
+# room. What is left out has a line.
 prepare() {
     local path=$1 room=$2 name wanted file
     mkdir -p "$room/.cargo"
@@ -29,16 +45,22 @@ proc-macro2 = { path = "$path" }
 END
     for name in syn quote; do
         cp -r "$registry/$name"-1.* "$room/$name"
-        # What the tests want and isn't there is left out of the crate's list.
+        for file in "$room/$name"/tests/*.rs; do
+            grep -q '^mod repo;' "$file" && leave_out $name "$file" "fetches the Rust repository"
+        done
+        rm -rf "$room/$name"/tests/{repo,common}
+        # Items that are configured out, which newer compilers refuse to read all the same.
+        sed -i '/^ *#\[cfg(any())\]$/,/^ *impl.*{}$/d' "$room/$name"/tests/*.rs
         for wanted in $(sed -n 's/^\[dev-dependencies\.\(.*\)\]$/\1/p' "$room/$name/Cargo.toml"); do
-            compgen -G "$registry/$wanted-[0-9]*" > /dev/null && continue
+            if ! compgen -G "$registry/$wanted-[0-9]*" > /dev/null; then
+                for file in "$room/$name"/tests/*.rs; do
+                    grep -q "\b${wanted//-/_}::" "$file" && leave_out $name "$file" "wants $wanted"
+                done
+            elif grep -rq "\b${wanted//-/_}::" "$room/$name"/tests; then
+                continue
+            fi
+            # No test that is left wants it.
             sed -i "/^\[dev-dependencies\.$wanted\]$/,/^$/d" "$room/$name/Cargo.toml"
-            for file in "$room/$name"/tests/*.rs; do
-                if grep -q "\b${wanted//-/_}::" "$file"; then
-                    rm "$file"
-                    echo "$name/tests/$(basename "$file") wants $wanted: left out" >> "$room/left_out"
-                fi
-            done
         done
         sed -i '/^\[\[bench\]\]$/,/^$/d' "$room/$name/Cargo.toml"
         rm -rf "$room/$name/benches"
@@ -47,22 +69,25 @@ END
 }
 
 # One line for each test: the crate, the file, the test, and what came of it. Of a file that this compiler refuses there
-# is one line, as if it were a test.
+# is one line, as if it were a test, and so of one that doesn't end within ten minutes.
 run() {
-    local name=$1 room=$2 file target features=()
+    local name=$1 room=$2 file target status features=()
     [ "$name" = syn ] && features=(--features "full visit visit-mut fold extra-traits")
     cd "$room/$name"
-    export CARGO_TARGET_DIR=$room/target INSTA_UPDATE=no
     cargo build --offline --tests --keep-going "${features[@]}" > "$room/$name.log" 2>&1 || true
     for file in src/lib.rs tests/*.rs; do
         target=(--test "$(basename "$file" .rs)")
         [ "$file" = src/lib.rs ] && target=(--lib)
-        cargo test --offline "${target[@]}" "${features[@]}" > "$room/ran" 2>&1 || true
-        if grep -q '^running ' "$room/ran"; then
-            awk -v name="$name" -v file="$file" '
-                $1 == "test" && /\.\.\. (ok|FAILED|ignored)/ { print name, file, $2, /\.\.\. ok/ ? "ok" : /FAILED/ ? "FAILED" : "ignored" }
-                ' "$room/ran"
-        else
+        status=0
+        timeout 600 cargo test --offline "${target[@]}" "${features[@]}" > "$room/ran" 2>&1 || status=$?
+        awk -v name="$name" -v file="$file" '
+            $1 == "test" && /\.\.\. (ok|FAILED|ignored)/ {
+                print name, file, $2, /\.\.\. ok/ ? "ok" : /FAILED/ ? "FAILED" : "ignored"
+            }
+            ' "$room/ran"
+        if [ $status -eq 124 ]; then
+            echo "$name $file all unended"
+        elif ! grep -q '^running ' "$room/ran"; then
             echo "$name $file all refused"
         fi
     done
@@ -71,26 +96,29 @@ run() {
 for kind in package public; do
     path=$(pwd)/proc-macro2
     [ $kind = public ] && path=$crate
-    prepare "$path" "$room/$kind"
+    prepare "$path" "$room/$kind" > "$room/left_out.$kind"
     for name in syn quote; do
-        (run $name "$room/$kind") | sort > "$room/$kind.$name"
+        (run $name "$room/$kind") > "$room/$kind.$name"
         if ! grep -q ' ok$' "$room/$kind.$name"; then
             tail -n 30 "$room/$kind/$name.log"
             echo "FAILED: no test of $name was run over the $kind crate"
             exit 1
         fi
     done
-    cat "$room/$kind".{syn,quote} | sort > "$room/$kind.all"
+    cat "$room/$kind".{syn,quote} | sed 's/ \([^ ]*\)$/\t\1/; s/ /:/g; s/\t/ /' | sort > "$room/$kind.all"
 done
-[ -f "$room/package/left_out" ] && sort -u "$room/package/left_out"
-join -a 1 -a 2 -e none -o 0,1.2,2.2 <(sed 's/ \([^ ]*\)$/\t\1/; s/ /:/g; s/\t/ /' "$room/package.all" | sort) \
-    <(sed 's/ \([^ ]*\)$/\t\1/; s/ /:/g; s/\t/ /' "$room/public.all" | sort) > "$room/both"
+cat "$room/left_out.package"
+diff "$room/left_out.package" "$room/left_out.public"
+join -a 1 -a 2 -e none -o 0,1.2,2.2 "$room/package.all" "$room/public.all" > "$room/both"
+[ -z "$table" ] || cp "$room/both" "$table"
 awk '
     { split($1, at, ":"); crate = at[1]; run[crate]++; if ($2 == "ok") ours[crate]++; if ($3 == "ok") public[crate]++ }
     $2 != "ok" || $3 != "ok" { print $1 ": package " $2 ", public crate " $3 }
-    $2 != "ok" && $3 == "ok" { worse++ }
+    $3 == "ok" { if ($2 == "ok") passed++; else failed++ }
     END {
-        for (crate in run) print crate ": " run[crate] " tests, passed over the package " ours[crate] + 0 ", over the public crate " public[crate] + 0
-        print worse + 0 " tests pass over the public crate alone"
-        exit worse > 0
+        for (crate in run)
+            printf "%s: %d tests, passed over the package %d, over the public crate %d\n",
+                crate, run[crate], ours[crate], public[crate]
+        print passed + 0 " passed, " failed + 0 " failed"
+        exit failed > 0
     }' "$room/both"

@@ -251,6 +251,14 @@ impl Span {
     }
 }
 
+/// The compiler's span, inside a macro.
+#[cfg(all(feature = "proc-macro", not(procmacro2_semver_exempt)))]
+impl From<proc_macro::Span> for Span {
+    fn from(span: proc_macro::Span) -> Span {
+        Span::compiler(span)
+    }
+}
+
 impl Debug for Span {
     fn fmt(&self, f: &mut fmt::Formatter) -> fmt::Result {
         match self.repr {

@@ -73,6 +73,14 @@ escape_errors! {
     MultipleSkippedLinesWarning,
 }
 
+impl EscapeError {
+    /// Whether a literal with it has no value. One that isn't fatal is a warning.
+    pub fn is_fatal(&self) -> bool {
+        let warnings = [EscapeError::UnskippedWhitespaceWarning, EscapeError::MultipleSkippedLinesWarning];
+        !warnings.contains(self)
+    }
+}
+
 /// The value of a string literal of this text.
 pub(crate) fn str_value(text: &str) -> Result<String, ConversionErrorKind> {
     session::with(|session| {

@@ -20,6 +20,13 @@ fn values_are_told() {
 }
 
 #[test]
+fn warnings_are_not_fatal() {
+    assert!(EscapeError::NulInCStr.is_fatal());
+    assert!(!EscapeError::UnskippedWhitespaceWarning.is_fatal());
+    assert!(!EscapeError::MultipleSkippedLinesWarning.is_fatal());
+}
+
+#[test]
 fn spans_are_compared() {
     assert!(Span::def_site().eq(&Span::call_site()));
 }
