@@ -30,6 +30,13 @@ leave_out() {
     echo "$name/tests/$(basename "$file") $reason: left out on both sides"
 }
 
+# Whether a file of tests names this crate, by itself or by syn's module of macros for tests.
+wants() {
+    local wanted=$1 file=$2
+    grep -q "\b$wanted::" "$file" && return
+    grep -q '^mod macros;' "$file" && grep -rq "\b$wanted::" "$(dirname "$file")"/{macros,debug}
+}
+
 # Says where crates are, and which is under test, and lays out syn and quote with the tests that can be run, in this
 # room. What is left out has a line.
 prepare() {
@@ -44,7 +51,7 @@ directory = "$registry"
 proc-macro2 = { path = "$path" }
 END
     for name in syn quote; do
-        cp -r "$registry/$name"-1.* "$room/$name"
+        cp -rL "$registry/$name"-1.* "$room/$name"
         for file in "$room/$name"/tests/*.rs; do
             grep -q '^mod repo;' "$file" && leave_out $name "$file" "fetches the Rust repository"
         done
@@ -54,7 +61,7 @@ END
         for wanted in $(sed -n 's/^\[dev-dependencies\.\(.*\)\]$/\1/p' "$room/$name/Cargo.toml"); do
             if ! compgen -G "$registry/$wanted-[0-9]*" > /dev/null; then
                 for file in "$room/$name"/tests/*.rs; do
-                    grep -q "\b${wanted//-/_}::" "$file" && leave_out $name "$file" "wants $wanted"
+                    wants "${wanted//-/_}" "$file" && leave_out $name "$file" "wants $wanted"
                 done
             elif grep -rq "\b${wanted//-/_}::" "$room/$name"/tests; then
                 continue
