@@ -1,7 +1,7 @@
 -- An integer, and so each number, stays what it is where something follows that doesn't go on with it.
 use Rattle.std.proofs.Common.{◌≡◌, ℕ, ◌≤◌, nat_lt, true, false, not, ◌||◌, ◌==◌, List, [], ◌∷◌, ◌++◌, codes, refl, sym, ap, ◌∙◌, arith, inl, inr, append_assoc, eqb-true}
 use Rattle.std.specs.List.{list_all}
-use Rattle.std.specs.Char.{is_ascii_digit, is_digit, digit_value}
+use Rattle.std.specs.Char.{is_digit, digit_value}
 use Rattle.std.proofs.lemmas.Bool.{both_ways, and_parts, and_right, false_from_ne_true, or_cases, or_parts, or_from, agree_below_at, cases_lt, le-ltb, lt-ltb, ltb-true, cond-false}
 use Rattle.unicode_ident.proofs.Computing.{unicode_ident}
 use Rattle.lexical.specs.Class.{is_ident_continue}

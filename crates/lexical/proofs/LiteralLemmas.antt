@@ -4,7 +4,7 @@ use Rattle.std.specs.List.{concat}
 use Rattle.std.specs.Char.{is_ascii, is_ascii_hexdigit}
 use Rattle.lexical.specs.Class.{is_ident_continue}
 use Rattle.lexical.specs.Text.{begins_with, begins_any, first_passes}
-use Rattle.lexical.specs.Form.{Form, Then, Either, Exactly, One, Many, Each}
+use Rattle.lexical.specs.Form.{Form, Then, Exactly, One, Many, Each}
 use Rattle.lexical.specs.Rule.{Rule, Stands}
 use Rattle.lexical.specs.Quoted as rule
 use Rattle.lexical.specs.Quoted.{is_string_plain, is_byte_plain, is_c_plain, StringEscape, ByteEscape, CEscape, Newline, BodyUnit, Suffix, Body, Cooked, Str}

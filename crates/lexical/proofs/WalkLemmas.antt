@@ -1,12 +1,15 @@
 -- The next piece of a walk.
-use Rattle.std.proofs.Common.{◌≡◌, ◌+◌, ◌++◌, ◌∙◌, false, length, take, drop, sym, ap, ap₂, subst}
+use Rattle.std.proofs.Common.{◌≡◌, ◌+◌, ◌<◌, ◌++◌, ◌∙◌, false, length, take, drop, sym, ap, ap₂, subst, arith}
+use Rattle.std.proofs.Common.{length-append}
+use Rattle.std.proofs.lemmas.List.{take-append-drop}
+use Rattle.std.proofs.lemmas.Str.{length-le-encodes}
 use Rattle.std.specs.Str.{chars, IsUtf8}
 use Rattle.lexical.specs.Found.{kind_of, IsPieceAt}
 use Rattle.lexical.specs.Piece.{IsPiece}
 use Rattle.lexical.specs.Walk.{IsNext}
 use Rattle.lexical.specs.declared.walk.PlacedPiece.{PlacedPiece}
 use Rattle.lexical.specs.declared.walk.PieceWalk.{PieceWalk}
-use Rattle.lexical.proofs.PieceFacts.{piece_front, piece_rest}
+use Rattle.lexical.proofs.PieceFacts.{piece_front, piece_rest, piece_shortens}
 
 -- what is cut off where a piece stands is that piece, and the rest follows it
 pub next_is : (at : PieceWalk) (next : PlacedPiece) (to : PieceWalk) → IsUtf8 at.rest.now
@@ -20,12 +23,19 @@ next_is at next to utf8 found cut left size text place past behind =
     ap chars cut ∙ piece_front at.at_front at.rest.now next.piece utf8 found in
     let rest : chars to.rest.now ≡ found.rest =
     ap chars left ∙ piece_rest at.at_front at.rest.now next.piece utf8 found in
+    let joined : at.rest.now ≡ next.text.now ++ to.rest.now =
+    sym (ap₂ (λ p r. p ++ r) cut left ∙ take-append-drop next.piece.bytes at.rest.now) in
+    let more = piece_shortens at.at_front _ found.front found.rest found.stands in
+    let some : 0 < length found.front = omega (arith, more, length-append found.front found.rest) in
+    let bytes : 0 < length next.text.now = omega (arith, some, size, found.bytes, length-le-encodes found.front) in
     record {
       whole = found.whole ∙ sym (ap₂ (λ p r. p ++ r) front rest);
       stands =
           subst (λ r. IsPiece at.at_front (kind_of next.piece.kind (chars next.text.now)) (chars next.text.now) r)
           (sym rest)
           (subst (λ p. IsPiece at.at_front (kind_of next.piece.kind p) p found.rest) (sym front) found.stands);
+      joined = joined;
+      shorter = omega (arith, bytes, ap length joined, length-append next.text.now to.rest.now);
       bytes = size;
       count = found.chars ∙ sym (ap length front);
       lends = found.lends;

@@ -1,5 +1,5 @@
 -- The pieces of a text, one after the other.
-use Rattle.std.specs.Prelude.{◌≡◌, ◌+◌, ◌++◌, false, length}
+use Rattle.std.specs.Prelude.{◌≡◌, ◌+◌, ◌<◌, ◌++◌, false, length}
 use Rattle.std.specs.Str.{chars, IsUtf8}
 use Rattle.lexical.specs.Found.{kind_of, LendsText}
 use Rattle.lexical.specs.Piece.{IsPiece}
@@ -9,6 +9,8 @@ use Rattle.lexical.specs.declared.walk.PieceWalk.{PieceWalk}
 -- from one place to the other stands this piece, at its place and with its text; only the first stands at place 0
 pub record IsNext (at : PieceWalk) (next : PlacedPiece) (to : PieceWalk) : Type 0 where
   pub whole : chars at.rest.now ≡ chars next.text.now ++ chars to.rest.now
+  pub joined : at.rest.now ≡ next.text.now ++ to.rest.now
+  pub shorter : length to.rest.now < length at.rest.now
   pub stands : IsPiece at.at_front (kind_of next.piece.kind (chars next.text.now)) (chars next.text.now)
       (chars to.rest.now)
   pub bytes : next.piece.bytes ≡ length next.text.now

@@ -2,13 +2,22 @@ pub mod Laws
 pub mod GivesBack
 pub use Rattle.lexical.specs.Ascii
 pub use Rattle.lexical.specs.Character
+pub use Rattle.lexical.specs.Comment
 pub use Rattle.lexical.specs.Cover
+pub use Rattle.lexical.specs.Delimiter
+pub use Rattle.lexical.specs.Form
+pub use Rattle.lexical.specs.Found
+pub use Rattle.lexical.specs.FrontMark
+pub use Rattle.lexical.specs.Gap
+pub use Rattle.lexical.specs.Identifier
+pub use Rattle.lexical.specs.Literal
 pub use Rattle.lexical.specs.Mark
 pub use Rattle.lexical.specs.Piece
 pub use Rattle.lexical.specs.Quiet
 pub use Rattle.lexical.specs.SingleQuoted
 pub use Rattle.lexical.specs.Text as Front
 pub use Rattle.lexical.specs.Token
+pub use Rattle.lexical.specs.Walk
 pub use Rattle.literal_escaper.specs.Errors
 pub use Rattle.literal_escaper.specs.Items
 pub use Rattle.literal_escaper.specs.Kind

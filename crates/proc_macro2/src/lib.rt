@@ -6,6 +6,7 @@
 
 pub mod laws;
 
+pub use lexical::{Piece, PieceKind, PieceWalk, PlacedPiece, pieces};
 pub use literal_escaper::{EscapeError, NonZeroChar, NonZeroU8};
 pub use pm_span::{LineColumn, SourceMap, Span};
 pub use pm_stream::{Group, TokenStream, TokenTree};
