@@ -1,28 +1,28 @@
 -- What is seen of what is written, a part at a time.
-use Rattle.std.proofs.Common.{◌≡◌, ℕ, suc, ◌%◌, ◌/◌, ◌+◌, ◌<◌, ◌≤◌, ◌^◌, Bool, true, false, not, ◌&&◌, ◌==◌, cond, List, [], ◌∷◌, ◌++◌, codes, length, get_or, IsTrue}
-use Rattle.std.proofs.Common.{refl, sym, ap, subst, ◌∙◌, arith, append_assoc, append-nil, eqb-true}
+use Rattle.std.proofs.Common.{◌≡◌, ℕ, suc, ◌%◌, ◌+◌, ◌<◌, ◌^◌, true, false, not, ◌==◌, List, [], ◌∷◌, ◌++◌, codes, length, get_or, IsTrue}
+use Rattle.std.proofs.Common.{refl, sym, ap, subst, ◌∙◌, arith, append_assoc, append-nil}
 use Rattle.std.specs.Fmt.{decimal}
-use Rattle.std.specs.List.{list_all}
 use Rattle.std.specs.Prelude.{encode_utf8}
-use Rattle.std.proofs.lemmas.Bool.{and_parts, and_from, ne_eqb, false_from_ne_true, not-true}
-use Rattle.std.proofs.lemmas.Bool.Decides.{nat_tests}
+use Rattle.std.proofs.lemmas.Bool.{and_parts, and_from, ne_eqb, not-true}
 use Rattle.std.proofs.lemmas.Fmt.{decimal_by_steps}
 use Rattle.std.proofs.lemmas.List.Folds.{list_all-append}
 use Rattle.std.proofs.lemmas.Str.{inside_one}
-use Rattle.highlight.specs.Page.{Place, InText, InTag, InEscape, Adds, Shows, can_be_seen, closes_tag, opens_tag, opens_escape, plain, seen, stays_in_tag}
+use Rattle.highlight.specs.Page.{InTag, Adds, Shows, can_be_seen, closes_tag, opens_tag, opens_escape, plain, seen, stays_in_tag}
 use Rattle.highlight.specs.declared.format.Format.{Format}
 use Rattle.highlight.specs.declared.format.Format.TheVariants.{Html, Term}
 
 -- ---- one part after another
 
-seen_parts : (format : Format) (s t : List ℕ) → can_be_seen format (s ++ t) ≡ true → (can_be_seen format s ≡ true) × (can_be_seen format t ≡ true)
+seen_parts : (format : Format) (s t : List ℕ) → can_be_seen format (s ++ t) ≡ true
+    → (can_be_seen format s ≡ true) × (can_be_seen format t ≡ true)
 seen_parts Html s t h = (refl, refl)
 seen_parts Term s t h = and_parts _ _ (sym (list_all-append (λ c. not (c == 27)) s t) ∙ h)
 
 pub Adds-nil : (format : Format) (before : List ℕ) → Adds format before before []
 Adds-nil format before = ([], sym (append-nil before), λ can rest. refl)
 
-pub Adds-trans : (format : Format) (a b c s t : List ℕ) → Adds format a b s → Adds format b c t → Adds format a c (s ++ t)
+pub Adds-trans : (format : Format) (a b c s t : List ℕ) → Adds format a b s → Adds format b c t
+    → Adds format a c (s ++ t)
 Adds-trans format a b c s t first then =
     let shows : Shows format (first.0 ++ then.0) (s ++ t) = λ can rest.
     let parts = seen_parts format s t can in
@@ -35,7 +35,8 @@ Adds-trans format a b c s t first then =
 pub record EndsTag (format : Format) (tail : List ℕ) : Type 0 where
   pub ends : (rest : List ℕ) → seen format InTag (tail ++ rest) ≡ plain format rest
 
-EndsTag-more : (format : Format) (front : List ℕ) {tail : List ℕ} → stays_in_tag format front ≡ true → EndsTag format tail
+EndsTag-more : (format : Format) (front : List ℕ) {tail : List ℕ} → stays_in_tag format front ≡ true
+    → EndsTag format tail
     → EndsTag format (front ++ tail)
 EndsTag-more format [] stays tail = tail
 EndsTag-more format (c ∷ front) stays tail =
@@ -57,7 +58,8 @@ decimal_stays = decimal_by_steps (λ n ds. stays_in_tag Html ds ≡ true)
 
 -- bytes that begin no tag and no escape show themselves
 pub Shows-itself : (format : Format) (text : List ℕ)
-    → ((k : ℕ) → k < length text → (opens_tag format (get_or text k 0) ≡ false) × (opens_escape format (get_or text k 0) ≡ false))
+    → ((k : ℕ) → k < length text
+    → (opens_tag format (get_or text k 0) ≡ false) × (opens_escape format (get_or text k 0) ≡ false))
     → (rest : List ℕ) → plain format (text ++ rest) ≡ text ++ plain format rest
 Shows-itself format [] bare rest = refl
 Shows-itself format (c ∷ text) bare rest =
@@ -65,7 +67,8 @@ Shows-itself format (c ∷ text) bare rest =
     rw (here.0, here.1) (ap (λ l. c ∷ l) (Shows-itself format text (λ k below. bare (suc k) (omega arith)) rest))
 
 -- a character that begins no tag and no escape shows itself: its bytes below 128 are itself
-pub Shows-character : (c : ℕ) → (c ≡ 60 → ⊥) → (c ≡ 38 → ⊥) → (rest : List ℕ) → plain Html (encode_utf8 c ++ rest) ≡ encode_utf8 c ++ plain Html rest
+pub Shows-character : (c : ℕ) → (c ≡ 60 → ⊥) → (c ≡ 38 → ⊥) → (rest : List ℕ)
+    → plain Html (encode_utf8 c ++ rest) ≡ encode_utf8 c ++ plain Html rest
 Shows-character c tag escape = Shows-itself Html (encode_utf8 c) (λ k below.
     let is = inside_one c [] (encode_utf8 c) k (sym (append-nil _)) below in
     let none : (d : ℕ) → d < 128 → (c ≡ d → ⊥) → (get_or (encode_utf8 c) k 0 == d) ≡ false =
@@ -73,7 +76,8 @@ Shows-character c tag escape = Shows-itself Html (encode_utf8 c) (λ k below.
     (none 60 (omega arith) tag, none 38 (omega arith) escape))
 
 -- so does a text without ESC, for a terminal
-Shows-uncoloured : (text : List ℕ) → can_be_seen Term text ≡ true → (rest : List ℕ) → plain Term (text ++ rest) ≡ text ++ plain Term rest
+Shows-uncoloured : (text : List ℕ) → can_be_seen Term text ≡ true → (rest : List ℕ)
+    → plain Term (text ++ rest) ≡ text ++ plain Term rest
 Shows-uncoloured [] can rest = refl
 Shows-uncoloured (c ∷ text) can rest =
     let parts = and_parts _ _ can in
@@ -86,10 +90,11 @@ pub adds_uncoloured : (format : Format) (before after text : List ℕ) → forma
     → Adds format before after text
 adds_uncoloured format before after text term is = rw term (text, is, λ can. Shows-uncoloured text can)
 
-pub adds_piece : (format : Format) (a b c d text : List ℕ) → Adds format a b [] → Adds format b c text → Adds format c d []
-    → Adds format a d text
+pub adds_piece : (format : Format) (a b c d text : List ℕ) → Adds format a b [] → Adds format b c text
+    → Adds format c d [] → Adds format a d text
 adds_piece format a b c d text opening shown closing =
-    subst (Adds format a d) (append-nil text) (Adds-trans format a c d text [] (Adds-trans format a b c [] text opening shown) closing)
+    let two = Adds-trans format a b c [] text opening shown in
+    subst (Adds format a d) (append-nil text) (Adds-trans format a c d text [] two closing)
 
 pub adds_character : (before after : List ℕ) (c : ℕ) → (c ≡ 60 → ⊥) → (c ≡ 38 → ⊥) → after ≡ before ++ encode_utf8 c
     → Adds Html before after (encode_utf8 c)
@@ -97,12 +102,15 @@ adds_character before after c tag escape is = (encode_utf8 c, is, λ can. Shows-
 
 pub html_tag : (before after class note : List ℕ) (line column : ℕ) → line < 2 ^ 64 → column < 2 ^ 64
     → stays_in_tag Html class ≡ true → stays_in_tag Html note ≡ true
-    → after ≡ before ++ (codes "<span class=\"" ++ (class ++ (codes "\" title=\"" ++ (decimal line ++ (codes ":" ++ (decimal column ++ (note ++ codes "\">")))))))
+    → after ≡ before ++ (codes "<span class=\"" ++ (class ++ (codes "\" title=\""
+    ++ (decimal line ++ (codes ":" ++ (decimal column ++ (note ++ codes "\">")))))))
     → Adds Html before after []
 html_tag before after class note line column fits fits_too class_stays note_stays is =
     let last : EndsTag Html (codes "\">") = record { ends = λ rest. refl } in
-    let column_on = EndsTag-more Html (decimal column) (decimal_stays column fits_too) (EndsTag-more Html note note_stays last) in
-    let line_on = EndsTag-more Html (decimal line) (decimal_stays line fits) (EndsTag-more Html (codes ":") refl column_on) in
+    let note_on = EndsTag-more Html note note_stays last in
+    let column_on = EndsTag-more Html (decimal column) (decimal_stays column fits_too) note_on in
+    let colon_on = EndsTag-more Html (codes ":") refl column_on in
+    let line_on = EndsTag-more Html (decimal line) (decimal_stays line fits) colon_on in
     let tag = EndsTag-more Html class class_stays (EndsTag-more Html (codes "\" title=\"") refl line_on) in
     (_, is, λ can. tag.ends)
 
@@ -113,6 +121,7 @@ term_tag before after colour stays is =
     (_, is, λ can. (EndsTag-more Term colour stays last).ends)
 
 -- all that is written shows the text
-pub Adds-whole : (format : Format) (out text : List ℕ) → Adds format [] out text → IsTrue (can_be_seen format text) → plain format out ≡ text
+pub Adds-whole : (format : Format) (out text : List ℕ) → Adds format [] out text
+    → IsTrue (can_be_seen format text) → plain format out ≡ text
 Adds-whole format out text all can =
     ap (plain format) (all.1 ∙ sym (append-nil all.0)) ∙ all.2 can [] ∙ append-nil text

@@ -13,5 +13,6 @@ loop-next-preserved c =
 
 pub returns : goal.returns
 returns c =
-    let last = rw (c.loop-next.invariant.format, c.rest.ensures.rest, c.in_default.ensures.unchanged) at c.in_ok-push_rest.ensures in
+    let here = rw c.loop-next.invariant.format at c.in_ok-push_rest.ensures in
+    let last = rw (c.rest.ensures.rest, c.in_default.ensures.unchanged) at here in
     Adds-whole c.args.format _ _ (c.loop-next.invariant.shown _ last)

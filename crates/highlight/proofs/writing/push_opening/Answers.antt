@@ -1,4 +1,4 @@
-use Rattle.std.proofs.Common.{arith, rules}
+use Rattle.std.proofs.Common.{rules}
 use Rattle.std.proofs.lemmas.Result.{on_ok_weaker}
 use Rattle.highlight.proofs.PageLemmas.{html_tag, term_tag}
 use Rattle.highlight.proofs.writing.push_opening.Goals as goal
