@@ -11,9 +11,10 @@ use std::alloc::{AllocError, Global};
 
 /// The text with its pieces marked: without the marks it is the text.
 ///
-/// For a terminal that holds of a text without ESC, which is left as it is. A closer that doesn't
-/// match the innermost opener is marked as a fault, and in a text that is read whole each opener that
-/// is left. So is the first character of what begins no piece; what follows it is not read.
+/// For a terminal that holds of a text without ESC, which is left as it is. A closer that
+/// matches no opener is marked as a fault, and so is an opener that is never closed, as far as that
+/// is known where the text isn't read whole. So is the first character of what begins no piece; what
+/// follows it is not read.
 pub fn marked(alloc: Global, format: Format, text: &str) -> Result<String, AllocError>
     ensures { IfOk result (λ out. IsTrue (can_be_seen format text.now)
         → plain format (string_bytes out) ≡ text.now) }
@@ -34,7 +35,7 @@ pub fn marked(alloc: Global, format: Format, text: &str) -> Result<String, Alloc
     Ok(marker.out)
 }
 
-// The places of the openers that no closer matches, the first last: none where the text isn't read whole.
+// The places of the openers that are never closed, the first last.
 fn unclosed(alloc: Global, text: &str) -> Result<Vec<usize>, AllocError> {
     let mut nesting = Nesting::new(alloc);
     let mut walk = pieces(text);
@@ -44,16 +45,12 @@ fn unclosed(alloc: Global, text: &str) -> Result<Vec<usize>, AllocError> {
                 nesting.open(delimiter, next.place)?;
             }
             PieceKind::Closer(delimiter) => {
-                nesting.close(delimiter);
+                let _ = nesting.close(delimiter)?;
             }
             _ => {}
         }
     }
-    if walk.rest().is_empty() {
-        nesting.places(alloc)
-    } else {
-        Ok(Vec::new(alloc))
-    }
+    nesting.unclosed(walk.rest().is_empty())
 }
 
 // What is written so far, and what is to be known of it to mark the next piece.
@@ -121,7 +118,7 @@ impl Marker {
                 }
                 Ok(Style::Delimiter(depth))
             }
-            PieceKind::Closer(delimiter) => Ok(match self.nesting.close(delimiter) {
+            PieceKind::Closer(delimiter) => Ok(match self.nesting.close(delimiter)? {
                 Some(depth) => Style::Delimiter(depth),
                 None => Style::StrayCloser,
             }),

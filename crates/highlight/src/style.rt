@@ -30,9 +30,9 @@ pub enum Style {
     Mark,
     /// A delimiter that matches another, with how many pairs stand around them.
     Delimiter(usize),
-    /// A closer that doesn't match the innermost opener.
+    /// A closer with no opener of its kind open.
     StrayCloser,
-    /// An opener that no closer matches.
+    /// An opener that is never closed.
     Unclosed,
     /// The first character of what begins no piece.
     NoPiece,
