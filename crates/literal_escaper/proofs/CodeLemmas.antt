@@ -1,13 +1,16 @@
 -- The digits of a character's code.
-use Rattle.std.proofs.Common.{◌≡◌, ℕ, suc, ◌+◌, ◌*◌, ◌<◌, ◌≤◌, Bool, true, false, cond, nat_lt, nat_le, min, List, [], ◌∷◌, length, Err, refl, sym, ap₂, ◌∙◌, arith, ltb-true}
+use Rattle.std.proofs.Common.{◌≡◌, ℕ, suc, ◌+◌, ◌*◌, ◌<◌, ◌≤◌, Bool, true, false, cond, nat_lt, nat_le, min, List, []}
+use Rattle.std.proofs.Common.{◌∷◌, length, Err, refl, sym, ap₂, ◌∙◌, arith, ltb-true}
 use Rattle.std.specs.Prelude.{filter}
 use Rattle.std.specs.Char.{digit_value}
 use Rattle.std.specs.List.{fold}
 use Rattle.std.proofs.lemmas.Bool.{cond-true, cond_both, leb-false, ltb-false, lt-ltb, false_from_ne_true}
-use Rattle.literal_escaper.specs.declared.errors.EscapeError.TheVariants.{OverlongUnicodeEscape, OutOfRangeUnicodeEscape}
+use Rattle.literal_escaper.specs.declared.errors.EscapeError.TheVariants.{OverlongUnicodeEscape}
+use Rattle.literal_escaper.specs.declared.errors.EscapeError.TheVariants.{OutOfRangeUnicodeEscape}
 use Rattle.literal_escaper.specs.Escape.{code_unit, is_code_character, is_hex}
 use Rattle.literal_escaper.specs.Kind.{Kind, character}
-use Rattle.literal_escaper.specs.Reading.{code_answer, count_with, digit_count, digit_number, next_count, next_number, number_with}
+use Rattle.literal_escaper.specs.Reading.{code_answer, count_with, digit_count, digit_number, next_count, next_number}
+use Rattle.literal_escaper.specs.Reading.{number_with}
 use Rattle.literal_escaper.specs.Text.{while_front}
 
 -- the number with one hex digit more

@@ -6,9 +6,11 @@ use Rattle.std.proofs.lemmas.Bool.{cond_both}
 use Rattle.std.proofs.lemmas.List.Elements.{All-cons, All-head, All-nil, All-tail}
 use Rattle.literal_escaper.specs.declared.errors.EscapeError.{EscapeError}
 use Rattle.literal_escaper.specs.declared.mode.Mode.{Mode}
-use Rattle.literal_escaper.specs.declared.mode.Mode.TheVariants.{Char, Byte, Str, RawStr, ByteStr, RawByteStr, CStr, RawCStr}
+use Rattle.literal_escaper.specs.declared.mode.Mode.TheVariants.{Char, Byte, Str, RawStr, ByteStr, RawByteStr, CStr}
+use Rattle.literal_escaper.specs.declared.mode.Mode.TheVariants.{RawCStr}
 use Rattle.literal_escaper.specs.Character.{backslash}
-use Rattle.literal_escaper.specs.Errors.{Error, at_most_one, error_at, errors_among, errors_in, read_range, single_error}
+use Rattle.literal_escaper.specs.Errors.{Error, at_most_one, error_at, errors_among, errors_in, read_range}
+use Rattle.literal_escaper.specs.Errors.{single_error}
 use Rattle.literal_escaper.specs.Escape.{Read}
 use Rattle.literal_escaper.specs.Items.{Item, items, offset, raw_items}
 use Rattle.literal_escaper.specs.Kind.{Kind, any_char, ascii_byte, byte_kind, c_kind, string_kind}

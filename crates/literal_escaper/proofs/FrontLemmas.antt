@@ -1,10 +1,13 @@
 -- What follows the front of a text is an end of it.
-use Rattle.std.proofs.Common.{◌≡◌, ℕ, ◌-◌, ◌≤◌, Bool, ◌&&◌, ◌==◌, List, [], ◌∷◌, ◌++◌, length, drop, refl, ap, ◌∙◌, arith, append_assoc, length-append, sym}
+use Rattle.std.proofs.Common.{◌≡◌, ℕ, ◌-◌, ◌≤◌, Bool, ◌&&◌, ◌==◌, List, [], ◌∷◌, ◌++◌, length, drop, refl, ap, ◌∙◌}
+use Rattle.std.proofs.Common.{arith, append_assoc, length-append, sym}
 use Rattle.std.specs.Prelude.{filter}
 use Rattle.std.specs.Char.{digit_value}
 use Rattle.std.proofs.lemmas.Bool.{cond_both}
-use Rattle.literal_escaper.specs.Character.{backslash, close_brace, is_blank, letter_u, letter_x, line_feed, open_brace, underscore}
-use Rattle.literal_escaper.specs.Escape.{Read, braced, closed, coded, escape, hex_escape, is_code_character, is_hex, second_digit, unicode_escape}
+use Rattle.literal_escaper.specs.Character.{backslash, close_brace, is_blank, letter_u, letter_x, line_feed, open_brace}
+use Rattle.literal_escaper.specs.Character.{underscore}
+use Rattle.literal_escaper.specs.Escape.{Read, braced, closed, coded, escape, hex_escape, is_code_character, is_hex}
+use Rattle.literal_escaper.specs.Escape.{second_digit, unicode_escape}
 use Rattle.literal_escaper.specs.Items.{Front, front, line_skip, unit_front}
 use Rattle.literal_escaper.specs.Kind.{Kind}
 use Rattle.literal_escaper.specs.Text.{first_is, while_front, while_rest}

@@ -1,5 +1,6 @@
 -- The items of a content stand at ranges of whole characters.
-use Rattle.std.proofs.Common.{◌≡◌, ℕ, zero, suc, ◌&&◌, ◌==◌, List, [], ◌∷◌, ◌++◌, Option, Some, None, Result, Err, length, drop, ap, ap₂, sym, ◌∙◌, subst}
+use Rattle.std.proofs.Common.{◌≡◌, ℕ, zero, suc, ◌&&◌, ◌==◌, List, [], ◌∷◌, ◌++◌, Option, Some, None, Result, Err}
+use Rattle.std.proofs.Common.{length, drop, ap, ap₂, sym, ◌∙◌, subst}
 use Rattle.std.specs.Char.{is_whitespace}
 use Rattle.std.specs.List.{list_any}
 use Rattle.std.specs.Str.{IsUtf8, chars}
@@ -8,15 +9,19 @@ use Rattle.std.proofs.lemmas.Bool.{cond_both}
 use Rattle.std.proofs.lemmas.List.Elements.{All-append, All-cons, All-nil}
 use Rattle.literal_escaper.specs.declared.cooked.Cooked.{Cooked}
 use Rattle.literal_escaper.specs.declared.errors.EscapeError.{EscapeError}
-use Rattle.literal_escaper.specs.declared.errors.EscapeError.TheVariants.{MultipleSkippedLinesWarning, UnskippedWhitespaceWarning}
+use Rattle.literal_escaper.specs.declared.errors.EscapeError.TheVariants.{MultipleSkippedLinesWarning}
+use Rattle.literal_escaper.specs.declared.errors.EscapeError.TheVariants.{UnskippedWhitespaceWarning}
 use Rattle.literal_escaper.specs.declared.place.Place.{Place}
 use Rattle.literal_escaper.specs.Character.{backslash, is_blank, line_feed}
-use Rattle.literal_escaper.specs.Items.{Front, Item, between, front, items, items_from, items_within, line_skip, lines_range, raw_items, raw_items_from, raw_unit, unit_front, warning_at, white_range}
+use Rattle.literal_escaper.specs.Items.{Front, Item, between, front, items, items_from, items_within, line_skip}
+use Rattle.literal_escaper.specs.Items.{lines_range, raw_items, raw_items_from, raw_unit, unit_front, warning_at}
+use Rattle.literal_escaper.specs.Items.{white_range}
 use Rattle.literal_escaper.specs.Kind.{Kind}
 use Rattle.literal_escaper.specs.Reading.{cooked_left, raw_left, text_at, white_items}
 use Rattle.literal_escaper.specs.Text.{bytes, first_is, while_front, while_rest}
 use Rattle.literal_escaper.specs.Within.{AreWithin, IsRangeIn}
-use Rattle.literal_escaper.proofs.FrontLemmas.{IsEnd, drop_end, end_of_end, end_past, end_tail, end_whole, front_end, line_end, unit_end}
+use Rattle.literal_escaper.proofs.FrontLemmas.{IsEnd, drop_end, end_of_end, end_past, end_tail, end_whole, front_end}
+use Rattle.literal_escaper.proofs.FrontLemmas.{line_end, unit_end}
 use Rattle.literal_escaper.proofs.RangeLemmas.{EndsIn, ends_further, range_between}
 
 one_within : {A : Type 0} (content : List ℕ) (item : Range ℕ × A) → IsRangeIn content item.0 → AreWithin content (item ∷ [])

@@ -4,7 +4,8 @@ use Rattle.std.specs.List.{filter_map}
 use Rattle.std.specs.declared.ops.Range.{Range}
 use Rattle.literal_escaper.specs.declared.errors.EscapeError.{EscapeError}
 use Rattle.literal_escaper.specs.declared.mode.Mode.{Mode}
-use Rattle.literal_escaper.specs.declared.mode.Mode.TheVariants.{Char, Byte, Str, RawStr, ByteStr, RawByteStr, CStr, RawCStr}
+use Rattle.literal_escaper.specs.declared.mode.Mode.TheVariants.{Char, Byte, Str, RawStr, ByteStr, RawByteStr, CStr}
+use Rattle.literal_escaper.specs.declared.mode.Mode.TheVariants.{RawCStr}
 use Rattle.literal_escaper.specs.Items.{Item, items, offset, raw_items}
 use Rattle.literal_escaper.specs.Kind.{Kind, any_char, ascii_byte, byte_kind, c_kind, string_kind}
 use Rattle.literal_escaper.specs.Single.{single}

@@ -1,14 +1,20 @@
 -- Escapes: what stands behind a backslash. The first fault from the left is the escape's.
-use Rattle.std.specs.Prelude.{ℕ, ◌+◌, ◌*◌, Bool, ◌||◌, ◌==◌, nat_lt, if◌then◌else◌, List, [], ◌∷◌, length, filter, Option, Some, None, Result, Err}
+use Rattle.std.specs.Prelude.{ℕ, ◌+◌, ◌*◌, Bool, ◌||◌, ◌==◌, nat_lt, if◌then◌else◌, List, [], ◌∷◌, length, filter}
+use Rattle.std.specs.Prelude.{Option, Some, None, Result, Err}
 use Rattle.std.specs.List.{fold}
 use Rattle.std.specs.Char.{digit_value, is_digit}
 use Rattle.literal_escaper.specs.declared.errors.EscapeError.{EscapeError}
-use Rattle.literal_escaper.specs.declared.errors.EscapeError.TheVariants.{InvalidCharInHexEscape, InvalidEscape, LoneSlash, TooShortHexEscape}
-use Rattle.literal_escaper.specs.declared.errors.EscapeError.TheVariants.{EmptyUnicodeEscape, InvalidCharInUnicodeEscape}
-use Rattle.literal_escaper.specs.declared.errors.EscapeError.TheVariants.{LeadingUnderscoreUnicodeEscape, NoBraceInUnicodeEscape}
+use Rattle.literal_escaper.specs.declared.errors.EscapeError.TheVariants.{InvalidCharInHexEscape, InvalidEscape}
+use Rattle.literal_escaper.specs.declared.errors.EscapeError.TheVariants.{LoneSlash, TooShortHexEscape}
+use Rattle.literal_escaper.specs.declared.errors.EscapeError.TheVariants.{EmptyUnicodeEscape}
+use Rattle.literal_escaper.specs.declared.errors.EscapeError.TheVariants.{InvalidCharInUnicodeEscape}
+use Rattle.literal_escaper.specs.declared.errors.EscapeError.TheVariants.{LeadingUnderscoreUnicodeEscape}
+use Rattle.literal_escaper.specs.declared.errors.EscapeError.TheVariants.{NoBraceInUnicodeEscape}
 use Rattle.literal_escaper.specs.declared.errors.EscapeError.TheVariants.{OverlongUnicodeEscape, UnclosedUnicodeEscape}
-use Rattle.literal_escaper.specs.Character.{backslash, carriage_return, close_brace, double_quote, line_feed, open_brace}
-use Rattle.literal_escaper.specs.Character.{digit_0, letter_n, letter_r, letter_t, letter_u, letter_x, quote, tab, underscore}
+use Rattle.literal_escaper.specs.Character.{backslash, carriage_return, close_brace, double_quote, line_feed}
+use Rattle.literal_escaper.specs.Character.{open_brace}
+use Rattle.literal_escaper.specs.Character.{digit_0, letter_n, letter_r, letter_t, letter_u, letter_x, quote, tab}
+use Rattle.literal_escaper.specs.Character.{underscore}
 use Rattle.literal_escaper.specs.Kind.{Kind, character}
 use Rattle.literal_escaper.specs.Text.{while_front, while_rest}
 

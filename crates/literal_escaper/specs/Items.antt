@@ -1,11 +1,15 @@
 -- The items of a content.
 -- `end` counts the bytes of the whole content; a place in it is known by the text that follows it.
-use Rattle.std.specs.Prelude.{ℕ, zero, suc, ◌-◌, ◌&&◌, ◌==◌, if◌then◌else◌, List, [], ◌∷◌, ◌++◌, drop, length, Option, Some, None, Result, Err}
+use Rattle.std.specs.Prelude.{ℕ, zero, suc, ◌-◌, ◌&&◌, ◌==◌, if◌then◌else◌, List, [], ◌∷◌, ◌++◌, drop, length, Option}
+use Rattle.std.specs.Prelude.{Some, None, Result, Err}
 use Rattle.std.specs.Char.{is_whitespace}
 use Rattle.std.specs.List.{list_any}
 use Rattle.std.specs.declared.ops.Range.{Range}
 use Rattle.literal_escaper.specs.declared.errors.EscapeError.{EscapeError}
-use Rattle.literal_escaper.specs.declared.errors.EscapeError.TheVariants.{BareCarriageReturn, BareCarriageReturnInRawString, EscapeOnlyChar, MultipleSkippedLinesWarning, UnskippedWhitespaceWarning}
+use Rattle.literal_escaper.specs.declared.errors.EscapeError.TheVariants.{BareCarriageReturn}
+use Rattle.literal_escaper.specs.declared.errors.EscapeError.TheVariants.{BareCarriageReturnInRawString, EscapeOnlyChar}
+use Rattle.literal_escaper.specs.declared.errors.EscapeError.TheVariants.{MultipleSkippedLinesWarning}
+use Rattle.literal_escaper.specs.declared.errors.EscapeError.TheVariants.{UnskippedWhitespaceWarning}
 use Rattle.literal_escaper.specs.Character.{backslash, carriage_return, double_quote, is_blank, line_feed}
 use Rattle.literal_escaper.specs.Escape.{Read, escape}
 use Rattle.literal_escaper.specs.Kind.{Kind}
@@ -100,7 +104,8 @@ raw_unit of_char c = if c == carriage_return then Err BareCarriageReturnInRawStr
 -- one item for each character
 unfoldable pub raw_items_from : {U : Type 0} → (ℕ → Result U EscapeError) → ℕ → List ℕ → List (Item U)
 raw_items_from of_char end [] = []
-raw_items_from of_char end (c ∷ text) = (between end (c ∷ text) text, raw_unit of_char c) ∷ raw_items_from of_char end text
+raw_items_from of_char end (c ∷ text) =
+    (between end (c ∷ text) text, raw_unit of_char c) ∷ raw_items_from of_char end text
 
 -- `raw-items`: those of a raw content
 abbrev pub raw_items : {U : Type 0} → (ℕ → Result U EscapeError) → List ℕ → List (Item U)

@@ -2,7 +2,9 @@
 use Rattle.std.specs.Prelude.{ℕ, ◌&&◌, nat_le, nat_lt, if◌then◌else◌, Result, Ok, Err}
 use Rattle.std.specs.Char.{is_ascii}
 use Rattle.literal_escaper.specs.declared.errors.EscapeError.{EscapeError}
-use Rattle.literal_escaper.specs.declared.errors.EscapeError.TheVariants.{LoneSurrogateUnicodeEscape, NonAsciiCharInByte, OutOfRangeHexEscape, OutOfRangeUnicodeEscape, UnicodeEscapeInByte}
+use Rattle.literal_escaper.specs.declared.errors.EscapeError.TheVariants.{LoneSurrogateUnicodeEscape}
+use Rattle.literal_escaper.specs.declared.errors.EscapeError.TheVariants.{NonAsciiCharInByte, OutOfRangeHexEscape}
+use Rattle.literal_escaper.specs.declared.errors.EscapeError.TheVariants.{OutOfRangeUnicodeEscape, UnicodeEscapeInByte}
 use Rattle.literal_escaper.specs.declared.mixed_unit.MixedUnit.{MixedUnit}
 use Rattle.literal_escaper.specs.Units.{c_byte, c_char}
 

@@ -2,7 +2,8 @@
 use Rattle.std.specs.Prelude.{List, Option}
 use Rattle.literal_escaper.specs.declared.cooked.Cooked.{Cooked}
 use Rattle.literal_escaper.specs.declared.mode.Mode.{Mode}
-use Rattle.literal_escaper.specs.declared.mode.Mode.TheVariants.{Char, Byte, Str, RawStr, ByteStr, RawByteStr, CStr, RawCStr}
+use Rattle.literal_escaper.specs.declared.mode.Mode.TheVariants.{Char, Byte, Str, RawStr, ByteStr, RawByteStr, CStr}
+use Rattle.literal_escaper.specs.declared.mode.Mode.TheVariants.{RawCStr}
 use Rattle.literal_escaper.specs.Errors.{Error, at_most_one, errors_among}
 use Rattle.literal_escaper.specs.Kind.{any_char, ascii_byte, byte_kind, c_kind, string_kind}
 use Rattle.literal_escaper.specs.Reading.{cooked_left, raw_left}

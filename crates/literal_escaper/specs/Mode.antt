@@ -1,7 +1,8 @@
 -- Kinds of literals.
 use Rattle.std.specs.Prelude.{ℕ, Bool, true, false, List, codes}
 use Rattle.literal_escaper.specs.declared.mode.Mode.{Mode}
-use Rattle.literal_escaper.specs.declared.mode.Mode.TheVariants.{Char, Byte, Str, RawStr, ByteStr, RawByteStr, CStr, RawCStr}
+use Rattle.literal_escaper.specs.declared.mode.Mode.TheVariants.{Char, Byte, Str, RawStr, ByteStr, RawByteStr, CStr}
+use Rattle.literal_escaper.specs.declared.mode.Mode.TheVariants.{RawCStr}
 
 -- whether such a literal stands between double quotes
 abbrev pub is_double_quoted : Mode → Bool

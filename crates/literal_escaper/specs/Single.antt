@@ -1,7 +1,8 @@
 -- The one unit of a character or a byte.
 use Rattle.std.specs.Prelude.{ℕ, ◌||◌, ◌==◌, if◌then◌else◌, List, [], ◌∷◌, Result, Ok, Err}
 use Rattle.literal_escaper.specs.declared.errors.EscapeError.{EscapeError}
-use Rattle.literal_escaper.specs.declared.errors.EscapeError.TheVariants.{BareCarriageReturn, EscapeOnlyChar, MoreThanOneChar, ZeroChars}
+use Rattle.literal_escaper.specs.declared.errors.EscapeError.TheVariants.{BareCarriageReturn, EscapeOnlyChar}
+use Rattle.literal_escaper.specs.declared.errors.EscapeError.TheVariants.{MoreThanOneChar, ZeroChars}
 use Rattle.literal_escaper.specs.Character.{backslash, carriage_return, line_feed, quote, tab}
 use Rattle.literal_escaper.specs.Escape.{Read, escape, fault}
 use Rattle.literal_escaper.specs.Kind.{Kind}

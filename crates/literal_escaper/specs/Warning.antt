@@ -1,7 +1,8 @@
 -- Faults and warnings.
 use Rattle.std.specs.Prelude.{Bool, true, false}
 use Rattle.literal_escaper.specs.declared.errors.EscapeError.{EscapeError}
-use Rattle.literal_escaper.specs.declared.errors.EscapeError.TheVariants.{UnskippedWhitespaceWarning, MultipleSkippedLinesWarning}
+use Rattle.literal_escaper.specs.declared.errors.EscapeError.TheVariants.{UnskippedWhitespaceWarning}
+use Rattle.literal_escaper.specs.declared.errors.EscapeError.TheVariants.{MultipleSkippedLinesWarning}
 
 -- `fatal`: whether it is a fault, and no warning
 abbrev pub is_fault : EscapeError → Bool

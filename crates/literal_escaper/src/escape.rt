@@ -1,8 +1,11 @@
 //! Escapes: what stands behind a backslash.
 
 ghost use Rattle.std.specs.Prelude.{◌≡◌, ◌<◌, ◌≤◌};
-ghost use Rattle.literal_escaper.specs.Escape.{braced, coded, escape as what_escapes, hex_escape as hex_read, is_code_character, letter, letter_unit, second_digit, unicode_escape as unicode_read};
-ghost use Rattle.literal_escaper.specs.Reading.{Gives, code_answer, digit_count, digit_number, next_count, next_number, text_at};
+ghost use Rattle.literal_escaper.specs.Escape.{braced, coded, escape as what_escapes, hex_escape as hex_read};
+ghost use Rattle.literal_escaper.specs.Escape.{is_code_character, letter, letter_unit, second_digit};
+ghost use Rattle.literal_escaper.specs.Escape.{unicode_escape as unicode_read};
+ghost use Rattle.literal_escaper.specs.Reading.{Gives, code_answer, digit_count, digit_number, next_count, next_number};
+ghost use Rattle.literal_escaper.specs.Reading.{text_at};
 ghost use Rattle.literal_escaper.specs.Text.{while_rest};
 
 use crate::errors::EscapeError;

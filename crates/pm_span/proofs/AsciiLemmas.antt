@@ -1,5 +1,6 @@
 -- Texts have no more characters than bytes; the names of files in characters.
-use Rattle.std.proofs.Common.{◌≡◌, ℕ, zero, suc, ◌^◌, ◌++◌, codes, ◌<◌, ◌≤◌, true, Bool, List, [], ◌∷◌, length, refl, ap, arith, ltb-true}
+use Rattle.std.proofs.Common.{◌≡◌, ℕ, zero, suc, ◌^◌, ◌++◌, codes, ◌<◌, ◌≤◌, true, Bool, List, [], ◌∷◌, length, refl}
+use Rattle.std.proofs.Common.{ap, arith, ltb-true}
 use Rattle.std.specs.Prelude.{nat_lt}
 use Rattle.std.specs.List.{list_all}
 use Rattle.std.specs.Str.{chars, IsUtf8, IsAscii}

@@ -1,10 +1,13 @@
 -- Lemmas on the places after line feeds: they give the line and the column of a place.
-use Rattle.std.proofs.Common.{◌≡◌, ℕ, zero, suc, ◌+◌, ◌-◌, ◌<◌, ◌≤◌, true, false, cond, not, List, [], ◌∷◌, ◌++◌, length, get_or, take, drop, reverse, refl, sym, ap, ap₂, leb, ◌∙◌, arith, length-append, length-drop, append-nil, inl, inr}
+use Rattle.std.proofs.Common.{◌≡◌, ℕ, zero, suc, ◌+◌, ◌-◌, ◌<◌, ◌≤◌, true, false, cond, not, List, [], ◌∷◌, ◌++◌}
+use Rattle.std.proofs.Common.{length, get_or, take, drop, reverse, refl, sym, ap, ap₂, leb, ◌∙◌, arith, length-append}
+use Rattle.std.proofs.Common.{length-drop, append-nil, inl, inr}
 use Rattle.std.specs.Prelude.{count_by, take_while}
 use Rattle.std.specs.List.{All}
 use Rattle.std.specs.List.Sorted.{IsNonDecreasing, IsPartitionPoint}
 use Rattle.std.proofs.lemmas.Bool.{cases_lt, leb-true, leb-false}
-use Rattle.std.proofs.lemmas.List.{length-take-le, take_more, reverse-append, get_or_append_left, get_or-append-add, get_or_push, length_push, take-append-drop}
+use Rattle.std.proofs.lemmas.List.{length-take-le, take_more, reverse-append, get_or_append_left, get_or-append-add}
+use Rattle.std.proofs.lemmas.List.{get_or_push, length_push, take-append-drop}
 use Rattle.std.proofs.lemmas.List.Elements.{All-nil, All-cons, All-weaker}
 use Rattle.std.proofs.lemmas.List.Sums.{sum_by-cons, take_while-cons}
 use Rattle.pm_span.specs.FileInfo.{after_line_feeds_from, after_line_feeds}

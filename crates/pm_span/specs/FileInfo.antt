@@ -37,7 +37,8 @@ pub record AreEnds (text : List ℕ) (end : ℕ) (places : List KnownPlace) : Ty
   pub within : All (λ known. known.place ≤ end) places
 
 -- what a file that begins at lo keeps beside its text
-pub record IsKept (text : List ℕ) (lo hi : ℕ) (line_starts : List ℕ) (wide_ends : List KnownPlace) (byte_offsets : List (ℕ × ℕ)) : Type 0 where
+pub record IsKept (text : List ℕ) (lo hi : ℕ) (line_starts : List ℕ) (wide_ends : List KnownPlace)
+    (byte_offsets : List (ℕ × ℕ)) : Type 0 where
   pub ends : hi ≡ lo + length text
   pub lines : line_starts ≡ after_line_feeds text
   pub wide : AreEnds text (length text) wide_ends

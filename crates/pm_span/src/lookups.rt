@@ -76,8 +76,10 @@ impl Span {
     pub fn source_text(self, map: &mut SourceMap) -> Result<Option<String>, AllocError>
         requires { Holds map.old self }
         ensures found { IfOk result (λ source. MatchOption source (self ≡ nowhere) (λ _. self ≢ nowhere)) }
-        ensures value { IfOk result (λ source. IfSome source (λ text. HasText map.old self (chars (string_bytes text)))) }
-        ensures text { IfOk result (λ source. IfSome source (λ text. IsTextOf map.old self (chars (string_bytes text)))) }
+        ensures value { IfOk result (λ source.
+            IfSome source (λ text. HasText map.old self (chars (string_bytes text)))) }
+        ensures text { IfOk result (λ source.
+            IfSome source (λ text. IsTextOf map.old self (chars (string_bytes text)))) }
         ensures nowhere { self ≡ nowhere → result ≡ Ok None }
         ensures kept { map.new ≡ map.old }
     {

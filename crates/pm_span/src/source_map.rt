@@ -1,5 +1,6 @@
 //! The map of the texts that were read.
-ghost use Rattle.std.specs.Prelude.{◌≡◌, ◌≤◌, ◌↔◌, ◌+◌, ◌^◌, ◌<◌, [], length, IfSome, IsTrue, OnOk, OnErr, SomeIff, MatchOption};
+ghost use Rattle.std.specs.Prelude.{◌≡◌, ◌≤◌, ◌↔◌, ◌+◌, ◌^◌, ◌<◌, [], length, IfSome, IsTrue, OnOk, OnErr, SomeIff};
+ghost use Rattle.std.specs.Prelude.{MatchOption};
 ghost use Rattle.std.specs.Option.{unwrap_or, option_copied};
 ghost use Rattle.std.specs.Str.{chars};
 ghost use Rattle.pm_span.specs.Files.{Files, next_lo, Fits, Holds, new_map, with_file};

@@ -106,7 +106,8 @@ impl Span {
 impl fmt::Debug for Span {
     ghost use Rattle.std.specs.Prelude.{◌++◌, Some, codes, decimal};
 
-    ghost debug_output = { λ span. Some (codes "bytes(" ++ decimal span.lo ++ codes ".." ++ decimal span.hi ++ codes ")") };
+    ghost debug_output = { λ span.
+        Some (codes "bytes(" ++ decimal span.lo ++ codes ".." ++ decimal span.hi ++ codes ")") };
 
     fn fmt<W: fmt::Write>(&self, f: &mut fmt::Formatter<W>) -> fmt::Result {
         let lo = self.lo;

@@ -1,5 +1,6 @@
 -- Lemmas on covers: one more piece at the end of a partial cover.
-use Rattle.std.proofs.Common.{◌≡◌, ℕ, ◌+◌, true, false, List, [], ◌∷◌, ◌++◌, length, refl, sym, ap, ◌∙◌, subst, arith, add_assoc, add-zero}
+use Rattle.std.proofs.Common.{◌≡◌, ℕ, ◌+◌, true, false, List, [], ◌∷◌, ◌++◌, length, refl, sym, ap, ◌∙◌, subst, arith}
+use Rattle.std.proofs.Common.{add_assoc, add-zero}
 use Rattle.lexical.specs.Piece.{Kind, Piece, FrontMark, Gap, Doc, Open, Close, Leaf, IsPiece}
 use Rattle.lexical.specs.Cover.{onto, width, StandBefore, CoversUpTo}
 use Rattle.pm_stream.specs.Events.{Event, events_onto, expansion}

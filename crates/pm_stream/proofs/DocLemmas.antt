@@ -1,5 +1,5 @@
 -- The tokens of a doc comment.
-use Rattle.std.proofs.Common.{◌≡◌, ℕ, ◌≤◌, Bool, true, false, List, [], ◌∷◌, codes, refl, arith}
+use Rattle.std.proofs.Common.{◌≡◌, ℕ, ◌≤◌, Bool, true, false, List, [], ◌∷◌, ◌++◌, codes, refl, ap, ◌∙◌, arith}
 use Rattle.std.specs.Str.{chars}
 use Rattle.std.specs.List.{list_all}
 use Rattle.std.proofs.lemmas.Bool.{and_from}
@@ -14,6 +14,7 @@ use Rattle.pm_token.specs.Leaf as leaves
 use Rattle.pm_token.specs.Text.{IsText}
 use Rattle.pm_token.specs.declared.marks.Spacing.TheVariants.{Alone}
 use Rattle.pm_span.specs.Extent.{Extent}
+use Rattle.pm_stream.specs.DocGroup.{trees_of}
 use Rattle.pm_stream.specs.Events.{Event, hash, bang, equals, doc_group_onto, doc_onto}
 use Rattle.pm_stream.specs.Level.{forest, alone}
 use Rattle.pm_stream.specs.declared.stream.Group.{Group as Grouped}
@@ -21,6 +22,7 @@ use Rattle.pm_stream.specs.declared.stream.TokenTree.{TokenTree}
 use Rattle.pm_stream.specs.declared.stream.TokenTree.TheVariants as trees
 use Rattle.pm_stream.specs.declared.stream.TokenTree.TheVariants.{Ident, Punct}
 use Rattle.pm_stream.specs.Forest.{Forest, nil, leaf, group, flat_onto, IsBuilt}
+use Rattle.pm_stream.proofs.InOrderLemmas.{in_order-alone}
 
 -- the identifier `doc`
 starts_doc : is_ident_start 100 ≡ true
@@ -80,3 +82,13 @@ pub doc_group_events : (text : List ℕ) (doc : leaves.Name) (mark : leaves.Mark
     → made ≡ record { delimiter = Bracket; stream = forest items; span = span }
     → flat_onto (alone (trees.Group made)) events ≡ doc_group_onto span.lo span.hi text events
 doc_group_events text doc mark literal items made span events name sign content all is = rw (is, all, name, sign, content) refl
+
+-- ---- the trees of a stream
+
+pub trees_of-forest : (ts : List TokenTree) → trees_of (forest ts) ≡ ts
+trees_of-forest [] = refl
+trees_of-forest (trees.Group g ∷ ts) = ap (λ l. trees.Group g ∷ l) (trees_of-forest ts)
+trees_of-forest (Ident i ∷ ts) = ap (λ l. Ident i ∷ l) (trees_of-forest ts)
+trees_of-forest (Punct p ∷ ts) =
+    ap (λ l. l ++ trees_of (forest ts)) (in_order-alone (Punct p)) ∙ ap (λ l. Punct p ∷ l) (trees_of-forest ts)
+trees_of-forest (trees.Literal t ∷ ts) = ap (λ l. trees.Literal t ∷ l) (trees_of-forest ts)

@@ -1,5 +1,7 @@
 -- A source has at most one cover. It parses or has a fault, never both, and the fault has one position.
-use Rattle.std.proofs.Common.{◌≡◌, ◌≢◌, ◌⊎◌, inl, inr, ℕ, ◌+◌, ◌<◌, Bool, true, false, List, [], ◌∷◌, ◌++◌, length, refl, sym, ap, ap₂, ◌∙◌, subst, arith, append_assoc, append-nil, suc, zero, Some, Result, Ok, Err, IfOk, IfErr}
+use Rattle.std.proofs.Common.{◌≡◌, ◌≢◌, ◌⊎◌, inl, inr, ℕ, ◌+◌, ◌<◌, Bool, true, false, List, [], ◌∷◌, ◌++◌, length}
+use Rattle.std.proofs.Common.{refl, sym, ap, ap₂, ◌∙◌, subst, arith, append_assoc, append-nil, suc, zero, Some, Result}
+use Rattle.std.proofs.Common.{Ok, Err, IfOk, IfErr}
 use Rattle.std.proofs.Common.{None as Nothing}
 use Rattle.lexical.specs.Piece.{Kind, Piece, FrontMark, Gap, Doc, Open, Close, Leaf, IsPiece, HasNoPiece}
 use Rattle.lexical.specs.Cover.{onto, width, StandBefore, IsCover}
@@ -19,7 +21,8 @@ use Rattle.pm_stream.specs.Fault.{IsFault}
 use Rattle.pm_stream.specs.Written.{Opened, written_onto, FitsInnermost}
 use Rattle.pm_stream.proofs.CoverLemmas.{expansion-append}
 use Rattle.pm_stream.proofs.DocLemmas.{doc_trees, doc_trees-events}
-use Rattle.pm_stream.proofs.EventLemmas.{one_stream, flattening_balanced, one_last_opener, balanced_has_none, written-joined}
+use Rattle.pm_stream.proofs.EventLemmas.{one_stream, flattening_balanced, one_last_opener, balanced_has_none}
+use Rattle.pm_stream.proofs.EventLemmas.{written-joined}
 use Rattle.pm_stream.proofs.ReadSoFar.{Reads, reads_none, reads_more, reads_all, reads_open, reads_stuck, reads_stray}
 
 -- a piece at the front of a text

@@ -1,12 +1,13 @@
 -- Lists of trees and the forests that they make.
-use Rattle.std.proofs.Common.{All, Option, Some, None, ◌≡◌, ℕ, ◌+◌, ◌*◌, ◌<◌, ◌≤◌, get_or, arith, false, List, [], ◌∷◌, ◌++◌, length, nat_eq, refl, sym, ap, subst, ◌∙◌, rules}
+use Rattle.std.proofs.Common.{All, Option, Some, None, ◌≡◌, ℕ, ◌+◌, ◌*◌, ◌<◌, ◌≤◌, get_or, arith, false, List, [], ◌∷◌}
+use Rattle.std.proofs.Common.{◌++◌, length, nat_eq, refl, sym, ap, subst, ◌∙◌, rules}
 use Rattle.pm_stream.specs.Events.{Event, One, Opens, Closes}
 use Rattle.pm_stream.specs.Forest.{Forest, nil, leaf, group, flat_onto, flattening, joined, IsBuilt}
 use Rattle.std.proofs.lemmas.List.{append-nil}
 use Rattle.std.proofs.lemmas.List.Elements.{All-nil, All-cons}
 use Rattle.std.specs.Option.{option_to_list}
 use denote.Param.Weighed.{most, at_most}
-use Rattle.pm_stream.specs.Falls.{deep_le-before}
+use Rattle.pm_stream.specs.InnerSize.{deep_le-before}
 use Rattle.pm_stream.specs.Size.{is_nil, count}
 use Rattle.pm_stream.specs.declared.stream.TokenStream.TheDeep.{size-TokenTree}
 use Rattle.pm_stream.specs.Level.{before, forest, alone, inside, GoesInside, TakesLast}

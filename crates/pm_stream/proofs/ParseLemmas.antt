@@ -1,5 +1,6 @@
 -- How the parser's loop goes on and ends.
-use Rattle.std.proofs.Common.{◌≡◌, ◌≢◌, ℕ, ◌+◌, ◌<◌, Bool, false, List, [], ◌∷◌, ◌++◌, length, drop, refl, sym, ap, ◌∙◌, subst, arith, length-append, Result, Ok, Err, IfOk, IfErr}
+use Rattle.std.proofs.Common.{◌≡◌, ◌≢◌, ℕ, ◌+◌, ◌<◌, Bool, false, List, [], ◌∷◌, ◌++◌, length, drop, refl, sym, ap, ◌∙◌}
+use Rattle.std.proofs.Common.{subst, arith, length-append, Result, Ok, Err, IfOk, IfErr}
 use Rattle.std.specs.Str.{chars, IsUtf8}
 use Rattle.lexical.specs.Piece.{IsPiece, HasNoPiece}
 use Rattle.lexical.specs.WhiteRun.{IsPastWhite}

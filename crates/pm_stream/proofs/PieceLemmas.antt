@@ -1,5 +1,6 @@
 -- Lemmas on pieces: what stands in a source is built, and what the lexer's answers say.
-use Rattle.std.proofs.Common.{◌≡◌, ℕ, ◌-◌, Bool, List, [], ◌∷◌, ◌++◌, length, take, refl, sym, ap, ap₂, ◌∙◌, subst, arith}
+use Rattle.std.proofs.Common.{◌≡◌, ℕ, ◌-◌, Bool, List, [], ◌∷◌, ◌++◌, length, take, refl, sym, ap, ap₂, ◌∙◌, subst}
+use Rattle.std.proofs.Common.{arith}
 use Rattle.lexical.specs.Token.{Token, Name, Mark, Literal, raw_front, token_text}
 use Rattle.lexical.specs.Piece.{Stands, IsPiece}
 use Rattle.std.specs.Str.{chars, IsUtf8}

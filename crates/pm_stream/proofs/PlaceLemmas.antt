@@ -1,19 +1,21 @@
 -- Where what stands in a map's last file starts, and what is true of the trees inside groups.
-use Rattle.std.proofs.Common.{◌≡◌, ◌+◌, ◌-◌, ◌≤◌, ℕ, List, [], length, refl}
+use Rattle.std.proofs.Common.{◌≡◌, ◌+◌, ◌-◌, ◌≤◌, ℕ, List, [], ◌∷◌, length, refl}
 use Rattle.std.specs.List.{AllByRecursion as Each}
 use Rattle.lexical.specs.Token.{Token, Name, Mark, Literal}
 use Rattle.pm_span.specs.Extent.{Extent}
-use Rattle.pm_span.specs.Files.{Files, IsFile, all_texts, next_lo, with_file}
+use Rattle.pm_span.specs.Files.{Files, Holds, IsFile, all_texts, new_map, next_lo, with_file}
 use Rattle.pm_span.specs.Lookup.{StartsAt, EndsAt}
 use Rattle.pm_span.specs.Place.{line_column}
 use Rattle.pm_span.specs.declared.location.LineColumn.{LineColumn}
 use Rattle.pm_stream.specs.Forest.{Forest, nil, leaf, group}
 use Rattle.pm_stream.specs.InOrder.{token_tree, in_order_onto, in_order}
 use Rattle.pm_stream.specs.Level.{inside}
-use Rattle.pm_stream.specs.Parsing.{FaultAt}
+use Rattle.pm_stream.specs.Parsing.{FaultAt, ParsesTo}
+use Rattle.pm_stream.specs.TreeSpan.{extent_of}
 use Rattle.pm_stream.specs.declared.stream.TokenTree.{TokenTree}
 use Rattle.pm_stream.proofs.FaultLemmas.{fault_within}
 use Rattle.pm_stream.proofs.InOrderLemmas.{each_parts}
+use Rattle.pm_stream.proofs.SpanLemmas.{IsWithin, parsed_within, source_held}
 
 -- a map's last file
 pub last_file : (map : Files) (source : List ℕ) → IsFile (with_file map source) source (next_lo map)
@@ -30,6 +32,30 @@ pub ends_in_last : (map : Files) (source : List ℕ) (span : Extent) (place : Li
     → next_lo map ≤ span.lo → span.hi ≤ next_lo map + length source → EndsAt (with_file map source) span place
     → place ≡ line_column source (span.hi - next_lo map)
 ends_in_last map source span place from to ends = ends source (next_lo map) (last_file map source) from to
+
+-- the map has the tree's span, and that starts at its line and column of the text, the first that a new map took
+abbrev pub IsPlaced : Files → List ℕ → TokenTree → Type 0
+IsPlaced map text tree =
+    Holds map (extent_of tree)
+    × ((place : LineColumn) → StartsAt map (extent_of tree) place
+    → place ≡ line_column text ((extent_of tree).lo - next_lo new_map))
+
+each_placed : (text : List ℕ) (trees : List TokenTree)
+    → Each (IsWithin (next_lo new_map) (next_lo new_map + length text)) trees
+    → Each (IsPlaced (with_file new_map text) text) trees
+each_placed text [] h = tt
+each_placed text (tree ∷ trees) h =
+    let span = extent_of tree in (
+      (source_held new_map text span h.0.0 h.0.1, λ place. starts_in_last new_map text span place h.0.0 h.0.1),
+      each_placed text trees h.1,
+    )
+
+-- so it is of each tree of a text that was parsed with a new map
+pub parsed_places : (old map : Files) (text : List ℕ) (stream : Forest) → old ≡ new_map → map ≡ with_file old text
+    → ParsesTo (next_lo old) text stream → Each (IsPlaced map text) (in_order stream)
+parsed_places old map text stream is_new kept parses =
+    rw (kept, is_new) (each_placed text (in_order stream)
+    (parsed_within (next_lo new_map) text stream (rw is_new at parses)))
 
 -- where the fault of a map's last file starts
 pub fault_starts : (old new : Files) (source : List ℕ) (fault : Extent) (place : LineColumn)

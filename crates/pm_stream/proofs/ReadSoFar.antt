@@ -1,5 +1,6 @@
 -- What the parser has read so far, and how the reading ends.
-use Rattle.std.proofs.Common.{◌≡◌, ◌≢◌, inl, inr, ℕ, ◌+◌, Bool, true, false, List, [], ◌∷◌, ◌++◌, length, refl, sym, ap, ◌∙◌, subst, arith}
+use Rattle.std.proofs.Common.{◌≡◌, ◌≢◌, inl, inr, ℕ, ◌+◌, Bool, true, false, List, [], ◌∷◌, ◌++◌, length, refl, sym, ap}
+use Rattle.std.proofs.Common.{◌∙◌, subst, arith}
 use Rattle.lexical.specs.Class.{is_white}
 use Rattle.lexical.specs.Piece.{Kind, Piece, Gap, Close, IsPiece, HasNoPiece}
 use Rattle.std.specs.List.{list_all}

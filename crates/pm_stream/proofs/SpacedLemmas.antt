@@ -1,5 +1,6 @@
 -- What is left to look at while groups are open, in a test whether trees are well spaced.
-use Rattle.std.proofs.Common.{◌≡◌, ℕ, ◌+◌, ◌*◌, ◌<◌, ◌&&◌, Bool, true, false, Result, Ok, Err, is_ok, if◌then◌else◌, List, [], ◌∷◌, ◌++◌, length, Bor, refl, ap, ◌∙◌, arith}
+use Rattle.std.proofs.Common.{◌≡◌, ℕ, ◌+◌, ◌*◌, ◌<◌, ◌&&◌, Bool, true, false, Result, Ok, Err, is_ok, if◌then◌else◌}
+use Rattle.std.proofs.Common.{List, [], ◌∷◌, ◌++◌, length, Bor, refl, ap, ◌∙◌, arith}
 use Rattle.pm_stream.specs.Forest.{Forest}
 use Rattle.pm_stream.specs.Level.{before, forest, inside}
 use Rattle.pm_stream.specs.Size.{count}

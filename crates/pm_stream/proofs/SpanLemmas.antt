@@ -1,5 +1,6 @@
 -- The spans of a parsed stream stand in its source.
-use Rattle.std.proofs.Common.{◌≡◌, ℕ, ◌+◌, ◌≤◌, true, false, List, [], ◌∷◌, length, refl, sym, subst, arith, Result, Ok, Err, IfOk}
+use Rattle.std.proofs.Common.{◌≡◌, ℕ, ◌+◌, ◌≤◌, true, false, List, [], ◌∷◌, length, refl, sym, subst, arith, Result, Ok}
+use Rattle.std.proofs.Common.{Err, IfOk}
 use Rattle.std.specs.List.{AllByRecursion as Each}
 use Rattle.std.proofs.lemmas.List.Elements.{All-from_recursion}
 use Rattle.lexical.specs.Token.{Token, Name, Mark, Literal}

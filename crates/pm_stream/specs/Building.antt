@@ -35,8 +35,10 @@ GivesAll {U} {T} {A} becomes steps iterable holds =
     (it : T) × (items : List A) × becomes iterable it × Drains steps it items × holds items
 
 -- some items were put in, and the one that came after them was refused
-abbrev pub RefusesAnItem : {U T A B : Type 0} → (U → T → Type 0) → (T → Option A → T → Type 0) → (B → List A → B → Type 0)
+abbrev pub RefusesAnItem : {U T A B : Type 0} → (U → T → Type 0) → (T → Option A → T → Type 0)
+    → (B → List A → B → Type 0)
     → U → B → B → Type 0
 RefusesAnItem {U} {T} {A} becomes steps extends iterable old new =
-    (it : T) × (items : List A) × (refused : A) × (now : T) × (rest : T) × becomes iterable it × Yields steps it items now
+    (it : T) × (items : List A) × (refused : A) × (now : T) × (rest : T) × becomes iterable it
+    × Yields steps it items now
     × steps now (Some refused) rest × extends old items new

@@ -5,7 +5,7 @@ pub mod Forest
 pub mod Size
 pub mod Codec
 pub mod Level
-pub mod Falls
+pub mod InnerSize
 pub mod TreeSpan
 pub mod Printed
 pub mod PrintedTree
@@ -21,6 +21,7 @@ pub mod Fault
 pub mod Nesting
 pub mod Progress
 pub mod InOrder
+pub mod DocGroup
 pub mod Walk
 pub mod Given
 pub mod HeldSpans

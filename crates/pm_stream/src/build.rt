@@ -11,7 +11,8 @@ use pm_token::{Ident, Literal, Punct};
 use std::alloc::{AllocError, Global};
 
 impl TokenStream {
-    ghost use Rattle.pm_stream.specs.declared.stream.TokenTree.TheVariants.{Group as GroupTree, Ident as IdentTree, Punct as PunctTree, Literal as LiteralTree};
+    ghost use Rattle.pm_stream.specs.declared.stream.TokenTree.TheVariants.{Group as GroupTree, Ident as IdentTree};
+    ghost use Rattle.pm_stream.specs.declared.stream.TokenTree.TheVariants.{Punct as PunctTree, Literal as LiteralTree};
 
     /// The stream of this tree, by the rule `split`. Fails where memory runs out.
     ///
@@ -111,7 +112,8 @@ impl TokenStream {
         groups: I,
     ) -> Result<(), AllocError>
         requires { IsFiniteIterable I.into_iter_gives I.IntoIter.can_next I.IntoIter.remaining groups }
-        ensures ran { ExtendsWithItems I.into_iter_gives I.IntoIter.next_gives (PutsIn (λ group. split (GroupTree group)))
+        ensures ran { ExtendsWithItems I.into_iter_gives I.IntoIter.next_gives
+            (PutsIn (λ group. split (GroupTree group)))
             groups self.old self.new result }
         ensures memory { OnErr result (GivesAnItem I.into_iter_gives I.IntoIter.next_gives groups) }
     {
@@ -128,7 +130,8 @@ impl TokenStream {
         idents: I,
     ) -> Result<(), AllocError>
         requires { IsFiniteIterable I.into_iter_gives I.IntoIter.can_next I.IntoIter.remaining idents }
-        ensures ran { ExtendsWithItems I.into_iter_gives I.IntoIter.next_gives (PutsIn (λ ident. split (IdentTree ident)))
+        ensures ran { ExtendsWithItems I.into_iter_gives I.IntoIter.next_gives
+            (PutsIn (λ ident. split (IdentTree ident)))
             idents self.old self.new result }
         ensures memory { OnErr result (GivesAnItem I.into_iter_gives I.IntoIter.next_gives idents) }
     {
@@ -145,7 +148,8 @@ impl TokenStream {
         puncts: I,
     ) -> Result<(), AllocError>
         requires { IsFiniteIterable I.into_iter_gives I.IntoIter.can_next I.IntoIter.remaining puncts }
-        ensures ran { ExtendsWithItems I.into_iter_gives I.IntoIter.next_gives (PutsIn (λ punct. split (PunctTree punct)))
+        ensures ran { ExtendsWithItems I.into_iter_gives I.IntoIter.next_gives
+            (PutsIn (λ punct. split (PunctTree punct)))
             puncts self.old self.new result }
         ensures memory { OnErr result (GivesAnItem I.into_iter_gives I.IntoIter.next_gives puncts) }
     {
@@ -163,7 +167,8 @@ impl TokenStream {
         literals: I,
     ) -> Result<(), AllocError>
         requires { IsFiniteIterable I.into_iter_gives I.IntoIter.can_next I.IntoIter.remaining literals }
-        ensures ran { ExtendsWithItems I.into_iter_gives I.IntoIter.next_gives (PutsIn (λ literal. split (LiteralTree literal)))
+        ensures ran { ExtendsWithItems I.into_iter_gives I.IntoIter.next_gives
+            (PutsIn (λ literal. split (LiteralTree literal)))
             literals self.old self.new result }
         ensures memory { OnErr result (GivesAnItem I.into_iter_gives I.IntoIter.next_gives literals) }
     {

@@ -1,14 +1,19 @@
 //! The tokens of a doc comment.
-ghost use Rattle.std.specs.Prelude.{◌≡◌, List, IfOk};
+ghost use Rattle.std.specs.Prelude.{◌≡◌, [], ◌∷◌, List, IfOk, IfSome, option_copied};
 ghost use Rattle.std.specs.Str.{chars};
-ghost use Rattle.pm_stream.specs.Level.{alone};
+ghost use Rattle.pm_stream.specs.DocGroup.{AreDocOf, IsDocOf, doc_in, doc_of, is_doc, is_equals};
+ghost use Rattle.pm_stream.specs.Level.{alone, forest};
 ghost use Rattle.pm_stream.specs.Forest.{flat_onto};
 ghost use Rattle.pm_stream.specs.Events.{Event, doc_group_onto};
+ghost use Rattle.pm_token.specs.Leaf.{Name, Mark};
+ghost use Rattle.pm_token.specs.declared.delimiters.Delimiter.TheVariants.{Bracket};
+ghost use Rattle.pm_stream.specs.declared.stream.TokenTree.TheVariants.{Ident as IdentTree, Punct as PunctTree};
+ghost use Rattle.pm_stream.specs.declared.stream.TokenTree.TheVariants.{Literal as LiteralTree};
 
 use crate::stream::{Group, TokenStream, TokenTree};
 use pm_span::Span;
 use pm_token::parts::{ident, punct, string_literal};
-use pm_token::{Delimiter, Spacing};
+use pm_token::{Delimiter, Ident, Literal, Punct, Spacing};
 use std::alloc::{AllocError, Global};
 
 /// The group `[doc = ".."]` of the text (`doc-tokens`), where it and each tree in it has this span.
@@ -26,4 +31,61 @@ pub(crate) fn doc_group(alloc: Global, text: &str, span: Span) -> Result<Group, 
     trees.push(TokenTree::Literal(text))?;
     let stream = TokenStream::from_vec(alloc, trees)?;
     Ok(Group::from_parts(Delimiter::Bracket, stream, span))
+}
+
+impl Group {
+    /// The literal of a doc comment's group, and `None` of every other group. Of `[doc = "x"]` it is `"x"`.
+    ///
+    /// A doc comment is read as `#`, perhaps `!`, and this group: in brackets the identifier `doc`, the mark `=` Alone
+    /// and a literal (`doc-tokens`). What stands before the group doesn't count, so the one of the attribute
+    /// `#[doc = "x"]` has its literal too.
+    pub fn doc(&self) -> Option<&Literal>
+        ensures value { option_copied result ≡ doc_of self.now }
+
+        // The group holds the three trees, and is printed as `[doc = `, the literal and `]`.
+        ensures trees { IfSome result (λ text. (name : Name) × (mark : Mark) × (self.now.stream
+            ≡ forest (IdentTree name ∷ PunctTree mark ∷ LiteralTree text.now ∷ []))) }
+        ensures printed { IfSome result (λ text. IsDocOf self.now text.now.text) }
+    {
+        let Delimiter::Bracket = self.delimiter() else {
+            return None;
+        };
+        doc_in(self.stream_ref().trees())
+    }
+}
+
+// The literal of the three trees `doc`, `=` Alone and a literal, and `None` of others.
+fn doc_in(trees: &[TokenTree]) -> Option<&Literal>
+    ensures value { option_copied result ≡ doc_in Bracket trees.now }
+    ensures trees { IfSome result (λ literal. (n : Name) × (m : Mark)
+        × (trees.now ≡ IdentTree n ∷ PunctTree m ∷ LiteralTree literal.now ∷ [])) }
+    ensures printed { IfSome result (λ literal. AreDocOf trees.now literal.now.text) }
+{
+    let [
+        TokenTree::Ident(name),
+        TokenTree::Punct(mark),
+        TokenTree::Literal(literal),
+    ] = trees
+    else {
+        return None;
+    };
+    if is_doc(name) && is_equals(mark) {
+        Some(literal)
+    } else {
+        None
+    }
+}
+
+// Whether it is the identifier `doc`.
+fn is_doc(name: &Ident) -> bool
+    ensures { result ≡ is_doc name.now }
+{
+    name.eq_str("doc")
+}
+
+// Whether it is the mark `=` Alone.
+fn is_equals(mark: &Punct) -> bool
+    ensures { result ≡ is_equals mark.now }
+{
+    mark.as_char() == '=' && mark.spacing() == Spacing::Alone
 }

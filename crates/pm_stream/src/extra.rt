@@ -60,7 +60,8 @@ impl DelimSpan {
 impl fmt::Debug for DelimSpan {
     ghost use Rattle.std.specs.Prelude.{◌++◌, Some, codes, decimal};
 
-    ghost debug_output = { λ span. Some (codes "bytes(" ++ decimal span.lo ++ codes ".." ++ decimal span.hi ++ codes ")") };
+    ghost debug_output = { λ span.
+        Some (codes "bytes(" ++ decimal span.lo ++ codes ".." ++ decimal span.hi ++ codes ")") };
 
     fn fmt<W: fmt::Write>(&self, f: &mut fmt::Formatter<W>) -> fmt::Result {
         self.join().fmt(f)

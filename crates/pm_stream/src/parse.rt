@@ -1,5 +1,6 @@
 //! The parser: from the pieces of a text to its token trees.
-ghost use Rattle.std.specs.Prelude.{◌≡◌, ◌≢◌, ◌≤◌, ◌+◌, ◌<◌, ◌^◌, ◌↔◌, ℕ, Bool, List, [], ◌∷◌, ◌++◌, length, reverse, OnOk, IfOk, IfErr, IsTrue, if◌then◌else◌};
+ghost use Rattle.std.specs.Prelude.{◌≡◌, ◌≢◌, ◌≤◌, ◌+◌, ◌<◌, ◌^◌, ◌↔◌, ℕ, Bool, List, [], ◌∷◌, ◌++◌, length, reverse};
+ghost use Rattle.std.specs.Prelude.{OnOk, IfOk, IfErr, IsTrue, if◌then◌else◌};
 ghost use Rattle.std.specs.Str.{chars};
 ghost use Rattle.lexical.specs.Found.{IsPieceAt, kind_of};
 ghost use Rattle.lexical.specs.Mark.{is_mark};

@@ -45,7 +45,7 @@ impl Model for TokenStream {
 
     ghost size = { count };
 
-    ghost use Rattle.pm_stream.specs.Falls.{deep_le-held};
+    ghost use Rattle.pm_stream.specs.InnerSize.{deep_le-held};
 
     ghost size_decreases = { λ a h. deep_le-held a.trees };
 }
@@ -107,7 +107,7 @@ impl Drop for TokenStream {
             if inside.is_empty() {
                 continue;
             }
-            match here.put_way(outer) {
+            match here.push_outer(outer) {
                 Ok(()) => {
                     outer = here;
                     here = inside;
@@ -196,8 +196,8 @@ impl TokenStream {
         take_last(shared)
     }
 
-    // Puts a group of these trees behind the others, or gives them back.
-    fn put_way(&mut self, outer: TokenStream) -> Result<(), TokenStream>
+    // Puts a group of the outer trees after its own, or gives them back.
+    fn push_outer(&mut self, outer: TokenStream) -> Result<(), TokenStream>
         ensures ok { OnOk result (count self.new ≡ count self.old + 1 + count outer) }
         ensures err { IfErr result (λ back. (back ≡ outer) × (self.new ≡ self.old)) }
     {

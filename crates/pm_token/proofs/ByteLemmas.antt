@@ -1,5 +1,6 @@
 -- What the constructors write of bytes is a literal.
-use Rattle.std.proofs.Common.{◌≡◌, ℕ, ◌<◌, ◌/◌, ◌%◌, Bool, true, false, not, ◌&&◌, ◌||◌, ◌==◌, nat_lt, nat_le, List, [], ◌∷◌, ◌++◌, codes, get_or, refl, sym, ap, ◌∙◌, arith, inl, inr, zero, suc}
+use Rattle.std.proofs.Common.{◌≡◌, ℕ, ◌<◌, ◌/◌, ◌%◌, Bool, true, false, not, ◌&&◌, ◌||◌, ◌==◌, nat_lt, nat_le, List, []}
+use Rattle.std.proofs.Common.{◌∷◌, ◌++◌, codes, get_or, refl, sym, ap, ◌∙◌, arith, inl, inr, zero, suc}
 use Rattle.std.specs.List.{concat}
 use Rattle.std.specs.Fmt.{digit_glyph}
 use Rattle.std.specs.Char.{is_ascii, is_ascii_hexdigit}
@@ -15,7 +16,8 @@ use Rattle.lexical.specs.Literal as literals
 use Rattle.lexical.specs.Quoted.{ByteStr}
 use Rattle.lexical.proofs.QuotedLemmas.{EndsSuffix, stop_ends}
 use Rattle.pm_token.specs.Escaped.{hex_pair, written_byte, written, content, byte_text, byte_string_text}
-use Rattle.pm_token.proofs.EscapedLemmas.{is_plain, Allows, written_stands, letter_of_all, string_plain, body_unit, units_of, content_units, closed}
+use Rattle.pm_token.proofs.EscapedLemmas.{is_plain, Allows, written_stands, letter_of_all, string_plain, body_unit}
+use Rattle.pm_token.proofs.EscapedLemmas.{units_of, content_units, closed}
 
 -- ---- hex digits
 

@@ -1,13 +1,17 @@
 -- What the constructor of C strings writes is a literal, and its parts are the bytes.
-use Rattle.std.proofs.Common.{◌≡◌, ◌≢◌, ℕ, ◌<◌, ◌≤◌, ◌-◌, Bool, true, false, not, ◌&&◌, ◌==◌, if◌then◌else◌, List, [], ◌∷◌, ◌++◌, codes, length, take, drop, refl, sym, ap, ap₂, ◌∙◌, subst, arith, inl, inr, zero, suc, append_assoc, append-nil, length-append, eqb-true, nat_lt}
+use Rattle.std.proofs.Common.{◌≡◌, ◌≢◌, ℕ, ◌<◌, ◌≤◌, ◌-◌, Bool, true, false, not, ◌&&◌, ◌==◌, if◌then◌else◌, List, []}
+use Rattle.std.proofs.Common.{◌∷◌, ◌++◌, codes, length, take, drop, refl, sym, ap, ap₂, ◌∙◌, subst, arith, inl, inr}
+use Rattle.std.proofs.Common.{zero, suc, append_assoc, append-nil, length-append, eqb-true, nat_lt}
 use Rattle.std.specs.Prelude.{encode_utf8, map}
 use Rattle.std.specs.List.{concat, list_all}
 use Rattle.std.specs.Char.{IsScalar}
 use Rattle.std.specs.Char.Escape.{escape_unicode}
 use Rattle.std.specs.Str.{chars, IsUtf8, is_utf8, encode_utf8_all, all_scalars}
 use Rattle.std.specs.Str.Lossy.{utf8_valid_len, valid_len_up_to}
-use Rattle.std.proofs.lemmas.Bool.{cond_both, and_from, and_parts, both_ways, false_from_ne_true, not-true, lt-ltb, cases_lt}
-use Rattle.std.proofs.lemmas.Str.{is_utf8-from_IsUtf8, encode_ascii, IsUtf8-append, IsUtf8-encode, encodes-chars, scalars-chars, len_utf8_bounds, length-encode}
+use Rattle.std.proofs.lemmas.Bool.{cond_both, and_from, and_parts, both_ways, false_from_ne_true, not-true, lt-ltb}
+use Rattle.std.proofs.lemmas.Bool.{cases_lt}
+use Rattle.std.proofs.lemmas.Str.{is_utf8-from_IsUtf8, encode_ascii, IsUtf8-append, IsUtf8-encode, encodes-chars}
+use Rattle.std.proofs.lemmas.Str.{scalars-chars, len_utf8_bounds, length-encode}
 use Rattle.std.proofs.lemmas.List.{take_at, take_all, drop_at}
 use Rattle.lexical.specs.Text.{first_passes}
 use Rattle.lexical.specs.Form.{Each}
@@ -18,7 +22,8 @@ use Rattle.lexical.specs.Literal.{IsLiteralToken}
 use Rattle.lexical.specs.Literal as literals
 use Rattle.lexical.proofs.QuotedLemmas.{EndsSuffix, stop_ends}
 use Rattle.pm_token.specs.Escaped.{is_bare, hex_pair, written, written_char, content}
-use Rattle.pm_token.specs.CString.{Part, Char, Byte, BeginsNone, AreParts, part_text, parts_text, has_no_zero, IsCStringText, WritesFront}
+use Rattle.pm_token.specs.CString.{Part, Char, Byte, BeginsNone, AreParts, part_text, parts_text, has_no_zero}
+use Rattle.pm_token.specs.CString.{IsCStringText, WritesFront}
 use Rattle.pm_token.proofs.EscapedLemmas.{Allows, written_stands, unicode, string_plain, body_unit, closed}
 use Rattle.pm_token.proofs.ByteLemmas.{AreBytes, pair_hex, pair_nonzero}
 

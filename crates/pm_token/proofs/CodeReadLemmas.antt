@@ -1,5 +1,6 @@
 -- What is read of the code of a character that the constructors wrote.
-use Rattle.std.proofs.Common.{◌≡◌, ℕ, ◌*◌, ◌+◌, ◌<◌, ◌≤◌, true, false, ◌==◌, nat_lt, List, [], ◌∷◌, ◌++◌, length, Ok, refl, ap, ap₂, ◌∙◌, arith, suc}
+use Rattle.std.proofs.Common.{◌≡◌, ℕ, ◌*◌, ◌+◌, ◌<◌, ◌≤◌, true, false, ◌==◌, nat_lt, List, [], ◌∷◌, ◌++◌, length, Ok}
+use Rattle.std.proofs.Common.{refl, ap, ap₂, ◌∙◌, arith, suc}
 use Rattle.std.specs.Prelude.{filter}
 use Rattle.std.specs.Char.{IsScalar, digit_char, digit_value}
 use Rattle.std.specs.Char.Escape.{escape_unicode}

@@ -1,5 +1,7 @@
 -- Fronts and ends of texts, and what stands between quotes.
-use Rattle.std.proofs.Common.{◌≡◌, ◌≢◌, ℕ, ◌<◌, Bool, true, false, List, [], ◌∷◌, ◌++◌, length, drop, take, get_or, length-append, codes, Option, Some, None, MatchOption, Bor, refl, sym, ap, ap₂, ◌∙◌, subst, arith, append_assoc, eqb-true, cond}
+use Rattle.std.proofs.Common.{◌≡◌, ◌≢◌, ℕ, ◌<◌, Bool, true, false, List, [], ◌∷◌, ◌++◌, length, drop, take, get_or}
+use Rattle.std.proofs.Common.{length-append, codes, Option, Some, None, MatchOption, Bor, refl, sym, ap, ap₂, ◌∙◌}
+use Rattle.std.proofs.Common.{subst, arith, append_assoc, eqb-true, cond}
 use Rattle.std.specs.Prelude.{reverse, unwrap_or, option_and_then, is_some}
 use Rattle.std.specs.List.{list_all}
 use Rattle.std.specs.Option.{option_map}

@@ -1,5 +1,6 @@
 -- The value of a content without CR is what the units of the grammar give that it is made of.
-use Rattle.std.proofs.Common.{◌≡◌, ℕ, nat_eq, Bool, true, false, cond, not, ◌&&◌, ◌||◌, ◌==◌, ne_eqb, List, [], ◌∷◌, ◌++◌, codes, Option, Some, None, Ok, map-id, refl, sym, ap, ap₂, ◌∙◌, subst, inl, inr}
+use Rattle.std.proofs.Common.{◌≡◌, ℕ, nat_eq, Bool, true, false, cond, not, ◌&&◌, ◌||◌, ◌==◌, ne_eqb, List, [], ◌∷◌}
+use Rattle.std.proofs.Common.{◌++◌, codes, Option, Some, None, Ok, map-id, refl, sym, ap, ap₂, ◌∙◌, subst, inl, inr}
 use Rattle.std.proofs.Math.Bool.{or-false}
 use Rattle.std.specs.Char.{is_ascii}
 use Rattle.std.specs.Cmp.Lexicographic.{pointwise}
@@ -11,8 +12,10 @@ use Rattle.std.proofs.lemmas.Bool.{both_ways, and_parts, cond-false, eqb-false, 
 use Rattle.std.proofs.lemmas.List.Concat.{flat_map_single}
 use Rattle.std.proofs.lemmas.List.Folds.{list_all-append}
 use Rattle.lexical.specs.Form.{Form, Each, Either, Many}
-use Rattle.lexical.specs.Quoted.{BodyUnit, ByteEscape, ByteUnit, CEscape, CUnit, Continuation, Str, StringUnit, StringEscape, is_byte_plain, is_c_plain, is_string_plain}
-use Rattle.literal_escaper.specs.declared.errors.EscapeError.TheVariants.{MultipleSkippedLinesWarning, UnskippedWhitespaceWarning}
+use Rattle.lexical.specs.Quoted.{BodyUnit, ByteEscape, ByteUnit, CEscape, CUnit, Continuation, Str, StringUnit}
+use Rattle.lexical.specs.Quoted.{StringEscape, is_byte_plain, is_c_plain, is_string_plain}
+use Rattle.literal_escaper.specs.declared.errors.EscapeError.TheVariants.{MultipleSkippedLinesWarning}
+use Rattle.literal_escaper.specs.declared.errors.EscapeError.TheVariants.{UnskippedWhitespaceWarning}
 use Rattle.literal_escaper.specs.Character.{is_blank as blank}
 use Rattle.literal_escaper.specs.Items.{Item, front, items, items_from, line_skip, lines_range, warning_at, white_range}
 use Rattle.literal_escaper.specs.Kind.{Kind, byte_kind, c_kind, string_kind}
@@ -27,7 +30,8 @@ use Rattle.pm_token.proofs.ContentLemmas.{between_within}
 use Rattle.pm_token.proofs.EscapeValueLemmas.{byte_escape, c_escape, string_escape}
 use Rattle.pm_token.proofs.UnitLemmas.{EscapesAs, Spells, byte_chars, c_chars, one, string_chars}
 use Rattle.pm_token.proofs.SuffixLemmas.{content_units}
-use Rattle.pm_token.proofs.ReadLemmas.{Alone, Begins, Give, begins_alone, begins_escape, give_front, give_none, given_value}
+use Rattle.pm_token.proofs.ReadLemmas.{Alone, Begins, Give, begins_alone, begins_escape, give_front, give_none}
+use Rattle.pm_token.proofs.ReadLemmas.{given_value}
 
 -- ---- line ends that are skipped
 

@@ -1,5 +1,6 @@
 -- A text that grows, by its characters.
-use Rattle.std.proofs.Common.{◌≡◌, ℕ, List, [], ◌∷◌, ◌++◌, if◌then◌else◌, Result, Ok, Err, OnOk, sym, ap, ◌∙◌, append-nil, append_assoc, length, arith}
+use Rattle.std.proofs.Common.{◌≡◌, ℕ, List, [], ◌∷◌, ◌++◌, if◌then◌else◌, Result, Ok, Err, OnOk, sym, ap, ◌∙◌}
+use Rattle.std.proofs.Common.{append-nil, append_assoc, length, arith}
 use Rattle.std.specs.Prelude.{encode_utf8, is_ok}
 use Rattle.std.specs.Char.{IsScalar}
 use Rattle.std.specs.Str.{chars, IsUtf8}

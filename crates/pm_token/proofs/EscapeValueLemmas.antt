@@ -1,8 +1,10 @@
 -- What is read of each escape that the grammar allows. Hex digits and codes have files of their own.
-use Rattle.std.proofs.Common.{◌≡◌, ℕ, ◌<◌, Bool, true, false, not, ◌&&◌, ◌==◌, nat_lt, List, [], ◌∷◌, codes, Option, Some, None, Ok, refl, sym, ap, ◌∙◌, subst, arith, inl, inr, eqb-true, ltb-true}
+use Rattle.std.proofs.Common.{◌≡◌, ℕ, ◌<◌, Bool, true, false, not, ◌&&◌, ◌==◌, nat_lt, List, [], ◌∷◌, codes, Option}
+use Rattle.std.proofs.Common.{Some, None, Ok, refl, sym, ap, ◌∙◌, subst, arith, inl, inr, eqb-true, ltb-true}
 use Rattle.std.specs.Char.{is_ascii}
 use Rattle.std.specs.List.{list_all}
-use Rattle.std.proofs.lemmas.Bool.{agree_below, agree_below_at, and_parts, both_ways, cond-false, false_from_ne_true, not-true, or_cases}
+use Rattle.std.proofs.lemmas.Bool.{agree_below, agree_below_at, and_parts, both_ways, cond-false, false_from_ne_true}
+use Rattle.std.proofs.lemmas.Bool.{not-true, or_cases}
 use Rattle.lexical.specs.Rule.{Stands}
 use Rattle.lexical.specs.Quoted as rule
 use Rattle.lexical.specs.Quoted.{is_one_of, StringEscape, ByteEscape, CEscape}

@@ -1,5 +1,6 @@
 -- What the constructors write is a literal.
-use Rattle.std.proofs.Common.{◌≡◌, ℕ, ◌≤◌, Bool, true, false, not, ◌&&◌, ◌==◌, List, [], ◌∷◌, ◌++◌, codes, length, refl, sym, ap, ne_eqb, ◌∙◌, subst, arith, inl, inr, append-nil}
+use Rattle.std.proofs.Common.{◌≡◌, ℕ, ◌≤◌, Bool, true, false, not, ◌&&◌, ◌==◌, List, [], ◌∷◌, ◌++◌, codes, length, refl}
+use Rattle.std.proofs.Common.{sym, ap, ne_eqb, ◌∙◌, subst, arith, inl, inr, append-nil}
 use Rattle.std.specs.Prelude.{filter}
 use Rattle.std.specs.List.{concat}
 use Rattle.std.specs.Char.{IsScalar, digit_char, is_ascii_hexdigit}
@@ -9,7 +10,8 @@ use Rattle.lexical.specs.Text.{first_passes}
 use Rattle.lexical.specs.Form.{Form, Then, Exactly, Many, Each}
 use Rattle.lexical.specs.Rule.{Rule, Stands}
 use Rattle.lexical.specs.Quoted as rule
-use Rattle.lexical.specs.Quoted.{is_one_of, is_octal_digit, is_scalar, hex_value, is_string_plain, StringEscape, BodyUnit, StringUnit, Suffix, Str}
+use Rattle.lexical.specs.Quoted.{is_one_of, is_octal_digit, is_scalar, hex_value, is_string_plain, StringEscape}
+use Rattle.lexical.specs.Quoted.{BodyUnit, StringUnit, Suffix, Str}
 use Rattle.lexical.specs.SingleQuoted.{is_char_plain, SingleUnit, Character}
 use Rattle.lexical.specs.Literal.{IsLiteralToken}
 use Rattle.lexical.specs.Literal as literals
@@ -19,7 +21,8 @@ use Rattle.lexical.proofs.ClassLemmas.{any_of}
 use Rattle.lexical.proofs.QuotedLemmas.{EndsSuffix, no_name, stops, stop_ends}
 use Rattle.pm_token.specs.Escaped.{is_bare, written_char, written, content, string_text, character_text}
 use Rattle.pm_token.specs.Text.{IsText}
-use Rattle.pm_token.proofs.HexLemmas.{digits_of, IsCoded, coded, hex_digit, hex_digits, length_digits, hex_value-digits, is_scalar-IsScalar}
+use Rattle.pm_token.proofs.HexLemmas.{digits_of, IsCoded, coded, hex_digit, hex_digits, length_digits, hex_value-digits}
+use Rattle.pm_token.proofs.HexLemmas.{is_scalar-IsScalar}
 use Rattle.pm_token.proofs.TextLemmas.{text_literal}
 
 -- ---- one character

@@ -1,5 +1,6 @@
 -- The text of an integer is a whole literal.
-use Rattle.std.proofs.Common.{◌≡◌, ℕ, ◌<◌, ◌^◌, ℤ, pos, negsuc, Bool, true, false, ◌||◌, ◌==◌, List, [], ◌∷◌, ◌++◌, codes, Some, refl, ap, ◌∙◌, subst, arith, ap₂, inl, inr, drop, eqb-true, SFits, suc}
+use Rattle.std.proofs.Common.{◌≡◌, ℕ, ◌<◌, ◌^◌, ℤ, pos, negsuc, Bool, true, false, ◌||◌, ◌==◌, List, [], ◌∷◌, ◌++◌}
+use Rattle.std.proofs.Common.{codes, Some, refl, ap, ◌∙◌, subst, arith, ap₂, inl, inr, drop, eqb-true, SFits, suc}
 use Rattle.std.specs.List.{list_all}
 use Rattle.std.specs.Char.{is_ascii_digit, digit_value}
 use Rattle.std.specs.Str.{chars, IsAscii}
@@ -25,7 +26,8 @@ use Rattle.lexical.proofs.NumberFinderLemmas.{finds_digits, finds_number, number
 use Rattle.pm_token.specs.Integer.{suffix_text}
 use Rattle.pm_token.specs.LiteralText.{IsWholeLiteral}
 use Rattle.pm_token.specs.declared.literals.integers.Suffix.{Suffix}
-use Rattle.pm_token.specs.declared.literals.integers.Suffix.TheVariants.{Nothing, U8, U16, U32, U64, U128, Usize, I8, I16, I32, I64, I128, Isize}
+use Rattle.pm_token.specs.declared.literals.integers.Suffix.TheVariants.{Nothing, U8, U16, U32, U64, U128, Usize, I8}
+use Rattle.pm_token.specs.declared.literals.integers.Suffix.TheVariants.{I16, I32, I64, I128, Isize}
 
 -- ---- suffixes
 

@@ -3,7 +3,8 @@ use Rattle.std.proofs.Common.{◌<◌, ℕ, List, [], ◌∷◌, refl, subst, sy
 use Rattle.std.specs.List.{AllByRecursion}
 use Rattle.lexical.specs.Quoted.{CStr}
 use Rattle.lexical.proofs.QuotedLemmas.{stop_ends}
-use Rattle.pm_token.specs.KindLaws.{ByteStringsAreByteStrings, BytesAreBytes, CStringsAreCStrings, CharactersAreCharacters, StringsAreStrings}
+use Rattle.pm_token.specs.KindLaws.{ByteStringsAreByteStrings, BytesAreBytes, CStringsAreCStrings}
+use Rattle.pm_token.specs.KindLaws.{CharactersAreCharacters, StringsAreStrings}
 use Rattle.pm_token.proofs.ByteLemmas.{AreBytes, byte_stands, byte_string_stands}
 use Rattle.pm_token.proofs.CStringLemmas.{c_string_stands}
 use Rattle.pm_token.proofs.EscapedLemmas.{character_stands, string_before_stop}

@@ -1,5 +1,7 @@
 -- Lemmas on the names of identifiers.
-use Rattle.std.proofs.Common.{◌≡◌, ◌≢◌, ◌↔◌, ℕ, Bool, true, false, not, ◌==◌, List, [], ◌∷◌, ◌++◌, length, drop, IsTrue, eqb, nat_eq, codes, refl, sym, ap, ◌∙◌, arith, append-nil, length-append, ne_eqb, cond, Option, Some, None, IfSome, IfNone}
+use Rattle.std.proofs.Common.{◌≡◌, ◌≢◌, ◌↔◌, ℕ, Bool, true, false, not, ◌==◌, List, [], ◌∷◌, ◌++◌, length, drop, IsTrue}
+use Rattle.std.proofs.Common.{eqb, nat_eq, codes, refl, sym, ap, ◌∙◌, arith, append-nil, length-append, ne_eqb, cond}
+use Rattle.std.proofs.Common.{Option, Some, None, IfSome, IfNone}
 use Rattle.std.specs.List.{list_all}
 use Rattle.std.specs.Option.{option_eq}
 use Rattle.std.specs.Str.{chars, IsUtf8, encode_utf8_all}

@@ -1,5 +1,7 @@
 -- The values of characters and bytes.
-use Rattle.std.proofs.Common.{◌≡◌, ◌↔◌, ℕ, Bool, true, false, ◌==◌, ne_eqb, List, [], ◌∷◌, ◌++◌, codes, Option, Some, None, Result, Ok, Err, IsOk, IfErr, is_ok, refl, sym, ap, ap₂, ◌∙◌, subst, inl, inr, append_assoc}
+use Rattle.std.proofs.Common.{◌≡◌, ◌↔◌, ℕ, Bool, true, false, ◌==◌, ne_eqb, List, [], ◌∷◌, ◌++◌, codes, Option, Some}
+use Rattle.std.proofs.Common.{None, Result, Ok, Err, IsOk, IfErr, is_ok, refl, sym, ap, ap₂, ◌∙◌, subst, inl, inr}
+use Rattle.std.proofs.Common.{append_assoc}
 use Rattle.std.specs.Option.{option_map}
 use Rattle.std.specs.Char.{is_ascii, is_ascii_digit}
 use Rattle.std.proofs.lemmas.Bool.{both_ways, and_parts, or_parts, cond-true, eqb-false, not-true}
@@ -19,8 +21,10 @@ use Rattle.pm_token.specs.declared.literals.conversion.ConversionErrorKind.TheVa
 use Rattle.pm_token.specs.Escaped.{byte_text, character_text}
 use Rattle.pm_token.specs.Joined.{escape_value, numbers}
 use Rattle.pm_token.specs.LiteralText.{IsLiteralText}
-use Rattle.pm_token.specs.SingleValue.{IsUnsuffixed, byte_value, char_value, single_content, single_value, value_from_single}
-use Rattle.pm_token.specs.ValueLaws.{ByteValuesComeBack, BytesHaveUnits, CharacterValuesComeBack, CharactersHaveUnits, HasSingle}
+use Rattle.pm_token.specs.SingleValue.{IsUnsuffixed, byte_value, char_value, single_content, single_value}
+use Rattle.pm_token.specs.SingleValue.{value_from_single}
+use Rattle.pm_token.specs.ValueLaws.{ByteValuesComeBack, BytesHaveUnits, CharacterValuesComeBack, CharactersHaveUnits}
+use Rattle.pm_token.specs.ValueLaws.{HasSingle}
 use Rattle.pm_token.proofs.ContentLemmas.{between_splits, between_within}
 use Rattle.pm_token.proofs.EscapeValueLemmas.{byte_escape, string_escape}
 use Rattle.pm_token.proofs.SuffixLemmas.{no_single_suffix}

@@ -1,5 +1,6 @@
 -- A literal that a quote ends has no suffix, and its content is the body of the grammar.
-use Rattle.std.proofs.Common.{◌≡◌, ℕ, true, false, List, [], ◌∷◌, ◌++◌, arith, codes, append-nil, refl, sym, ap, ap₂, ◌∙◌, subst₂, inl, inr, eqb-true}
+use Rattle.std.proofs.Common.{◌≡◌, ℕ, true, false, List, [], ◌∷◌, ◌++◌, arith, codes, append-nil, refl, sym, ap, ap₂}
+use Rattle.std.proofs.Common.{◌∙◌, subst₂, inl, inr, eqb-true}
 use Rattle.std.specs.List.{list_all}
 use Rattle.std.proofs.lemmas.Bool.{and_parts, both_ways}
 use Rattle.std.proofs.lemmas.List.{append_cancel_left, append_cancel_right}

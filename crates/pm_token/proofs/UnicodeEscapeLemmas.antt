@@ -1,9 +1,12 @@
 -- What is read of the code of a character, in braces behind `\u`.
-use Rattle.std.proofs.Common.{◌≡◌, ℕ, ◌*◌, ◌+◌, ◌<◌, Bool, true, false, not, ◌&&◌, ◌||◌, ◌==◌, nat_lt, nat_le, List, [], ◌∷◌, ◌++◌, length, Ok, refl, sym, ap, ap₂, ◌∙◌, subst, arith, inl, inr, eqb-true, ltb-true, leb-true}
+use Rattle.std.proofs.Common.{◌≡◌, ℕ, ◌*◌, ◌+◌, ◌<◌, Bool, true, false, not, ◌&&◌, ◌||◌, ◌==◌, nat_lt, nat_le, List, []}
+use Rattle.std.proofs.Common.{◌∷◌, ◌++◌, length, Ok, refl, sym, ap, ap₂, ◌∙◌, subst, arith, inl, inr, eqb-true}
+use Rattle.std.proofs.Common.{ltb-true, leb-true}
 use Rattle.std.specs.Prelude.{filter, cond}
 use Rattle.std.specs.Char.{digit_value, is_ascii_hexdigit}
 use Rattle.std.specs.List.{fold, list_all}
-use Rattle.std.proofs.lemmas.Bool.{agree_below_at, and_from, and_parts, cond_both, cond-false, cond-true, false_from_ne_true, not-true, or_cases}
+use Rattle.std.proofs.lemmas.Bool.{agree_below_at, and_from, and_parts, cond_both, cond-false, cond-true}
+use Rattle.std.proofs.lemmas.Bool.{false_from_ne_true, not-true, or_cases}
 use Rattle.lexical.specs.Rule.{Stands}
 use Rattle.lexical.specs.Quoted as rule
 use Rattle.lexical.specs.Quoted.{is_scalar, is_code, hex_value}

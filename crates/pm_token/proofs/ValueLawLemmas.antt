@@ -1,5 +1,7 @@
 -- The values of literals that were made.
-use Rattle.std.proofs.Common.{◌≡◌, ℕ, ◌*◌, ◌+◌, ◌/◌, ◌%◌, ◌<◌, Bool, true, false, ◌&&◌, ◌||◌, ◌==◌, nat_eq, nat_lt, nat_le, List, [], ◌∷◌, ◌++◌, codes, Some, Ok, refl, sym, ap, ap₂, ◌∙◌, arith, inl, inr, append-nil, eqb-true, ltb-true}
+use Rattle.std.proofs.Common.{◌≡◌, ℕ, ◌*◌, ◌+◌, ◌/◌, ◌%◌, ◌<◌, Bool, true, false, ◌&&◌, ◌||◌, ◌==◌, nat_eq, nat_lt}
+use Rattle.std.proofs.Common.{nat_le, List, [], ◌∷◌, ◌++◌, codes, Some, Ok, refl, sym, ap, ap₂, ◌∙◌, arith, inl, inr}
+use Rattle.std.proofs.Common.{append-nil, eqb-true, ltb-true}
 use Rattle.std.specs.Char.{IsScalar, digit_value}
 use Rattle.std.specs.Char.Escape.{escape_unicode}
 use Rattle.std.specs.Fmt.{digit_glyph}
@@ -13,13 +15,15 @@ use Rattle.literal_escaper.specs.Kind.{Kind, byte_kind, string_kind}
 use Rattle.literal_escaper.specs.Single.{only, single}
 use Rattle.literal_escaper.specs.Text.{bytes}
 use Rattle.pm_token.specs.Content.{raw_content}
-use Rattle.pm_token.specs.Escaped.{is_bare, written_char, written_byte, written, content, hex_pair, string_text, byte_string_text}
+use Rattle.pm_token.specs.Escaped.{is_bare, written_char, written_byte, written, content, hex_pair, string_text}
+use Rattle.pm_token.specs.Escaped.{byte_string_text}
 use Rattle.pm_token.specs.Text.{IsText}
 use Rattle.pm_token.specs.Value.{units, value_from}
 use Rattle.pm_token.specs.ValueLaws.{ByteStringsComeBack, BytesComeBack, CharactersComeBack, StringsComeBack}
 use Rattle.pm_token.proofs.ContentLemmas.{between_within}
 use Rattle.pm_token.proofs.CodeReadLemmas.{code_escapes}
-use Rattle.pm_token.proofs.ReadLemmas.{Escapes, Give, IsPlain, Stands, WrittenAs, begins_written, give_front, give_none, given_value, short_double, short_single, written_as}
+use Rattle.pm_token.proofs.ReadLemmas.{Escapes, Give, IsPlain, Stands, WrittenAs, begins_written, give_front, give_none}
+use Rattle.pm_token.proofs.ReadLemmas.{given_value, short_double, short_single, written_as}
 
 -- ---- strings
 

@@ -1,5 +1,8 @@
 -- Whole literals.
-use Rattle.std.proofs.Common.{◌≡◌, ◌≢◌, ◌↔◌, ℕ, Bool, true, false, ◌==◌, Result, Ok, Err, IfOk, IfErr, MatchResult, ◌+◌, List, [], ◌∷◌, ◌++◌, length, Option, Some, None, IfSome, IfNone, MatchOption, Bor, IsTrue, eqb, refl, sym, ap, ◌∙◌, subst, arith, inl, inr, drop, append-nil, length-append, eqb-true, codes, if◌then◌else◌}
+use Rattle.std.proofs.Common.{◌≡◌, ◌≢◌, ◌↔◌, ℕ, Bool, true, false, ◌==◌, Result, Ok, Err, IfOk, IfErr, MatchResult, ◌+◌}
+use Rattle.std.proofs.Common.{List, [], ◌∷◌, ◌++◌, length, Option, Some, None, IfSome, IfNone, MatchOption, Bor, IsTrue}
+use Rattle.std.proofs.Common.{eqb, refl, sym, ap, ◌∙◌, subst, arith, inl, inr, drop, append-nil, length-append}
+use Rattle.std.proofs.Common.{eqb-true, codes, if◌then◌else◌}
 use Rattle.std.specs.Option.{option_eq}
 use Rattle.std.specs.Char.{is_ascii_digit}
 use Rattle.std.specs.Str.{chars, IsUtf8, encode_utf8_all}

@@ -1,5 +1,6 @@
 -- What stands between the quotes of a string of any kind, where no suffix follows.
-use Rattle.std.specs.Prelude.{ℕ, Bool, ◌==◌, List, ◌++◌, codes, drop, length, reverse, Option, Some, None, option_and_then, if◌then◌else◌}
+use Rattle.std.specs.Prelude.{ℕ, Bool, ◌==◌, List, ◌++◌, codes, drop, length, reverse, Option, Some, None}
+use Rattle.std.specs.Prelude.{option_and_then, if◌then◌else◌}
 use Rattle.std.specs.Option.{option_map}
 use Rattle.lexical.specs.Text.{begins_with}
 use Rattle.literal_escaper.specs.Text.{while_front}

@@ -1,13 +1,17 @@
 -- What the constructors write of a literal between quotes.
-use Rattle.std.specs.Prelude.{ℕ, Bool, true, false, not, ◌&&◌, ◌==◌, List, [], ◌∷◌, ◌++◌, codes, nat_lt, nat_le, ◌/◌, ◌%◌, if◌then◌else◌}
+use Rattle.std.specs.Prelude.{ℕ, Bool, true, false, not, ◌&&◌, ◌==◌, List, [], ◌∷◌, ◌++◌, codes, nat_lt, nat_le, ◌/◌}
+use Rattle.std.specs.Prelude.{◌%◌, if◌then◌else◌}
 use Rattle.std.specs.Fmt.{digit_glyph}
 use Rattle.std.specs.Char.Escape.{escape_unicode}
 use Rattle.lexical.specs.Text.{first_passes}
 use Rattle.lexical.specs.Quoted.{is_octal_digit}
-use Rattle.literal_escaper.specs.Character.{backslash, carriage_return, double_quote, line_feed, quote as single_quote, tab}
+use Rattle.literal_escaper.specs.Character.{backslash, carriage_return, double_quote, line_feed, quote as single_quote}
+use Rattle.literal_escaper.specs.Character.{tab}
 use Rattle.ucd_category.specs.GeneralCategory.{general_category}
 use Rattle.ucd_category.specs.declared.GeneralCategory.{GeneralCategory}
-use Rattle.ucd_category.specs.declared.GeneralCategory.TheVariants.{NonspacingMark, EnclosingMark, SpaceSeparator, LineSeparator, ParagraphSeparator, Control, Format, PrivateUse, Unassigned}
+use Rattle.ucd_category.specs.declared.GeneralCategory.TheVariants.{NonspacingMark, EnclosingMark, SpaceSeparator}
+use Rattle.ucd_category.specs.declared.GeneralCategory.TheVariants.{LineSeparator, ParagraphSeparator, Control, Format}
+use Rattle.ucd_category.specs.declared.GeneralCategory.TheVariants.{PrivateUse, Unassigned}
 
 -- `hidden`: a character of the category shows on its neighbours or not at all
 abbrev pub is_hidden : GeneralCategory → Bool

@@ -1,9 +1,11 @@
 -- What the units of a literal with escapes give together, by the units of the grammar.
-use Rattle.std.specs.Prelude.{ℕ, nat_eq, Bool, true, false, ◌&&◌, ◌||◌, ◌==◌, if◌then◌else◌, List, [], ◌∷◌, ◌++◌, codes, encode_utf8, filter}
+use Rattle.std.specs.Prelude.{ℕ, nat_eq, Bool, true, false, ◌&&◌, ◌||◌, ◌==◌, if◌then◌else◌, List, [], ◌∷◌, ◌++◌, codes}
+use Rattle.std.specs.Prelude.{encode_utf8, filter}
 use Rattle.std.specs.Char.{is_ascii_hexdigit}
 use Rattle.std.specs.Cmp.Lexicographic.{pointwise}
 use Rattle.lexical.specs.Quoted.{hex_value}
-use Rattle.literal_escaper.specs.Character.{backslash, carriage_return, digit_0, letter_n, letter_r, letter_t, letter_u, letter_x, line_feed, space, tab}
+use Rattle.literal_escaper.specs.Character.{backslash, carriage_return, digit_0, letter_n, letter_r, letter_t, letter_u}
+use Rattle.literal_escaper.specs.Character.{letter_x, line_feed, space, tab}
 
 -- what literals of a kind make of a character, and of the number of two hex digits
 pub record Makes : Type 0 where

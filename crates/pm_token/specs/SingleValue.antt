@@ -8,7 +8,8 @@ use Rattle.literal_escaper.specs.Character.{quote as single_quote}
 use Rattle.literal_escaper.specs.Kind.{Kind, byte_kind, string_kind}
 use Rattle.literal_escaper.specs.Single.{single}
 use Rattle.pm_token.specs.declared.literals.conversion.ConversionErrorKind.{ConversionErrorKind}
-use Rattle.pm_token.specs.declared.literals.conversion.ConversionErrorKind.TheVariants.{FailedToUnescape, InvalidLiteralKind}
+use Rattle.pm_token.specs.declared.literals.conversion.ConversionErrorKind.TheVariants.{FailedToUnescape}
+use Rattle.pm_token.specs.declared.literals.conversion.ConversionErrorKind.TheVariants.{InvalidLiteralKind}
 use Rattle.pm_token.specs.Content.{between}
 
 -- `single-content`: behind this front, up to a `'` that ends the text
@@ -23,7 +24,8 @@ value_from_single (Some (Err fault)) = Err (FailedToUnescape fault)
 
 -- `single-value`: of a text with a content behind this front
 abbrev pub single_value : Kind ℕ → List ℕ → List ℕ → Result ℕ ConversionErrorKind
-single_value kind front text = value_from_single (option_map (λ content. (single kind content).unit) (single_content front text))
+single_value kind front text =
+    value_from_single (option_map (λ content. (single kind content).unit) (single_content front text))
 
 -- `character-value`
 abbrev pub char_value : List ℕ → Result ℕ ConversionErrorKind

@@ -1,5 +1,6 @@
 -- The values of string literals of every kind.
-use Rattle.std.specs.Prelude.{◌≡◌, ◌↔◌, ℕ, IfOk, String, Vec, string_bytes, List, [], ◌∷◌, ◌++◌, codes, encode_utf8, Option, Some, None, Result, Ok, Err}
+use Rattle.std.specs.Prelude.{◌≡◌, ◌↔◌, ℕ, IfOk, String, Vec, string_bytes, List, [], ◌∷◌, ◌++◌, codes, encode_utf8}
+use Rattle.std.specs.Prelude.{Option, Some, None, Result, Ok, Err}
 use Rattle.std.specs.List.{flat_map}
 use Rattle.std.specs.Option.{option_map}
 use Rattle.std.specs.Str.{chars, encode_utf8_all}
@@ -10,7 +11,8 @@ use Rattle.literal_escaper.specs.Items.{items}
 use Rattle.literal_escaper.specs.Kind.{Kind, string_kind, byte_kind, c_kind}
 use Rattle.literal_escaper.specs.Value.{value_of}
 use Rattle.pm_token.specs.declared.literals.conversion.ConversionErrorKind.{ConversionErrorKind}
-use Rattle.pm_token.specs.declared.literals.conversion.ConversionErrorKind.TheVariants.{FailedToUnescape, InvalidLiteralKind}
+use Rattle.pm_token.specs.declared.literals.conversion.ConversionErrorKind.TheVariants.{FailedToUnescape}
+use Rattle.pm_token.specs.declared.literals.conversion.ConversionErrorKind.TheVariants.{InvalidLiteralKind}
 use Rattle.pm_token.specs.Content.{cooked_content, raw_content}
 
 -- the units of a content with escapes, or its last fault

@@ -41,7 +41,8 @@ CharactersComeBack = (c : ℕ) → IsScalar c
 -- that of a byte the byte
 abbrev pub BytesComeBack : Type 0
 BytesComeBack = (b : ℕ) → b < 256
-    → (content : List ℕ) × (byte_text b ≡ codes "b'" ++ (content ++ codes "'")) × ((single byte_kind content).unit ≡ Ok b)
+    → (content : List ℕ) × (byte_text b ≡ codes "b'" ++ (content ++ codes "'"))
+    × ((single byte_kind content).unit ≡ Ok b)
 
 -- what stands between the quotes of a literal is one unit, whatever suffix follows; where none does, it is the value
 pub record HasSingle (kind : Kind ℕ) (front text : List ℕ) (value : Result ℕ ConversionErrorKind) : Type 0 where
@@ -111,7 +112,8 @@ StringsHaveValues = (content : List ℕ) → Str (cooked_text (codes "\"") conte
 
 -- so is that of a byte string
 abbrev pub ByteStringsHaveValues : Type 0
-ByteStringsHaveValues = (content : List ℕ) → ByteStr (cooked_text (codes "b\"") content) [] → IsTrue (has_no_return content)
+ByteStringsHaveValues =
+    (content : List ℕ) → ByteStr (cooked_text (codes "b\"") content) [] → IsTrue (has_no_return content)
     → IsJoined ByteUnit string_joined content (byte_str_value (cooked_text (codes "b\"") content))
 
 -- and that of a C string, with a zero byte behind them

@@ -34,7 +34,8 @@ impl Model for Ident {
 }
 
 impl Ident {
-    ghost use Rattle.std.specs.Prelude.{◌↔◌, IsTrue, true, false};
+    ghost use Rattle.std.specs.Cmp.Lexicographic.{pointwise};
+    ghost use Rattle.std.specs.Prelude.{◌↔◌, IsTrue, true, false, nat_eq};
     ghost use Rattle.std.specs.Str.{chars};
     ghost use Rattle.pm_token.specs.Built.{IsBuiltToken};
     ghost use Rattle.pm_token.specs.IdentFault.{Refuses, ident_fault};
@@ -111,7 +112,8 @@ impl Ident {
 
     /// Whether `text` is how the identifier is written: a raw `a` is `r#a`, and not `a`.
     pub fn eq_str(&self, text: &str) -> bool
-        ensures { IsTrue result ↔ (name_text self.now ≡ chars text.now) }
+        ensures exactly { IsTrue result ↔ (name_text self.now ≡ chars text.now) }
+        ensures value { result ≡ pointwise nat_eq (name_text self.now) (chars text.now) }
     {
         let name = self.name.as_str();
         if !self.name.is_raw() {

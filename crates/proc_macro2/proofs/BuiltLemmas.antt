@@ -1,5 +1,6 @@
 -- What a text parses to is built, and a built stream prints a text.
-use Rattle.std.proofs.Common.{◌≡◌, ◌==◌, ℕ, ◌+◌, ◌≤◌, Bool, true, false, List, [], ◌∷◌, ◌++◌, length, refl, sym, subst, arith, inl, inr}
+use Rattle.std.proofs.Common.{◌≡◌, ◌==◌, ℕ, ◌+◌, ◌≤◌, Bool, true, false, List, [], ◌∷◌, ◌++◌, length, refl, sym, subst}
+use Rattle.std.proofs.Common.{arith, inl, inr}
 use Rattle.std.specs.Char.{IsScalar}
 use Rattle.std.specs.List.{list_any}
 use Rattle.std.proofs.lemmas.Bool.{and_parts, both_ways, or_cases, eqb-true}
@@ -15,7 +16,8 @@ use Rattle.pm_token.specs.declared.delimiters.Delimiter.{Delimiter}
 use Rattle.pm_token.specs.declared.delimiters.Delimiter.TheVariants.{Parenthesis, Brace, Bracket, None}
 use Rattle.pm_token.proofs.EscapedLemmas as escaped
 use Rattle.pm_token.proofs.TextLemmas.{text_append, text_one, text_split}
-use Rattle.pm_stream.specs.Events.{Event, One, Opens, Closes, bang, equals, doc_group_onto, doc_onto, events_onto, expansion}
+use Rattle.pm_stream.specs.Events.{Event, One, Opens, Closes, bang, equals, doc_group_onto, doc_onto, events_onto}
+use Rattle.pm_stream.specs.Events.{expansion}
 use Rattle.pm_stream.specs.Forest.{Forest, nil, leaf, group, flat_onto, IsBuilt}
 use Rattle.pm_stream.specs.Delimited.{opening, closing as closes, is_brace}
 use Rattle.pm_stream.specs.Parsing.{ParsesTo}

@@ -1,5 +1,6 @@
 -- Pieces before a line's end that is put in behind them.
-use Rattle.std.proofs.Common.{◌≡◌, ℕ, ◌⊎◌, Bool, true, false, not, ◌==◌, List, [], ◌∷◌, ◌++◌, codes, refl, sym, ap, ◌∙◌, subst, inl, inr, append_assoc}
+use Rattle.std.proofs.Common.{◌≡◌, ℕ, ◌⊎◌, Bool, true, false, not, ◌==◌, List, [], ◌∷◌, ◌++◌, codes, refl, sym, ap, ◌∙◌}
+use Rattle.std.proofs.Common.{subst, inl, inr, append_assoc}
 use Rattle.std.proofs.lemmas.Bool.{both_ways}
 use Rattle.std.specs.List.{list_all}
 use Rattle.lexical.specs.Class.{is_ident_continue}
@@ -12,7 +13,10 @@ use Rattle.lexical.specs.Quiet.{ends_quiet}
 use Rattle.lexical.specs.Piece.{Kind, Piece, FrontMark, Gap, Doc, Open, Close, Leaf, Stands, IsPiece}
 use Rattle.lexical.specs.Cover.{onto, StandBefore}
 use Rattle.lexical.proofs.TextLemmas.{any_cut}
-use Rattle.lexical.proofs.LeafLaws.{plain_line, doc_line, comment_cut, doc_cut, identifier_before_stop, mark_before_stop, stop_alone, stop_unbarred, quote_unbarred, quote_next, follows_something, IsNameOrLiteral, literal_before_stop, onto_split, literal_cut, literal_quoted, prefixed_follows}
+use Rattle.lexical.proofs.LeafLaws.{plain_line, doc_line, comment_cut, doc_cut, identifier_before_stop}
+use Rattle.lexical.proofs.LeafLaws.{mark_before_stop, stop_alone, stop_unbarred, quote_unbarred, quote_next}
+use Rattle.lexical.proofs.LeafLaws.{follows_something, IsNameOrLiteral, literal_before_stop, onto_split, literal_cut}
+use Rattle.lexical.proofs.LeafLaws.{literal_quoted, prefixed_follows}
 use Rattle.lexical.proofs.CommentLemmas.{plain_stays}
 use Rattle.lexical.proofs.PieceFacts.{piece_not_empty}
 use Rattle.lexical.proofs.NameLemmas.{name_before}

@@ -1,8 +1,12 @@
 -- How pieces begin: before which of them a mark is Joint, and which of them may stand behind `'`.
-use Rattle.std.proofs.Common.{◌≡◌, ◌≢◌, ℕ, ◌<◌, nat_lt, Bool, true, false, not, ◌&&◌, ◌||◌, ◌==◌, List, [], ◌∷◌, ◌++◌, IsTrue, codes, refl, sym, ap, ◌∙◌, subst, inl, inr, arith, eqb-true, eq-eqb, ltb-true, append-nil}
+use Rattle.std.proofs.Common.{◌≡◌, ◌≢◌, ℕ, ◌<◌, nat_lt, Bool, true, false, not, ◌&&◌, ◌||◌, ◌==◌, List, [], ◌∷◌, ◌++◌}
+use Rattle.std.proofs.Common.{IsTrue, codes, refl, sym, ap, ◌∙◌, subst, inl, inr, arith, eqb-true, eq-eqb, ltb-true}
+use Rattle.std.proofs.Common.{append-nil}
 use Rattle.std.specs.List.{list_all, list_any}
 use Rattle.std.specs.Char.{is_ascii_alphabetic}
-use Rattle.std.proofs.lemmas.Bool.{both_ways, and_left, and_right, and_from, and_parts, and_cases, or_cases, or_parts, not-true, or_from, not_from_false, not_from_true, cases_Bool, false_from_ne_true, ne_eqb}
+use Rattle.std.proofs.lemmas.Bool.{both_ways, and_left, and_right, and_from, and_parts, and_cases, or_cases, or_parts}
+use Rattle.std.proofs.lemmas.Bool.{not-true, or_from, not_from_false, not_from_true, cases_Bool, false_from_ne_true}
+use Rattle.std.proofs.lemmas.Bool.{ne_eqb}
 use Rattle.lexical.specs.Class.{is_white, is_ident_start, is_ident_continue}
 use Rattle.lexical.specs.Text.{begins_with, begins_any, first_passes}
 use Rattle.lexical.specs.Token.{Name, Mark, Literal}
@@ -14,7 +18,8 @@ use Rattle.lexical.specs.Literal as literals
 use Rattle.lexical.specs.Literal.{AnyLiteral}
 use Rattle.lexical.specs.Piece.{Kind, FrontMark, Gap, Doc, Open, Close, Leaf, Stands, IsPiece}
 use Rattle.lexical.proofs.ClassLemmas.{any_of, ident_start_ascii, ident_continue_ascii}
-use Rattle.lexical.proofs.LeafLaws.{comment_first, identifier_before_stop, mark_before_stop, stop_alone, quote_next, literal_before_stop, literal_first, literal_plain, literal_quoted, stops}
+use Rattle.lexical.proofs.LeafLaws.{comment_first, identifier_before_stop, mark_before_stop, stop_alone, quote_next}
+use Rattle.lexical.proofs.LeafLaws.{literal_before_stop, literal_first, literal_plain, literal_quoted, stops}
 use Rattle.lexical.proofs.PieceFacts.{open_is, close_is, stands_mark, start_continues, name_continues, none_begins}
 use Rattle.pm_token.specs.Built.{IsBuiltToken}
 

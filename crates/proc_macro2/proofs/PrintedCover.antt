@@ -1,6 +1,8 @@
 -- The printed text of a well spaced stream, as a cover.
-use Rattle.std.proofs.Common.{◌≡◌, ◌≢◌, ℕ, Bool, true, false, ◌&&◌, ◌==◌, List, [], ◌∷◌, ◌++◌, refl, sym, ap, ◌∙◌, subst, inl, inr, append_assoc}
-use Rattle.std.proofs.lemmas.Bool.{both_ways, cond-true, cond-false, and_parts, eqb-true, eqb-false, cases_Bool, not-true}
+use Rattle.std.proofs.Common.{◌≡◌, ◌≢◌, ℕ, Bool, true, false, ◌&&◌, ◌==◌, List, [], ◌∷◌, ◌++◌, refl, sym, ap, ◌∙◌}
+use Rattle.std.proofs.Common.{subst, inl, inr, append_assoc}
+use Rattle.std.proofs.lemmas.Bool.{both_ways, cond-true, cond-false, and_parts, eqb-true, eqb-false, cases_Bool}
+use Rattle.std.proofs.lemmas.Bool.{not-true}
 use Rattle.lexical.specs.Text.{begins_any}
 use Rattle.lexical.specs.Token.{Token, Name, Mark, Literal, token_text}
 use Rattle.lexical.specs.Mark.{is_mark, comment_fronts, FollowsQuote}
@@ -16,7 +18,8 @@ use Rattle.pm_stream.specs.Forest.{Forest, nil, leaf, group, flat_onto, IsBuilt}
 use Rattle.pm_stream.specs.Printed.{parts, space, printed_after}
 use Rattle.pm_stream.specs.Shown.{is_shown}
 use Rattle.pm_stream.specs.WellSpaced.{follows_quote, follows_joint, fits, next_token, well_spaced}
-use Rattle.proc_macro2.proofs.PieceStarts.{tick_comment, no_comment, name_stands, alone_stands, joint_stands, literal_stands, no_error}
+use Rattle.proc_macro2.proofs.PieceStarts.{tick_comment, no_comment, name_stands, alone_stands, joint_stands}
+use Rattle.proc_macro2.proofs.PieceStarts.{literal_stands, no_error}
 use Rattle.proc_macro2.proofs.Places.{bare, said}
 
 -- ---- the pieces of a printed text

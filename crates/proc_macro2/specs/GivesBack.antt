@@ -1,5 +1,6 @@
 -- How the spans of a parsed stream give back its source. A tree stands on a run of the pieces that cover the source.
-use Rattle.std.specs.Prelude.{ℕ, Bool, ◌+◌, ◌-◌, ◌<◌, ◌≡◌, ◌⊎◌, ◌↔◌, List, [], ◌∷◌, ◌++◌, All, Contains, length, slice_index_or, take, drop}
+use Rattle.std.specs.Prelude.{ℕ, Bool, ◌+◌, ◌-◌, ◌<◌, ◌≡◌, ◌⊎◌, ◌↔◌, List, [], ◌∷◌, ◌++◌, All, Contains, length}
+use Rattle.std.specs.Prelude.{slice_index_or, take, drop}
 use Rattle.lexical.specs.Token.{Token, token_text}
 use Rattle.lexical.specs.Piece.{Piece, Doc, Open, Close, Leaf}
 use Rattle.lexical.specs.Cover.{onto, width}

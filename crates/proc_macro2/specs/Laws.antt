@@ -87,8 +87,8 @@ JoinedTexts = (base first second : ℕ) (a b : List ℕ) (s t : Forest) → Pars
 
 -- ---- broken lines
 
--- where a source parses and its cover is some pieces, of which the last is neither a mark nor a number, and then others,
--- a line's end that is put in between them leaves the stream as it was, up to spans
+-- where a source parses and its cover is some pieces, of which the last is neither a mark nor a number, and then
+-- others, a line's end that is put in between them leaves the stream as it was, up to spans
 abbrev pub BrokenLine : Type 0
 BrokenLine = (base first : ℕ) (source : List ℕ) (stream : Forest) (us vs : List Piece) → ParsesTo first source stream
     → IsCover (us ++ vs) source → IsTrue (ends_quiet us) → Gives base (onto us (codes "\n" ++ onto vs [])) stream

@@ -54,6 +54,7 @@ pub use Rattle.pm_stream.specs.Building
 pub use Rattle.pm_stream.specs.Codec
 pub use Rattle.pm_stream.specs.Delimited
 pub use Rattle.pm_stream.specs.DelimSpan
+pub use Rattle.pm_stream.specs.DocGroup
 pub use Rattle.pm_stream.specs.Events
 pub use Rattle.pm_stream.specs.Forest
 pub use Rattle.pm_stream.specs.Given

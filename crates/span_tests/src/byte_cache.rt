@@ -1,4 +1,5 @@
-// Which bytes spans take on lines that aren't ASCII, asked for in many orders. What one look-up keeps is read by the next.
+// Which bytes spans take on lines that aren't ASCII, asked for in many orders. What one look-up keeps is read by the
+// next.
 ghost use Rattle.pm_span.specs.Files.{Holds};
 
 use pm_span::parts::{add_file, fits, span_of};

@@ -1,5 +1,6 @@
 -- Lemmas on the lines of trees.
-use Rattle.std.proofs.Common.{◌≡◌, ℕ, ◌+◌, ◌<◌, List, [], ◌∷◌, ◌++◌, length, map, flat_map, take, All, Result, Ok, Err, IfOk, refl, suc, get_or, arith, sym, ap, ◌∙◌, append_assoc}
+use Rattle.std.proofs.Common.{◌≡◌, ℕ, ◌+◌, ◌<◌, List, [], ◌∷◌, ◌++◌, length, map, flat_map, take, All, Result, Ok, Err}
+use Rattle.std.proofs.Common.{IfOk, refl, suc, get_or, arith, sym, ap, ◌∙◌, append_assoc}
 use Rattle.std.specs.List.{AllByRecursion as Each}
 use Rattle.std.proofs.Math.Seq.{take-suc}
 use Rattle.std.proofs.lemmas.List.{flat_map_more}

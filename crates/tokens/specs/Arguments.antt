@@ -1,5 +1,6 @@
 -- The words that the program was given.
-use Rattle.std.specs.Prelude.{ℕ, Bool, true, false, List, [], drop, map, if◌then◌else◌, Result, Ok, Err, String, string_bytes, alloc_error}
+use Rattle.std.specs.Prelude.{ℕ, Bool, true, false, List, [], drop, map, if◌then◌else◌, Result, Ok, Err, String}
+use Rattle.std.specs.Prelude.{string_bytes, alloc_error}
 use Rattle.std.specs.IoError.{error_kind}
 use Rattle.std.specs.Vec.Iter.{into_iter_items}
 use Rattle.std.specs.declared.alloc.AllocError.{AllocError}

@@ -1,5 +1,6 @@
 -- What the words ask for, and what is answered.
-use Rattle.std.specs.Prelude.{ℕ, List, [], ◌∷◌, ◌++◌, codes, decimal, nat_eq, if◌then◌else◌, Option, Some, None, Result, Ok, Err}
+use Rattle.std.specs.Prelude.{ℕ, List, [], ◌∷◌, ◌++◌, codes, decimal, nat_eq, if◌then◌else◌, Option, Some, None, Result}
+use Rattle.std.specs.Prelude.{Ok, Err}
 use lib.Pointwise.{pointwise}
 use Rattle.proc_macro2.specs.declared.LineColumn.{LineColumn}
 use Rattle.tokens.specs.declared.errors.RunError.{RunError}

@@ -20,9 +20,15 @@ pub record Seen : Type 0 where
   pub write_failed : Bool
 
 -- it of a source and a sink
-abbrev pub seen_by : {R W : Type 0} → (R → Option (List ℕ)) → (R → Bool) → (W → Option (List ℕ)) → (W → Bool) → R → W → Seen
+abbrev pub seen_by : {R W : Type 0} → (R → Option (List ℕ)) → (R → Bool) → (W → Option (List ℕ)) → (W → Bool)
+    → R → W → Seen
 seen_by left read_failed held write_failed reader writer =
-    record { left = left reader; read_failed = read_failed reader; held = held writer; write_failed = write_failed writer }
+    record {
+      left = left reader;
+      read_failed = read_failed reader;
+      held = held writer;
+      write_failed = write_failed writer;
+    }
 
 -- the sink got an output of the input
 pub record WritesOutput (mode : OutputMode) (old new : Seen) (input : List ℕ) : Type 0 where

@@ -19,10 +19,10 @@ mod tests;
 /// Does what the words after the program's name ask for, says on `errors` why it can't, and answers
 /// the program's status.
 ///
-/// The words that are known are `print` and `spans`, one of them alone. The status is 0 where all was written, 1 where the input
-/// has a fault, and 2 where the words ask for nothing, a read or a write failed, the input isn't
-/// UTF-8 or too long, or memory was refused; after each of these a line on `errors` says so. A line
-/// that can't be written changes no status.
+/// The words that are known are `print` and `spans`, one of them alone. The status is 0 where all
+/// was written, 1 where the input has a fault, and 2 where the words ask for nothing, a read or a
+/// write failed, the input isn't UTF-8 or too long, or memory was refused; after each of these a
+/// line on `errors` says so. A line that can't be written changes no status.
 pub fn command<R: ByteSource, W: ByteSink, E: ByteSink>(
     alloc: Global,
     words: &[String],

@@ -1,5 +1,6 @@
 //! Where a run's input comes from.
-ghost use Rattle.std.specs.Prelude.{◌≡◌, ◌≤◌, ◌<◌, ◌||◌, ℕ, Bool, Option, Some, List, length, take, is_err, IfOk, OnErr, false};
+ghost use Rattle.std.specs.Prelude.{◌≡◌, ◌≤◌, ◌<◌, ◌||◌, ℕ, Bool, Option, Some, List, length, take, is_err, IfOk};
+ghost use Rattle.std.specs.Prelude.{OnErr, false};
 ghost use Rattle.std.specs.Io.KnownBytes.{Consumes, IsAtEnd, Keeps};
 
 use std::io;

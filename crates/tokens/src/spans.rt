@@ -3,7 +3,8 @@ ghost use Rattle.std.specs.Prelude.{◌≡◌, ◌++◌, ℕ, List, All, IfOk, O
 ghost use Rattle.proc_macro2.specs.Files.{Holds, new_map, with_file};
 ghost use Rattle.proc_macro2.specs.HeldSpans.{HoldsAll};
 ghost use Rattle.proc_macro2.specs.InOrder.{in_order};
-ghost use Rattle.tokens.specs.Spans.{HasRead, IsInSource, kind_of, kind_word, line_in, line_of, line_text, place_text, span_line};
+ghost use Rattle.tokens.specs.Spans.{HasRead, IsInSource, kind_of, kind_word, line_in, line_of, line_text, place_text};
+ghost use Rattle.tokens.specs.Spans.{span_line};
 
 use itoa::Buffer;
 use proc_macro2::{LineColumn, SourceMap, Span, TokenStream, TokenTree};

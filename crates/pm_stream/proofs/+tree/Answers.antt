@@ -70,7 +70,7 @@ pub stream::TokenStream::drop-loop-preserved : goal.stream::TokenStream::drop-lo
 stream::TokenStream::drop-loop-preserved t c =
     let was = c.loop.invariant in
     let taken = count-taken _ _ c.in-Some-take_last-2.tree c.in-Some-take_last-2.ensures in
-    elim c.match-put_way.branch [
+    elim c.match-push_outer.branch [
       | stream::TokenStream::drop-in-Ok w ↦
           let into = ap count c.into_inside-inside.ensures in
           let some : 0 < count c.into_inside-inside.result =

@@ -1,5 +1,6 @@
 //! Literals from their text.
-ghost use Rattle.std.specs.Prelude.{◌≡◌, ◌==◌, ◌+◌, ◌↔◌, ◌∷◌, [], length, IfOk, IfErr, IfSome, IsTrue, MatchOption, MatchResult, false, if◌then◌else◌};
+ghost use Rattle.std.specs.Prelude.{◌≡◌, ◌==◌, ◌+◌, ◌↔◌, ◌∷◌, [], length, IfOk, IfErr, IfSome, IsTrue, MatchOption};
+ghost use Rattle.std.specs.Prelude.{MatchResult, false, if◌then◌else◌};
 ghost use Rattle.std.specs.Char.{is_ascii_digit};
 ghost use Rattle.std.specs.Str.{chars, IsUtf8};
 ghost use Rattle.lexical.specs.Literal as literals;

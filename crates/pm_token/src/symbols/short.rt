@@ -1,5 +1,6 @@
 //! Short texts, which stand in place.
-ghost use Rattle.std.specs.Prelude.{◌≡◌, ◌≤◌, ℕ, List, drop, length, take, false, true, IfSome, IsUtf8, MatchOption, if◌then◌else◌};
+ghost use Rattle.std.specs.Prelude.{◌≡◌, ◌≤◌, ℕ, List, drop, length, take, false, true, IfSome, IsUtf8, MatchOption};
+ghost use Rattle.std.specs.Prelude.{if◌then◌else◌};
 ghost use Rattle.std.specs.Str.{chars};
 ghost use Rattle.pm_token.specs.Negative.{has_minus};
 ghost use Rattle.pm_token.specs.declared.symbols.short.TheConstants.{ROOM};

@@ -1,4 +1,5 @@
-use Rattle.std.proofs.Common.{◌≡◌, ℕ, ◌+◌, ◌-◌, List, [], ◌∷◌, ◌++◌, length, drop, ap, sym, subst, refl, ◌∙◌, append_assoc, append-nil, arith}
+use Rattle.std.proofs.Common.{◌≡◌, ℕ, ◌+◌, ◌-◌, List, [], ◌∷◌, ◌++◌, length, drop, ap, sym, subst, refl, ◌∙◌}
+use Rattle.std.proofs.Common.{append_assoc, append-nil, arith}
 use Rattle.std.specs.Str.{chars, IsUtf8}
 use Rattle.pm_span.specs.FileInfo.{AreEnds, IsByteOffset, after_line_feeds_from}
 use Rattle.pm_span.specs.Place.{byte_offset}

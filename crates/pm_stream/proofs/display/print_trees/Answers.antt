@@ -1,6 +1,7 @@
 use Rattle.std.proofs.Common.{rules, true, [], ◌++◌, refl, ap, ◌∙◌}
 use Rattle.std.proofs.lemmas.List.{append-nil}
-use Rattle.pm_stream.proofs.PrintLemmas.{pushed, leaf_more, group_more, group_less, end_more, end_less, written_more, written_two}
+use Rattle.pm_stream.proofs.PrintLemmas.{pushed, leaf_more, group_more, group_less, end_more, end_less, written_more}
+use Rattle.pm_stream.proofs.PrintLemmas.{written_two}
 use Rattle.pm_stream.proofs.display.print_trees.Goals as goal
 
 pub loop-tree-init : goal.loop-tree-init

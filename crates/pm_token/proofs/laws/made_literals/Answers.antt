@@ -1,4 +1,5 @@
-use Rattle.pm_token.proofs.KindLawLemmas.{byte_strings_are_byte_strings, bytes_are_bytes, c_strings_are_c_strings, characters_are_characters, strings_are_strings}
+use Rattle.pm_token.proofs.KindLawLemmas.{byte_strings_are_byte_strings, bytes_are_bytes, c_strings_are_c_strings}
+use Rattle.pm_token.proofs.KindLawLemmas.{characters_are_characters, strings_are_strings}
 use Rattle.pm_token.proofs.laws.made_literals.Goals as goal
 
 pub returns : goal.returns

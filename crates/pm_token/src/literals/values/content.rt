@@ -3,7 +3,8 @@ ghost use Rattle.std.specs.Prelude.{◌≡◌, codes, IfSome, IsTrue, MatchOptio
 ghost use Rattle.std.specs.Str.{IsUtf8, chars};
 ghost use Rattle.lexical.specs.Ascii.{all_ascii};
 ghost use Rattle.pm_token.specs.SingleValue.{single_content as single};
-ghost use Rattle.pm_token.specs.Content.{before, behind, cooked_content as cooked, hashed_content as hashed, raw_content as raw};
+ghost use Rattle.pm_token.specs.Content.{before, behind, cooked_content as cooked, hashed_content as hashed};
+ghost use Rattle.pm_token.specs.Content.{raw_content as raw};
 
 /// What follows this ASCII front of the text.
 fn behind_front<'a>(text: &'a str, front: &str) -> Option<&'a str>

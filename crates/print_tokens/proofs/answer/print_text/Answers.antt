@@ -1,34 +1,32 @@
 use Rattle.std.proofs.Common.{Err, ap}
-use Rattle.std.proofs.KnownBytes.{Appends-nil, Appends-trans}
 use Rattle.proc_macro2.specs.Files.{new_map}
-use Rattle.proc_macro2.proofs.PlaceLemmas.{fault_starts, starts_in_last}
-use Rattle.proc_macro2.proofs.SpanLemmas.{parsed_within, source_held}
-use Rattle.print_tokens.specs.Answer.{first, lines, fault, unread}
+use Rattle.proc_macro2.proofs.PlaceLemmas.{fault_starts, parsed_places}
+use Rattle.proc_macro2.proofs.WritingLemmas.{writes_none, writes_one}
+use Rattle.print_tokens.specs.Answer.{lines, fault, unread}
 use Rattle.print_tokens.proofs.answer.print_text.Goals as goal
 
 pub loop-walk-init : goal.loop-walk-init
 loop-walk-init g c =
-    rw c.walk-walk.ensures (parsed_within first _ _ (rw c.new-map.ensures at c.in-Ok.ensures.ok), λ new h. h)
+    let read = c.in-Ok.ensures in
+    rw c.walk-walk.ensures (parsed_places _ _ _ _ c.new-map.ensures read.kept read.ok, λ new h. h)
 
 pub start-requires : goal.start-requires
 start-requires g c =
     let next = rw c.in-Some.is at c.in_ok-tree-in-Ok.ensures.ok in
-    let left = rw next at c.loop-walk.invariant.0 in
-    rw (c.in-Ok.ensures.kept, c.new-map.ensures, c.span.ensures.value) (source_held new_map _ _ left.0.0 left.0.1)
+    rw c.span.ensures.value (rw next at c.loop-walk.invariant.0).0.0
 
 pub loop-walk-preserved : goal.loop-walk-preserved
 loop-walk-preserved g c =
     let next = rw c.in-Some.is at c.in_ok-tree-in-Ok.ensures.ok in
     let left = rw next at c.loop-walk.invariant.0 in
-    let starts = rw (c.in-Ok.ensures.kept, c.new-map.ensures, c.span.ensures.value) at c.start.ensures in
-    let place = starts_in_last new_map _ _ _ left.0.0 left.0.1 starts in
+    let place = left.0.1 _ (rw c.span.ensures.value at c.start.ensures) in
     let line = rw place at c.in_ok-print_line-in-Ok.ensures in
-    (left.1, λ new h. c.loop-walk.invariant.1 new (rw next (Appends-trans _ _ _ _ _ line h)))
+    (left.1, writes_one _ _ _ _ _ _ _ (rw next at c.loop-walk.invariant.1) line)
 
 pub returns-in-Ok : goal.returns-in-Ok
 returns-in-Ok g c =
     let next = rw c.in_default.is at c.in_ok-tree-in-Ok.ensures.ok in
-    let written = c.loop-walk.invariant.1 (g.W.Write.contents c.loop-walk.writer) (rw next.0 (Appends-nil _)) in
+    let written = writes_none _ _ _ _ (rw next.0 at c.loop-walk.invariant.1) in
     (_, lines c.in-Ok.stream (rw c.new-map.ensures at c.in-Ok.ensures.ok), rw c.walk-walk.ensures at written)
 
 pub returns-in-Lex : goal.returns-in-Lex

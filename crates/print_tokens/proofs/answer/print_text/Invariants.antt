@@ -1,18 +1,17 @@
-use Rattle.std.proofs.Common.{ℕ, ◌+◌, List, length, flat_map, Option}
-use Rattle.std.specs.Io.KnownBytes.{Appends}
+use Rattle.std.proofs.Common.{length}
 use Rattle.std.specs.List.{AllByRecursion}
 use Rattle.std.specs.Str.{chars}
-use Rattle.proc_macro2.proofs.SpanLemmas.{IsWithin}
-use Rattle.print_tokens.specs.Answer.{first, line_of}
+use Rattle.proc_macro2.proofs.PlaceLemmas.{IsPlaced}
+use Rattle.proc_macro2.proofs.WritingLemmas.{WritesAll}
+use Rattle.print_tokens.specs.Answer.{line_of}
 use Rattle.print_tokens.proofs.answer.print_text.Given as goal
 
--- the spans stand in the text, and who writes the lines of the trees that are left has written all lines
+-- the trees that are left have their places, and who writes their lines has written all lines
 abbrev pub invariant-loop-walk : goal.invariant-loop-walk
 invariant-loop-walk g l =
-    let line = line_of (chars l.text) in
-    AllByRecursion (IsWithin first (first + length (chars l.text))) l.walk
-    × ((new : Option (List ℕ)) → Appends (g.W.Write.contents l.writer) new (flat_map line l.walk)
-    → Appends (g.W.Write.contents l.initial.writer) new (flat_map line l.initial.walk))
+    let bytes = g.W.Write.contents in
+    AllByRecursion (IsPlaced l.map (chars l.text)) l.walk
+    × WritesAll (line_of (chars l.text)) (bytes l.initial.writer) l.initial.walk (bytes l.writer) l.walk
 
 abbrev pub decreases-loop-walk : goal.decreases-loop-walk
 decreases-loop-walk g l = length l.walk

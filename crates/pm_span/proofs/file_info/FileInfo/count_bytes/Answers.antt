@@ -2,7 +2,8 @@ use Rattle.std.proofs.Common.{◌≡◌, ◌+◌, ◌-◌, ◌∙◌, length, ta
 use Rattle.std.specs.Str.{chars}
 use Rattle.std.proofs.lemmas.List.{length-take-le}
 use Rattle.pm_span.specs.Place.{byte_offset}
-use Rattle.pm_span.proofs.ByteOffsetLemmas.{known_boundary, known_front, known_order, known_rest, narrow_between, back_from, on_from}
+use Rattle.pm_span.proofs.ByteOffsetLemmas.{known_boundary, known_front, known_order, known_rest, narrow_between}
+use Rattle.pm_span.proofs.ByteOffsetLemmas.{back_from, on_from}
 use Rattle.pm_span.proofs.file_info.FileInfo.count_bytes.Goals as goal
 
 pub overflow_sub-after : goal.overflow_sub-after

@@ -13,7 +13,10 @@ use Rattle.lexical.proofs.PieceFacts.{piece_boundary}
 use Rattle.pm_stream.proofs.PieceLemmas.{name_found, literal_found, front_is, name_events}
 use Rattle.pm_stream.proofs.WrittenLemmas.{built_later}
 use Rattle.pm_stream.proofs.parse.Reading.take.Goals as goal
-use Rattle.pm_stream.proofs.parse.Reading.take.Goals.{in-Opener+in_ok-open-in-Opener, in-Closer+in_ok-close-in-Closer, in-Doc+in_ok-push_doc-in-Doc, in-Mark+in_ok-push_mark-in-Mark, in-Name+in_ok-name-in-Name+in_ok-push-in-Name, in-Literal+in_ok-push_literal-in-Literal, in-FrontMark}
+use Rattle.pm_stream.proofs.parse.Reading.take.Goals.{in-Opener+in_ok-open-in-Opener, in-Closer+in_ok-close-in-Closer}
+use Rattle.pm_stream.proofs.parse.Reading.take.Goals.{in-Doc+in_ok-push_doc-in-Doc, in-Mark+in_ok-push_mark-in-Mark}
+use Rattle.pm_stream.proofs.parse.Reading.take.Goals.{in-Name+in_ok-name-in-Name+in_ok-push-in-Name}
+use Rattle.pm_stream.proofs.parse.Reading.take.Goals.{in-Literal+in_ok-push_literal-in-Literal, in-FrontMark}
 
 pub ident-requires : goal.ident-requires
 ident-requires c =

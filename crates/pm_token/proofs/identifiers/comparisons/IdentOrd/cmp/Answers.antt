@@ -1,6 +1,7 @@
 use Rattle.std.proofs.Common.{◌≡◌, true, false, refl, sym, ap, ◌∙◌}
 use Rattle.std.specs.Cmp.{booleans_Decides}
-use Rattle.pm_token.proofs.CompareLemmas.{name_of, cmp_text, cmp_alike, cmp_raw_plain, cmp_plain_raw, other_plain, other_raw}
+use Rattle.pm_token.proofs.CompareLemmas.{name_of, cmp_text, cmp_alike, cmp_raw_plain, cmp_plain_raw, other_plain}
+use Rattle.pm_token.proofs.CompareLemmas.{other_raw}
 use Rattle.pm_token.proofs.identifiers.comparisons.IdentOrd.cmp.Goals as goal
 
 pub returns-then-raw-is_raw-clause-value : goal.returns-then-raw-is_raw-clause-value
