@@ -33,16 +33,15 @@ pub ends_in_last : (map : Files) (source : List ℕ) (span : Extent) (place : Li
     → place ≡ line_column source (span.hi - next_lo map)
 ends_in_last map source span place from to ends = ends source (next_lo map) (last_file map source) from to
 
--- the map has the tree's span, and that starts at its line and column of the text, the first that a new map took
-abbrev pub IsPlaced : Files → List ℕ → TokenTree → Type 0
-IsPlaced map text tree =
-    Holds map (extent_of tree)
-    × ((place : LineColumn) → StartsAt map (extent_of tree) place
+-- the tree has its place in the text, the first that a new map took: the map holds its span, which starts there
+abbrev pub IsPlaced : List ℕ → TokenTree → Type 0
+IsPlaced text tree =
+    Holds (with_file new_map text) (extent_of tree)
+    × ((place : LineColumn) → StartsAt (with_file new_map text) (extent_of tree) place
     → place ≡ line_column text ((extent_of tree).lo - next_lo new_map))
 
 each_placed : (text : List ℕ) (trees : List TokenTree)
-    → Each (IsWithin (next_lo new_map) (next_lo new_map + length text)) trees
-    → Each (IsPlaced (with_file new_map text) text) trees
+    → Each (IsWithin (next_lo new_map) (next_lo new_map + length text)) trees → Each (IsPlaced text) trees
 each_placed text [] h = tt
 each_placed text (tree ∷ trees) h =
     let span = extent_of tree in (
@@ -50,12 +49,10 @@ each_placed text (tree ∷ trees) h =
       each_placed text trees h.1,
     )
 
--- so it is of each tree of a text that was parsed with a new map
-pub parsed_places : (old map : Files) (text : List ℕ) (stream : Forest) → old ≡ new_map → map ≡ with_file old text
-    → ParsesTo (next_lo old) text stream → Each (IsPlaced map text) (in_order stream)
-parsed_places old map text stream is_new kept parses =
-    rw (kept, is_new) (each_placed text (in_order stream)
-    (parsed_within (next_lo new_map) text stream (rw is_new at parses)))
+-- so has each tree of a text that was parsed with a new map
+pub parsed_places : (text : List ℕ) (stream : Forest) → ParsesTo (next_lo new_map) text stream
+    → Each (IsPlaced text) (in_order stream)
+parsed_places text stream parses = each_placed text (in_order stream) (parsed_within (next_lo new_map) text stream parses)
 
 -- where the fault of a map's last file starts
 pub fault_starts : (old new : Files) (source : List ℕ) (fault : Extent) (place : LineColumn)
@@ -85,3 +82,11 @@ each_inside_onto P (group d lo hi f g) more h k =
 -- what is true of each tree of a stream is true of each tree inside each of them
 pub each_inside : (P : TokenTree → Type 0) (f : Forest) → Each P (in_order f) → Each (EachInside P) (in_order f)
 each_inside P f h = each_inside_onto P f [] h tt
+
+-- the trees inside each of these have their places
+abbrev pub ArePlacedInside : List ℕ → List TokenTree → Type 0
+ArePlacedInside text = Each (EachInside (IsPlaced text))
+
+pub inside_places : (text : List ℕ) (stream : Forest) → ParsesTo (next_lo new_map) text stream
+    → ArePlacedInside text (in_order stream)
+inside_places text stream parses = each_inside (IsPlaced text) stream (parsed_places text stream parses)

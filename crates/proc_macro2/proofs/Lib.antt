@@ -13,4 +13,4 @@ pub mod BuiltLemmas
 pub mod CutLemmas
 pub mod LineLemmas
 pub mod WholeTrees
-pub mod WritingLemmas
+pub mod Writing

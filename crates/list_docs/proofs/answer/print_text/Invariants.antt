@@ -1,8 +1,7 @@
 use Rattle.std.proofs.Common.{length}
-use Rattle.std.specs.List.{AllByRecursion}
 use Rattle.std.specs.Str.{chars}
-use Rattle.proc_macro2.proofs.PlaceLemmas.{EachInside, IsPlaced}
-use Rattle.proc_macro2.proofs.WritingLemmas.{WritesAll}
+use Rattle.proc_macro2.proofs.PlaceLemmas.{ArePlacedInside}
+use Rattle.proc_macro2.proofs.Writing.{WritesAll}
 use Rattle.list_docs.specs.Answer.{line_of}
 use Rattle.list_docs.proofs.answer.print_text.Given as goal
 
@@ -10,7 +9,7 @@ use Rattle.list_docs.proofs.answer.print_text.Given as goal
 abbrev pub invariant-loop-walk : goal.invariant-loop-walk
 invariant-loop-walk g l =
     let bytes = g.W.Write.contents in
-    AllByRecursion (EachInside (IsPlaced l.map (chars l.text))) l.walk
+    ArePlacedInside (chars l.text) l.walk
     × WritesAll (line_of (chars l.text)) (bytes l.initial.writer) l.initial.walk (bytes l.writer) l.walk
 
 abbrev pub decreases-loop-walk : goal.decreases-loop-walk

@@ -1,32 +1,32 @@
 use Rattle.std.proofs.Common.{Err, ap}
+use Rattle.std.proofs.KnownBytes.{Appends-nil, Appends-trans}
 use Rattle.proc_macro2.specs.Files.{new_map}
 use Rattle.proc_macro2.proofs.PlaceLemmas.{fault_starts, parsed_places}
-use Rattle.proc_macro2.proofs.WritingLemmas.{writes_none, writes_one}
 use Rattle.print_tokens.specs.Answer.{lines, fault, unread}
 use Rattle.print_tokens.proofs.answer.print_text.Goals as goal
 
 pub loop-walk-init : goal.loop-walk-init
 loop-walk-init g c =
-    let read = c.in-Ok.ensures in
-    rw c.walk-walk.ensures (parsed_places _ _ _ _ c.new-map.ensures read.kept read.ok, λ new h. h)
+    rw c.walk-walk.ensures (parsed_places _ _ (rw c.new-map.ensures at c.in-Ok.ensures.ok), λ new h. h)
 
 pub start-requires : goal.start-requires
 start-requires g c =
     let next = rw c.in-Some.is at c.in_ok-tree-in-Ok.ensures.ok in
-    rw c.span.ensures.value (rw next at c.loop-walk.invariant.0).0.0
+    let left = rw next at c.loop-walk.invariant.0 in
+    rw (c.in-Ok.ensures.kept, c.new-map.ensures, c.span.ensures.value) left.0.0
 
 pub loop-walk-preserved : goal.loop-walk-preserved
 loop-walk-preserved g c =
     let next = rw c.in-Some.is at c.in_ok-tree-in-Ok.ensures.ok in
     let left = rw next at c.loop-walk.invariant.0 in
-    let place = left.0.1 _ (rw c.span.ensures.value at c.start.ensures) in
-    let line = rw place at c.in_ok-print_line-in-Ok.ensures in
-    (left.1, writes_one _ _ _ _ _ _ _ (rw next at c.loop-walk.invariant.1) line)
+    let starts = rw (c.in-Ok.ensures.kept, c.new-map.ensures, c.span.ensures.value) at c.start.ensures in
+    let line = rw (left.0.1 _ starts) at c.in_ok-print_line-in-Ok.ensures in
+    (left.1, λ new h. c.loop-walk.invariant.1 new (rw next (Appends-trans _ _ _ _ _ line h)))
 
 pub returns-in-Ok : goal.returns-in-Ok
 returns-in-Ok g c =
     let next = rw c.in_default.is at c.in_ok-tree-in-Ok.ensures.ok in
-    let written = writes_none _ _ _ _ (rw next.0 at c.loop-walk.invariant.1) in
+    let written = c.loop-walk.invariant.1 (g.W.Write.contents c.loop-walk.writer) (rw next.0 (Appends-nil _)) in
     (_, lines c.in-Ok.stream (rw c.new-map.ensures at c.in-Ok.ensures.ok), rw c.walk-walk.ensures at written)
 
 pub returns-in-Lex : goal.returns-in-Lex
@@ -39,5 +39,4 @@ returns-in-Lex g c =
 pub returns : goal.returns
 returns g c =
     let full = rw c.new-map.ensures at c.in-Err.ensures.map_full.0 in
-    let bytes = c.in_ok-writeln-in_default-error.ensures.bytes in
-    (_, unread _ c.in_default-error.not-Lex (λ is. full (ap Err is)), bytes)
+    (_, unread _ c.in_default-error.not-Lex (λ is. full (ap Err is)), c.in_ok-writeln-in_default-error.ensures.bytes)

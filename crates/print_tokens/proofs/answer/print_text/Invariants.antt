@@ -2,7 +2,7 @@ use Rattle.std.proofs.Common.{length}
 use Rattle.std.specs.List.{AllByRecursion}
 use Rattle.std.specs.Str.{chars}
 use Rattle.proc_macro2.proofs.PlaceLemmas.{IsPlaced}
-use Rattle.proc_macro2.proofs.WritingLemmas.{WritesAll}
+use Rattle.proc_macro2.proofs.Writing.{WritesAll}
 use Rattle.print_tokens.specs.Answer.{line_of}
 use Rattle.print_tokens.proofs.answer.print_text.Given as goal
 
@@ -10,7 +10,7 @@ use Rattle.print_tokens.proofs.answer.print_text.Given as goal
 abbrev pub invariant-loop-walk : goal.invariant-loop-walk
 invariant-loop-walk g l =
     let bytes = g.W.Write.contents in
-    AllByRecursion (IsPlaced l.map (chars l.text)) l.walk
+    AllByRecursion (IsPlaced (chars l.text)) l.walk
     × WritesAll (line_of (chars l.text)) (bytes l.initial.writer) l.initial.walk (bytes l.writer) l.walk
 
 abbrev pub decreases-loop-walk : goal.decreases-loop-walk
