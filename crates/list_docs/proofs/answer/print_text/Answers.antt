@@ -21,11 +21,9 @@ loop-walk-preserved g c =
     let left = rw next at c.loop-walk.invariant.0 in
     let starts = rw (c.in-Ok.ensures.kept, c.new-map.ensures, c.span.ensures.value) at c.start-place.ensures in
     let place = (rw c.in-Some-doc_text.ensures.trees.2 at left.0).1.1.0.1 _ starts in
-    let line = rw place at c.in_ok-writeln-in-Ok.ensures.bytes in (
-      left.1,
-      λ new h. c.loop-walk.invariant.1 new
-          (rw (next, ← c.in-Some-doc_text.ensures.value) (Appends-trans _ _ _ _ _ line h)),
-    )
+    let line = rw place at c.in_ok-writeln-in-Ok.ensures.bytes in
+    let writes = rw (next, ← c.in-Some-doc_text.ensures.value) at c.loop-walk.invariant.1 in
+    (left.1, λ new h. writes new (Appends-trans _ _ _ _ _ line h))
 
 pub returns-in-Ok : goal.returns-in-Ok
 returns-in-Ok g c =
