@@ -108,6 +108,34 @@ static void refusals(void) {
     want("free", pm_session_free(s), PM_DONE);
 }
 
+/* Texts that are read by one call each, and one whose records don't go into the buffer. */
+static void short_texts(void) {
+    pm_session s = {0};
+    pm_tree trees[2];
+    uint8_t names[8];
+    want("new", pm_session_new(&s), PM_DONE);
+    pm_answer word = pm_read_once(s, &s, bytes_of("word"), 4, trees, 2, names, 8);
+    want("read_once", word.code, PM_DONE);
+    want("records", word.number, 1);
+    want("where it ends", trees[0].hi, 5);
+    want("the name", memcmp(names, "word", 4) != 0, 0);
+    pm_answer more = pm_read_once(s, &s, bytes_of("a + b"), 5, trees, 2, names, 8);
+    want("three records", more.code, PM_NO_ROOM);
+    want("how many", more.number, 3);
+    pm_tree all[3];
+    want("copy_trees", pm_copy_trees(s, &s, all, more.number), PM_DONE);
+    want("the last", all[2].lo, 5);
+    want_text("texts", &s, (pm_answer){.code = PM_DONE, .bytes = more.bytes}, "ab");
+    want("no bytes", pm_read_once(s, &s, bytes_of("ab"), 2, trees, 2, names, 1).code, PM_NO_ROOM);
+    pm_answer fault = pm_read_once(s, &s, bytes_of("a ]"), 3, trees, 2, names, 8);
+    want("fault", fault.code, PM_FAULT);
+    want("where", fault.number, 3);
+    want("bytes", pm_read_once(s, &s, bytes_of("\xff"), 1, trees, 2, names, 8).code, PM_NOT_UTF8);
+    want("no file", pm_place_of(s, &s, 1).code, PM_NOT_HELD);
+    want("free", pm_session_free(s), PM_DONE);
+    want("read_once in none", pm_read_once((pm_session){0}, &s, bytes_of("a"), 1, trees, 2, names, 8).code, PM_NOT_LIVE);
+}
+
 int main(void) {
     static uint8_t source[1 << 20];
     size_t bytes = fread(source, 1, sizeof source, stdin);
@@ -125,5 +153,6 @@ int main(void) {
     }
     want("free", pm_session_free(s), PM_DONE);
     refusals();
+    short_texts();
     return wrong ? 1 : 0;
 }

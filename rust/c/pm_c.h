@@ -39,7 +39,7 @@ enum {
     PM_NO_MEMORY = 3,
     PM_NOT_UTF8 = 4,
     PM_NO_STREAM = 5,      /* the session has no stream of this number */
-    PM_NO_ROOM = 6,        /* the buffer hasn't just the length of what is copied */
+    PM_NO_ROOM = 6,        /* the buffer hasn't just the length of what is copied; of pm_read_once, is shorter */
     PM_NOT_LIVE = 7,       /* the handle is of no session */
     PM_TOO_LONG = 8,       /* a count doesn't go into 32 bits */
     PM_NO_LISTING = 9,     /* the records were not found to be those of a stream */
@@ -100,6 +100,14 @@ pm_answer pm_parse(pm_session session, pm_session *back, const uint8_t *text, si
 
 /* Reads a text and lists its trees, as pm_parse and pm_list do, and keeps no stream. */
 pm_answer pm_read(pm_session session, pm_session *back, const uint8_t *text, size_t bytes);
+
+/* Reads a text that is no file of the session, and lists its trees as pm_list does, in one call: positions begin at 1,
+ * and no look-up is to be asked about them. The records and the text are copied to the fronts of two buffers, which have
+ * room for `count` records and for `room` bytes. Where one is too short, that is PM_NO_ROOM, and `number` and `bytes` say
+ * what to give pm_copy_trees and pm_copy_text. A short text is read soonest so. Codes: PM_FAULT, PM_MAP_FULL,
+ * PM_NO_MEMORY, PM_NOT_UTF8, PM_NO_ROOM, PM_TOO_LONG. */
+pm_answer pm_read_once(pm_session session, pm_session *back, const uint8_t *text, size_t bytes, pm_tree *trees,
+                       size_t count, uint8_t *into, size_t room);
 
 /* Frees a stream. Its number may be that of a later one. Codes: PM_NO_STREAM. */
 uint32_t pm_stream_free(pm_session session, pm_session *back, uint32_t stream);

@@ -1,5 +1,5 @@
 -- What the calls of a session answer.
-use Rattle.std.specs.Prelude.{ℕ, Bool, ◌≡◌, ◌↔◌, List, flat_map, length, Some, None, Result, Ok}
+use Rattle.std.specs.Prelude.{ℕ, Bool, ◌≡◌, ◌↔◌, List, flat_map, length, take, Some, None, Result, Ok}
 use Rattle.std.specs.String.{string_bytes}
 use Rattle.std.specs.Str.{chars, encode_utf8_all}
 use Rattle.slab.specs.Slab.{get, Updates}
@@ -15,6 +15,8 @@ use Rattle.proc_macro2.specs.Parsing.{ParsesTo}
 use Rattle.proc_macro2.specs.Printed.{printed}
 use Rattle.proc_macro2.specs.declared.ConversionErrorKind.{ConversionErrorKind}
 use Rattle.proc_macro2.specs.declared.IdentError.TheVariants as faults
+use Rattle.proc_macro2.specs.declared.ParseError.{ParseError}
+use Rattle.proc_macro2.specs.declared.ParseError.TheVariants.{Lex, MapFull, Memory}
 use Rattle.pm_c.specs.Listing.{kept_text, records_from}
 use Rattle.pm_c.specs.declared.codes.TheConstants.{NAME_EMPTY, NAME_NUMBER, NAME_INVALID, NAME_RESERVED}
 use Rattle.pm_c.specs.declared.records.PmAnswer.{PmAnswer}
@@ -34,6 +36,12 @@ pub record IsRead (old : Session) (source : List ℕ) (new : Session) (number : 
   pub vacant : get old.streams number ≡ None
   pub stands : Updates old.streams new.streams number (Some stream)
   pub map : new.map ≡ with_file old.map source
+
+-- the error is a fault at this position
+abbrev pub IsFaultAt : ParseError → ℕ → Type 0
+IsFaultAt (Lex fault) at = at ≡ fault.lo
+IsFaultAt MapFull at = ⊥
+IsFaultAt (Memory error) at = ⊥
 
 -- a stream had this number, and none has it now; the others keep theirs
 pub record IsFreed (old : Session) (number : ℕ) (new : Session) : Type 0 where
@@ -58,6 +66,18 @@ pub record IsReadAndListed (old : Session) (source : List ℕ) (new : Session) (
   pub lends : Lends new stream
   pub counts : HasCounts new answer
   pub map : new.map ≡ with_file old.map source
+
+-- the text was parsed as the first file of a map would be, and the records and texts are those of its stream
+pub record IsReadOnce (source : List ℕ) (new : Session) (answer : PmAnswer) : Type 0 where
+  pub stream : Forest
+  pub parses : ParsesTo 1 source stream
+  pub lends : Lends new stream
+  pub counts : HasCounts new answer
+
+-- the session's records and text stand at the fronts of these
+pub record StandInFront (session : Session) (trees : List PmTree) (text : List ℕ) : Type 0 where
+  pub records : take (length session.trees.items) trees ≡ session.trees.items
+  pub texts : take (length (string_bytes session.text)) text ≡ string_bytes session.text
 
 -- the records and texts are those of the stream of this number
 pub record IsListed (old : Session) (number : ℕ) (new : Session) (answer : PmAnswer) : Type 0 where
@@ -110,16 +130,18 @@ pub record MakesCString (bytes : List ℕ) (session : Session) (answer : PmAnswe
   pub count : answer.bytes ≡ length (string_bytes session.text)
 
 -- the literal's value is the session's text, and the answer says how many bytes it has
-pub record HasTextValue (value : Result (List ℕ) ConversionErrorKind) (session : Session) (answer : PmAnswer) : Type 0 where
-  pub is : value ≡ Ok (chars (string_bytes session.text))
-  pub count : answer.bytes ≡ length (string_bytes session.text)
+pub record HasTextValue (value : Result (List ℕ) ConversionErrorKind) (session : Session) (answer : PmAnswer) : Type 0
+  where
+    pub is : value ≡ Ok (chars (string_bytes session.text))
+    pub count : answer.bytes ≡ length (string_bytes session.text)
 
 -- the literal's value is the session's bytes, and the answer says how many they are
-pub record HasBytesValue (value : Result (List ℕ) ConversionErrorKind) (session : Session) (answer : PmAnswer) : Type 0 where
-  pub is : value ≡ Ok session.bytes.items
-  pub count : answer.bytes ≡ length session.bytes.items
+pub record HasBytesValue (value : Result (List ℕ) ConversionErrorKind) (session : Session) (answer : PmAnswer) : Type 0
+  where
+    pub is : value ≡ Ok session.bytes.items
+    pub count : answer.bytes ≡ length session.bytes.items
 
--- the text is a literal, and is the next file of the map: the answer says where it begins, and how many characters it has
+-- the text is a literal, and is the next file of the map: the answer says where it begins and how many characters it has
 pub record IsReadLiteral (old : Session) (source : List ℕ) (new : Session) (answer : PmAnswer) : Type 0 where
   pub whole : IsWholeLiteral source
   pub number : answer.number ≡ next_lo old.map

@@ -37,13 +37,27 @@ kept_text (Literal l) = encode_utf8_all l.text
 -- the record of a tree whose text begins at this byte
 abbrev pub record_of : ℕ → TokenTree → PmTree
 record_of start (Group g) =
-    record { kind = 0; detail = delimiter_number g.delimiter; lo = g.span.lo; hi = g.span.hi; start = 0; count = width g.stream }
+    record {
+      kind = 0;
+      detail = delimiter_number g.delimiter;
+      lo = g.span.lo;
+      hi = g.span.hi;
+      start = 0;
+      count = width g.stream;
+    }
 record_of start (Ident i) =
     record { kind = 1; detail = 0; lo = i.span.lo; hi = i.span.hi; start = start; count = length (written i) }
 record_of start (Punct p) =
     record { kind = 2; detail = spacing_number p.spacing; lo = p.span.lo; hi = p.span.hi; start = p.mark; count = 0 }
 record_of start (Literal l) =
-    record { kind = 3; detail = 0; lo = l.span.lo; hi = l.span.hi; start = start; count = length (encode_utf8_all l.text) }
+    record {
+      kind = 3;
+      detail = 0;
+      lo = l.span.lo;
+      hi = l.span.hi;
+      start = start;
+      count = length (encode_utf8_all l.text);
+    }
 
 -- the records of trees in order, of which the first has its text at this byte, and each other behind the one before
 abbrev pub records_from : ℕ → List TokenTree → List PmTree

@@ -30,14 +30,16 @@ ghost use Rattle.pm_c.specs.Calls.{
   IsRead,
   IsReadAndListed,
   IsReadLiteral,
+  IsReadOnce,
   LendsName,
   LendsSource,
   MakesCString,
   NamesFault,
   PrintsRecords,
+  StandInFront,
   span,
 };
-ghost use Rattle.pm_c.specs.declared.codes.TheConstants.{DONE, FAULT, NOT_JOINED, NOT_LIVE, OTHER_KIND};
+ghost use Rattle.pm_c.specs.declared.codes.TheConstants.{DONE, FAULT, NO_ROOM, NOT_JOINED, NOT_LIVE, OTHER_KIND};
 
 use codes::{DONE, NO_MEMORY, NOT_LIVE};
 pub use handle::PmSession;
@@ -106,6 +108,32 @@ pub extern "C" fn pm_read(session: PmSession, back: &mut PmSession, text: &[u8])
         return PmAnswer::refused(NOT_LIVE);
     };
     let answer = inside.read(text);
+    *back = PmSession::of(inside);
+    answer
+}
+
+/// Reads a text that is no file of the session's map, lists its trees into the session's records and text, and copies
+/// these to the fronts of two buffers. Where a buffer is too short the answer has their counts.
+#[unsafe(no_mangle)]
+pub extern "C" fn pm_read_once(
+    session: PmSession,
+    back: &mut PmSession,
+    text: &[u8],
+    trees: &mut [PmTree],
+    into: &mut [u8],
+) -> PmAnswer
+    ensures live { session.live ≡ true → back.new.live ≡ true }
+    ensures not_live { session.live ≡ false → result.code ≡ NOT_LIVE }
+    ensures utf8 { result.code ≡ DONE → IsUtf8 text.now }
+    ensures done { result.code ≡ DONE → IsReadOnce (chars text.now) back.new.inside.value result }
+    ensures copied { result.code ≡ DONE → StandInFront back.new.inside.value trees.new into.new }
+    ensures no_room { result.code ≡ NO_ROOM → IsReadOnce (chars text.now) back.new.inside.value result }
+    ensures fault { result.code ≡ FAULT → FaultAt 1 (chars text.now) result.number }
+{
+    let Some(mut inside) = session.open() else {
+        return PmAnswer::refused(NOT_LIVE);
+    };
+    let answer = inside.read_once(text, trees, into);
     *back = PmSession::of(inside);
     answer
 }
@@ -392,7 +420,8 @@ pub extern "C" fn pm_place_of(session: PmSession, back: &mut PmSession, position
     ensures live { session.live ≡ true → back.new.live ≡ true }
     ensures not_live { session.live ≡ false → result.code ≡ NOT_LIVE }
     ensures done { result.code ≡ DONE
-        → StartsAt session.inside.value.map (span position position) (record { line = result.line; column = result.column }) }
+        → StartsAt session.inside.value.map (span position position)
+        (record { line = result.line; column = result.column }) }
 {
     let Some(inside) = session.open() else {
         return PmPlace::refused(NOT_LIVE);

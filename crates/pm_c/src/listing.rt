@@ -2,7 +2,7 @@
 ghost use Rattle.std.specs.Prelude.{◌≡◌, ◌++◌, flat_map, length, string_bytes, IfOk, OnOk};
 ghost use Rattle.proc_macro2.specs.InOrder.{in_order};
 ghost use Rattle.pm_c.specs.Listing.{delimiter_number, kept_text, record_of, records_from, spacing_number, width};
-ghost use Rattle.pm_c.specs.declared.codes.TheConstants.{DONE, FAULT};
+ghost use Rattle.pm_c.specs.declared.codes.TheConstants.{DONE, FAULT, NO_ROOM};
 
 use crate::codes::{NO_MEMORY, TOO_LONG};
 use crate::records::PmTree;
@@ -25,6 +25,7 @@ impl ListError {
     pub(crate) fn code(&self) -> u32
         ensures done { result ≡ DONE → ⊥ }
         ensures fault { result ≡ FAULT → ⊥ }
+        ensures room { result ≡ NO_ROOM → ⊥ }
     {
         match self {
             ListError::TooLong => TOO_LONG,

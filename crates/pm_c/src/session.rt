@@ -3,8 +3,19 @@ ghost use Rattle.std.specs.Prelude.{◌≡◌, IfErr, IfOk, IsOk, OnOk};
 ghost use Rattle.std.specs.Str.{chars, IsUtf8};
 ghost use Rattle.proc_macro2.specs.Files.{next_lo, with_file};
 ghost use Rattle.proc_macro2.specs.Parsing.{FaultAt, ParsesTo};
-ghost use Rattle.pm_c.specs.Calls.{HasCounts, IsFreed, IsKept, IsListed, IsPrinted, IsRead, IsReadAndListed};
-ghost use Rattle.pm_c.specs.declared.codes.TheConstants.{DONE, FAULT};
+ghost use Rattle.pm_c.specs.Calls.{
+  HasCounts,
+  IsFaultAt,
+  IsFreed,
+  IsKept,
+  IsListed,
+  IsPrinted,
+  IsRead,
+  IsReadAndListed,
+  IsReadOnce,
+  StandInFront,
+};
+ghost use Rattle.pm_c.specs.declared.codes.TheConstants.{DONE, FAULT, NO_ROOM};
 
 mod copies;
 mod lookups;
@@ -12,11 +23,12 @@ mod makers;
 mod records;
 mod values;
 
-use crate::codes::{DONE, FAULT, MAP_FULL, NO_MEMORY, NO_STREAM, NOT_UTF8, TOO_LONG};
+use crate::codes::{DONE, FAULT, MAP_FULL, NO_MEMORY, NO_ROOM, NO_STREAM, NOT_UTF8, TOO_LONG};
 use crate::listing::{ListError, list};
 use crate::records::{PmAnswer, PmTree};
 use crate::session::records::print;
 use pm_span::parts::bounds;
+use pm_stream::parts::parse_at;
 use proc_macro2::{ParseError, SourceMap, TokenStream};
 use slab::Slab;
 use std::alloc::Global;
@@ -73,6 +85,53 @@ impl Session {
         }
     }
 
+    /// Reads a text that is no file of the map, lists its trees into the session's records and text, and copies these
+    /// to the fronts of two buffers. Where a buffer is too short the answer has their counts.
+    pub(crate) fn read_once(
+        &mut self,
+        source: &[u8],
+        trees: &mut [PmTree],
+        text: &mut [u8],
+    ) -> PmAnswer
+        ensures utf8 { result.code ≡ DONE → IsUtf8 source.now }
+        ensures done { result.code ≡ DONE → IsReadOnce (chars source.now) self.new result }
+        ensures copied { result.code ≡ DONE → StandInFront self.new trees.new text.new }
+        ensures no_room { result.code ≡ NO_ROOM → IsReadOnce (chars source.now) self.new result }
+        ensures fault { result.code ≡ FAULT → FaultAt 1 (chars source.now) result.number }
+    {
+        let answer = self.read_unkept(source);
+        if answer.code == DONE && !self.copy_fronts(trees, text) {
+            return PmAnswer {
+                code: NO_ROOM,
+                number: answer.number,
+                bytes: answer.bytes,
+            };
+        }
+        answer
+    }
+
+    /// Reads a text that is no file of the map, and lists its trees into the session's records and text.
+    fn read_unkept(&mut self, source: &[u8]) -> PmAnswer
+        ensures utf8 { result.code ≡ DONE → IsUtf8 source.now }
+        ensures done { result.code ≡ DONE → IsReadOnce (chars source.now) self.new result }
+        ensures other { result.code ≡ NO_ROOM → ⊥ }
+        ensures fault { result.code ≡ FAULT → FaultAt 1 (chars source.now) result.number }
+    {
+        let Ok(text) = str::from_utf8(source) else {
+            return PmAnswer::refused(NOT_UTF8);
+        };
+        if source.len() >= 0xFFFF_FFFF {
+            return PmAnswer::refused(MAP_FULL);
+        }
+        match parse_at(self.alloc, 1, text) {
+            Ok(stream) => {
+                let listed = list(&stream, &mut self.trees, &mut self.text);
+                self.answer_listed(listed)
+            }
+            Err(error) => refusal(error),
+        }
+    }
+
     /// The stream of a text, or why there is none.
     fn stream_of(&mut self, source: &[u8]) -> Result<TokenStream, PmAnswer>
         ensures utf8 { OnOk result (IsUtf8 source.now) }
@@ -87,16 +146,7 @@ impl Session {
         };
         match TokenStream::from_str(text, &mut self.map) {
             Ok(stream) => Ok(stream),
-            Err(ParseError::Lex(error)) => {
-                let (lo, _) = bounds(error.span());
-                Err(PmAnswer {
-                    code: FAULT,
-                    number: lo,
-                    bytes: 0,
-                })
-            }
-            Err(ParseError::MapFull) => Err(PmAnswer::refused(MAP_FULL)),
-            Err(ParseError::Memory(_)) => Err(PmAnswer::refused(NO_MEMORY)),
+            Err(error) => Err(refusal(error)),
         }
     }
 
@@ -144,6 +194,7 @@ impl Session {
         ensures done { result.code ≡ DONE → IsOk listed }
         ensures counts { result.code ≡ DONE → HasCounts self.now result }
         ensures other { result.code ≡ FAULT → ⊥ }
+        ensures room { result.code ≡ NO_ROOM → ⊥ }
     {
         if let Err(error) = listed {
             return PmAnswer::refused(error.code());
@@ -166,5 +217,25 @@ impl Session {
             Ok(()) => PmAnswer::done(number, self.text.len()),
             Err(_) => PmAnswer::refused(NO_MEMORY),
         }
+    }
+}
+
+/// What a call answers to a text that wasn't read.
+fn refusal(error: ParseError) -> PmAnswer
+    ensures refused { result.code ≡ DONE → ⊥ }
+    ensures room { result.code ≡ NO_ROOM → ⊥ }
+    ensures fault { result.code ≡ FAULT → IsFaultAt error result.number }
+{
+    match error {
+        ParseError::Lex(error) => {
+            let (lo, _) = bounds(error.span());
+            PmAnswer {
+                code: FAULT,
+                number: lo,
+                bytes: 0,
+            }
+        }
+        ParseError::MapFull => PmAnswer::refused(MAP_FULL),
+        ParseError::Memory(_) => PmAnswer::refused(NO_MEMORY),
     }
 }

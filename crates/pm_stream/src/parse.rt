@@ -73,7 +73,7 @@ impl TokenStream {
 }
 
 /// The trees of a text that begins at the position `base`.
-fn parse(alloc: Global, base: u32, text: &str) -> Result<TokenStream, ParseError>
+pub(crate) fn parse(alloc: Global, base: u32, text: &str) -> Result<TokenStream, ParseError>
     requires { base + length (chars text.now) < 2 ^ 32 }
     ensures ok { IfOk result (λ stream. ParsesTo base (chars text.now) stream) }
     ensures built { IfOk result IsBuilt }

@@ -1,11 +1,15 @@
 //! What the crates above make streams of, and users don't.
-ghost use Rattle.std.specs.Prelude.{◌≡◌, IfOk};
+ghost use Rattle.std.specs.Prelude.{◌≡◌, ◌<◌, ◌+◌, ◌^◌, IfErr, IfOk, length};
+ghost use Rattle.std.specs.Str.{chars};
+ghost use Rattle.pm_token.specs.Outcome.{IfLex};
 ghost use Rattle.pm_stream.specs.Forest.{IsBuilt};
 ghost use Rattle.pm_stream.specs.Level.{forest};
+ghost use Rattle.pm_stream.specs.Parsing.{FaultAt, ParsesTo};
 
+use crate::parse::parse;
 use crate::stream::{Group, TokenStream, TokenTree};
 use pm_span::Span;
-use pm_token::Delimiter;
+use pm_token::{Delimiter, ParseError};
 use std::alloc::{AllocError, Global};
 
 /// The group of these parts.
@@ -21,4 +25,18 @@ pub fn stream(alloc: Global, trees: Vec<TokenTree>) -> Result<TokenStream, Alloc
     ensures ok { IfOk result (λ stream. stream ≡ forest trees.items) }
 {
     TokenStream::from_vec(alloc, trees)
+}
+
+/// The token trees of a text that is no file of a map (`parses-to`). Spans count its characters from `base` on, and no
+/// map holds them, but for chance. A fault is where `TokenStream::from_str` would find it in a file that begins at
+/// `base`.
+///
+/// It takes no copy of the text.
+pub fn parse_at(alloc: Global, base: u32, text: &str) -> Result<TokenStream, ParseError>
+    requires room { base + length (chars text.now) < 2 ^ 32 }
+    ensures ok { IfOk result (λ stream. ParsesTo base (chars text.now) stream) }
+    ensures built { IfOk result IsBuilt }
+    ensures lex { IfErr result (λ error. IfLex error (λ fault. FaultAt base (chars text.now) fault.lo)) }
+{
+    parse(alloc, base, text)
 }

@@ -62,6 +62,8 @@ pub(crate) const DONE: u32 = 0;
 pub(crate) const FAULT: u32 = 1;
 pub(crate) const MAP_FULL: u32 = 2;
 pub(crate) const NO_MEMORY: u32 = 3;
+#[cfg(not(span_locations))]
+pub(crate) const NO_ROOM: u32 = 6;
 pub(crate) const TOO_LONG: u32 = 8;
 pub(crate) const NAME_EMPTY: u32 = 10;
 pub(crate) const NAME_NUMBER: u32 = 11;
@@ -81,7 +83,19 @@ pub(crate) const NOT_JOINED: u32 = 19;
 extern "C" {
     pub(crate) fn pm_session_new(out: &mut Handle) -> u32;
     pub(crate) fn pm_session_free(session: Handle) -> u32;
+    #[cfg(span_locations)]
     pub(crate) fn pm_read(session: Handle, back: &mut Handle, text: *const u8, bytes: usize) -> Answer;
+    #[cfg(not(span_locations))]
+    pub(crate) fn pm_read_once(
+        session: Handle,
+        back: &mut Handle,
+        text: *const u8,
+        bytes: usize,
+        trees: *mut Record,
+        count: usize,
+        into: *mut u8,
+        room: usize,
+    ) -> Answer;
     pub(crate) fn pm_print_records(
         session: Handle,
         back: &mut Handle,
@@ -92,6 +106,7 @@ extern "C" {
     ) -> Answer;
     pub(crate) fn pm_copy_text(session: Handle, back: &mut Handle, into: *mut u8, bytes: usize) -> u32;
     pub(crate) fn pm_copy_trees(session: Handle, back: &mut Handle, into: *mut Record, count: usize) -> u32;
+    #[cfg(span_locations)]
     pub(crate) fn pm_forget(session: Handle, back: &mut Handle) -> u32;
     pub(crate) fn pm_ident_check(name: *const u8, bytes: usize, raw: bool) -> u32;
     pub(crate) fn pm_literal_check(text: *const u8, bytes: usize) -> u32;

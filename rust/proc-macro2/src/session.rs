@@ -6,6 +6,12 @@ use crate::span::Place;
 use std::cell::RefCell;
 use std::mem::MaybeUninit;
 
+/// The records and the bytes of a short text's list have room in buffers of these lengths.
+#[cfg(not(span_locations))]
+const SHORT: usize = 32;
+#[cfg(not(span_locations))]
+const SHORT_NAMES: usize = 256;
+
 /// Why a text wasn't read.
 pub(crate) enum ReadError {
     /// It has a fault at this position.
@@ -30,20 +36,43 @@ impl Session {
         Session { handle }
     }
 
+    /// The trees of a text. Nobody can ask where something stands, so it is no file of the map.
+    #[cfg(not(span_locations))]
+    pub(crate) fn read(&mut self, text: &str) -> Result<Parsed, ReadError> {
+        let mut records = [const { MaybeUninit::<Record>::uninit() }; SHORT];
+        let mut names = [const { MaybeUninit::<u8>::uninit() }; SHORT_NAMES];
+        let (trees, into) = (records.as_mut_ptr().cast(), names.as_mut_ptr().cast());
+        // SAFETY: the pointers and the lengths are those of the text and of the two buffers, and nothing else uses them.
+        let answer = self.call(|session, back| unsafe {
+            ffi::pm_read_once(session, back, text.as_ptr(), text.len(), trees, SHORT, into, SHORT_NAMES)
+        });
+        let count = answer.number as usize;
+        match answer.code {
+            // SAFETY: where the call is done, it wrote so many records and bytes, and the bytes are UTF-8.
+            ffi::DONE => Ok(unsafe {
+                Parsed::read(count, answer.bytes, |to_records, to_text| {
+                    to_records.copy_from_slice(&records[..count]);
+                    to_text.copy_from_slice(&names[..answer.bytes]);
+                })
+            }),
+            ffi::NO_ROOM => Ok(self.listed(count, answer.bytes)),
+            ffi::FAULT => Err(ReadError::Fault(answer.number)),
+            ffi::MAP_FULL | ffi::TOO_LONG => Err(ReadError::MapFull),
+            code => refused(code),
+        }
+    }
+
     /// The trees of a text, which becomes a file of the map.
+    #[cfg(span_locations)]
     pub(crate) fn read(&mut self, text: &str) -> Result<Parsed, ReadError> {
         // SAFETY: the pointer and the length are the text's.
         let answer = self.call(|session, back| unsafe { ffi::pm_read(session, back, text.as_ptr(), text.len()) });
-        let read = match answer.code {
+        match answer.code {
             ffi::DONE => Ok(self.listed(answer.number as usize, answer.bytes)),
             ffi::FAULT => Err(ReadError::Fault(answer.number)),
             ffi::MAP_FULL | ffi::TOO_LONG => Err(ReadError::MapFull),
             code => refused(code),
-        };
-        // Without span locations nobody can ask where something stands, so the map need not grow.
-        #[cfg(not(span_locations))]
-        self.forget();
-        read
+        }
     }
 
     /// The printed text of the stream that these records and texts list; `None` where they list none.
@@ -84,6 +113,7 @@ impl Session {
     }
 
     /// Takes all files of the map away but the empty one.
+    #[cfg(span_locations)]
     pub(crate) fn forget(&mut self) {
         // SAFETY: the handle is the session's.
         self.call(|session, back| unsafe { ffi::pm_forget(session, back) });

@@ -1,6 +1,7 @@
 //! What the session lends, copied out.
-ghost use Rattle.std.specs.Prelude.{◌≡◌};
+ghost use Rattle.std.specs.Prelude.{◌≡◌, true};
 ghost use Rattle.std.specs.String.{string_bytes};
+ghost use Rattle.pm_c.specs.Calls.{StandInFront};
 ghost use Rattle.pm_c.specs.declared.codes.TheConstants.{DONE};
 
 use crate::codes::{DONE, NO_ROOM};
@@ -42,5 +43,19 @@ impl Session {
         }
         into.copy_from_slice(trees);
         DONE
+    }
+
+    /// Copies the records and the text to the fronts of two buffers, if there is room for both, and says whether it is.
+    pub(crate) fn copy_fronts(&self, trees: &mut [PmTree], text: &mut [u8]) -> bool
+        ensures { result ≡ true → StandInFront self.now trees.new text.new }
+    {
+        let records = self.trees.as_slice();
+        let bytes = self.text.as_bytes();
+        if records.len() > trees.len() || bytes.len() > text.len() {
+            return false;
+        }
+        trees[..records.len()].copy_from_slice(records);
+        text[..bytes.len()].copy_from_slice(bytes);
+        true
     }
 }
