@@ -29,7 +29,7 @@ pub one_found_not_at : (fronts : List (List ℕ)) (passes : ℕ → Bool) (text 
     → find_not_at fronts (find_one passes) text ≡ Some (c ∷ [], rest)
 one_found_not_at fronts passes text rest c e plain h = cond-false _ _ _ plain ∙ one_found passes text rest c e h
 
--- a name, by its first character and the run behind it
+-- a name, by its first character and the run after it
 pub name_found : (text rest back after : List ℕ) (c : ℕ) → text ≡ c ∷ rest → is_ident_start c ≡ true
     → find_run is_ident_continue rest ≡ Some (back, after) → find_name text ≡ Some (c ∷ back, after)
 name_found text rest back after c e h run =

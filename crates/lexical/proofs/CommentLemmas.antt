@@ -113,7 +113,7 @@ block_doc_stays i t p r s block h =
 
 -- ---- comments before LF
 
--- a comment stands before a line's end that is put right behind it
+-- a comment stands before a line's end that is put right after it
 pub comment_line : (p r w : List ℕ) → Comment p r → Comment p (10 ∷ w)
 comment_line p r w (inl h) = inl (line_stays p r (10 ∷ w) refl h)
 comment_line p r w (inr h) = inr (block_stays p r (10 ∷ w) h)

@@ -69,7 +69,7 @@ raw_keyword : IsPiece false (Leaf (Name true (codes "dyn"))) (codes "r#dyn") []
 unfolding unicode_ident found find_quoted find_many
 raw_keyword = (piece_from_found false (codes "r#dyn") (codes "r#dyn") [] (Leaf (Name true (codes "dyn"))) refl).1
 
--- the prefixes are asked of the whole text, and not of the name behind `r#`
+-- the prefixes are asked of the whole text, and not of the name after `r#`
 raw_before_string : IsPiece false (Leaf (Name true (codes "b"))) (codes "r#b") (codes "\"x\"")
 unfolding unicode_ident found find_quoted find_many
 raw_before_string = (piece_from_found false (codes "r#b\"x\"") (codes "r#b") (codes "\"x\"") (Leaf (Name true (codes "b"))) refl).1
@@ -108,7 +108,7 @@ before_raw_name : IsPiece false (Leaf (Mark 39 true)) (codes "'") (codes "r#pref
 unfolding unicode_ident found find_quoted find_many
 before_raw_name = (piece_from_found false (codes "'r#prefix#lifetime") (codes "'") (codes "r#prefix#lifetime") (Leaf (Mark 39 true)) refl).1
 
--- the identifier behind it is read without the prefixes
+-- the identifier after it is read without the prefixes
 before_byte_string : IsPiece false (Leaf (Mark 39 true)) (codes "'") (codes "b\"x\"")
 unfolding unicode_ident found find_quoted find_many
 before_byte_string = (piece_from_found false (codes "'b\"x\"") (codes "'") (codes "b\"x\"") (Leaf (Mark 39 true)) refl).1

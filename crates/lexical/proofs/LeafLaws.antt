@@ -15,7 +15,7 @@ pub use Rattle.lexical.proofs.NameLemmas.{identifier_alone, named_before_stop, i
 -- ---- next to a lone quote
 pub use Rattle.lexical.proofs.QuotableLemmas.{prefixed_follows, literal_quoted}
 pub use Rattle.lexical.proofs.NameLemmas.{stop_unbarred, quote_before, quote_before_stop, quote_unbarred, quote_follows, follows_start, follows_something, IsNameOrLiteral, quote_next}
--- ---- where a line ends that did not, right behind them or behind other pieces
+-- ---- where a line ends that did not, right after them or after other pieces
 pub use Rattle.lexical.proofs.CommentLemmas.{comment_line, plain_line, doc_line, comment_cut, doc_cut}
 pub use Rattle.lexical.proofs.QuietLemmas.{onto_split}
 pub use Rattle.lexical.proofs.LiteralCutLemmas.{literal_cut}

@@ -1,4 +1,4 @@
--- Literals in a line that is broken behind pieces.
+-- Literals in a line that is broken after pieces.
 use Rattle.std.proofs.Common.{◌≡◌, ◌⊎◌, ℕ, Bool, true, false, ◌==◌, List, [], ◌∷◌, ◌++◌, refl, sym, ap, ◌∙◌, subst, inl, inr, append_assoc, append-nil, eqb-true}
 use Rattle.std.specs.List.{list_all}
 use Rattle.std.specs.Char.{is_ascii_digit}
@@ -31,7 +31,7 @@ moved : (A : Form) → Stable is_ident_continue A → (x y d r s : List ℕ) →
     → A x (y ++ (d ++ s))
 moved A stable x y d r s ends is = subst (A x) (append_assoc y d s) (stable x (y ++ d) r s ends (subst (A x) (sym (append_assoc y d r)) is))
 
--- a dot with something behind it stands there
+-- a dot with something after it stands there
 dot_still : (y d r s : List ℕ) → (y ++ d ≡ [] → ⊥) → first_passes bars_dot (y ++ (d ++ r)) ≡ false
     → first_passes bars_dot (y ++ (d ++ s)) ≡ false
 dot_still [] [] r s some h = absurd (some refl)
@@ -64,7 +64,7 @@ letter_starts c is = elim (or_cases (c == 101) (c == 69) is) [
   | inr high ↦ ap is_ident_start (eqb-true c 69 high)
 ]
 
--- a digit, where an exponent that goes past a character begins behind the digits
+-- a digit, where an exponent that goes past a character begins after the digits
 first_after : (F Y m : List ℕ) (c : ℕ) → list_all is_digit_or_underscore F ≡ true → first_passes is_exponent_letter (Y ++ (c ∷ m)) ≡ true
     → is_ident_continue c ≡ false
     → first_passes bars_dot (F ++ Y) ≡ false → first_passes is_ascii_digit (F ++ Y) ≡ true
@@ -197,7 +197,7 @@ module _ (p v s : List ℕ) (us : List Piece) (int : Stands (Then rule.integer r
 -- ---- literals
 
 -- a number before pieces stays one where a stop takes the place of what follows them: of nothing,
--- or of any text behind a piece that is neither a mark nor a number
+-- or of any text after a piece that is neither a mark nor a number
 pub number_broken : (p : List ℕ) (us : List Piece) (v s : List ℕ) → stops s ≡ true → (v ≡ []) ⊎ (ends_quiet us ≡ true)
     → Number p (onto us v) → StandBefore false us v → Number p (onto us s)
 unfolding number

@@ -176,7 +176,7 @@ quoted_starts p r h = elim h [
 
 -- ---- a lone quote is no character
 
--- what a character has behind its first quote: a backslash, or a character and a quote
+-- what a character has after its first quote: a backslash, or a character and a quote
 character_text : (p r : List ℕ) → Character p r
     → ((tail : List ℕ) × (p ++ r ≡ 39 ∷ 92 ∷ tail)) ⊎ ((c : ℕ) × (tail : List ℕ) × (p ++ r ≡ 39 ∷ c ∷ 39 ∷ tail))
 character_text p r h =
@@ -200,7 +200,7 @@ character_text p r h =
       )
     ]
 
--- an identifier behind a quote begins with no backslash
+-- an identifier after a quote begins with no backslash
 name_no_backslash : (name rest tail : List ℕ) → Name name rest → name ++ rest ≡ 92 ∷ tail → ⊥
 unfolding unicode_ident
 name_no_backslash name rest tail h e =

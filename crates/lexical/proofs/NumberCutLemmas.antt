@@ -1,4 +1,4 @@
--- Numbers where a text far behind them becomes another one.
+-- Numbers where a text far after them becomes another one.
 use Rattle.std.proofs.Common.{◌≡◌, ℕ, ◌⊎◌, true, false, List, [], ◌∷◌, ◌++◌, sym, ap, ◌∙◌, subst, inl, inr, append_assoc, append-nil, ap₂, refl}
 use Rattle.std.specs.List.{list_all}
 use Rattle.std.proofs.lemmas.Bool.{both_ways, and_parts}
@@ -10,7 +10,7 @@ use Rattle.lexical.specs.Rule.{Stands}
 use Rattle.lexical.specs.Number as rule
 use Rattle.lexical.specs.Number.{is_underscore, is_exponent_letter, is_sign, Number, number}
 use Rattle.lexical.proofs.StableLemmas.{stops_within, inside, all_append, all_in}
-use Rattle.lexical.proofs.NumberLemmas.{goes_on, continue_goes_on, underscore_continues, letter_continues, on_power, stable_float, on_float, float_ends, all_back}
+use Rattle.lexical.proofs.NumberLemmas.{goes_on, continue_goes_on, underscore_continues, letter_continues, on_exponent_digits, stable_float, on_float, float_ends, all_back}
 use Rattle.lexical.proofs.IntegerLemmas.{stable_integer}
 
 -- nothing that goes on with an identifier follows a number
@@ -41,7 +41,7 @@ none_swapped b r s old new none q t e is =
     none q (within.0 ++ r) (ap (λ x. x ++ r) within.1 ∙ append_assoc q within.0 r)
     (stable_float q within.0 s r old (subst (Stands rule.float q) within.2 is))
 
--- and the number stays one, however far behind it one text becomes the other
+-- and the number stays one, however far after it one text becomes the other
 pub number_cut : (p b r s : List ℕ) → first_passes goes_on r ≡ false → first_passes goes_on s ≡ false → Number p (b ++ r)
     → Number p (b ++ s)
 unfolding number
@@ -68,19 +68,19 @@ past_continues (d ∷ a) z (k ∷ y) m c all out e =
     let more = past_continues a z y m c (and_parts _ _ all).1 out tail in
     (more.0, ap₂ (λ x xs. x ∷ xs) head more.1, more.2)
 
-none_in_power : (x t y m : List ℕ) (c : ℕ) → Stands rule.power x t → is_ident_continue c ≡ false → x ≡ y ++ (c ∷ m) → ⊥
-none_in_power x t y m c is out e =
-    both_ways _ out (and_parts _ _ (all_back is_ident_continue y (c ∷ m) (ap (list_all is_ident_continue) (sym e) ∙ on_power x t is))).0
+none_in_exponent_digits : (x t y m : List ℕ) (c : ℕ) → Stands rule.exponent_digits x t → is_ident_continue c ≡ false → x ≡ y ++ (c ∷ m) → ⊥
+none_in_exponent_digits x t y m c is out e =
+    both_ways _ out (and_parts _ _ (all_back is_ident_continue y (c ∷ m) (ap (list_all is_ident_continue) (sym e) ∙ on_exponent_digits x t is))).0
 
--- what stands before such a character behind the letter and the `_` of an exponent: it is the sign
-none_past_sign : (sign power t y m : List ℕ) (c : ℕ) → Perhaps (One is_sign) sign (power ++ t) → Stands rule.power power t
+-- what stands before such a character after the letter and the `_` of an exponent: it is the sign
+none_past_sign : (sign power t y m : List ℕ) (c : ℕ) → Perhaps (One is_sign) sign (power ++ t) → Stands rule.exponent_digits power t
     → is_ident_continue c ≡ false → sign ++ power ≡ y ++ (c ∷ m) → y ≡ []
-none_past_sign sign power t y m c (inr none) is out e = absurd (none_in_power power t y m c is out (ap (λ x. x ++ power) (sym none.1) ∙ e))
+none_past_sign sign power t y m c (inr none) is out e = absurd (none_in_exponent_digits power t y m c is out (ap (λ x. x ++ power) (sym none.1) ∙ e))
 none_past_sign sign power t [] m c (inl one) is out e = refl
 none_past_sign sign power t (d ∷ y) m c (inl one) is out e =
     let both : ◌≡◌ {A = List ℕ} (one.0 ∷ power) (d ∷ (y ++ (c ∷ m))) = ap (λ x. x ++ power) (sym one.1) ∙ e in
     let later : power ≡ y ++ (c ∷ m) = cc in
-    absurd (none_in_power power t y m c is out later)
+    absurd (none_in_exponent_digits power t y m c is out later)
 
 -- up to a character that goes on with no identifier an exponent is made of others
 pub exponent_front : (x t y m : List ℕ) (c : ℕ) → Stands rule.exponent x t → is_ident_continue c ≡ false → x ≡ y ++ (c ∷ m)

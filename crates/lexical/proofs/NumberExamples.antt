@@ -117,9 +117,9 @@ exponent_is_taken : Reads (codes "1") (codes ".0e5" ++ (0x301 ∷ []))
 unfolding unicode_ident found find number
 exponent_is_taken = (piece_from_found false (codes "1.0e5" ++ (0x301 ∷ [])) (codes "1") (codes ".0e5" ++ (0x301 ∷ [])) _ refl).1
 
--- ---- why no line may be broken behind a mark or a number
+-- ---- why no line may be broken after a mark or a number
 
--- `1` and two dots; where the line ends behind the first dot, that is the number's
+-- `1` and two dots; where the line ends after the first dot, that is the number's
 broken_behind_a_dot : Reads (codes "1.") (codes "\n.2")
 unfolding unicode_ident found find number
 broken_behind_a_dot = (piece_from_found false (codes "1.\n.2") (codes "1.") (codes "\n.2") _ refl).1
@@ -133,7 +133,7 @@ unbroken_suffix : Reads (codes "5e") (codes "+_5" ++ (0x301 ∷ []))
 unfolding unicode_ident found find number
 unbroken_suffix = (piece_from_found false (codes "5e+_5" ++ (0x301 ∷ [])) (codes "5e") (codes "+_5" ++ (0x301 ∷ [])) _ refl).1
 
--- where the line ends behind `5e`, no exponent stands there and a float does
+-- where the line ends after `5e`, no exponent stands there and a float does
 broken_behind_a_number : Reads (codes "1.5e") (codes "\n+_5" ++ (0x301 ∷ []))
 unfolding unicode_ident found find number
 broken_behind_a_number = (piece_from_found false (codes "1.5e\n+_5" ++ (0x301 ∷ [])) (codes "1.5e") (codes "\n+_5" ++ (0x301 ∷ [])) _ refl).1

@@ -94,18 +94,18 @@ stable_end = stable is_ident_continue rule.end (looks_end is_ident_continue (λ 
 some_digits : NotEmpty Digits
 some_digits = some_then _ _ (some_one is_ascii_digit)
 
-some_power : NotEmpty (Stands rule.power)
-some_power = some_second _ Digits some_digits
+some_exponent_digits : NotEmpty (Stands rule.exponent_digits)
+some_exponent_digits = some_second _ Digits some_digits
 
-some_signed : NotEmpty (Stands (Then (perhaps (rules.One is_sign)) rule.power))
-some_signed = some_second _ (Stands rule.power) some_power
+some_signed : NotEmpty (Stands (Then (perhaps (rules.One is_sign)) rule.exponent_digits))
+some_signed = some_second _ (Stands rule.exponent_digits) some_exponent_digits
 
 module _ (class : ℕ → Bool) (within : Sub is_ident_continue class) where
   looks_digits : Looks class rule.digits
   looks_digits = (inl tt, continues class within is_digit_or_underscore digits_continue)
 
   looks_exponent : Looks class rule.exponent
-  looks_exponent = (inl tt, (inr (local_run is_underscore, some_signed), (inr (local_perhaps_one is_sign, some_power), (inr (local_run is_underscore, some_digits), looks_digits))))
+  looks_exponent = (inl tt, (inr (local_run is_underscore, some_signed), (inr (local_perhaps_one is_sign, some_exponent_digits), (inr (local_run is_underscore, some_digits), looks_digits))))
 
   looks_exponential : Looks class (Then rule.digits (Then rule.exponent rule.end))
   looks_exponential = (inl looks_digits, (inl looks_exponent, looks_end class within))
@@ -113,13 +113,13 @@ module _ (class : ℕ → Bool) (within : Sub is_ident_continue class) where
   within_digits : Within class rule.digits
   within_digits = (continues class within is_ascii_digit digit_continues, continues class within is_digit_or_underscore digits_continue)
 
-  within_power : Within class rule.power
-  within_power = (continues class within is_underscore underscore_continues, within_digits)
+  within_exponent_digits : Within class rule.exponent_digits
+  within_exponent_digits = (continues class within is_underscore underscore_continues, within_digits)
 
   within_exponent : Sub is_sign class → Within class rule.exponent
   within_exponent signs = (
     continues class within is_exponent_letter letter_continues,
-    (continues class within is_underscore underscore_continues, ((signs, refl), within_power)),
+    (continues class within is_underscore underscore_continues, ((signs, refl), within_exponent_digits)),
   )
 
 pub stable_digits : Stable is_ident_continue Digits
@@ -131,8 +131,8 @@ stable_exponent = stable is_ident_continue rule.exponent (looks_exponent is_iden
 pub on_digits : AllIn is_ident_continue Digits
 on_digits = all_in is_ident_continue rule.digits (within_digits is_ident_continue (λ c is. is))
 
-pub on_power : AllIn is_ident_continue (Stands rule.power)
-on_power = all_in is_ident_continue rule.power (within_power is_ident_continue (λ c is. is))
+pub on_exponent_digits : AllIn is_ident_continue (Stands rule.exponent_digits)
+on_exponent_digits = all_in is_ident_continue rule.exponent_digits (within_exponent_digits is_ident_continue (λ c is. is))
 
 on_exponent : Within goes_on rule.exponent
 on_exponent = within_exponent goes_on continue_goes_on sign_goes_on
@@ -140,7 +140,7 @@ on_exponent = within_exponent goes_on continue_goes_on sign_goes_on
 extends_exponent : Extends (Stands rule.exponent)
 extends_exponent = extends_one_then is_exponent_letter _
     (extends_then (Run is_underscore) _ (local_run is_underscore) some_signed
-    (extends_then (Perhaps (One is_sign)) _ (local_perhaps_one is_sign) some_power
+    (extends_then (Perhaps (One is_sign)) _ (local_perhaps_one is_sign) some_exponent_digits
     (extends_then (Run is_underscore) Digits (local_run is_underscore) some_digits
     (extends_one_then is_ascii_digit (Run is_digit_or_underscore) (extends_run is_digit_or_underscore)))))
 

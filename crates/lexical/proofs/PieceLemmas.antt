@@ -17,7 +17,7 @@ use Rattle.lexical.specs.Finder.{Answer, Finds}
 use Rattle.lexical.specs.IdentifierFinder.{name_kind, raw_kind}
 use Rattle.lexical.specs.MarkFinder.{find_mark, mark_kind, quote_kind}
 use Rattle.lexical.specs.DelimiterFinder.{find_opener, find_closer, opener_kind, closer_kind}
-use Rattle.lexical.specs.PieceFinder.{Found, find_front_mark, find_white, front_mark_kind, gap_kind, literal_kind, tagged, or_found, with_kind, told, start, found_identifier, found_quoted, found_number, found_error, found_from, found}
+use Rattle.lexical.specs.PieceFinder.{Found, find_front_mark, find_white, front_mark_kind, gap_kind, literal_kind, tagged, or_found, with_kind, comment_found, start, found_identifier, found_quoted, found_number, found_error, found_from, found}
 use Rattle.lexical.specs.CommentFinder.{find_comment, comment_kind, doc_text}
 use Rattle.lexical.specs.declared.class.Start.{Start}
 use Rattle.lexical.specs.declared.class.Start.TheVariants as starts
@@ -90,9 +90,9 @@ kind_sound first text x is =
     (λ plain. (is.0, doc_from x.0 x.1 is.1 doc plain)))
     (λ plain. (is.0, inr (is.1, not_from_false _ plain)))
 
-told_sound : (first : Bool) (text : List ℕ) (o : Answer) → IfSome o (IsSplit Comment text) → IfSome (told o) (IsTagged first text)
-told_sound first text None is = tt
-told_sound first text (Some x) is = kind_sound first text x is
+comment_found_sound : (first : Bool) (text : List ℕ) (o : Answer) → IfSome o (IsSplit Comment text) → IfSome (comment_found o) (IsTagged first text)
+comment_found_sound first text None is = tt
+comment_found_sound first text (Some x) is = kind_sound first text x is
 
 mark_sound : (first : Bool) (text : List ℕ) → IfSome (tagged mark_kind (find_mark text)) (IsTagged first text)
 mark_sound first text = tagged_sound first _ mark_kind (mark_piece first) text _ (finds_mark.sound text)
@@ -128,7 +128,7 @@ start_sound first starts.Opener text =
     (λ p r h. ((one_of_kind is_opener p r h.0).1, h.1)) text _ (finds_opener.sound text)) (error_sound first text)
 start_sound first starts.Closer text = tagged_sound first _ closer_kind (λ p r h. (one_of_kind is_closer p r h).1) text _ (finds_closer.sound text)
 start_sound first starts.Slash text = cond_both (begins_any marks.comment_fronts text) _ _ (λ o. IfSome o (IsTagged first text))
-    (λ e. told_sound first text (find_comment text) (finds_comment.sound text)) (λ e. mark_sound first text)
+    (λ e. comment_found_sound first text (find_comment text) (finds_comment.sound text)) (λ e. mark_sound first text)
 start_sound first starts.Quote text =
     or_sound first text _ _ (tagged_sound first _ quote_kind (quote_piece first) text _ (finds_lone_quote.sound text))
     (quoted_sound first text)
@@ -159,7 +159,7 @@ found_comment : (first : Bool) (k : Kind) (p r : List ℕ) → Comment p r → c
 found_comment first k p r h kind =
     let begins = comment_first p r h in
     from_start first (p ++ r) 47 (begins.0 ++ r) starts.Slash (ap (λ x. x ++ r) begins.1) start_slash
-    ∙ (cond-true _ _ _ (begins.2 r) ∙ (ap told (finds_comment.complete p r h) ∙ ap (with_kind (p, r)) kind))
+    ∙ (cond-true _ _ _ (begins.2 r) ∙ (ap comment_found (finds_comment.complete p r h) ∙ ap (with_kind (p, r)) kind))
 
 -- a mark is found where no comment begins
 found_mark : (first : Bool) (text : List ℕ) (c : ℕ) (rest : List ℕ) → text ≡ c ∷ rest → marks.is_mark c ≡ true

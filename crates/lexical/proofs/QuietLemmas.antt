@@ -183,7 +183,7 @@ quiet_piece (Leaf (Literal text)) p r h quiet = elim h.1 [
 
 -- ---- texts of pieces
 
--- what follows the pieces may be put behind their text
+-- what follows the pieces may be put after their text
 pub onto_split : (us : List Piece) (v : List ℕ) → onto us v ≡ onto us [] ++ v
 onto_split [] v = refl
 onto_split (u ∷ us) v = ap (λ x. u.1 ++ x) (onto_split us v) ∙ sym (append_assoc u.1 (onto us []) v)

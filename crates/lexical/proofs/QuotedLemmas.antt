@@ -45,7 +45,7 @@ free_many A free p r s is = record { units = is.units; whole = is.whole; each = 
 
 -- ---- a string's units
 
--- a code looks as far as the brace behind it
+-- a code looks as far as the brace after it
 free_braced : (allowed : ℕ → Bool) → Free (Then (Stands (rule.code allowed)) (Exactly (codes "}")))
 free_braced allowed p r s is =
     let digits = is.first.0 in

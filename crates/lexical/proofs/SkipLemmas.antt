@@ -36,7 +36,7 @@ not_found_text front text none =
 pub text_passed : (front : List ℕ) (at to : Cursor) (h : Passes (find_text front (chars at.rest.now)) at to) → h.front ≡ front
 text_passed front at to h = (found_is (find_text front) (Exactly front) (finds_text front) (chars at.rest.now) h.front (chars to.rest.now) h.found).1
 
--- the text is what was passed and what follows the place behind it
+-- the text is what was passed and what follows the place after it
 pub past_text : (front : List ℕ) (at to : Cursor) → Passes (find_text front (chars at.rest.now)) at to → chars at.rest.now ≡ front ++ chars to.rest.now
 past_text front at to h = h.whole ∙ ap (λ x. x ++ chars to.rest.now) (text_passed front at to h)
 

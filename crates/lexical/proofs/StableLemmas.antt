@@ -43,7 +43,7 @@ some_second A B some p r is = let long = some is.back r is.second in omega (arit
 
 -- ---- rules
 
--- the characters behind its pieces that a rule looks at are of the class
+-- the characters after its pieces that a rule looks at are of the class
 abbrev pub Looks : (ℕ → Bool) → Rule → Type 0
 Looks class (rules.One passes) = Unit {0}
 Looks class (rules.Run passes) = Sub passes class

@@ -20,7 +20,7 @@ white_ascii : (cs : List ℕ) → list_all ascii_white cs ≡ true → all_ascii
 white_ascii [] h = refl
 white_ascii (c ∷ cs) h = let parts = and_parts _ _ h in and_from _ _ (and_parts _ _ parts.0).0 (white_ascii cs parts.1)
 
--- the text may be cut behind its first n bytes, which are white
+-- the text may be cut after its first n bytes, which are white
 pub white_boundary : (bytes : List ℕ) (n : ℕ) → IsUtf8 bytes → n ≤ length bytes → list_all ascii_white (take n bytes) ≡ true → IsCharBoundary bytes n
 white_boundary bytes n utf8 within white =
     IsCharBoundary-from_take bytes n utf8 within (IsUtf8-from_ascii (take n bytes) (is_ascii (take n bytes) (white_ascii (take n bytes) white)))

@@ -1,5 +1,6 @@
 -- Comments and doc comments.
-use Rattle.std.specs.Prelude.{ℕ, Bool, false, not, ◌&&◌, ◌||◌, ◌==◌, ◌≡◌, List, [], ◌∷◌, ◌++◌, IsFalse, codes, length, if◌then◌else◌}
+use Rattle.std.specs.Prelude.{ℕ, Bool, false, not, ◌&&◌, ◌||◌, ◌==◌, ◌≡◌}
+use Rattle.std.specs.Prelude.{List, [], ◌∷◌, ◌++◌, IsFalse, codes, length, if◌then◌else◌}
 use Rattle.lexical.specs.Character.{carriage_return, line_feed}
 use Rattle.lexical.specs.Text.{begins_with, begins_any, ends_with}
 use Rattle.lexical.specs.Form.{Form, Then, Where, Either, Exactly, Run}

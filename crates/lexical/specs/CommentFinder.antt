@@ -1,5 +1,6 @@
 -- The finders of comments, and what kind of piece a comment is.
-use Rattle.std.specs.Prelude.{ℕ, not, ◌-◌, ◌==◌, zero, suc, List, [], ◌∷◌, length, codes, cond, Option, Some, None, take, drop, if◌then◌else◌}
+use Rattle.std.specs.Prelude.{ℕ, not, ◌-◌, ◌==◌, zero, suc, List, [], ◌∷◌}
+use Rattle.std.specs.Prelude.{length, codes, cond, Option, Some, None, take, drop, if◌then◌else◌}
 use Rattle.lexical.specs.Character.{line_feed}
 use Rattle.lexical.specs.Text.{begins_with}
 use Rattle.lexical.specs.Comment.{is_inner, is_doc, closing, has_bare_return}

@@ -1,5 +1,6 @@
 -- Functions that find the piece of a form at the front of a text, one for each word that forms are made of.
-use Rattle.std.specs.Prelude.{ℕ, Bool, ◌≡◌, zero, suc, List, [], ◌∷◌, ◌++◌, length, Option, Some, None, IfSome, cond, ◌==◌}
+use Rattle.std.specs.Prelude.{ℕ, Bool, ◌≡◌, zero, suc, List, [], ◌∷◌}
+use Rattle.std.specs.Prelude.{◌++◌, length, Option, Some, None, IfSome, cond, ◌==◌}
 use Rattle.lexical.specs.Text.{begins_any, first_passes}
 use Rattle.lexical.specs.Form.{Form}
 

@@ -1,4 +1,5 @@
--- Forms of pieces, and the words that forms are made of. `p` is a piece of text, and `r` all that follows it in the source.
+-- Forms of pieces, and the words that forms are made of. `p` is a piece of text, and `r` all that follows it in the
+-- source.
 use Rattle.std.specs.Prelude.{ℕ, Bool, ◌≡◌, ◌⊎◌, List, [], ◌∷◌, ◌++◌, IsTrue, IsFalse}
 use Rattle.std.specs.List.{list_all, concat}
 use Rattle.lexical.specs.Text.{begins_any, first_passes}

@@ -30,6 +30,6 @@ find_raw = find_not_at literal_prefixes find_raw_text
 abbrev pub name_kind : List ℕ → List ℕ → Kind
 name_kind p r = Leaf (Name false p)
 
--- the kind of one with it: its name is what stands behind that
+-- the kind of one with it: its name is what stands after that
 abbrev pub raw_kind : List ℕ → List ℕ → Kind
 raw_kind p r = Leaf (Name true (drop 2 p))

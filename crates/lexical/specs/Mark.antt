@@ -27,7 +27,7 @@ Mark = NotAt comment_fronts (One (λ c. is_mark c && not (c == single_quote)))
 abbrev pub joint_before : List ℕ → Bool
 joint_before r = first_passes is_mark r && not (begins_any comment_fronts r)
 
--- whether the character bars a `'` before the identifier that it follows: `'`, and `#` behind a plain one
+-- whether the character bars a `'` before the identifier that it follows: `'`, and `#` after a plain one
 abbrev pub bars_quote : Bool → ℕ → Bool
 bars_quote raw c = (c == single_quote) || ((c == hash_sign) && not raw)
 

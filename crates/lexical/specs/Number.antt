@@ -42,12 +42,12 @@ abbrev pub is_sign : ℕ → Bool
 is_sign c = (c == plus_sign) || (c == minus_sign)
 
 -- the digits of an exponent, and the `_` before them
-abbrev pub power : Rule
-power = Then (Run is_underscore) digits
+abbrev pub exponent_digits : Rule
+exponent_digits = Then (Run is_underscore) digits
 
 -- `exponent`: `e` or `E`, one sign at most with `_` on both sides, and digits
 abbrev pub exponent : Rule
-exponent = Then (One is_exponent_letter) (Then (Run is_underscore) (Then (perhaps (One is_sign)) power))
+exponent = Then (One is_exponent_letter) (Then (Run is_underscore) (Then (perhaps (One is_sign)) exponent_digits))
 
 -- what follows the digits before a dot: it, all digits and `_`, and an exponent wherever one stands there
 abbrev pub fraction : Rule
@@ -83,11 +83,11 @@ is_digit_or_underscore_in base c = is_digit c base || is_underscore c
 abbrev pub base_digits : ℕ → Rule
 base_digits base = Then (One (λ c. is_digit c base)) (Run (is_digit_or_underscore_in base))
 
--- `base-digits`: all digits of the base and `_`, a digit among them, and no digit that is too large behind them
+-- `base-digits`: all digits of the base and `_`, a digit among them, and no digit that is too large after them
 abbrev pub digits_in : ℕ → Rule
 digits_in base = NotBefore is_ascii_digit (Then (Run is_underscore) (base_digits base))
 
--- `based`: the digits of base 16, 8 or 2 behind its prefix
+-- `based`: the digits of base 16, 8 or 2 after its prefix
 abbrev pub based : Rule
 based =
     Either (Then (Exactly (codes "0x")) (digits_in 16))

@@ -69,9 +69,9 @@ with_kind x None = None
 with_kind x (Some kind) = Some (kind, x.0, x.1)
 
 -- what was found, a comment, with its kind
-abbrev pub told : Answer → Found
-told None = None
-told (Some x) = with_kind x (comment_kind x.0 x.1)
+abbrev pub comment_found : Answer → Found
+comment_found None = None
+comment_found (Some x) = with_kind x (comment_kind x.0 x.1)
 
 -- what the first character of a text says of the piece that may stand there
 abbrev pub start : ℕ → Start
@@ -89,7 +89,8 @@ start c =
 
 -- the comment or the mark at the front of a text that begins with `/`
 abbrev pub found_at_slash : List ℕ → Found
-found_at_slash text = cond (begins_any comment_fronts text) (told (find_comment text)) (tagged mark_kind (find_mark text))
+found_at_slash text =
+    cond (begins_any comment_fronts text) (comment_found (find_comment text)) (tagged mark_kind (find_mark text))
 
 -- the identifier at the front of a text that begins with a letter
 abbrev pub found_identifier : List ℕ → Found

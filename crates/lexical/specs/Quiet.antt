@@ -1,4 +1,4 @@
--- Pieces behind which a line may be broken.
+-- Pieces after which a line may be broken.
 use Rattle.std.specs.Prelude.{Bool, true, false, not, List, [], ◌∷◌}
 use Rattle.std.specs.Char.{is_ascii_digit}
 use Rattle.lexical.specs.Text.{first_passes}

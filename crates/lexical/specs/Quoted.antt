@@ -1,5 +1,6 @@
 -- Strings with escapes.
-use Rattle.std.specs.Prelude.{ℕ, Bool, true, false, not, ◌&&◌, ◌||◌, ◌==◌, ◌+◌, ◌*◌, List, [], ◌∷◌, codes, nat_lt, nat_le, cond, length, filter}
+use Rattle.std.specs.Prelude.{ℕ, Bool, true, false, not, ◌&&◌, ◌||◌, ◌==◌, ◌+◌, ◌*◌}
+use Rattle.std.specs.Prelude.{List, [], ◌∷◌, codes, nat_lt, nat_le, cond, length, filter}
 use Rattle.std.specs.List.{list_any, fold}
 use Rattle.std.specs.Char.{is_ascii, is_digit, is_ascii_hexdigit, digit_value}
 use Rattle.lexical.specs.Character.{underscore}
@@ -14,7 +15,7 @@ use Rattle.lexical.specs.declared.quoted.StringKind.TheVariants.{Plain, Byte, C}
 abbrev pub is_one_of : List ℕ → ℕ → Bool
 is_one_of characters c = list_any (λ d. d == c) characters
 
--- ---- what stands behind a backslash
+-- ---- what stands after a backslash
 
 -- `simple-escape`: one of these letters
 abbrev pub simple : List ℕ → Rule
@@ -42,7 +43,7 @@ hex_pair = rules.Then (rules.One is_ascii_hexdigit) (rules.One is_ascii_hexdigit
 abbrev pub nonzero_pair : Rule
 nonzero_pair = rules.NotAt (codes "00" ∷ []) hex_pair
 
--- the digits behind `x`
+-- the digits after `x`
 abbrev pub pair : StringKind → Rule
 pair Plain = low_pair
 pair Byte = hex_pair
@@ -114,7 +115,7 @@ Newline = Exactly (codes "\r\n")
 abbrev pub Continuation : Form
 Continuation = Either (Exactly (codes "\n")) Newline
 
--- a character that passes, a line end, or a backslash and what may stand behind it
+-- a character that passes, a line end, or a backslash and what may stand after it
 abbrev pub BodyUnit : (ℕ → Bool) → Form → Form
 BodyUnit plain Escape = Either (One plain) (Either Newline (Then (Exactly (codes "\\")) (Either Continuation Escape)))
 

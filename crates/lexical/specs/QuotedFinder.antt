@@ -3,7 +3,8 @@ use Rattle.std.specs.Prelude.{ℕ, Bool, true, not, ◌&&◌, ◌==◌, nat_le, 
 use Rattle.std.specs.Char.{is_ascii}
 use Rattle.lexical.specs.Character.{carriage_return, double_quote, hash_sign}
 use Rattle.lexical.specs.Class.{is_ident_start, is_ident_continue}
-use Rattle.lexical.specs.Finder.{Finder, find_then, find_next, find_else, find_not_at, find_where, find_one, find_run, find_text, find_nothing, find_many}
+use Rattle.lexical.specs.Finder.{Finder, find_then, find_next, find_else, find_not_at, find_where}
+use Rattle.lexical.specs.Finder.{find_one, find_run, find_text, find_nothing, find_many}
 use Rattle.lexical.specs.Rule.{find}
 use Rattle.lexical.specs.Quoted.{is_string_plain, is_byte_plain, is_c_plain, escape}
 use Rattle.lexical.specs.SingleQuoted.{is_char_plain, is_byte_char_plain}
@@ -22,14 +23,15 @@ is_plain C = is_c_plain
 abbrev pub find_newline : Finder
 find_newline = find_text (codes "\r\n")
 
--- what may stand behind a backslash
+-- what may stand after a backslash
 abbrev pub find_escaped : StringKind → Finder
 find_escaped kind = find_else (find_else (find_text (codes "\n")) find_newline) (find (escape kind))
 
 -- a unit
 abbrev pub find_unit : StringKind → Finder
 find_unit kind =
-    find_else (find_one (is_plain kind)) (find_else find_newline (find_then (find_text (codes "\\")) (find_escaped kind)))
+    find_else (find_one (is_plain kind))
+    (find_else find_newline (find_then (find_text (codes "\\")) (find_escaped kind)))
 
 -- `suffix`
 abbrev pub find_suffix : Finder
@@ -87,7 +89,7 @@ find_raw_string kind = find_then (find_text (raw_front kind)) (find_next find_ha
 abbrev pub find_single_unit : (ℕ → Bool) → StringKind → Finder
 find_single_unit plain kind = find_else (find_one plain) (find_then (find_text (codes "\\")) (find (escape kind)))
 
--- the quote behind it, and the suffix
+-- the quote after it, and the suffix
 abbrev pub find_single_end : Finder
 find_single_end = find_then (find_text (codes "'")) find_suffix
 

@@ -21,9 +21,10 @@ Hashes = Where (λ hashes. nat_le (length hashes) 255) (Run (λ c. c == hash_sig
 abbrev pub RawUnit : (ℕ → Bool) → List ℕ → Form
 RawUnit allowed close = NotAt (close ∷ []) (Either (One (λ c. allowed c && not (c == carriage_return))) Newline)
 
--- behind the hash signs: a quote, and the units up to the first quote with those signs behind it
+-- after the hash signs: a quote, and the units up to the first quote with those signs after it
 abbrev pub RawQuotes : (ℕ → Bool) → List ℕ → Form
-RawQuotes allowed hashes = Then (Exactly (codes "\"")) (Body (RawUnit allowed (double_quote ∷ hashes)) (double_quote ∷ hashes))
+RawQuotes allowed hashes =
+    Then (Exactly (codes "\"")) (Body (RawUnit allowed (double_quote ∷ hashes)) (double_quote ∷ hashes))
 
 -- what opens it, hash signs, and the string between its quotes
 abbrev pub Raw : List ℕ → (ℕ → Bool) → Form

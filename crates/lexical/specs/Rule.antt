@@ -2,7 +2,8 @@
 use Rattle.std.specs.Prelude.{ℕ, Bool, List, []}
 use Rattle.lexical.specs.Form as forms
 use Rattle.lexical.specs.Form.{Form}
-use Rattle.lexical.specs.Finder.{Finder, find_then, find_else, find_not_at, find_not_before, find_where, find_one, find_run, find_text}
+use Rattle.lexical.specs.Finder.{Finder, find_then, find_else, find_not_at, find_not_before}
+use Rattle.lexical.specs.Finder.{find_where, find_one, find_run, find_text}
 
 -- a rule, by the words that forms are made of
 pub data Rule : Type 0 where

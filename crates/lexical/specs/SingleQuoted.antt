@@ -10,7 +10,8 @@ SingleUnit plain Escape = Either (One plain) (Then (Exactly (codes "\\")) Escape
 
 -- what opens it, a unit, `'` and a suffix
 abbrev pub SingleQuoted : List ℕ → (ℕ → Bool) → Form → Form
-SingleQuoted front plain Escape = Then (Exactly front) (Then (SingleUnit plain Escape) (Then (Exactly (codes "'")) Suffix))
+SingleQuoted front plain Escape =
+    Then (Exactly front) (Then (SingleUnit plain Escape) (Then (Exactly (codes "'")) Suffix))
 
 -- any character but `'`, `\`, LF, CR and the tab
 abbrev pub is_char_plain : ℕ → Bool

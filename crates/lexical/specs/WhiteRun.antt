@@ -7,7 +7,7 @@ use Rattle.lexical.specs.Form.{Run}
 abbrev pub ascii_white : ℕ → Bool
 ascii_white c = nat_lt c 128 && is_white c
 
--- so many white characters of ASCII stand at the front of the text, and the rest, behind them, begins with none
+-- so many white characters of ASCII stand at the front of the text, and the rest, after them, begins with none
 pub record IsPastWhite (text rest : List ℕ) (count : ℕ) : Type 0 where
   pub front : List ℕ
   pub whole : text ≡ front ++ rest

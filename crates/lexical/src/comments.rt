@@ -3,7 +3,7 @@
 ghost use Rattle.std.specs.Prelude.{◌≡◌, ◌<◌, ◌≤◌, [], IfSome, MatchOption};
 ghost use Rattle.std.specs.Str.{chars};
 ghost use Rattle.lexical.specs.CommentFinder.{find_block, find_comment, find_ends, find_line};
-ghost use Rattle.lexical.specs.PieceFinder.{told};
+ghost use Rattle.lexical.specs.PieceFinder.{comment_found};
 ghost use Rattle.lexical.specs.Reading.{Answers, Leads, Reads};
 
 use crate::cursor::Cursor;
@@ -77,7 +77,7 @@ fn skip_comment(at: Cursor<'_>) -> Option<Cursor<'_>>
 /// The comment at the front of the text, a gap or a doc comment. None stands where a doc comment
 /// has a CR that no LF follows in its text.
 pub fn comment(text: &str) -> Option<Piece<'_>>
-    ensures { Answers (told (find_comment (chars text.now))) result }
+    ensures { Answers (comment_found (find_comment (chars text.now))) result }
 {
     let end = skip_comment(Cursor::new(text))?;
     let kind = comment_kind(before(text, end.rest), end.rest)?;

@@ -1,4 +1,4 @@
-//! Escapes: what stands behind a backslash.
+//! Escapes: what stands after a backslash.
 #![tactic(auto, using(crate::proofs::RuleSteps::steps))]
 
 ghost use Rattle.std.specs.Prelude.{◌≡◌, IsTrue};
@@ -55,7 +55,7 @@ fn hex_pair(at: Cursor<'_>) -> Option<Cursor<'_>>
     hex_digit(hex_digit(at)?)
 }
 
-/// The place after two hex digits that may stand behind `x`.
+/// The place after two hex digits that may stand after `x`.
 fn pair(at: Cursor<'_>, kind: StringKind) -> Option<Cursor<'_>>
     ensures { Reads (rule.pair kind) at.entry result }
 {

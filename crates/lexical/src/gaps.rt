@@ -37,7 +37,7 @@ pub fn front_mark<'a>(text: &'a str, after: Cursor<'a>, at_front: bool) -> Optio
 /// What follows the white characters of ASCII at the front of the text, each a piece by the rule
 /// `gap`, and how many characters they are.
 ///
-/// Where none stands, it is the whole text, behind 0 characters. At two spaces and `a b` it answers
+/// Where none stands, it is the whole text, after 0 characters. At two spaces and `a b` it answers
 /// `a b` and 2.
 pub fn past_white(text: &str) -> (&str, usize)
     ensures passed { IsPastWhite (chars text.now) (chars result.0.now) result.1 }

@@ -63,7 +63,7 @@ pub fn is_reserved(name: &str) -> bool
         || is_text(name, "crate")
 }
 
-/// The place after the name of a raw identifier that stands at the place, behind `r#`.
+/// The place after the name of a raw identifier that stands at the place, after `r#`.
 pub fn raw_name(at: Cursor<'_>) -> Option<Cursor<'_>>
     ensures { Reads (find_raw_name (chars at.entry.rest.now)) at.entry result }
 {

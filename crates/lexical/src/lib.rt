@@ -4,7 +4,7 @@
 //! that none stands there. The rules are in docs/GRAMMAR.md and, exactly, in `specs/`: a form is a
 //! relation between a piece and all that follows it. No call takes memory. A call may read more of
 //! the text than the piece that it answers: an unclosed `/*` or string is read to the end, and a
-//! lone `'` with the whole identifier behind it.
+//! lone `'` with the whole identifier after it.
 //!
 //! A rule is named by its label in backquotes, such as `block-comment`. `docs/GRAMMAR.md` has all of them, each
 //! with its definition.

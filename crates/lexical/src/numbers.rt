@@ -6,7 +6,14 @@ ghost use Rattle.std.specs.Char.{is_ascii_digit, is_digit};
 ghost use Rattle.std.specs.Str.{chars};
 ghost use Rattle.lexical.specs.Ascii.{all_ascii};
 ghost use Rattle.lexical.specs.Number as rule;
-ghost use Rattle.lexical.specs.Number.{base_prefixes, is_digit_or_underscore, is_digit_or_underscore_in, is_exponent_letter, is_sign, is_underscore};
+ghost use Rattle.lexical.specs.Number.{
+  base_prefixes,
+  is_digit_or_underscore,
+  is_digit_or_underscore_in,
+  is_exponent_letter,
+  is_sign,
+  is_underscore,
+};
 ghost use Rattle.lexical.specs.Reading as answers;
 ghost use Rattle.lexical.specs.Rule.{Exactly, One, Run, Then, find, perhaps};
 ghost use Rattle.lexical.specs.Step.{Passes, Reads};
@@ -158,7 +165,7 @@ fn base_digit(at: Cursor<'_>, base: u32) -> Option<Cursor<'_>>
     one(at, |c| c.is_digit(base))
 }
 
-/// The place after a digit of the base and all the digits and `_` behind it.
+/// The place after a digit of the base and all the digits and `_` after it.
 fn base_digits(at: Cursor<'_>, base: u32) -> Option<Cursor<'_>>
     requires low { 2 ≤ base }
     requires high { base ≤ 36 }

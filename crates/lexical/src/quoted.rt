@@ -3,7 +3,16 @@
 ghost use Rattle.std.specs.Prelude.{◌≡◌, codes};
 ghost use Rattle.std.specs.Str.{chars};
 ghost use Rattle.lexical.specs.Finder.{find_else, find_many, find_text, find_then};
-ghost use Rattle.lexical.specs.QuotedFinder.{find_body, find_cooked, find_escaped, find_newline, find_suffix, find_unit, is_plain, string_front};
+ghost use Rattle.lexical.specs.QuotedFinder.{
+  find_body,
+  find_cooked,
+  find_escaped,
+  find_newline,
+  find_suffix,
+  find_unit,
+  is_plain,
+  string_front,
+};
 ghost use Rattle.lexical.specs.Reading.{Passes, Reads};
 
 use crate::cursor::Cursor;
@@ -56,7 +65,7 @@ fn line_end(at: Cursor<'_>) -> Option<Cursor<'_>>
     }
 }
 
-/// The place after what may stand behind a backslash in a string.
+/// The place after what may stand after a backslash in a string.
 fn escaped(at: Cursor<'_>, kind: StringKind) -> Option<Cursor<'_>>
     ensures { Reads (find_escaped kind (chars at.entry.rest.now)) at.entry result }
 {
@@ -66,14 +75,14 @@ fn escaped(at: Cursor<'_>, kind: StringKind) -> Option<Cursor<'_>>
     }
 }
 
-/// The place after a backslash and what may stand behind it.
+/// The place after a backslash and what may stand after it.
 fn backslash(at: Cursor<'_>, kind: StringKind) -> Option<Cursor<'_>>
     ensures { Reads (find_then (find_text (codes "\\")) (find_escaped kind) (chars at.entry.rest.now)) at.entry result }
 {
     escaped(at.past("\\")?, kind)
 }
 
-/// The place after CR LF, or a backslash and what may stand behind it.
+/// The place after CR LF, or a backslash and what may stand after it.
 fn long_unit(at: Cursor<'_>, kind: StringKind) -> Option<Cursor<'_>>
     ensures { Reads
         (find_else find_newline (find_then (find_text (codes "\\")) (find_escaped kind)) (chars at.entry.rest.now))

@@ -5,7 +5,16 @@ ghost use Rattle.std.specs.Str.{chars};
 ghost use Rattle.lexical.specs.Ascii.{all_ascii};
 ghost use Rattle.lexical.specs.Character.{double_quote, hash_sign};
 ghost use Rattle.lexical.specs.Finder.{find_many, find_next, find_run, find_text, find_then};
-ghost use Rattle.lexical.specs.QuotedFinder.{find_body, find_hashes, find_raw_string, find_raw_quotes, find_raw_unit, find_suffix, is_raw, raw_front};
+ghost use Rattle.lexical.specs.QuotedFinder.{
+  find_body,
+  find_hashes,
+  find_raw_string,
+  find_raw_quotes,
+  find_raw_unit,
+  find_suffix,
+  is_raw,
+  raw_front,
+};
 ghost use Rattle.lexical.specs.Reading.{Passes, Reads, ReadsText};
 
 use crate::cursor::Cursor;
@@ -69,7 +78,8 @@ fn raw_unit<'a>(at: Cursor<'a>, kind: StringKind, hashes: &str) -> Option<Cursor
 /// The place after all the units from the place on.
 fn raw_units<'a>(at: Cursor<'a>, kind: StringKind, hashes: &str) -> Cursor<'a>
     requires { IsTrue (all_ascii hashes.now) }
-    ensures { Passes (find_many (find_raw_unit kind (double_quote ∷ hashes.now)) (chars at.entry.rest.now)) at.entry result }
+    ensures { Passes
+        (find_many (find_raw_unit kind (double_quote ∷ hashes.now)) (chars at.entry.rest.now)) at.entry result }
 {
     let mut end = at;
     while let Some(after) = raw_unit(end, kind, hashes) {
@@ -89,7 +99,8 @@ fn closing<'a>(at: Cursor<'a>, hashes: &str) -> Option<Cursor<'a>>
 /// The place after the closing quote with its hash signs, and the suffix.
 fn close<'a>(at: Cursor<'a>, hashes: &str) -> Option<Cursor<'a>>
     requires { IsTrue (all_ascii hashes.now) }
-    ensures { Reads (find_then (find_text (double_quote ∷ hashes.now)) find_suffix (chars at.entry.rest.now)) at.entry result }
+    ensures { Reads
+        (find_then (find_text (double_quote ∷ hashes.now)) find_suffix (chars at.entry.rest.now)) at.entry result }
 {
     Some(suffix(closing(at, hashes)?))
 }

@@ -27,7 +27,8 @@ fn stands_bare(c: char) -> bool
 
 /// The place after a backslash and an escape.
 fn escaped(at: Cursor<'_>, kind: StringKind) -> Option<Cursor<'_>>
-    ensures { Reads (find_then (find_text (codes "\\")) (find (rule.escape kind)) (chars at.entry.rest.now)) at.entry result }
+    ensures { Reads
+        (find_then (find_text (codes "\\")) (find (rule.escape kind)) (chars at.entry.rest.now)) at.entry result }
 {
     escape(at.past("\\")?, kind)
 }
@@ -61,14 +62,16 @@ fn close(at: Cursor<'_>) -> Option<Cursor<'_>>
 
 /// The place after the unit of a character, the closing quote and the suffix.
 fn character_body(at: Cursor<'_>) -> Option<Cursor<'_>>
-    ensures { Reads (find_then (find_single_unit is_char_plain kinds.Plain) find_single_end (chars at.entry.rest.now)) at.entry result }
+    ensures { Reads (find_then (find_single_unit is_char_plain kinds.Plain) find_single_end (chars at.entry.rest.now))
+        at.entry result }
 {
     close(character_unit(at)?)
 }
 
 /// The place after the unit of a byte, the closing quote and the suffix.
 fn byte_body(at: Cursor<'_>) -> Option<Cursor<'_>>
-    ensures { Reads (find_then (find_single_unit is_byte_char_plain kinds.Byte) find_single_end (chars at.entry.rest.now)) at.entry result }
+    ensures { Reads (find_then (find_single_unit is_byte_char_plain kinds.Byte) find_single_end (chars at.entry.rest.now))
+        at.entry result }
 {
     close(byte_unit(at)?)
 }

@@ -1,6 +1,19 @@
 //! The few steps over the bytes of a text.
 
-ghost use Rattle.std.specs.Prelude.{◌≡◌, ◌∷◌, ◌++◌, [], List, ℕ, IfSome, IsTrue, false, MatchOption, if◌then◌else◌, nat_eq};
+ghost use Rattle.std.specs.Prelude.{
+  ◌≡◌,
+  ◌∷◌,
+  ◌++◌,
+  [],
+  List,
+  ℕ,
+  IfSome,
+  IsTrue,
+  false,
+  MatchOption,
+  if◌then◌else◌,
+  nat_eq,
+};
 ghost use Rattle.std.specs.Cmp.Lexicographic.{pointwise};
 ghost use Rattle.std.specs.Str.{IsUtf8, chars};
 ghost use Rattle.lexical.specs.Ascii.{all_ascii};

@@ -75,7 +75,7 @@ fn a_unit_of_a_c_string_is_a_character_up_to_7f(rt: HostRuntime) {
     );
 }
 
-/// Asserts whether the contents of this kind stand in double quotes, and behind which letter.
+/// Asserts whether the contents of this kind stand in double quotes, and after which letter.
 fn check_prefix(rt: &impl Abort, mode: Mode, quoted: bool, prefix: &str) {
     let answers = (mode, mode.in_double_quotes(), mode.prefix_noraw());
     check_same(rt, "quotes and prefix", &answers, &(mode, quoted, prefix));

@@ -2,7 +2,7 @@ use crate::checks::check_same;
 use lexical::{PieceKind, PieceWalk, pieces};
 use std::process::Abort;
 
-/// Asserts that the next pieces are of these kinds and texts, one right behind the other, the first
+/// Asserts that the next pieces are of these kinds and texts, one right after the other, the first
 /// at byte 0.
 fn check_walk(rt: &impl Abort, walk: &mut PieceWalk<'_>, rows: &[(PieceKind<'_>, &str)]) {
     let mut place: usize = 0;

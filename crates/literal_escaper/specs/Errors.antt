@@ -29,7 +29,7 @@ error_of item = error_at item.0 item.1
 unfoldable pub errors_among : {U : Type 0} → List (Item U) → List Error
 errors_among items = filter_map error_of items
 
--- from the front of the content to behind the last character that was read
+-- from the front of the content to after the last character that was read
 abbrev pub read_range : ℕ → List ℕ → Range ℕ
 read_range end rest = record { start = 0; end = offset end rest }
 

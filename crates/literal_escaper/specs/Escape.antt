@@ -1,4 +1,4 @@
--- Escapes: what stands behind a backslash. The first fault from the left is the escape's.
+-- Escapes: what stands after a backslash. The first fault from the left is the escape's.
 use Rattle.std.specs.Prelude.{ℕ, ◌+◌, ◌*◌, Bool, ◌||◌, ◌==◌, nat_lt, if◌then◌else◌, List, [], ◌∷◌, length, filter}
 use Rattle.std.specs.Prelude.{Option, Some, None, Result, Err}
 use Rattle.std.specs.List.{fold}
@@ -46,7 +46,7 @@ letter_unit kind (Some c) = kind.of_char c
 abbrev pub is_hex : ℕ → Bool
 is_hex c = is_digit c 16
 
--- the second digit of two, behind one of this value
+-- the second digit of two, after one of this value
 abbrev pub second_digit : {U : Type 0} → Kind U → ℕ → List ℕ → Read U
 second_digit kind high [] = fault TooShortHexEscape []
 second_digit kind high (low ∷ text) =
@@ -59,7 +59,7 @@ hex_escape kind [] = fault TooShortHexEscape []
 hex_escape kind (high ∷ text) =
     if is_hex high then second_digit kind (digit_value high) text else fault InvalidCharInHexEscape text
 
--- what may stand in the braces behind the first digit
+-- what may stand in the braces after the first digit
 abbrev pub is_code_character : ℕ → Bool
 is_code_character c = is_hex c || (c == underscore)
 
@@ -72,7 +72,7 @@ abbrev pub code_unit : {U : Type 0} → Kind U → List ℕ → Result U EscapeE
 code_unit kind digits =
     if nat_lt 6 (length digits) then Err OverlongUnicodeEscape else kind.of_code (character (hex_number digits))
 
--- the end of the braces behind these digits
+-- the end of the braces after these digits
 abbrev pub closed : {U : Type 0} → Kind U → List ℕ → List ℕ → Read U
 closed kind digits [] = fault UnclosedUnicodeEscape []
 closed kind digits (c ∷ text) =
@@ -83,7 +83,7 @@ closed kind digits (c ∷ text) =
 unfoldable pub coded : {U : Type 0} → Kind U → List ℕ → Read U
 coded kind text = closed kind (filter is_hex (while_front is_code_character text)) (while_rest is_code_character text)
 
--- the digits behind `{`, and the end of the braces
+-- the digits after `{`, and the end of the braces
 abbrev pub braced : {U : Type 0} → Kind U → List ℕ → Read U
 braced kind [] = fault UnclosedUnicodeEscape []
 braced kind (c ∷ text) =
@@ -98,7 +98,7 @@ unicode_escape kind [] = fault NoBraceInUnicodeEscape []
 unicode_escape kind (c ∷ text) =
     if c == open_brace then braced kind text else fault NoBraceInUnicodeEscape text
 
--- `item-escape`: what stands behind a backslash
+-- `item-escape`: what stands after a backslash
 unfoldable pub escape : {U : Type 0} → Kind U → List ℕ → Read U
 escape kind [] = fault LoneSlash []
 escape kind (c ∷ text) =

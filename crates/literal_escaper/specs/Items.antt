@@ -54,7 +54,7 @@ abbrev pub lines_range : ℕ → List ℕ → List ℕ → List ℕ → Option (
 lines_range end text blanks rest =
     if list_any (λ c. c == line_feed) blanks then Some (between end text rest) else None
 
--- `unskipped-white`: where a white character follows what is skipped, all up to behind it
+-- `unskipped-white`: where a white character follows what is skipped, all up to after it
 abbrev pub white_range : ℕ → List ℕ → List ℕ → Option (Range ℕ)
 white_range end text [] = None
 white_range end text (c ∷ rest) = if is_whitespace c then Some (between end text rest) else None
@@ -65,7 +65,7 @@ warning_at e None = []
 warning_at e (Some range) = (range, Err e) ∷ []
 
 -- `line-skip`: no unit for a backslash and LF, the front of the text,
--- nor for the blanks at the front of the line behind them
+-- nor for the blanks at the front of the line after them
 unfoldable pub line_skip : {U : Type 0} → ℕ → List ℕ → List ℕ → Front U
 line_skip end text line =
     let rest = while_rest is_blank line in record {

@@ -10,7 +10,7 @@ use Rattle.literal_escaper.specs.Units.{c_byte, c_char}
 
 -- a kind of string with units of this type
 pub record Kind (U : Type 0) : Type 0 where
-  -- of a character, which stands for itself or is meant by a letter behind a backslash
+  -- of a character, which stands for itself or is meant by a letter after a backslash
   pub of_char : ℕ → Result U EscapeError
   -- of the number of two hex digits
   pub of_hex : ℕ → Result U EscapeError

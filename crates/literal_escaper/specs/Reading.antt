@@ -31,7 +31,7 @@ Gives read at answer = (answer.0 ≡ read.unit) × (text_at answer.1 ≡ read.re
 abbrev pub next_count : ℕ → ℕ
 next_count count = if nat_lt count 7 then count + 1 else count
 
--- the number with a digit behind it, up to one that is no character's
+-- the number with a digit after it, up to one that is no character's
 abbrev pub next_number : ℕ → ℕ → ℕ
 next_number number digit = if nat_le number 0x10_FFFF then 16 * number + digit else number
 
@@ -66,7 +66,7 @@ skips_line text = list_any (λ c. c == line_feed) (while_front is_blank text)
 abbrev pub white_items : {U : Type 0} → Option (Range ℕ) → List (Item U)
 white_items = warning_at UnskippedWhitespaceWarning
 
--- an item and the warning behind it; without the item there is none
+-- an item and the warning after it; without the item there is none
 abbrev pub front_items : {U : Type 0} → Option (Item U) → Option (Range ℕ) → List (Item U)
 front_items None warning = []
 front_items (Some item) warning = item ∷ white_items warning
@@ -76,7 +76,7 @@ abbrev pub GivesFront : {U : Type 0} → Items.Front U → Place → Option (Ite
 GivesFront front at item warning after =
     (front_items item warning ≡ front.items) × (text_at after ≡ front.rest) × (after.end ≡ at.end)
 
--- what a content with escapes has left, behind a place in it
+-- what a content with escapes has left, after a place in it
 abbrev pub cooked_left : {U : Type 0} → Kind U → Cooked → List (Item U)
 cooked_left kind content = white_items content.warning ++ items_from kind content.place.end (text_at content.place)
 

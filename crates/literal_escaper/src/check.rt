@@ -112,7 +112,7 @@ impl<'a> CheckForErrors<'a> {
 
 /// The errors and warnings of a content of this kind, each with the range of bytes where it stands,
 /// by the rule `content-errors`. For a character or a byte there is one at most, from the front of the
-/// content to behind the last character that was read.
+/// content to after the last character that was read.
 ///
 /// `abc` for a character gives 0..2 `MoreThanOneChar`; `a"` for a string gives 1..2 `EscapeOnlyChar`,
 /// and for a raw string nothing.

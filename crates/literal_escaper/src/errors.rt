@@ -8,14 +8,14 @@ ghost use Rattle.literal_escaper.specs.Warning.{is_fault};
 pub enum EscapeError {
     /// No character where one was wanted: the content of `''`.
     ZeroChars,
-    /// A character behind the one that was wanted: `ab` in `'ab'`.
+    /// A character after the one that was wanted: `ab` in `'ab'`.
     MoreThanOneChar,
-    /// A backslash with nothing behind it: `\` at the end.
+    /// A backslash with nothing after it: `\` at the end.
     LoneSlash,
     /// A backslash before a character that begins no escape: `\z`, or `\` before a CR.
     InvalidEscape,
     /// A CR that is read by itself in a content with escapes, also before LF: `a` CR LF. It is no part of
-    /// an escape, nor is it skipped behind a backslash and LF.
+    /// an escape, nor is it skipped after a backslash and LF.
     BareCarriageReturn,
     /// A CR in a raw content: `a` CR.
     BareCarriageReturnInRawString,
@@ -35,7 +35,7 @@ pub enum EscapeError {
     EmptyUnicodeEscape,
     /// The text ends before the closing brace: `\u{41`.
     UnclosedUnicodeEscape,
-    /// An underscore right behind the opening brace: `\u{_41}`.
+    /// An underscore right after the opening brace: `\u{_41}`.
     LeadingUnderscoreUnicodeEscape,
     /// More than six hex digits in the braces: `\u{0000041}`.
     OverlongUnicodeEscape,
@@ -49,7 +49,7 @@ pub enum EscapeError {
     NonAsciiCharInByte,
     /// A zero in a C string: `\0`.
     NulInCStr,
-    /// A warning: behind a skipped line end and its blanks stands a white character that isn't
+    /// A warning: after a skipped line end and its blanks stands a white character that isn't
     /// skipped, such as U+00A0.
     UnskippedWhitespaceWarning,
     /// A warning: more than one line end is skipped, as in `\` LF LF.

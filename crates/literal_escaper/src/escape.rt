@@ -1,4 +1,4 @@
-//! Escapes: what stands behind a backslash.
+//! Escapes: what stands after a backslash.
 
 ghost use Rattle.std.specs.Prelude.{◌≡◌, ◌<◌, ◌≤◌};
 ghost use Rattle.literal_escaper.specs.Escape.{braced, coded, escape as what_escapes, hex_escape as hex_read};
@@ -12,7 +12,7 @@ use crate::errors::EscapeError;
 use crate::kind::{Unescape, character_of};
 use crate::place::Place;
 
-/// The character that a letter behind a backslash stands for, by the rule `item-letter`.
+/// The character that a letter after a backslash stands for, by the rule `item-letter`.
 fn simple_escape(c: char) -> Option<char>
     ensures { result ≡ letter c }
 {
@@ -26,7 +26,7 @@ fn simple_escape(c: char) -> Option<char>
     }
 }
 
-/// The unit of a letter behind a backslash.
+/// The unit of a letter after a backslash.
 fn letter_escape<K: Unescape>(c: char) -> Result<K::Unit, EscapeError>
     ensures { result ≡ letter_unit K.kind (letter c) }
 {
@@ -65,7 +65,7 @@ fn hex_escape<K: Unescape>(at: Place<'_>) -> (Result<K::Unit, EscapeError>, Plac
     low_digit::<K>(high, after)
 }
 
-/// The largest number that is kept of digits in braces: one digit behind the last character's.
+/// The largest number that is kept of digits in braces: one digit after the last character's.
 const LARGEST_CODE: u32 = 0x10F_FFFF;
 
 /// What the digits in braces write.
@@ -75,7 +75,7 @@ struct Code<'a> {
     count: u32,
     /// Their number, as long as it may be a character's.
     number: u32,
-    /// The place behind them and the underscores among them.
+    /// The place after them and the underscores among them.
     after: Place<'a>,
 }
 
@@ -88,7 +88,7 @@ fn one_more(count: u32) -> u32
     if count < 7 { count + 1 } else { count }
 }
 
-/// The number with this digit behind it, up to one that is no character's.
+/// The number with this digit after it, up to one that is no character's.
 fn extended(number: u32, digit: u32) -> u32
     requires number { number ≤ LARGEST_CODE }
     requires digit { digit < 16 }
@@ -156,7 +156,7 @@ fn rest_of_code<K: Unescape>(at: Place<'_>) -> (Result<K::Unit, EscapeError>, Pl
     }
 }
 
-/// The unit of a character's code, behind the opening brace.
+/// The unit of a character's code, after the opening brace.
 fn braced_escape<K: Unescape>(at: Place<'_>) -> (Result<K::Unit, EscapeError>, Place<'_>)
     ensures { Gives (braced K.kind (text_at at.entry)) at.entry result }
 {
@@ -187,7 +187,7 @@ fn unicode_escape<K: Unescape>(at: Place<'_>) -> (Result<K::Unit, EscapeError>, 
     }
 }
 
-/// The unit of what stands behind a backslash, by the rule `item-escape`.
+/// The unit of what stands after a backslash, by the rule `item-escape`.
 #[tactic(auto, unfolding(crate::specs::Escape::escape))]
 pub fn escape<K: Unescape>(at: Place<'_>) -> (Result<K::Unit, EscapeError>, Place<'_>)
     ensures { Gives (what_escapes K.kind (text_at at.entry)) at.entry result }

@@ -20,20 +20,20 @@ pub type Item<U> = (Range<usize>, Result<U, EscapeError>);
 pub struct Front<'a, U: Copy> {
     /// The first item, if there is one.
     pub item: Option<Item<U>>,
-    /// Where the warning about a white character stands that comes behind that item.
+    /// Where the warning about a white character stands that comes after that item.
     pub warning: Option<Range<usize>>,
-    /// The place behind the characters that were read for it.
+    /// The place after the characters that were read for it.
     pub after: Place<'a>,
 }
 
-/// Whether the character is skipped behind a line end with a backslash before it.
+/// Whether the character is skipped after a line end with a backslash before it.
 fn is_blank(c: char) -> bool
     ensures { result ≡ blank c }
 {
     matches!(c, ' ' | '\t' | '\n' | '\r')
 }
 
-/// The place behind the blanks, and whether a line end is among them.
+/// The place after the blanks, and whether a line end is among them.
 fn skip_blanks(at: Place<'_>) -> (bool, Place<'_>)
     ensures lines { result.0 ≡ skips_line (text_at at.entry) }
     ensures rest { text_at result.1 ≡ while_rest blank (text_at at.entry) }
@@ -51,7 +51,7 @@ fn skip_blanks(at: Place<'_>) -> (bool, Place<'_>)
     (lines, after)
 }
 
-/// From the place to behind the white character that stands at the other.
+/// From the place to after the white character that stands at the other.
 fn unskipped_white(start: Place<'_>, after: Place<'_>) -> Option<Range<usize>>
     requires { start.end ≡ after.end }
     ensures { result ≡ white_range start.entry.end (text_at start.entry) (text_at after.entry) }
@@ -64,7 +64,7 @@ fn unskipped_white(start: Place<'_>, after: Place<'_>) -> Option<Range<usize>>
     }
 }
 
-/// The warnings about a backslash and LF at the place, behind which the line begins: no unit stands
+/// The warnings about a backslash and LF at the place, after which the line begins: no unit stands
 /// for them and the blanks that follow.
 #[tactic(auto, unfolding(crate::specs::Items::line_skip))]
 fn skip_line<'a, U: Copy>(at: Place<'a>, line: Place<'a>) -> Front<'a, U>
@@ -103,7 +103,7 @@ fn read_unit<K: Unescape>(c: char, after: Place<'_>) -> (Result<K::Unit, EscapeE
     }
 }
 
-/// The place behind an LF.
+/// The place after an LF.
 fn line_feed(at: Place<'_>) -> Option<Place<'_>>
     ensures { MatchOption result (IsFalse (first_is line_end (text_at at.entry)))
         (λ line. (text_at at.entry ≡ line_end ∷ text_at line) × (line.end ≡ at.entry.end)) }

@@ -21,7 +21,7 @@ fn unit<K: CheckRaw>(c: char) -> Result<K::Unit, EscapeError>
     }
 }
 
-/// The next item of a raw content, and the place behind it.
+/// The next item of a raw content, and the place after it.
 #[tactic(auto, unfolding(crate::specs::Items::raw_items_from))]
 pub fn next_raw_item<K: CheckRaw>(place: &mut Place<'_>) -> Option<Item<K::Unit>>
     ensures { YieldsFirst (raw_left K.unit_of) place.old result place.new }

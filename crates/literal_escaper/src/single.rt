@@ -20,7 +20,7 @@ fn first_unit<K: Unescape>(c: char, after: Place<'_>) -> (Result<K::Unit, Escape
     }
 }
 
-/// The one unit of the content, by the rule `single-item`, and the place behind what was read.
+/// The one unit of the content, by the rule `single-item`, and the place after what was read.
 #[tactic(auto, unfolding(crate::specs::Single::single))]
 pub fn unescape_single<K: Unescape>(at: Place<'_>) -> (Result<K::Unit, EscapeError>, Place<'_>)
     ensures { Gives (single K.kind (text_at at.entry)) at.entry result }

@@ -59,7 +59,7 @@ record_of start (Literal l) =
       count = length (encode_utf8_all l.text);
     }
 
--- the records of trees in order, of which the first has its text at this byte, and each other behind the one before
+-- the records of trees in order, of which the first has its text at this byte, and each other after the one before
 abbrev pub records_from : ℕ → List TokenTree → List PmTree
 records_from start [] = []
 records_from start (tree ∷ trees) = record_of start tree ∷ records_from (start + length (kept_text tree)) trees

@@ -66,7 +66,7 @@ pub(crate) fn list(
     Ok(())
 }
 
-/// The record of a tree, whose text goes behind the others.
+/// The record of a tree, whose text goes after the others.
 fn record_of(tree: &TokenTree, text: &mut String) -> Result<PmTree, ListError>
     ensures record { IfOk result (λ made. made ≡ record_of (length (string_bytes text.old)) tree.now) }
     ensures text { OnOk result (string_bytes text.new ≡ string_bytes text.old ++ kept_text tree.now) }

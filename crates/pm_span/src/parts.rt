@@ -38,7 +38,7 @@ pub fn fits(map: &SourceMap, text: &str) -> Option<u32>
 
 /// Adds the text, which fits, as the map's next file.
 ///
-/// Refused only for want of memory, and the map is then as before.
+/// Refused only where memory runs out, and the map is then as before.
 pub fn add_file(map: &mut SourceMap, text: &str) -> Result<(), AllocError>
     requires { Fits map.old (length (chars text.now)) }
     ensures ok { OnOk result (map.new ≡ with_file map.old (chars text.now)) }

@@ -46,7 +46,7 @@ reads_found base source mid rest at first groups groups' trees trees' piece read
     (reads_more base source mid h.front h.rest at (at + piece.chars) first groups groups' trees trees'
     (kind_of piece.kind h.front) reads h.whole h.stands (ap (λ n. at + n) h.chars) grows)
 
--- past a piece and the white characters behind it
+-- past a piece and the white characters after it
 pub reads_on : (base : ℕ) (source mid behind rest : List ℕ) (at count : ℕ) (first : Bool) (groups groups' : List Opened) (trees trees' : Forest)
     (piece : Piece)
     → Reads base source mid at first groups trees → (h : IsPieceAt first mid piece) → behind ≡ h.rest

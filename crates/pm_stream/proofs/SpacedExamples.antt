@@ -18,7 +18,7 @@ quote = Mark 39 true
 abbrev a : Token
 a = Name false (codes "a")
 
--- ---- behind `'`
+-- ---- after `'`
 
 quote_name : well_spaced (tokens (quote ∷ a ∷ [])) ≡ true
 quote_name = refl
@@ -53,7 +53,7 @@ quote_group = refl
 quote_alone : well_spaced (tokens (Mark 39 false ∷ a ∷ [])) ≡ false
 quote_alone = refl
 
--- ---- behind other Joint marks
+-- ---- after other Joint marks
 
 plus_quote_name : well_spaced (tokens (Mark 43 true ∷ quote ∷ a ∷ [])) ≡ true
 plus_quote_name = refl

@@ -128,7 +128,7 @@ fn take_last(shared: &mut Rc<Vec<TokenTree>>) -> Option<TokenTree>
     }
 }
 
-// Puts a tree behind the others, in a list that has no other owner.
+// Puts a tree after the others, in a list that has no other owner.
 fn put_last(shared: &mut Rc<Vec<TokenTree>>, tree: TokenTree) -> Result<(), TokenTree>
     ensures ok { OnOk result
         (forest shared.new.value.items ≡ joined (forest shared.old.value.items) (alone tree)) }

@@ -191,7 +191,7 @@ longest bytes m (suc n) le is =
       | inr more ↦ let same : m ≡ suc n = omega (arith, le, more) in absurd (both_ways _ e (subst (λ k. is_utf8 (take k bytes) ≡ true) same is))
     ]
 
--- behind the longest text at the front no character begins
+-- after the longest text at the front no character begins
 begins_none : (bytes valid tail : List ℕ) → IsUtf8 valid → bytes ≡ valid ++ tail → length valid ≡ utf8_valid_len bytes → BeginsNone tail
 unfolding utf8_valid_len
 begins_none bytes valid tail utf8 whole long c rest scalar e =
@@ -222,7 +222,7 @@ chunk_whole bytes left valid text more same split is = tail_of bytes text more (
 pub chunk_long : (bytes left valid text : List ℕ) → left ≡ bytes → length valid ≡ utf8_valid_len left → text ≡ valid → length text ≡ utf8_valid_len bytes
 chunk_long bytes left valid text same long is = ap length is ∙ (long ∙ ap utf8_valid_len same)
 
--- the text at the front, and the byte behind it
+-- the text at the front, and the byte after it
 pub front_and_byte : (bytes valid tail rest old new : List ℕ) (b : ℕ) → IsUtf8 valid → bytes ≡ valid ++ tail
     → length valid ≡ utf8_valid_len bytes → tail ≡ b ∷ rest
     → has_no_zero bytes ≡ true → new ≡ (old ++ content 34 written_char (chars valid)) ++ (codes "\\x" ++ hex_pair b) → WritesFront bytes rest old new

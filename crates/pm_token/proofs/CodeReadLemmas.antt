@@ -71,7 +71,7 @@ coded_is kind unit c ds more all few value scalar is =
     ap₂ (λ digits rest. closed kind digits rest) (ap (filter is_hex) (digits_front ds more all) ∙ digits_hex ds all) (digits_rest ds more all)
     ∙ ap (λ u. record { unit = u; rest = more }) (code_is kind unit c ds all few value scalar is)
 
--- behind `u`
+-- after `u`
 unicode_is : {U : Type 0} (kind : Kind U) (unit : U) (c first : ℕ) (others more : List ℕ) → AreHex (first ∷ others)
     → length others ≤ 5 → value_behind 0 (first ∷ others) ≡ c → IsScalar c
     → kind.of_code (Ok c) ≡ Ok unit

@@ -148,7 +148,7 @@ module _ {U : Type 0} (kind : Kind U) (spell : U → List ℕ) (makes : Makes) (
           subst (λ b. Has kind spell end (92 ∷ (back ++ rest)) (cond b (joined makes true parts) (escape_value makes back ++ joined makes false parts)))
           (sym (stands skipping)) here
 
-  -- a line end behind a backslash
+  -- a line end after a backslash
   has_line : (rest : List ℕ) (parts : List (List ℕ)) → HasBoth rest parts → HasBoth (92 ∷ 10 ∷ rest) ((92 ∷ 10 ∷ []) ∷ parts)
   has_line rest parts has =
       let here : Has kind spell end (92 ∷ 10 ∷ rest) (joined makes true parts) =

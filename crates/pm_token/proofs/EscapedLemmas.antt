@@ -31,7 +31,7 @@ use Rattle.pm_token.proofs.TextLemmas.{text_literal}
 abbrev pub is_plain : ℕ → ℕ → Bool
 is_plain quote c = not (is_one_of (quote ∷ codes "\\\n\r\t") c)
 
--- what a kind of literal allows behind a backslash, and bare, of what is written for c
+-- what a kind of literal allows after a backslash, and bare, of what is written for c
 pub record Allows (class : ℕ → Bool) (Escape : Form) (plain : ℕ → List ℕ) (quote c : ℕ) : Type 0 where
   pub letter : (letter : ℕ) (r : List ℕ) → is_one_of (codes "nrt\\'\"") letter ≡ true → Escape (letter ∷ []) r
   pub zeros : (r : List ℕ) → (c == 0) ≡ true → Escape (codes "0") r × Escape (codes "x00") r

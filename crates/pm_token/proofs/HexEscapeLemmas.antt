@@ -1,4 +1,4 @@
--- What is read of two hex digits behind `\x`, in each kind of string.
+-- What is read of two hex digits after `\x`, in each kind of string.
 use Rattle.std.proofs.Common.{◌≡◌, ℕ, ◌*◌, ◌+◌, ◌<◌, ◌≤◌, true, false, not, ◌&&◌, ◌||◌, ◌==◌, nat_lt, nat_le, List, []}
 use Rattle.std.proofs.Common.{◌∷◌, ◌++◌, codes, refl, sym, ap, ap₂, ◌∙◌, subst, arith, inl, inr, eqb-true, ltb-true}
 use Rattle.std.proofs.Common.{leb-true}

@@ -26,7 +26,7 @@ AreHex ds = AllByRecursion (λ d. d < 16) ds
 abbrev pub digits_of : List ℕ → List ℕ
 digits_of ds = map digit_char ds
 
--- the number of which these are the values, behind n
+-- the number of which these are the values, after n
 abbrev pub value_behind : ℕ → List ℕ → ℕ
 value_behind n [] = n
 value_behind n (d ∷ ds) = value_behind (16 * n + d) ds

@@ -35,7 +35,7 @@ use Rattle.pm_token.specs.declared.literals.integers.Suffix.TheVariants.{I16, I3
 abbrev is_base_letter : ℕ → Bool
 is_base_letter c = (c == 120) || ((c == 111) || (c == 98))
 
--- what ends a number behind its digits, goes on with none of them, makes no prefix of a zero, and is ASCII
+-- what ends a number after its digits, goes on with none of them, makes no prefix of a zero, and is ASCII
 record EndsInteger (suffix : List ℕ) : Type 0 where
   ends : find tail suffix ≡ Some (suffix, [])
   stops : first_passes is_digit_or_underscore suffix ≡ false

@@ -5,11 +5,11 @@ use Rattle.lexical.specs.Form.{Many}
 use Rattle.lexical.specs.Quoted.{StringUnit}
 use Rattle.pm_token.specs.Joined.{c_joined, string_joined}
 
--- nothing is made of a backslash and LF, nor of the blanks behind them
+-- nothing is made of a backslash and LF, nor of the blanks after them
 skipped : string_joined (codes "a" ∷ codes "\\\n" ∷ codes " " ∷ codes "\t" ∷ codes "\n" ∷ codes " " ∷ codes "b" ∷ codes " " ∷ []) ≡ codes "ab "
 skipped = refl
 
--- another line end stays, with the blanks behind it
+-- another line end stays, with the blanks after it
 kept : string_joined (codes "a" ∷ codes "\n" ∷ codes " " ∷ codes "b" ∷ []) ≡ codes "a\n b"
 kept = refl
 

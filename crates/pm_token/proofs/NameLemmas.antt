@@ -103,7 +103,7 @@ is_name-continues text h = name_continues text [] (is_name-Name text h)
 pub Name-is_name : (p r : List ℕ) → Name p r → is_name p ≡ true
 Name-is_name p r h = ap is_name (h.whole ∙ ap (λ x. x ++ h.back) h.first.1) ∙ and_from _ _ h.first.2 h.second.each
 
--- a text that goes on behind the name at its front is none
+-- a text that goes on after the name at its front is none
 longer_is_none : (p r : List ℕ) (d : ℕ) → Name p (d ∷ r) → is_name (p ++ d ∷ r) ≡ false
 longer_is_none p r d h = false_from_ne_true _ (λ is.
     let all = and_parts _ _ (sym (list_all-append is_ident_continue p (d ∷ r)) ∙ is_name-continues (p ++ d ∷ r) is) in

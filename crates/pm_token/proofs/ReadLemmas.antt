@@ -111,7 +111,7 @@ pub begins_written : {U : Type 0} (kind : Kind U) (end c : ℕ) (p : List ℕ) (
 begins_written kind end c p unit more (inl is) = begins_escape kind end p unit more is
 begins_written kind end c p unit more (inr is) = begins_stand kind end c p unit more is
 
--- ---- letters behind a backslash
+-- ---- letters after a backslash
 
 -- characters of ASCII are units of the kind by themselves
 pub record IsPlain (kind : Kind ℕ) : Type 0 where

@@ -36,7 +36,7 @@ name_plain quote out c [] start all ends =
     both_ways (is_ident_start quote) out.no_start (ap is_ident_start (sym (eqb-true c quote ends)) ∙ start)
 name_plain quote out c (d ∷ text) start all ends = continues_plain quote out (d ∷ text) all ends
 
--- behind a quote that ends the text no suffix stands
+-- after a quote that ends the text no suffix stands
 no_suffix_behind : (quote : ℕ) → IsNoName quote → (body suffix r : List ℕ) → Suffix suffix r → ends_with quote (body ++ (quote ∷ suffix)) ≡ true
     → suffix ≡ []
 no_suffix_behind quote out body suffix r (inr (none, nothing)) ends = nothing
@@ -53,7 +53,7 @@ double_out = record { no_start = ident_start_ascii 34 (omega arith); no_continue
 single_out : IsNoName 39
 single_out = record { no_start = ident_start_ascii 39 (omega arith); no_continue = ident_continue_ascii 39 (omega arith) }
 
--- nor behind a single one
+-- nor after a single one
 pub no_single_suffix : (body suffix r : List ℕ) → Suffix suffix r → ends_with 39 (body ++ (39 ∷ suffix)) ≡ true → suffix ≡ []
 no_single_suffix = no_suffix_behind 39 single_out
 

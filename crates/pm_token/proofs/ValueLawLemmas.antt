@@ -65,7 +65,7 @@ glyph_hex d low = agree_below_at (λ x. is_hex (digit_glyph true x)) (λ x. true
 glyph_value : (d : ℕ) → d < 16 → nat_eq (digit_value (digit_glyph true d)) d ≡ true
 glyph_value d low = agree_below_at (λ x. nat_eq (digit_value (digit_glyph true x)) x) (λ x. true) 16 d refl low
 
--- two hex digits behind a backslash and `x`
+-- two hex digits after a backslash and `x`
 pair_read : (high low : ℕ) (more : List ℕ) → high < 16 → low < 16
     → escape byte_kind (120 ∷ digit_glyph true high ∷ digit_glyph true low ∷ more) ≡ record { unit = Ok (16 * high + low); rest = more }
 unfolding escape hex_escape

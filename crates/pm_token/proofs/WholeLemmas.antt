@@ -98,7 +98,7 @@ begins_minus : (cs : List ℕ) → first_passes (λ c. c == 45) cs ≡ true → 
 begins_minus [] h = absurd (both_ways _ refl h)
 begins_minus (c ∷ cs) h = (cs, ap (λ d. d ∷ cs) (eqb-true c 45 h))
 
--- what stands behind the `-`, in bytes and in characters
+-- what stands after the `-`, in bytes and in characters
 pub minus_stripped : (text : List ℕ) (r : Option (Bor (List ℕ))) → IsUtf8 text → MatchOption r ((rest : List ℕ) → text ≢ 45 ∷ rest) (λ x. text ≡ 45 ∷ x.now)
     → MatchOption r (first_passes (λ c. c == 45) (chars text) ≡ false) (λ x. chars text ≡ 45 ∷ chars x.now)
 minus_stripped text None utf8 none = false_from_ne_true _ (λ h.
@@ -114,7 +114,7 @@ no_minus number is =
     let head : 45 ≡ at.0 = cc in
     both_ways (is_one_of literal_fronts 45) refl (ap (is_one_of literal_fronts) head ∙ at.3)
 
--- with a `-` a whole literal is a literal behind it
+-- with a `-` a whole literal is a literal after it
 negative_of : (text number : List ℕ) → text ≡ 45 ∷ number → IsWholeLiteral text
     → Literal number [] × (first_passes is_ascii_digit number ≡ true)
 negative_of text number split (inl other) = absurd (no_minus number (subst (λ p. Literal p []) split other))

@@ -17,7 +17,7 @@ before back text = option_map reverse (behind (reverse back) (reverse text))
 abbrev pub between : List ℕ → List ℕ → List ℕ → Option (List ℕ)
 between front back text = option_and_then (before back) (behind front text)
 
--- `cooked-content`: behind this front, up to a quote that ends the text
+-- `cooked-content`: after this front, up to a quote that ends the text
 abbrev pub cooked_content : List ℕ → List ℕ → Option (List ℕ)
 cooked_content front text = between front (codes "\"") text
 
@@ -28,7 +28,7 @@ is_hash c = c == 35
 abbrev pub hashes : List ℕ → List ℕ
 hashes text = while_front is_hash text
 
--- behind all the hash signs and a quote, up to a quote and as many signs, which end the text
+-- after all the hash signs and a quote, up to a quote and as many signs, which end the text
 unfoldable pub hashed_content : List ℕ → Option (List ℕ)
 hashed_content text = between (hashes text ++ codes "\"") (codes "\"" ++ hashes text) text
 

@@ -22,7 +22,7 @@ utf8 = record { of_char = λ c. encode_utf8 c; of_hex = λ byte. byte ∷ [] }
 
 -- ---- one unit
 
--- the character that a letter behind a backslash stands for
+-- the character that a letter after a backslash stands for
 abbrev pub meant : ℕ → ℕ
 meant c =
     if c == letter_n then line_feed
@@ -35,7 +35,7 @@ meant c =
 abbrev pub number_in : List ℕ → ℕ
 number_in text = hex_value (filter is_ascii_hexdigit text)
 
--- what an escape gives, which is this text behind its backslash
+-- what an escape gives, which is this text after its backslash
 abbrev pub escape_value : Makes → List ℕ → List ℕ
 escape_value makes [] = []
 escape_value makes (c ∷ text) =
@@ -64,7 +64,7 @@ is_blank (c ∷ (d ∷ text)) = false
 abbrev pub is_skipped : Bool → List ℕ → Bool
 is_skipped skipping unit = is_line_skip unit || (skipping && is_blank unit)
 
--- `units-joined`: what units give, one behind another; blanks are skipped from a backslash and LF
+-- `units-joined`: what units give, one after another; blanks are skipped from a backslash and LF
 -- up to a unit that gives something
 abbrev pub joined : Makes → Bool → List (List ℕ) → List ℕ
 joined makes skipping [] = []

@@ -12,7 +12,7 @@ pub record IsNegative (text : List ℕ) : Type 0 where
   pub literal : Literal number []
   pub digit : IsTrue (first_passes is_ascii_digit number)
 
--- `whole-literal`: one literal, nothing before or behind it; or a negative one
+-- `whole-literal`: one literal, nothing before or after it; or a negative one
 abbrev pub IsWholeLiteral : List ℕ → Type 0
 IsWholeLiteral text = Literal text [] ⊎ IsNegative text
 

@@ -22,7 +22,7 @@ value_from_single None = Err InvalidLiteralKind
 value_from_single (Some (Ok unit)) = Ok unit
 value_from_single (Some (Err fault)) = Err (FailedToUnescape fault)
 
--- `single-value`: of a text with a content behind this front
+-- `single-value`: of a text with a content after this front
 abbrev pub single_value : Kind ℕ → List ℕ → List ℕ → Result ℕ ConversionErrorKind
 single_value kind front text =
     value_from_single (option_map (λ content. (single kind content).unit) (single_content front text))

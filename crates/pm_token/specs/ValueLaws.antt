@@ -116,7 +116,7 @@ ByteStringsHaveValues =
     (content : List ℕ) → ByteStr (cooked_text (codes "b\"") content) [] → IsTrue (has_no_return content)
     → IsJoined ByteUnit string_joined content (byte_str_value (cooked_text (codes "b\"") content))
 
--- and that of a C string, with a zero byte behind them
+-- and that of a C string, with a zero byte after them
 abbrev pub CStringsHaveValues : Type 0
 CStringsHaveValues = (content : List ℕ) → CStr (cooked_text (codes "c\"") content) [] → IsTrue (has_no_return content)
     → IsJoined CUnit (λ units. ended (c_joined units)) content (cstr_value (cooked_text (codes "c\"") content))

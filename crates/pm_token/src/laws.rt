@@ -26,7 +26,7 @@ ghost use Rattle.pm_token.specs.ValueLaws.{
   StringsHaveValues,
 };
 
-/// A literal that was made is one of its kind, with nothing behind it: what `Literal::string` writes is a
+/// A literal that was made is one of its kind, with nothing after it: what `Literal::string` writes is a
 /// string, what `byte_string` and `c_string` write a byte string and a C string, and what `character` and
 /// `byte_character` write a character and a byte.
 pub fn made_literals()
@@ -67,7 +67,7 @@ pub fn raw_values()
 {}
 
 /// The value of a literal with escapes, without a suffix and without CR is what the units of its content
-/// give, one behind another, by the units of the grammar and however they divide the content. A character
+/// give, one after another, by the units of the grammar and however they divide the content. A character
 /// by itself gives that character, and an escape what it stands for. A backslash and LF give nothing, nor
 /// do the spaces, tabs and LFs that follow them. In a C string a character gives its UTF-8, `\x` and two
 /// digits give one byte, and a zero byte ends the value. With CR LF there may be no value.

@@ -31,7 +31,7 @@ doc_text : (inner : Bool) (text p r : List ℕ) → Doc inner text p r → IsTex
 doc_text inner text p r h all =
     (text_split text (closing p r) (text_split h.front (text ++ closing p r) (subst IsText h.whole all)).1).0
 
--- each token is built, each span ends at or behind its begin, and no group begins or ends before n
+-- each token is built, each span ends at or after its begin, and no group begins or ends before n
 abbrev Rising : ℕ → List Event → Type 0
 Rising n [] = Unit {0}
 Rising n (One token lo hi ∷ es) = IsBuiltToken token × (lo ≤ hi) × Rising n es

@@ -1,4 +1,4 @@
--- Pieces before a line's end that is put in behind them.
+-- Pieces before a line's end that is put in after them.
 use Rattle.std.proofs.Common.{◌≡◌, ℕ, ◌⊎◌, Bool, true, false, not, ◌==◌, List, [], ◌∷◌, ◌++◌, codes, refl, sym, ap, ◌∙◌}
 use Rattle.std.proofs.Common.{subst, inl, inr, append_assoc}
 use Rattle.std.proofs.lemmas.Bool.{both_ways}
@@ -22,7 +22,7 @@ use Rattle.lexical.proofs.PieceFacts.{piece_not_empty}
 use Rattle.lexical.proofs.NameLemmas.{name_before}
 use Rattle.proc_macro2.proofs.PieceStarts.{joint_by}
 
--- nothing follows the pieces, or a line may be broken behind them
+-- nothing follows the pieces, or a line may be broken after them
 abbrev pub MayBreak : List Piece → List ℕ → Type 0
 MayBreak us v = (v ≡ []) ⊎ (ends_quiet us ≡ true)
 
@@ -62,7 +62,7 @@ cut_last b (Leaf (Literal text)) p v w h q = (h.0, literal_before_stop text v (1
 
 -- ---- a piece before others
 
--- the identifier behind `'` is the piece there, and nothing that bars the `'` follows it
+-- the identifier after `'` is the piece there, and nothing that bars the `'` follows it
 follows_cut : (x : Piece) (us : List Piece) (v w : List ℕ) → FollowsQuote (onto (x ∷ us) v) → StandBefore false (x ∷ us) v
     → StandBefore false (x ∷ us) (10 ∷ w) → FollowsQuote (onto (x ∷ us) (10 ∷ w))
 follows_cut (k, p) us v w f old new = by_kind (quote_next false k p (onto us v) old.0 f)

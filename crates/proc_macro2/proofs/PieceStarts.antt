@@ -1,4 +1,4 @@
--- How pieces begin: before which of them a mark is Joint, and which of them may stand behind `'`.
+-- How pieces begin: before which of them a mark is Joint, and which of them may stand after `'`.
 use Rattle.std.proofs.Common.{◌≡◌, ◌≢◌, ℕ, ◌<◌, nat_lt, Bool, true, false, not, ◌&&◌, ◌||◌, ◌==◌, List, [], ◌∷◌, ◌++◌}
 use Rattle.std.proofs.Common.{IsTrue, codes, refl, sym, ap, ◌∙◌, subst, inl, inr, arith, eqb-true, eq-eqb, ltb-true}
 use Rattle.std.proofs.Common.{append-nil}
@@ -184,7 +184,7 @@ joint_by b (Leaf (Mark c joint)) p r h =
     joins_before (p ++ r) (begins_as is_mark true r h.0 (stands_mark c joint r h.1)) (no_comment b (Leaf (Mark c joint)) p r refl h)
 joint_by b (Leaf (Literal text)) p r h = ap (λ x. joint_before (x ++ r)) h.0 ∙ literal_joint text r h.1
 
--- what stands behind `'`
+-- what stands after `'`
 pub quoted_by : (b : Bool) (k : Kind) (p r : List ℕ) → IsPiece b k p r → FollowsQuote (p ++ r) → quotes k ≡ true
 quoted_by b k p r h f = elim (quote_next b k p r h f) [
   | inl name ↦ ap quotes name.2

@@ -111,7 +111,7 @@ stops_closing Brace ps r h = refl
 stops_closing Bracket ps r h = refl
 stops_closing None ps r h = absurd (both_ways false refl h)
 
--- no comment begins right behind `(`
+-- no comment begins right after `(`
 plain_inside : (f : Forest) (ps : List Piece) (r : List ℕ) → StandBefore false (pieces_onto false f (close_piece Parenthesis ∷ ps)) r
     → begins_any comment_fronts (onto (pieces_onto false f (close_piece Parenthesis ∷ ps)) r) ≡ false
 plain_inside nil ps r h = refl

@@ -74,7 +74,7 @@ pub fn joined_texts()
     ensures { JoinedTexts }
 {}
 
-/// Where a source parses, a line may be broken behind any piece but a mark and a number: the stream is
+/// Where a source parses, a line may be broken after any piece but a mark and a number: the stream is
 /// the same up to spans.
 ///
 /// `a+=b` broken behind the `a` is `a += b`; broken behind the `+` it would be `a + = b`.

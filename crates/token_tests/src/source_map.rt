@@ -22,7 +22,7 @@ fn is_added(rt: &impl Abort, map: &mut SourceMap, text: &str, lo: u32) -> Result
     Ok(())
 }
 
-/// Asserts where an empty text begins that is added behind `abcd`, under the limit.
+/// Asserts where an empty text begins that is added after `abcd`, under the limit.
 fn second_is(
     rt: &impl Abort,
     alloc: Global,

@@ -22,7 +22,7 @@ flat_map-take-next f xs i x within =
     let next : i + 1 ≡ suc i = omega arith in
     rw (next, take-suc xs i x within) (flat_map_more f [] (take i xs) (get_or xs i x))
 
--- a line is written behind the blocks and the block that goes on, which may become one of them
+-- a line is written after the blocks and the block that goes on, which may become one of them
 pub line_goes_on : (blocks block text line written new : List ℕ) → blocks ++ block ≡ written → text ≡ block ++ line
     → new ≡ blocks ++ text → new ≡ written ++ line
 line_goes_on blocks block text line written new before pushed cut =

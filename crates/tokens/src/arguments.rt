@@ -10,7 +10,7 @@ use std::io;
 /// The words after the program's name, which is the first of its arguments.
 ///
 /// Arguments that are no text are no words, since they ask for nothing. It fails where they weren't
-/// had for any other reason, which is taken for want of memory, and where there is none for the list.
+/// had for any other reason, which is taken as memory that ran out, and where there is none for the list.
 pub fn words(alloc: Global, arguments: io::Result<Args>) -> Result<Vec<String>, AllocError>
     ensures ok { IfOk result (λ list. words arguments ≡ Ok (map string_bytes list.items)) }
     ensures refused { IfErr arguments (λ error.

@@ -95,7 +95,7 @@ fn text_of(alloc: Global, lines: &[Line], map: &SourceMap) -> Result<Vec<String>
     Ok(blocks)
 }
 
-// The block to write on after this one: a new one, once this is long enough to go behind the others.
+// The block to write on after this one: a new one, once this is long enough to go after the others.
 fn next_block(alloc: Global, blocks: &mut Vec<String>, block: String) -> Result<String, AllocError>
     ensures { IfOk result (λ next. flat_map string_bytes blocks.new.items ++ string_bytes next
         ≡ flat_map string_bytes blocks.old.items ++ string_bytes block) }

@@ -19,8 +19,8 @@ impl Draft {
         Ok(())
     }
 
-    /// Writes the text at the front of the bytes, and the byte behind it that begins no character.
-    /// Answers the bytes behind these.
+    /// Writes the text at the front of the bytes, and the byte after it that begins no character.
+    /// Answers the bytes after these.
     fn push_front<'a>(&mut self, bytes: &'a [u8]) -> Result<&'a [u8], AllocError>
         requires nonzero { IsTrue (has_no_zero bytes.now) }
         requires some { bytes.now ≢ [] }

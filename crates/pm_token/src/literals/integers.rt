@@ -9,7 +9,7 @@ use crate::symbols::Symbol;
 use pm_span::Span;
 use std::alloc::{AllocError, Global};
 
-/// What stands behind the digits of a number: nothing, or the name of a type.
+/// What stands after the digits of a number: nothing, or the name of a type.
 #[derive(Clone, Copy)]
 enum Suffix {
     /// Nothing.

@@ -60,7 +60,7 @@ impl Literal {
     }
 
     /// The value of a C string literal without a suffix (`c-string-value`), as `str_value` gives that of
-    /// a string, with a zero byte behind it: of `c".."` the bytes of its items, those of a character
+    /// a string, with a zero byte after it: of `c".."` the bytes of its items, those of a character
     /// being in UTF-8; of `cr".."` the bytes of its content.
     ///
     /// Of `c"a\x80"` it is the bytes 0x61, 0x80 and 0. `"a"` is refused.

@@ -22,7 +22,7 @@ impl Literal {
     /// (`whole-literal`). The text becomes the next file of the map, and the literal's span is all
     /// of it.
     ///
-    /// Nothing may stand before or behind the literal, not even white space. Any other text is
+    /// Nothing may stand before or after the literal, not even white space. Any other text is
     /// refused as `Lex` with the span 0..0, and is a file of the map then too. `MapFull` is answered
     /// exactly where the text would end past the map's limit (`fits`), and `Memory` where a growth
     /// was refused; both leave the map as it was.

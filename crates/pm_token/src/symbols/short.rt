@@ -72,7 +72,7 @@ impl Short {
     }
 }
 
-/// The text behind the `-` that it begins with, if there is one.
+/// The text after the `-` that it begins with, if there is one.
 #[tactic(auto, using(std::proofs::lemmas::Str::chars_past_char))]
 fn past_minus(text: &str) -> Option<&str>
     ensures found { MatchOption result (has_minus (chars text.now) ≡ false)

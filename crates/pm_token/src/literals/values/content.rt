@@ -24,7 +24,7 @@ fn before_quote(text: &str) -> Option<&str>
     text.strip_suffix('"')
 }
 
-/// What stands behind this ASCII front, up to a quote that ends the text, by the rule
+/// What stands after this ASCII front, up to a quote that ends the text, by the rule
 /// `cooked-content`.
 pub fn cooked_content<'a>(text: &'a str, front: &str) -> Option<&'a str>
     requires { IsTrue (all_ascii front.now) }
@@ -42,7 +42,7 @@ fn before_single_quote(text: &str) -> Option<&str>
     text.strip_suffix('\'')
 }
 
-/// What stands behind this ASCII front, up to a single quote that ends the text, by the rule
+/// What stands after this ASCII front, up to a single quote that ends the text, by the rule
 /// `single-content`.
 pub fn single_content<'a>(text: &'a str, front: &str) -> Option<&'a str>
     requires { IsTrue (all_ascii front.now) }
@@ -73,7 +73,7 @@ fn hashed_content(text: &str) -> Option<&str>
     cooked_content(quoted, "\"")
 }
 
-/// What stands behind this ASCII front in quotes with hash signs, by the rule `raw-content`.
+/// What stands after this ASCII front in quotes with hash signs, by the rule `raw-content`.
 pub fn raw_content<'a>(text: &'a str, front: &str) -> Option<&'a str>
     requires { IsTrue (all_ascii front.now) }
     ensures { MatchOption result (raw front.now (chars text.now) ≡ None)
