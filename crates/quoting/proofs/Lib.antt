@@ -4,3 +4,8 @@ mod FaultLemmas
 mod PartLemmas
 mod DraftLemmas
 mod PushLemmas
+mod Examples
+mod WeaveLemmas
+mod TurnLemmas
+mod NameLemmas
+mod TextLemmas

@@ -2,8 +2,7 @@
 use Rattle.std.proofs.Common.{◌≡◌, List, [], ◌∷◌, ◌++◌, Option, Some, Result, Ok, Err, OnOk, OnErr, MatchResult, length, length-append, refl, sym, ap, ◌∙◌, arith}
 use Rattle.std.specs.Iterator.{Drains, Yields}
 use Rattle.proc_macro2.specs.Building.{PutsIn, gathered}
-use Rattle.proc_macro2.specs.Forest.{Forest, nil, joined}
-use Rattle.quoting.specs.Pushed.{PutsABeginning}
+use Rattle.proc_macro2.specs.Forest.{Forest, joined}
 use Rattle.quoting.proofs.PartLemmas.{joined_nil}
 
 -- what the iterator has left, one item at a time and as a whole
@@ -49,8 +48,3 @@ refuse_one Begins steps left trees item was old new (Err e) same lists (it, item
     ∙ one it is in
     let none : items ≡ [] = none_before items (left rest) item last whole in
     puts ∙ (ap (λ xs. joined was (gathered trees xs)) none ∙ (joined_nil was ∙ same))
-
-pub beginning : {E : Type 0} (old more new : Forest) (r : Result (Unit {0}) E) → OnErr r (new ≡ old)
-    → OnErr r (PutsABeginning old more new)
-beginning old more new (Ok u) h = tt
-beginning old more new (Err e) h = (nil, more, refl, h ∙ sym (joined_nil old))

@@ -2,6 +2,10 @@ pub mod Message
 pub mod Respaced
 pub mod Fault
 pub mod Choice
-pub mod Pushed
 pub mod Part
 pub mod Laws
+pub mod Holes
+pub mod Start
+pub mod Filled
+pub mod Given
+pub mod TextFault

@@ -1,6 +1,7 @@
-//! Why a quote gives no stream.
+//! Why a quote gives no stream, and why a template is not filled.
 ghost use Rattle.std.specs.Prelude.{◌≡◌};
 
+use proc_macro2::{ParseError, Span};
 use std::alloc::AllocError;
 use std::error::Error;
 use std::fmt;
@@ -42,5 +43,72 @@ impl From<AllocError> for QuoteError {
 
     fn from(error: AllocError) -> QuoteError {
         QuoteError::Memory(error)
+    }
+}
+
+/// Why a template is not filled: its first fault in reading order with the place in the template, that its text has a
+/// fault, or that memory ran out.
+#[derive(Debug, Drop)]
+pub enum TemplateError {
+    /// No hole has the name that stands here, after a `#`.
+    NoHole(Span),
+    /// The name of a list stands here, outside of repetitions.
+    LoneList(Span),
+    /// The parentheses of a repetition that names no list.
+    NoList(Span),
+    /// The name of a list stands here whose length isn't that of the first list named in the repetition.
+    UnequalLists(Span),
+    /// The parentheses of a repetition inside a repetition.
+    Nested(Span),
+    /// A group inside of 64 others.
+    TooDeep(Span),
+    /// The text of the template was not parsed.
+    Parse(ParseError),
+    /// Memory ran out.
+    Memory(AllocError),
+}
+
+impl fmt::Display for TemplateError {
+    ghost use Rattle.std.specs.Prelude.{Some};
+    ghost use Rattle.quoting.specs.Message.{template_message};
+
+    ghost output = { λ error. Some (template_message error) };
+
+    fn fmt<W: fmt::Write>(&self, f: &mut fmt::Formatter<W>) -> fmt::Result {
+        match self {
+            TemplateError::NoHole(_) => f.write_str("no hole of this name"),
+            TemplateError::LoneList(_) => f.write_str("a list outside of a repetition"),
+            TemplateError::NoList(_) => f.write_str("a repetition that names no list"),
+            TemplateError::UnequalLists(_) => f.write_str("lists of different lengths"),
+            TemplateError::Nested(_) => f.write_str("a repetition inside a repetition"),
+            TemplateError::TooDeep(_) => f.write_str("groups nested too deep"),
+            TemplateError::Parse(error) => error.fmt(f),
+            TemplateError::Memory(_) => f.write_str("no memory"),
+        }
+    }
+}
+
+impl Error for TemplateError {}
+
+impl From<AllocError> for TemplateError {
+    ghost use Rattle.quoting.specs.declared.errors.TemplateError.TheVariants.{Memory};
+
+    ghost from_gives = { λ error result. result ≡ Memory error };
+
+    fn from(error: AllocError) -> TemplateError {
+        TemplateError::Memory(error)
+    }
+}
+
+impl From<ParseError> for TemplateError {
+    ghost use Rattle.quoting.specs.Holes.{parse_fault};
+
+    ghost from_gives = { λ error result. result ≡ parse_fault error };
+
+    fn from(error: ParseError) -> TemplateError {
+        match error {
+            ParseError::Memory(error) => TemplateError::Memory(error),
+            error => TemplateError::Parse(error),
+        }
     }
 }

@@ -3,10 +3,15 @@
 
 mod errors;
 mod faults;
+mod holes;
 pub mod laws;
 mod neighbours;
 mod quote;
 mod respace;
+mod start;
+mod template;
+mod weave;
 
-pub use errors::QuoteError;
+pub use errors::{QuoteError, TemplateError};
+pub use holes::Hole;
 pub use quote::Quote;

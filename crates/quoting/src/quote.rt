@@ -5,7 +5,6 @@ ghost use Rattle.proc_macro2.specs.Forest.{joined, nil};
 ghost use Rattle.proc_macro2.specs.WellSpaced.{IsWellSpaced};
 ghost use Rattle.quoting.specs.Choice.{HopelessIfNamed, KeepsAllItMay};
 ghost use Rattle.quoting.specs.Fault.{IsFaultOf, first_fault};
-ghost use Rattle.quoting.specs.Pushed.{PutsABeginning};
 ghost use Rattle.quoting.specs.Respaced.{respaced};
 
 use crate::errors::QuoteError;
@@ -45,6 +44,11 @@ impl Quote {
         }
     }
 
+    /// Where its memory comes from.
+    pub(crate) fn alloc(&self) -> Global {
+        self.alloc
+    }
+
     /// Puts the tree after the others, by the rule `split`. Fails where memory runs out; then nothing is changed, and
     /// the tree is dropped.
     ///
@@ -56,11 +60,10 @@ impl Quote {
         self.pushed.extend_trees([tree])
     }
 
-    /// Puts the trees of the stream after the others. Fails where memory runs out; then a beginning of them may have
-    /// been put in.
+    /// Puts the trees of the stream after the others. Fails where memory runs out; then nothing is changed.
     pub fn push_stream(&mut self, stream: TokenStream) -> Result<(), AllocError>
         ensures ok { OnOk result (self.new ≡ joined self.old stream) }
-        ensures err { OnErr result (PutsABeginning self.old stream self.new) }
+        ensures err { OnErr result (self.new ≡ self.old) }
     {
         self.pushed.extend_streams([stream])
     }

@@ -188,7 +188,7 @@ fn copied(alloc: Global, trees: &[TokenTree]) -> Result<TokenStream, AllocError>
 }
 
 // Puts a tree of a stream at the end of another.
-fn put(stream: &mut TokenStream, tree: TokenTree) -> Result<(), AllocError>
+pub(crate) fn put(stream: &mut TokenStream, tree: TokenTree) -> Result<(), AllocError>
     requires { GoesInside tree }
     ensures { OnOk result (stream.new ≡ joined stream.old (alone tree)) }
 {
@@ -209,7 +209,7 @@ fn kept_spacing(mark: &Punct, after: &[TokenTree]) -> Spacing
 }
 
 // The same mark with this spacing.
-fn spaced(mark: &Punct, spacing: Spacing) -> Punct
+pub(crate) fn spaced(mark: &Punct, spacing: Spacing) -> Punct
     ensures { result ≡ record mark.now { spacing = spacing } }
 {
     let span = mark.span();
@@ -219,7 +219,7 @@ fn spaced(mark: &Punct, spacing: Spacing) -> Punct
 }
 
 // The same group with these trees.
-fn regrouped(group: &Group, stream: TokenStream) -> Group
+pub(crate) fn regrouped(group: &Group, stream: TokenStream) -> Group
     ensures { result ≡ record group.now { stream = stream } }
 {
     let mut regrouped = Group::new(group.delimiter(), stream);

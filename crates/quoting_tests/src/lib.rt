@@ -1,9 +1,11 @@
-//! Tests of quotes: the uses of the README, what is printed of each kind of trees, and trees at random.
+//! Tests of quotes: the uses of the README, what is printed of each kind of trees, templates, and trees at random.
 #![tactic(auto)]
 
 #[cfg(test)]
 mod random_trees;
 #[cfg(test)]
 mod rows;
+#[cfg(test)]
+mod templates;
 #[cfg(test)]
 mod uses;

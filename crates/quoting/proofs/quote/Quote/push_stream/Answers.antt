@@ -1,6 +1,6 @@
 use Rattle.std.specs.Array.Iter.{array_into_iter_items, array_steps}
 use Rattle.quoting.proofs.ArrayLemmas.{drained}
-use Rattle.quoting.proofs.PushLemmas.{beginning, put_one, refuse_one}
+use Rattle.quoting.proofs.PushLemmas.{put_one, refuse_one}
 use Rattle.quoting.proofs.quote.Quote.push_stream.Goals as goal
 
 pub returns-clause-ok : goal.returns-clause-ok
@@ -10,6 +10,6 @@ returns-clause-ok c =
 
 pub returns-clause-err : goal.returns-clause-err
 returns-clause-err c =
-    beginning _ _ _ c.extend_streams.result
-    (refuse_one _ array_steps array_into_iter_items (λ stream. stream) c.args.stream _ _ _ c.extend_streams.result c.self.view_is
-    (record { each = λ it next x p. p; all = drained }) c.extend_streams.ensures.refused (λ it is. is.0))
+    refuse_one _ array_steps array_into_iter_items (λ stream. stream) c.args.stream _ _ _ c.extend_streams.result
+    c.self.view_is
+    (record { each = λ it next x p. p; all = drained }) c.extend_streams.ensures.refused (λ it is. is.0)

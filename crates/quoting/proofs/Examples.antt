@@ -1,0 +1,140 @@
+-- Examples of templates, by computation.
+use Rattle.std.proofs.Common.{◌≡◌, ℕ, ◌+◌, true, false, List, [], ◌∷◌, Ok, Err, codes, refl}
+use Rattle.proc_macro2.specs.Extent.{Extent}
+use Rattle.proc_macro2.specs.Forest.{Forest, nil, leaf, group}
+use Rattle.proc_macro2.specs.Token.{Name, Mark, Literal}
+use Rattle.proc_macro2.specs.declared.Delimiter.TheVariants.{Parenthesis, Brace, Bracket}
+use Rattle.quoting.specs.Filled.{at_top, filled, woven}
+use Rattle.quoting.specs.Holes.{One, Each, Named}
+use Rattle.quoting.specs.declared.errors.TemplateError.TheVariants.{NoHole, LoneList, NoList, UnequalLists, Nested, TooDeep}
+
+-- the place of one character
+abbrev at : ℕ → Extent
+at n = record { lo = n; hi = n + 1 }
+
+-- a mark, and a name, at such a place before other trees
+abbrev mark : ℕ → ℕ → Forest → Forest
+mark c n = leaf (Mark c false) n (n + 1)
+
+abbrev name : List ℕ → ℕ → Forest → Forest
+name text n = leaf (Name false text) n (n + 1)
+
+-- `#` before what comes
+abbrev hash : ℕ → Forest → Forest
+hash = mark 35
+
+-- `+ 7`, `a` and `b`, with places of their own
+abbrev sum : Forest
+sum = mark 43 90 (leaf (Literal (codes "7")) 91 92 nil)
+
+abbrev a : Forest
+a = name (codes "a") 93 nil
+
+abbrev b : Forest
+b = name (codes "b") 94 nil
+
+-- `#x` is `+ 7`, `#0` is `a`; `#xs` is `a` and then `b`, `#ys` a list of one
+abbrev holes : List Named
+holes =
+    record { name = codes "x"; filling = One sum }
+    ∷ record { name = codes "0"; filling = One a }
+    ∷ record { name = codes "xs"; filling = Each (a ∷ b ∷ []) } ∷ record { name = codes "ys"; filling = Each (b ∷ []) }
+    ∷ record { name = codes "none"; filling = Each [] } ∷ []
+
+-- `#x`, and other names
+abbrev hole : List ℕ → ℕ → Forest → Forest
+hole text n rest = hash n (name text (n + 1) rest)
+
+-- parentheses at a place
+abbrev parens : ℕ → ℕ → Forest → Forest → Forest
+parens = group Parenthesis
+
+-- a hole before a group and in it: `#x ; { #0 }`
+interpolated :
+    filled holes (hole (codes "x") 0 (mark 59 2 (group Brace 3 9 (hash 4 (leaf (Literal (codes "0")) 5 6 nil)) nil)))
+    ≡ Ok (mark 43 90 (leaf (Literal (codes "7")) 91 92 (mark 59 2 (group Brace 3 9 a nil))))
+interpolated = refl
+
+-- `# [a] #! # # #x` keeps all but `#x`
+kept :
+    filled holes (hash 0 (group Bracket 1 4 a (hash 5 (mark 33 6 (hash 7 (hash 10 (hole (codes "x") 11 nil)))))))
+    ≡ Ok (hash 0 (group Bracket 1 4 a (hash 5 (mark 33 6 (hash 7 (hash 10 sum))))))
+kept = refl
+
+-- `# 0u8` names nothing
+suffixed :
+    filled holes (hash 0 (leaf (Literal (codes "0u8")) 1 4 nil)) ≡ Ok (hash 0 (leaf (Literal (codes "0u8")) 1 4 nil))
+suffixed = refl
+
+-- `#(x : #xs),* ;`: the separator stands between the turns, Alone, and not after the last
+separated_turns :
+    filled holes
+    (hash 0 (parens 1 6 (name (codes "x") 2 (mark 58 3 (hole (codes "xs") 4 nil)))
+    (leaf (Mark 44 true) 7 8 (mark 42 8 (mark 59 9 nil)))))
+    ≡ Ok (name (codes "x") 2 (mark 58 3 (name (codes "a") 93 (mark 44 7
+    (name (codes "x") 2 (mark 58 3 (name (codes "b") 94 (mark 59 9 nil))))))))
+separated_turns = refl
+
+-- `#( #xs [#0] )*`, with a hole of one stream in a group, and no separator
+plain_turns :
+    filled holes
+    (hash 0 (parens 1 9 (hole (codes "xs") 2 (group Bracket 4 7 (hash 5 (leaf (Literal (codes "0")) 6 7 nil)) nil))
+    (mark 42 10 nil)))
+    ≡ Ok (name (codes "a") 93 (group Bracket 4 7 a (name (codes "b") 94 (group Bracket 4 7 a nil))))
+plain_turns = refl
+
+-- `#( #none )**` is no turn, and then `*`
+no_turn :
+    filled holes (hash 0 (parens 1 5 (hole (codes "none") 2 nil) (mark 42 6 (mark 42 7 nil)))) ≡ Ok (mark 42 7 nil)
+no_turn = refl
+
+-- `#( #x ),` without `*` is a `#` and a group
+no_repetition :
+    filled holes (hash 0 (parens 1 5 (hole (codes "x") 2 nil) (mark 44 6 nil)))
+    ≡ Ok (hash 0 (parens 1 5 sum (mark 44 6 nil)))
+no_repetition = refl
+
+-- ---- faults
+
+-- `#x #y #xs`: the first in reading order
+no_hole :
+    filled holes (hole (codes "x") 0 (hole (codes "y") 2 (hole (codes "xs") 4 nil))) ≡ Err (NoHole (at 3))
+no_hole = refl
+
+-- a raw identifier is another name: `#r#x`
+raw : filled holes (hash 0 (leaf (Name true (codes "x")) 1 4 nil)) ≡ Err (NoHole (record { lo = 1; hi = 4 }))
+raw = refl
+
+-- `#( #none #y )*`: also where there is no turn
+no_hole_in_no_turn :
+    filled holes (hash 0 (parens 1 6 (hole (codes "none") 2 (hole (codes "y") 4 nil)) (mark 42 7 nil)))
+    ≡ Err (NoHole (at 5))
+no_hole_in_no_turn = refl
+
+-- `(#xs)`
+lone_list : filled holes (parens 0 4 (hole (codes "xs") 1 nil) nil) ≡ Err (LoneList (at 2))
+lone_list = refl
+
+-- `#( #x )*`
+no_list :
+    filled holes (hash 0 (parens 1 5 (hole (codes "x") 2 nil) (mark 42 6 nil)))
+    ≡ Err (NoList (record { lo = 1; hi = 5 }))
+no_list = refl
+
+-- `#( #xs #ys )*`
+unequal :
+    filled holes (hash 0 (parens 1 7 (hole (codes "xs") 2 (hole (codes "ys") 4 nil)) (mark 42 8 nil)))
+    ≡ Err (UnequalLists (at 5))
+unequal = refl
+
+-- `#( #( #xs )* #y )*`
+nested :
+    filled holes
+    (hash 0 (parens 1 12 (hash 2 (parens 3 7 (hole (codes "xs") 4 nil) (mark 42 8 (hole (codes "y") 9 nil))))
+    (mark 42 13 nil)))
+    ≡ Err (Nested (record { lo = 3; hi = 7 }))
+nested = refl
+
+-- `((x))` where groups may nest one deep
+too_deep : woven (at_top holes) 1 0 (parens 0 5 (parens 1 4 a nil) nil) ≡ Err (TooDeep (record { lo = 1; hi = 4 }))
+too_deep = refl

@@ -1,0 +1,30 @@
+-- Faults of templates that are given as text.
+use Rattle.std.proofs.Common.{◌≡◌, ℕ, List, Result, Ok, Err, IfErr}
+use Rattle.proc_macro2.specs.Forest.{Forest}
+use Rattle.proc_macro2.specs.Parsing.{ParsesTo}
+use Rattle.quoting.specs.Filled.{filled}
+use Rattle.quoting.specs.Given.{UnlessMemory}
+use Rattle.quoting.specs.Holes.{Named}
+use Rattle.quoting.specs.TextFault.{IsTextFault}
+use Rattle.quoting.specs.declared.errors.TemplateError.{TemplateError}
+use Rattle.quoting.specs.declared.errors.TemplateError.TheVariants.{NoHole, LoneList, NoList, UnequalLists, Nested, TooDeep, Parse, Memory}
+
+-- the fault of the template that a text parses to is told of the text
+told : (first : ℕ) (text : List ℕ) (holes : List Named) (template : Forest) (fault : TemplateError)
+    → ParsesTo first text template
+    → UnlessMemory fault (filled holes template ≡ Err fault) → IsTextFault first text holes fault
+told first text holes template (NoHole place) parses is = (template, parses, is)
+told first text holes template (LoneList place) parses is = (template, parses, is)
+told first text holes template (NoList place) parses is = (template, parses, is)
+told first text holes template (UnequalLists place) parses is = (template, parses, is)
+told first text holes template (Nested place) parses is = (template, parses, is)
+told first text holes template (TooDeep place) parses is = (template, parses, is)
+told first text holes template (Parse error) parses is = absurd is
+told first text holes template (Memory error) parses is = tt
+
+pub all_told : (first : ℕ) (text : List ℕ) (holes : List Named) (template : Forest)
+    (r : Result (Unit {0}) TemplateError)
+    → ParsesTo first text template → IfErr r (λ fault. UnlessMemory fault (filled holes template ≡ Err fault))
+    → IfErr r (IsTextFault first text holes)
+all_told first text holes template (Ok u) parses is = tt
+all_told first text holes template (Err fault) parses is = told first text holes template fault parses is

@@ -1,0 +1,112 @@
+-- Templates whose holes are filled.
+use Rattle.std.specs.Prelude.{ℕ, zero, suc, ◌==◌, List, Option, Some, None, Result, Ok, Err, if◌then◌else◌, length}
+use Rattle.proc_macro2.specs.Extent.{Extent}
+use Rattle.proc_macro2.specs.Forest.{Forest, nil, leaf, group, joined}
+use Rattle.proc_macro2.specs.Token.{Token}
+use Rattle.proc_macro2.specs.declared.Delimiter.{Delimiter}
+use Rattle.quoting.specs.Holes.{Filling, One, Each, Named, Outcome, filling_of, put_in}
+use Rattle.quoting.specs.Start.{Start, Names, Repeats, start, taken}
+use Rattle.quoting.specs.declared.errors.TemplateError.{TemplateError}
+use Rattle.quoting.specs.declared.errors.TemplateError.TheVariants.{NoHole, NoList, UnequalLists, Nested, TooDeep}
+
+-- one outcome and then another: a fault of the first comes first
+abbrev pub followed : Outcome → Outcome → Outcome
+followed (Err fault) more = Err fault
+followed (Ok stream) (Err fault) = Err fault
+followed (Ok stream) (Ok more) = Ok (joined stream more)
+
+-- the outcome between delimiters
+abbrev pub enclosed_in : Delimiter → ℕ → ℕ → Outcome → Outcome
+enclosed_in d lo hi (Err fault) = Err fault
+enclosed_in d lo hi (Ok inside) = Ok (group d lo hi inside nil)
+
+-- a token that begins nothing, or what comes in the place of what it begins
+abbrev pub replaced : (Start → Outcome) → Token → ℕ → ℕ → Option Start → Outcome
+replaced gives token lo hi None = Ok (leaf token lo hi nil)
+replaced gives token lo hi (Some found) = gives found
+
+-- the trees in order, after some that are passed over, where groups may nest so deep: each group filled inside,
+-- each other tree as it is, and `gives` of what has a meaning and of how deep groups may nest there
+abbrev pub woven : (ℕ → Start → Outcome) → ℕ → ℕ → Forest → Outcome
+woven gives depth passed nil = Ok nil
+woven gives depth zero (leaf token lo hi rest) =
+    followed (replaced (gives depth) token lo hi (start token rest)) (woven gives depth (taken (start token rest)) rest)
+woven gives depth (suc passed) (leaf token lo hi rest) = woven gives depth passed rest
+woven gives depth (suc passed) (group d lo hi inside rest) = woven gives depth passed rest
+woven gives zero zero (group d lo hi inside rest) = Err (TooDeep (record { lo = lo; hi = hi }))
+woven gives (suc depth) zero (group d lo hi inside rest) =
+    followed (enclosed_in d lo hi (woven gives depth 0 inside)) (woven gives (suc depth) 0 rest)
+
+-- how many turns there are, as far as the lists that were named tell, or the first fault
+abbrev pub Count : Type 0
+Count = Result (Option ℕ) TemplateError
+
+abbrev pub and_then : Count → (Option ℕ → Count) → Count
+and_then (Err fault) next = Err fault
+and_then (Ok turns) next = next turns
+
+-- all lists are of one length
+abbrev pub agreed : Option ℕ → Extent → Option Filling → Count
+agreed turns place None = Err (NoHole place)
+agreed turns place (Some (One stream)) = Ok turns
+agreed None place (Some (Each streams)) = Ok (Some (length streams))
+agreed (Some turns) place (Some (Each streams)) =
+    if turns == length streams then Ok (Some turns) else Err (UnequalLists place)
+
+-- after what has a meaning
+abbrev pub noted : List Named → Option ℕ → Option Start → Count
+noted holes turns None = Ok turns
+noted holes turns (Some (Names name place)) = agreed turns place (filling_of holes name)
+noted holes turns (Some (Repeats body place between)) = Err (Nested place)
+
+-- after the trees in order, as far as those before them tell
+abbrev pub counted : List Named → ℕ → Option ℕ → ℕ → Forest → Count
+counted holes depth turns passed nil = Ok turns
+counted holes depth turns zero (leaf token lo hi rest) =
+    and_then (noted holes turns (start token rest)) (λ now. counted holes depth now (taken (start token rest)) rest)
+counted holes depth turns (suc passed) (leaf token lo hi rest) = counted holes depth turns passed rest
+counted holes depth turns (suc passed) (group d lo hi inside rest) = counted holes depth turns passed rest
+counted holes zero turns zero (group d lo hi inside rest) = Err (TooDeep (record { lo = lo; hi = hi }))
+counted holes (suc depth) turns zero (group d lo hi inside rest) =
+    and_then (counted holes depth turns 0 inside) (λ now. counted holes (suc depth) now 0 rest)
+
+-- in a turn of a repetition
+abbrev pub in_turn : List Named → ℕ → ℕ → Start → Outcome
+in_turn holes turn depth (Names name place) = put_in (Some turn) place (filling_of holes name)
+in_turn holes turn depth (Repeats body place between) = Err (Nested place)
+
+-- the separator before a turn: none before the first
+abbrev pub before_turn : Forest → ℕ → Forest
+before_turn between zero = nil
+before_turn between (suc turn) = between
+
+-- so many turns from one on, the separator between them
+abbrev pub turns_from : (ℕ → Outcome) → Forest → ℕ → ℕ → Outcome
+turns_from gives between turn zero = Ok nil
+turns_from gives between turn (suc more) =
+    followed (followed (Ok (before_turn between turn)) (gives turn)) (turns_from gives between (suc turn) more)
+
+-- a repetition, once its turns are counted
+abbrev pub repeated_so : List Named → ℕ → Forest → Extent → Forest → Count → Outcome
+repeated_so holes depth body place between (Err fault) = Err fault
+repeated_so holes depth body place between (Ok None) = Err (NoList place)
+repeated_so holes depth body place between (Ok (Some turns)) =
+    turns_from (λ turn. woven (in_turn holes turn) depth 0 body) between 0 turns
+
+abbrev pub repeated : List Named → ℕ → Forest → Extent → Forest → Outcome
+repeated holes zero body place between = Err (TooDeep place)
+repeated holes (suc depth) body place between =
+    repeated_so holes depth body place between (counted holes depth None 0 body)
+
+-- outside of repetitions
+abbrev pub at_top : List Named → ℕ → Start → Outcome
+at_top holes depth (Names name place) = put_in None place (filling_of holes name)
+at_top holes depth (Repeats body place between) = repeated holes depth body place between
+
+-- how deep the groups of a template may nest
+abbrev pub depth_limit : ℕ
+depth_limit = 64
+
+-- `filled`: the template with its holes filled, or its first fault
+abbrev pub filled : List Named → Forest → Outcome
+filled holes template = woven (at_top holes) depth_limit 0 template

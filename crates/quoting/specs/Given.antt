@@ -1,0 +1,130 @@
+-- What the code's values are in the words of templates.
+use Rattle.std.specs.Prelude.{ℕ, zero, suc, Bool, false, ◌==◌, List, [], ◌∷◌, Option, Some, None, Err, if◌then◌else◌}
+use Rattle.std.specs.Borrow.{Bor}
+use Rattle.std.specs.Char.{is_ascii_digit}
+use Rattle.std.specs.List.{list_all}
+use Rattle.std.specs.Str.{chars}
+use Rattle.proc_macro2.specs.Extent.{Extent}
+use Rattle.proc_macro2.specs.Forest.{Forest, nil, leaf, group}
+use Rattle.proc_macro2.specs.Leaf.{mark_token, name_token, text_token}
+use Rattle.proc_macro2.specs.Leaf as leaves
+use Rattle.proc_macro2.specs.Token as tokens
+use Rattle.proc_macro2.specs.Token.{token_text}
+use Rattle.proc_macro2.specs.declared.Group.{Group as Grouped}
+use Rattle.proc_macro2.specs.declared.TokenTree.{TokenTree}
+use Rattle.proc_macro2.specs.declared.TokenTree.TheVariants.{Group, Ident, Punct, Literal}
+use Rattle.quoting.specs.Filled.{at_top, in_turn, woven}
+use Rattle.quoting.specs.Holes.{Filling, One, Each, Named, Outcome}
+use Rattle.quoting.specs.Start.{Start, Names, Repeats, after_hash, start}
+use Rattle.quoting.specs.declared.errors.TemplateError.{TemplateError}
+use Rattle.quoting.specs.declared.errors.TemplateError.TheVariants.{NoHole, LoneList, NoList, UnequalLists, Nested, TooDeep, Parse, Memory}
+use Rattle.quoting.specs.declared.holes.Filling.{Filling as Filler}
+use Rattle.quoting.specs.declared.holes.Filling.TheVariants.{One as OneStream, Each as EachStream}
+use Rattle.quoting.specs.declared.holes.Hole.{Hole}
+use Rattle.quoting.specs.declared.holes.Name.{Name}
+use Rattle.quoting.specs.declared.holes.Name.TheVariants.{Word, Digits}
+use Rattle.quoting.specs.declared.start.Repetition.{Repetition}
+use Rattle.quoting.specs.declared.start.Start.{Start as Found}
+use Rattle.quoting.specs.declared.start.Start.TheVariants.{Names as FoundName, Repeats as FoundRepetition}
+
+-- what a hole stands for
+abbrev pub filling_by : Filler → Filling
+filling_by (OneStream stream) = One stream.now
+filling_by (EachStream streams) = Each streams.now
+
+-- what was looked up
+abbrev pub looked_up : Option Filler → Option Filling
+looked_up None = None
+looked_up (Some filler) = Some (filling_by filler)
+
+-- a hole
+abbrev pub named : Hole → Named
+named hole = record { name = chars hole.name.now; filling = filling_by hole.filling }
+
+abbrev pub named_all : List Hole → List Named
+named_all [] = []
+named_all (hole ∷ holes) = named hole ∷ named_all holes
+
+-- the text of a name
+abbrev pub text_of : Name → List ℕ
+text_of (Word ident) = token_text (name_token ident.now)
+text_of (Digits literal) = literal.now.text
+
+-- where it stands
+abbrev pub place_of : Name → Extent
+place_of (Word ident) = ident.now.span
+place_of (Digits literal) = literal.now.span
+
+-- what a name begins after a `#`
+abbrev pub named_by : Option Name → Option Start
+named_by None = None
+named_by (Some name) = Some (Names (text_of name) (place_of name))
+
+-- what stands between the turns
+abbrev pub separator_of : Option (Bor leaves.Mark) → Forest
+separator_of None = nil
+separator_of (Some mark) = leaf (tokens.Mark mark.now.mark false) mark.now.span.lo mark.now.span.hi nil
+
+-- a repetition
+abbrev pub repeats_of : Repetition → Start
+repeats_of repetition =
+    Repeats repetition.body.now.stream repetition.body.now.span (separator_of repetition.separator)
+
+-- what was found
+abbrev pub seen : Found → Start
+seen (FoundName name rest) = Names (text_of name) (place_of name)
+seen (FoundRepetition repetition rest) = repeats_of repetition
+
+abbrev pub begun_as : Option Found → Option Start
+begun_as None = None
+begun_as (Some found) = Some (seen found)
+
+-- the trees after it
+abbrev pub rest_of : Found → List TokenTree
+rest_of (FoundName name rest) = rest.now
+rest_of (FoundRepetition repetition rest) = rest.now
+
+-- what a tree begins before these
+abbrev pub starts : TokenTree → Forest → Option Start
+starts (Group g) rest = None
+starts (Ident i) rest = start (name_token i) rest
+starts (Punct p) rest = start (mark_token p) rest
+starts (Literal l) rest = start (text_token l) rest
+
+-- what a group begins after a `#`, before these
+abbrev pub repeats : Grouped → Forest → Option Start
+repeats g rest = after_hash (group g.delimiter g.span.lo g.span.hi g.stream rest)
+
+-- the hole that a tree names
+abbrev pub tree_name : TokenTree → Option Start
+tree_name (Group g) = None
+tree_name (Ident i) = Some (Names (token_text (name_token i)) i.span)
+tree_name (Punct p) = None
+tree_name (Literal l) = if list_all is_ascii_digit l.text then Some (Names l.text l.span) else None
+
+abbrev pub tree_is_mark : ℕ → TokenTree → Bool
+tree_is_mark c (Group g) = false
+tree_is_mark c (Ident i) = false
+tree_is_mark c (Punct p) = p.mark == c
+tree_is_mark c (Literal l) = false
+
+-- what comes in the place of what has a meaning, in a turn or outside of repetitions
+abbrev pub gives : List Hole → Option ℕ → ℕ → Start → Outcome
+gives holes None = at_top (named_all holes)
+gives holes (Some turn) = in_turn (named_all holes) turn
+
+-- what comes out of the inside of a group
+abbrev pub inside_at : (ℕ → Start → Outcome) → ℕ → Grouped → Outcome
+inside_at given zero g = Err (TooDeep g.span)
+inside_at given (suc depth) g = woven given depth 0 g.stream
+
+-- that holds of a template's fault, which isn't that of a text; want of memory says nothing
+abbrev pub UnlessMemory : TemplateError → Type 0 → Type 0
+UnlessMemory (NoHole place) holds = holds
+UnlessMemory (LoneList place) holds = holds
+UnlessMemory (NoList place) holds = holds
+UnlessMemory (UnequalLists place) holds = holds
+UnlessMemory (Nested place) holds = holds
+UnlessMemory (TooDeep place) holds = holds
+UnlessMemory (Parse error) holds = ⊥
+UnlessMemory (Memory error) holds = Unit {0}

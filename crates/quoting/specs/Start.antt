@@ -1,0 +1,70 @@
+-- What a template's trees begin with, from one place on.
+use Rattle.std.specs.Prelude.{ℕ, ◌+◌, Bool, false, ◌==◌, List, Option, Some, None, if◌then◌else◌}
+use Rattle.std.specs.Char.{is_ascii_digit}
+use Rattle.std.specs.List.{list_all}
+use Rattle.proc_macro2.specs.Character.{hash_sign}
+use Rattle.proc_macro2.specs.Extent.{Extent}
+use Rattle.proc_macro2.specs.Forest.{Forest, nil, leaf, group}
+use Rattle.proc_macro2.specs.Size.{count}
+use Rattle.proc_macro2.specs.Token.{Token, Name, Mark, Literal, token_text}
+use Rattle.proc_macro2.specs.declared.Delimiter.TheVariants.{Parenthesis, Brace, Bracket, None as Bare}
+
+-- what has a meaning in a template
+pub data Start : Type 0 where
+  -- `#` and the name of a hole, with the place of the name
+  Names : List ℕ → Extent → Start
+  -- `#( .. )*`, or with a mark before `*`: what is repeated, the place of its parentheses, and the mark
+  Repeats : Forest → Extent → Forest → Start
+
+-- how many trees after the `#` it is made of
+abbrev pub taken : Option Start → ℕ
+taken None = 0
+taken (Some (Names name place)) = 1
+taken (Some (Repeats body place separator)) = 2 + count separator
+
+abbrev pub is_mark_of : ℕ → Token → Bool
+is_mark_of c (Name raw name) = false
+is_mark_of c (Mark d joint) = d == c
+is_mark_of c (Literal text) = false
+
+-- whether `*` comes first
+abbrev pub starred : Forest → Bool
+starred nil = false
+starred (leaf token lo hi rest) = is_mark_of 42 token
+starred (group d lo hi inside rest) = false
+
+-- the mark before a `*`, where one stands there: Alone, since the `*` doesn't come out
+abbrev pub separated : Token → ℕ → ℕ → Forest → Option Forest
+separated (Name raw name) lo hi rest = None
+separated (Mark c joint) lo hi rest = if starred rest then Some (leaf (Mark c false) lo hi nil) else None
+separated (Literal text) lo hi rest = None
+
+-- what stands between the turns: nothing before `*`, or the mark before a `*`
+abbrev pub separator : Forest → Option Forest
+separator nil = None
+separator (leaf token lo hi rest) = if is_mark_of 42 token then Some nil else separated token lo hi rest
+separator (group d lo hi inside rest) = None
+
+-- the repetition of what stands in parentheses
+abbrev pub repetition : Forest → Extent → Option Forest → Option Start
+repetition body place None = None
+repetition body place (Some between) = Some (Repeats body place between)
+
+-- the hole that the token names: an identifier, raw or not, or a literal of digits alone
+abbrev pub name_of : Token → Extent → Option Start
+name_of (Name raw name) place = Some (Names (token_text (Name raw name)) place)
+name_of (Mark c joint) place = None
+name_of (Literal text) place = if list_all is_ascii_digit text then Some (Names text place) else None
+
+-- what a `#` before these trees begins
+abbrev pub after_hash : Forest → Option Start
+after_hash nil = None
+after_hash (leaf token lo hi rest) = name_of token (record { lo = lo; hi = hi })
+after_hash (group Parenthesis lo hi inside rest) = repetition inside (record { lo = lo; hi = hi }) (separator rest)
+after_hash (group Brace lo hi inside rest) = None
+after_hash (group Bracket lo hi inside rest) = None
+after_hash (group Bare lo hi inside rest) = None
+
+-- what the token begins, before these trees
+abbrev pub start : Token → Forest → Option Start
+start token rest = if is_mark_of hash_sign token then after_hash rest else None

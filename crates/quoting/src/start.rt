@@ -1,0 +1,96 @@
+//! What has a meaning in a template.
+ghost use Rattle.std.specs.Prelude.{◌≡◌, ◌∷◌, IfSome, drop};
+ghost use Rattle.std.specs.Char.{is_ascii_digit};
+ghost use Rattle.std.specs.List.{list_all};
+ghost use Rattle.std.specs.Str.{chars};
+ghost use Rattle.proc_macro2.specs.Level.{forest};
+ghost use Rattle.proc_macro2.specs.declared.TokenTree.TheVariants.{Group as GroupTree};
+ghost use Rattle.quoting.specs.Given.{begun_as, named_by, repeats, rest_of, starts, tree_is_mark, tree_name};
+ghost use Rattle.quoting.specs.Start.{taken};
+
+use crate::holes::Name;
+use proc_macro2::{Delimiter, Group, Punct, TokenTree};
+
+// What has a meaning in a template, and the trees after it.
+#[derive(Clone, Copy)]
+pub(crate) enum Start<'a> {
+    // `#` and the name of a hole.
+    Names(Name<'a>, &'a [TokenTree]),
+    // `#( .. )*`, or with a mark before `*`.
+    Repeats(Repetition<'a>, &'a [TokenTree]),
+}
+
+// What is repeated, and the mark that stands between the turns.
+#[derive(Clone, Copy)]
+pub(crate) struct Repetition<'a> {
+    pub(crate) body: &'a Group,
+    pub(crate) separator: Option<&'a Punct>,
+}
+
+// What the tree begins before these. `None` where it stands for itself.
+pub(crate) fn start_at<'a>(tree: &TokenTree, after: &'a [TokenTree]) -> Option<Start<'a>>
+    ensures found { begun_as result ≡ starts tree.now (forest after.now) }
+    ensures rest { IfSome result (λ start. rest_of start ≡ drop (taken (begun_as result)) after.now) }
+{
+    if !is_mark(tree, '#') {
+        return None;
+    }
+    let (first, rest) = after.split_first()?;
+    if let TokenTree::Group(body) = first {
+        return repetition_of(body, rest);
+    }
+    Some(Start::Names(name_of(first)?, rest))
+}
+
+// The repetition of the group before these trees, where there is one.
+fn repetition_of<'a>(body: &'a Group, after: &'a [TokenTree]) -> Option<Start<'a>>
+    ensures found { begun_as result ≡ repeats body.now (forest after.now) }
+    ensures rest { IfSome result (λ start.
+        rest_of start ≡ drop (taken (begun_as result)) (GroupTree body.now ∷ after.now)) }
+{
+    if body.delimiter() != Delimiter::Parenthesis {
+        return None;
+    }
+    let (first, rest) = after.split_first()?;
+    if is_mark(first, '*') {
+        let separator = None;
+        return Some(Start::Repeats(Repetition { body, separator }, rest));
+    }
+    let (second, rest) = rest.split_first()?;
+    let TokenTree::Punct(mark) = first else {
+        return None;
+    };
+    if !is_mark(second, '*') {
+        return None;
+    }
+    let separator = Some(mark);
+    Some(Start::Repeats(Repetition { body, separator }, rest))
+}
+
+// The name that the tree is: an identifier, or a literal of digits alone.
+fn name_of(tree: &TokenTree) -> Option<Name<'_>>
+    ensures { named_by result ≡ tree_name tree.now }
+{
+    match tree {
+        TokenTree::Ident(ident) => Some(Name::Word(ident)),
+        TokenTree::Literal(literal) if all_digits(literal.text()) => Some(Name::Digits(literal)),
+        _ => None,
+    }
+}
+
+// Whether there are ASCII digits alone.
+fn all_digits(text: &str) -> bool
+    ensures { result ≡ list_all is_ascii_digit (chars text.now) }
+{
+    text.chars().all(|c| c.is_ascii_digit())
+}
+
+// Whether the tree is this mark, Joint or Alone.
+fn is_mark(tree: &TokenTree, mark: char) -> bool
+    ensures { result ≡ tree_is_mark mark tree.now }
+{
+    match tree {
+        TokenTree::Punct(punct) => punct.as_char() == mark,
+        _ => false,
+    }
+}

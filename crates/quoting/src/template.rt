@@ -1,0 +1,63 @@
+//! Templates that are filled and pushed.
+ghost use Rattle.std.specs.Prelude.{◌≡◌, IfErr, Ok, Err, OnErr, OnOk};
+ghost use Rattle.std.specs.Str.{chars};
+ghost use Rattle.proc_macro2.specs.Files.{next_lo, with_file};
+ghost use Rattle.proc_macro2.specs.Forest.{Forest, joined};
+ghost use Rattle.proc_macro2.specs.Parsing.{ParsesTo};
+ghost use Rattle.quoting.specs.Filled.{filled};
+ghost use Rattle.quoting.specs.Given.{UnlessMemory, named_all};
+ghost use Rattle.quoting.specs.TextFault.{IsTextFault};
+
+use crate::errors::TemplateError;
+use crate::holes::Hole;
+use crate::quote::Quote;
+use crate::weave::woven;
+use proc_macro2::{SourceMap, TokenStream};
+
+// How many groups may stand one inside the other in a template.
+const DEPTH_LIMIT: usize = 64;
+
+impl Quote {
+    /// Puts the template after the other trees, its holes filled (`filled`).
+    ///
+    /// `#name` and `#0` stand for the stream of the first hole of that name, `#( .. )*` for as many turns as the lists
+    /// named inside have streams, and `#( .. ),*` for the same with the mark between the turns. Any other `#` stands
+    /// for itself. All other trees are kept, with their spans; groups are filled inside.
+    ///
+    /// Fails with the first fault in reading order, and where memory runs out. The quote then stays as it was.
+    pub fn fill(&mut self, template: &TokenStream, holes: &[Hole<'_>]) -> Result<(), TemplateError>
+        ensures ok { OnOk result ((stream : Forest) × (filled (named_all holes.now) template.now ≡ Ok stream)
+            × (self.new ≡ joined self.old stream)) }
+        ensures fault { IfErr result (λ fault.
+            UnlessMemory fault (filled (named_all holes.now) template.now ≡ Err fault)) }
+        ensures kept { OnErr result (self.new ≡ self.old) }
+    {
+        let stream = woven(self.alloc(), template, holes, None, DEPTH_LIMIT)?;
+        self.push_stream(stream)?;
+        Ok(())
+    }
+
+    /// Puts the template that the text parses to after the other trees, its holes filled, as `fill` does. The text
+    /// becomes the next file of the map, and the spans of the template are places in it.
+    ///
+    /// `Parse` tells why the text was not parsed. After any failure the quote is as it was; where the text was parsed,
+    /// it stays in the map.
+    ///
+    /// With `x` for `name`, `fn #name() {}` is `fn x() {}`.
+    pub fn parse(
+        &mut self,
+        template: &str,
+        map: &mut SourceMap,
+        holes: &[Hole<'_>],
+    ) -> Result<(), TemplateError>
+        ensures ok { OnOk result ((trees : Forest) × (stream : Forest)
+            × ParsesTo (next_lo map.old) (chars template.now) trees
+            × (filled (named_all holes.now) trees ≡ Ok stream) × (self.new ≡ joined self.old stream)) }
+        ensures fault { IfErr result (IsTextFault (next_lo map.old) (chars template.now) (named_all holes.now)) }
+        ensures read { OnOk result (map.new ≡ with_file map.old (chars template.now)) }
+        ensures kept { OnErr result (self.new ≡ self.old) }
+    {
+        let template = TokenStream::from_str(template, map)?;
+        self.fill(&template, holes)
+    }
+}
