@@ -138,3 +138,10 @@ nested = refl
 -- `((x))` where groups may nest one deep
 too_deep : woven (at_top holes) 1 0 (parens 0 5 (parens 1 4 a nil) nil) ≡ Err (TooDeep (record { lo = 1; hi = 4 }))
 too_deep = refl
+
+-- a Joint mark is Alone before a hole, and stays Joint before another `#`: `&#0 &#[a]`
+marks_apart :
+    filled holes
+    (leaf (Mark 38 true) 0 1 (hole (codes "0") 1 (leaf (Mark 38 true) 3 4 (hash 4 (group Bracket 5 8 a nil)))))
+    ≡ Ok (mark 38 0 (name (codes "a") 93 (leaf (Mark 38 true) 3 4 (hash 4 (group Bracket 5 8 a nil)))))
+marks_apart = refl

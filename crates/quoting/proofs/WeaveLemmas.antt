@@ -1,15 +1,16 @@
 -- Templates that are filled up to a place.
-use Rattle.std.proofs.Common.{◌≡◌, ℕ, zero, suc, All, Option, Some, None, Ok, Err, List, [], ◌∷◌, drop, length, refl, sym, ap, ap₂, subst, ◌∙◌, arith}
+use Rattle.std.proofs.Common.{◌≡◌, ℕ, Bool, true, false, zero, suc, All, Option, Some, None, Ok, Err, List, [], ◌∷◌, drop, length, refl, sym, ap, ap₂, subst, ◌∙◌, arith}
 use Rattle.std.proofs.lemmas.List.Elements.{All-drop}
-use Rattle.proc_macro2.specs.Forest.{Forest, nil, group, joined}
+use Rattle.proc_macro2.specs.Forest.{Forest, nil, leaf, group, joined}
 use Rattle.proc_macro2.specs.Leaf.{mark_token, name_token, text_token}
+use Rattle.proc_macro2.specs.Leaf as leaves
 use Rattle.proc_macro2.specs.Level.{GoesInside, alone, before, forest}
 use Rattle.proc_macro2.specs.Token.{Token}
 use Rattle.proc_macro2.specs.declared.Group.{Group as Grouped}
 use Rattle.proc_macro2.specs.declared.TokenTree.{TokenTree}
 use Rattle.proc_macro2.specs.declared.TokenTree.TheVariants.{Group, Ident, Punct, Literal}
-use Rattle.quoting.specs.Filled.{followed, enclosed_in, replaced, woven}
-use Rattle.quoting.specs.Given.{UnlessMemory, gives, inside_at, named_all, place_of, starts, text_of}
+use Rattle.quoting.specs.Filled.{followed, enclosed_in, has_meaning, replaced, set_apart, woven}
+use Rattle.quoting.specs.Given.{UnlessMemory, apart, apart_before, gives, inside_at, named_all, place_of, starts, text_of}
 use Rattle.quoting.specs.Holes.{Outcome, filling_of, put_in}
 use Rattle.quoting.specs.Start.{Start, Names, taken}
 use Rattle.quoting.specs.declared.errors.TemplateError.{TemplateError}
@@ -59,19 +60,45 @@ abbrev by_start : Giving → ℕ → Token → ℕ → ℕ → Forest → Option
 by_start given depth token lo hi rest s =
     followed (replaced (given depth) token lo hi s) (woven given depth (taken s) rest)
 
+-- a token with its place, a mark Alone or as it is
+apart_name : (i : leaves.Name) (b : Bool)
+    → leaf (set_apart b (name_token i)) i.span.lo i.span.hi nil ≡ alone (apart b (Ident i))
+apart_name i false = refl
+apart_name i true = refl
+
+apart_mark : (p : leaves.Mark) (b : Bool)
+    → leaf (set_apart b (mark_token p)) p.span.lo p.span.hi nil ≡ alone (apart b (Punct p))
+apart_mark p false = refl
+apart_mark p true = refl
+
+apart_text : (l : leaves.Text) (b : Bool)
+    → leaf (set_apart b (text_token l)) l.span.lo l.span.hi nil ≡ alone (apart b (Literal l))
+apart_text l false = refl
+apart_text l true = refl
+
 pub token_alone : (given : Giving) (depth : ℕ) (t : TokenTree) (rest : Forest) → ((g : Grouped) → t ≡ Group g → ⊥)
-    → starts t rest ≡ None → woven given depth 0 (before t rest) ≡ followed (Ok (alone t)) (woven given depth 0 rest)
+    → starts t rest ≡ None
+    → woven given depth 0 (before t rest) ≡ followed (Ok (alone (apart_before rest t))) (woven given depth 0 rest)
 token_alone given depth (Group g) rest other h = absurd (other g refl)
-token_alone given depth (Ident i) rest other h = ap (by_start given depth (name_token i) i.span.lo i.span.hi rest) h
-token_alone given depth (Punct p) rest other h = ap (by_start given depth (mark_token p) p.span.lo p.span.hi rest) h
-token_alone given depth (Literal l) rest other h = ap (by_start given depth (text_token l) l.span.lo l.span.hi rest) h
+token_alone given depth (Ident i) rest other h =
+    ap (by_start given depth (set_apart (has_meaning rest) (name_token i)) i.span.lo i.span.hi rest) h
+    ∙ ap (λ f. followed (Ok f) (woven given depth 0 rest)) (apart_name i (has_meaning rest))
+token_alone given depth (Punct p) rest other h =
+    ap (by_start given depth (set_apart (has_meaning rest) (mark_token p)) p.span.lo p.span.hi rest) h
+    ∙ ap (λ f. followed (Ok f) (woven given depth 0 rest)) (apart_mark p (has_meaning rest))
+token_alone given depth (Literal l) rest other h =
+    ap (by_start given depth (set_apart (has_meaning rest) (text_token l)) l.span.lo l.span.hi rest) h
+    ∙ ap (λ f. followed (Ok f) (woven given depth 0 rest)) (apart_text l (has_meaning rest))
 
 pub begins_some : (given : Giving) (depth : ℕ) (t : TokenTree) (rest : Forest) (s : Start) → starts t rest ≡ Some s
     → woven given depth 0 (before t rest) ≡ followed (given depth s) (woven given depth (taken (Some s)) rest)
 begins_some given depth (Group g) rest s h = absurd (cc)
-begins_some given depth (Ident i) rest s h = ap (by_start given depth (name_token i) i.span.lo i.span.hi rest) h
-begins_some given depth (Punct p) rest s h = ap (by_start given depth (mark_token p) p.span.lo p.span.hi rest) h
-begins_some given depth (Literal l) rest s h = ap (by_start given depth (text_token l) l.span.lo l.span.hi rest) h
+begins_some given depth (Ident i) rest s h =
+    ap (by_start given depth (set_apart (has_meaning rest) (name_token i)) i.span.lo i.span.hi rest) h
+begins_some given depth (Punct p) rest s h =
+    ap (by_start given depth (set_apart (has_meaning rest) (mark_token p)) p.span.lo p.span.hi rest) h
+begins_some given depth (Literal l) rest s h =
+    ap (by_start given depth (set_apart (has_meaning rest) (text_token l)) l.span.lo l.span.hi rest) h
 
 pub group_filled : (given : Giving) (depth : ℕ) (g : Grouped) (inside rest : Forest)
     → inside_at given depth g ≡ Ok inside
@@ -120,13 +147,27 @@ step given depth n all out new part t left after rest was whole drops one put = 
       (subst (λ ts. All GoesInside (drop 1 ts)) whole (All-drop GoesInside 1 left was.inside)));
 }
 
+-- the tree may be put into a stream, a mark Alone or as it is
+apart_inside : (b : Bool) (t : TokenTree) → GoesInside t → GoesInside (apart b t)
+apart_inside false t inside = inside
+apart_inside true (Group g) inside = inside
+apart_inside true (Ident i) inside = inside
+apart_inside true (Punct p) inside = inside
+apart_inside true (Literal l) inside = inside
+
+pub copy_inside : (given : Giving) (depth : ℕ) (all out : Forest) (t copy : TokenTree) (left after : List TokenTree)
+    → IsUpTo given depth all out left → left ≡ t ∷ after → copy ≡ apart_before (forest after) t → GoesInside copy
+copy_inside given depth all out t copy left after was whole cloned =
+    subst GoesInside (sym cloned)
+    (apart_inside (has_meaning (forest after)) t (subst (All GoesInside) whole was.inside 0 t (omega arith)))
+
 -- a token that begins nothing
 pub token_step : (given : Giving) (depth : ℕ) (all out new : Forest) (t copy : TokenTree) (left after : List TokenTree)
     → IsUpTo given depth all out left → left ≡ t ∷ after → ((g : Grouped) → t ≡ Group g → ⊥)
     → None ≡ starts t (forest after)
-    → copy ≡ t → new ≡ joined out (alone copy) → IsUpTo given depth all new after
+    → copy ≡ apart_before (forest after) t → new ≡ joined out (alone copy) → IsUpTo given depth all new after
 token_step given depth all out new t copy left after was whole other none cloned put =
-    step given depth 0 all out new (alone t) t left after after was whole refl
+    step given depth 0 all out new (alone (apart_before (forest after) t)) t left after after was whole refl
     (token_alone given depth t (forest after) other (sym none)) (put ∙ ap (λ u. joined out (alone u)) cloned)
 
 -- a group

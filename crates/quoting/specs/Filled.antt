@@ -1,8 +1,8 @@
 -- Templates whose holes are filled.
-use Rattle.std.specs.Prelude.{ℕ, zero, suc, ◌==◌, List, Option, Some, None, Result, Ok, Err, if◌then◌else◌, length}
+use Rattle.std.specs.Prelude.{ℕ, Bool, true, false, zero, suc, ◌==◌, List, Option, Some, None, Result, Ok, Err, if◌then◌else◌, length}
 use Rattle.proc_macro2.specs.Extent.{Extent}
 use Rattle.proc_macro2.specs.Forest.{Forest, nil, leaf, group, joined}
-use Rattle.proc_macro2.specs.Token.{Token}
+use Rattle.proc_macro2.specs.Token.{Token, Name, Mark, Literal}
 use Rattle.proc_macro2.specs.declared.Delimiter.{Delimiter}
 use Rattle.quoting.specs.Holes.{Filling, One, Each, Named, Outcome, filling_of, put_in}
 use Rattle.quoting.specs.Start.{Start, Names, Repeats, start, taken}
@@ -25,12 +25,30 @@ abbrev pub replaced : (Start → Outcome) → Token → ℕ → ℕ → Option S
 replaced gives token lo hi None = Ok (leaf token lo hi nil)
 replaced gives token lo hi (Some found) = gives found
 
+-- whether what comes first has a meaning
+abbrev pub is_found : Option Start → Bool
+is_found None = false
+is_found (Some found) = true
+
+abbrev pub has_meaning : Forest → Bool
+has_meaning nil = false
+has_meaning (leaf token lo hi rest) = is_found (start token rest)
+has_meaning (group d lo hi inside rest) = false
+
+-- the token before that: a mark is Alone, since what comes next to it is not what the template has there
+abbrev pub set_apart : Bool → Token → Token
+set_apart false token = token
+set_apart true (Name raw name) = Name raw name
+set_apart true (Mark c joint) = Mark c false
+set_apart true (Literal text) = Literal text
+
 -- the trees in order, after some that are passed over, where groups may nest so deep: each group filled inside,
--- each other tree as it is, and `gives` of what has a meaning and of how deep groups may nest there
+-- each other tree as it is but for `set_apart`, and `gives` of what has a meaning and of how deep groups may nest there
 abbrev pub woven : (ℕ → Start → Outcome) → ℕ → ℕ → Forest → Outcome
 woven gives depth passed nil = Ok nil
 woven gives depth zero (leaf token lo hi rest) =
-    followed (replaced (gives depth) token lo hi (start token rest)) (woven gives depth (taken (start token rest)) rest)
+    followed (replaced (gives depth) (set_apart (has_meaning rest) token) lo hi (start token rest))
+    (woven gives depth (taken (start token rest)) rest)
 woven gives depth (suc passed) (leaf token lo hi rest) = woven gives depth passed rest
 woven gives depth (suc passed) (group d lo hi inside rest) = woven gives depth passed rest
 woven gives zero zero (group d lo hi inside rest) = Err (TooDeep (record { lo = lo; hi = hi }))

@@ -1,5 +1,5 @@
 -- What the code's values are in the words of templates.
-use Rattle.std.specs.Prelude.{ℕ, zero, suc, Bool, false, ◌==◌, List, [], ◌∷◌, Option, Some, None, Err, if◌then◌else◌}
+use Rattle.std.specs.Prelude.{ℕ, zero, suc, Bool, true, false, ◌==◌, List, [], ◌∷◌, Option, Some, None, Err, if◌then◌else◌}
 use Rattle.std.specs.Borrow.{Bor}
 use Rattle.std.specs.Char.{is_ascii_digit}
 use Rattle.std.specs.List.{list_all}
@@ -13,7 +13,8 @@ use Rattle.proc_macro2.specs.Token.{token_text}
 use Rattle.proc_macro2.specs.declared.Group.{Group as Grouped}
 use Rattle.proc_macro2.specs.declared.TokenTree.{TokenTree}
 use Rattle.proc_macro2.specs.declared.TokenTree.TheVariants.{Group, Ident, Punct, Literal}
-use Rattle.quoting.specs.Filled.{at_top, in_turn, woven}
+use Rattle.proc_macro2.specs.declared.Spacing.TheVariants.{Alone}
+use Rattle.quoting.specs.Filled.{at_top, has_meaning, in_turn, woven}
 use Rattle.quoting.specs.Holes.{Filling, One, Each, Named, Outcome}
 use Rattle.quoting.specs.Start.{Start, Names, Repeats, after_hash, start}
 use Rattle.quoting.specs.declared.errors.TemplateError.{TemplateError}
@@ -90,6 +91,17 @@ starts (Group g) rest = None
 starts (Ident i) rest = start (name_token i) rest
 starts (Punct p) rest = start (mark_token p) rest
 starts (Literal l) rest = start (text_token l) rest
+
+-- a tree before others, a mark Alone where what comes first there has a meaning
+abbrev pub apart : Bool → TokenTree → TokenTree
+apart false tree = tree
+apart true (Group g) = Group g
+apart true (Ident i) = Ident i
+apart true (Punct p) = Punct (record p { spacing = Alone })
+apart true (Literal l) = Literal l
+
+abbrev pub apart_before : Forest → TokenTree → TokenTree
+apart_before rest = apart (has_meaning rest)
 
 -- what a group begins after a `#`, before these
 abbrev pub repeats : Grouped → Forest → Option Start

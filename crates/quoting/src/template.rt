@@ -22,7 +22,8 @@ impl Quote {
     ///
     /// `#name` and `#0` stand for the stream of the first hole of that name, `#( .. )*` for as many turns as the lists
     /// named inside have streams, and `#( .. ),*` for the same with the mark between the turns. Any other `#` stands
-    /// for itself. All other trees are kept, with their spans; groups are filled inside.
+    /// for itself. All other trees are kept, with their spans; groups are filled inside. A mark right before a hole or a
+    /// repetition comes out Alone, so that it doesn't join what comes there.
     ///
     /// Fails with the first fault in reading order, and where memory runs out. The quote then stays as it was.
     pub fn fill(&mut self, template: &TokenStream, holes: &[Hole<'_>]) -> Result<(), TemplateError>

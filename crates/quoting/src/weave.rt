@@ -4,8 +4,8 @@
 ghost use Rattle.std.specs.Prelude.{◌≡◌, IfErr, IfOk, Ok, Err, OnOk};
 ghost use Rattle.proc_macro2.specs.Forest.{joined};
 ghost use Rattle.proc_macro2.specs.Level.{forest};
-ghost use Rattle.quoting.specs.Filled.{agreed, before_turn, counted, woven};
-ghost use Rattle.quoting.specs.Given.{UnlessMemory, gives, inside_at, named_all};
+ghost use Rattle.quoting.specs.Filled.{agreed, before_turn, counted, has_meaning, woven};
+ghost use Rattle.quoting.specs.Given.{UnlessMemory, apart_before, gives, inside_at, named_all};
 ghost use Rattle.quoting.specs.Given.{place_of, repeats_of, separator_of, text_of};
 ghost use Rattle.quoting.specs.Holes.{filling_of};
 
@@ -39,7 +39,7 @@ pub(crate) fn woven(
                     let inside = filled_inside(alloc, group, holes, turn, depth)?;
                     put(&mut out, TokenTree::Group(regrouped(group, inside)))?;
                 } else {
-                    put(&mut out, tree.clone()?)?;
+                    put(&mut out, apart_before(tree, after)?)?;
                 }
                 left = after;
             }
@@ -54,6 +54,29 @@ pub(crate) fn woven(
         }
     }
     Ok(out)
+}
+
+// A copy of the tree before these, a mark Alone where what comes first there has a meaning.
+fn apart_before(tree: &TokenTree, after: &[TokenTree]) -> Result<TokenTree, AllocError>
+    ensures { IfOk result (λ copy. copy ≡ apart_before (forest after.now) tree.now) }
+{
+    match tree {
+        TokenTree::Punct(mark) if has_meaning(after) => Ok(TokenTree::Punct(spaced(
+            mark,
+            Spacing::Alone,
+        ))),
+        _ => tree.clone(),
+    }
+}
+
+// Whether what comes first has a meaning.
+fn has_meaning(trees: &[TokenTree]) -> bool
+    ensures { result ≡ has_meaning (forest trees.now) }
+{
+    match trees.split_first() {
+        Some((first, after)) => start_at(first, after).is_some(),
+        None => false,
+    }
 }
 
 // The trees of the group with the holes filled, where it stands inside of such trees.

@@ -136,6 +136,21 @@ fn a_hole_stands_inside_groups_and_by_number(rt: HostRuntime) -> Result<(), Fail
 }
 
 #[test]
+fn a_mark_joins_nothing_that_comes_for_a_hole(rt: HostRuntime) -> Result<(), Fail> {
+    let alloc = rt.alloc();
+    let borrowed = parsed(alloc, "&b")?;
+    let lists = [borrowed.clone()?, borrowed.clone()?];
+    let holes = [Hole::one("x", &borrowed), Hole::each("xs", &lists)];
+    assert_eq!(rt;
+        filled(alloc, "a &#x && #x &&#x", &holes)?.as_str(),
+        "a & & b && & b && & b"
+    );
+    assert_eq!(rt; filled(alloc, "&#(#xs)*", &holes)?.as_str(), "& & b & b");
+    assert_eq!(rt; filled(alloc, "&#(#xs)&*", &holes)?.as_str(), "& & b & & b");
+    Ok(())
+}
+
+#[test]
 fn any_other_hash_sign_is_kept(rt: HostRuntime) -> Result<(), Fail> {
     let alloc = rt.alloc();
     let name = parsed(alloc, "S")?;

@@ -4,7 +4,7 @@ use Rattle.quoting.specs.Filled.{turns_from}
 use Rattle.proc_macro2.specs.Forest.{joined}
 use Rattle.std.proofs.lemmas.Result.{err_from_is_err_and}
 use Rattle.quoting.proofs.TurnLemmas.{all_turns, turn_fault, turn_more, turn_of, turns_begun, turns_ended}
-use Rattle.quoting.proofs.WeaveLemmas.{IsUpTo, ended, found_step, gives_name, group_step, token_step, unless_weaker}
+use Rattle.quoting.proofs.WeaveLemmas.{IsUpTo, copy_inside, ended, found_step, gives_name, group_step, token_step, unless_weaker}
 use Rattle.quoting.proofs.weave.+woven.Goals as goal
 
 pub repeated-loop-turn-init : goal.repeated-loop-turn-init
@@ -62,7 +62,7 @@ woven-loop-tree-preserved-in_ok-put-in-None-2 t c =
     token_step (gives c.args.holes.now c.args.turn) c.args.depth c.args.template.now _ _ c.in-Some.tree.now _ _
     c.in-Some.after.now
     c.loop-tree.invariant c.in-Some.ensures.cases.0 c.in_default-tree.not-Group c.in-None.ensures.found
-    c.in_ok-clone-in-None.ensures.cases c.in_ok-put-in-None-2.ensures
+    c.in_ok-apart_before-in-None.ensures c.in_ok-put-in-None-2.ensures
 
 pub woven-loop-tree-preserved-in-Some-Names : goal.woven-loop-tree-preserved-in-Some-Names
 woven-loop-tree-preserved-in-Some-Names t c =
@@ -90,6 +90,12 @@ woven-loop-tree-preserved t c =
     (ap (λ f. gives c.args.holes.now c.args.turn c.args.depth (seen f)) found.field-0-is
     ∙ (rw found.field-0-is at c.in_ok-repeated-in-Some-Repeats.ensures.ok))
     c.in_ok-append-in-Some-Repeats.ensures)
+
+pub woven-put-requires-in_default-tree : goal.woven-put-requires-in_default-tree
+woven-put-requires-in_default-tree t c =
+    copy_inside (gives c.args.holes.now c.args.turn) c.args.depth c.args.template.now _ c.in-Some.tree.now _ _
+    c.in-Some.after.now
+    c.loop-tree.invariant c.in-Some.ensures.cases.0 c.in_ok-apart_before-in-None.ensures
 
 pub woven-returns-clause-ok : goal.woven-returns-clause-ok
 woven-returns-clause-ok t c =
