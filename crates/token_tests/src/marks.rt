@@ -18,7 +18,7 @@ fn the_marks_are_22_characters_of_ascii(rt: HostRuntime) {
 fn no_character_past_ascii_is_a_mark(rt: HostRuntime) {
     for c in [
         '\u{80}',
-        '\u{D7}',
+        '×',
         '\u{2019}',
         '\u{2026}',
         '\u{FF0B}',
