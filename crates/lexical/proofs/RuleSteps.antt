@@ -141,6 +141,10 @@ pub find_where : (test : List ℕ → Bool) (a : Rule) (text : List ℕ) → fin
 unfolding find
 find_where test a text = refl
 
+pub find_class : (passes : ℕ → Bool) (text : List ℕ) → find (One passes) text ≡ find_one passes text
+unfolding find
+find_class passes text = refl
+
 pub find_exactly : (front text : List ℕ) → find (Exactly front) text ≡ find_text front text
 unfolding find
 find_exactly front text = refl

@@ -20,6 +20,7 @@ pub mod Cover
 pub mod Quiet
 pub mod Found
 pub mod Ascii
+pub mod Bytes
 pub mod Finder
 pub mod Rule
 pub mod CommentFinder

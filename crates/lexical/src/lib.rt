@@ -10,6 +10,7 @@
 //! with its definition.
 #![tactic(auto)]
 
+mod bytes;
 mod class;
 mod comments;
 mod cursor;

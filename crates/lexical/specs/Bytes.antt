@@ -1,0 +1,36 @@
+-- Classes of characters, by name.
+use Rattle.std.specs.Prelude.{ℕ, Bool, ◌==◌}
+use Rattle.std.specs.Char.{is_ascii_digit, is_ascii_hexdigit, is_digit}
+use Rattle.lexical.specs.Character.{hash_sign}
+use Rattle.lexical.specs.Class.{is_ident_start, is_ident_continue}
+use Rattle.lexical.specs.Number.{bars_dot, is_digit_or_underscore, is_digit_or_underscore_in, is_exponent_letter, is_sign}
+use Rattle.lexical.specs.Number.{is_underscore}
+use Rattle.lexical.specs.Quoted.{is_code_digit}
+use Rattle.lexical.specs.declared.bytes.Base.{Base}
+use Rattle.lexical.specs.declared.bytes.Base.TheVariants.{Binary, Octal, Hexadecimal}
+use Rattle.lexical.specs.declared.bytes.Class.{Class}
+use Rattle.lexical.specs.declared.bytes.Class.TheVariants.{Digit, DigitOrUnderscore, Underscore, DigitOf, DigitOrUnderscoreOf}
+use Rattle.lexical.specs.declared.bytes.Class.TheVariants.{Sign, ExponentLetter, HexDigit, CodeDigit, Hash}
+use Rattle.lexical.specs.declared.bytes.Class.TheVariants.{IdentifierStart, IdentifierContinue, BarsDot}
+
+-- how many digits the base has
+abbrev pub radix : Base → ℕ
+radix Binary = 2
+radix Octal = 8
+radix Hexadecimal = 16
+
+-- whether the character is of the class
+abbrev pub is_in : Class → ℕ → Bool
+is_in Digit = is_ascii_digit
+is_in DigitOrUnderscore = is_digit_or_underscore
+is_in Underscore = is_underscore
+is_in (DigitOf base) = λ c. is_digit c (radix base)
+is_in (DigitOrUnderscoreOf base) = is_digit_or_underscore_in (radix base)
+is_in Sign = is_sign
+is_in ExponentLetter = is_exponent_letter
+is_in HexDigit = is_ascii_hexdigit
+is_in CodeDigit = is_code_digit
+is_in Hash = λ c. c == hash_sign
+is_in IdentifierStart = is_ident_start
+is_in IdentifierContinue = is_ident_continue
+is_in BarsDot = bars_dot
