@@ -1,56 +1,28 @@
 //! Numbers.
 #![tactic(auto, using(crate::proofs::RuleSteps::steps))]
 
-ghost use Rattle.std.specs.Prelude.{◌≡◌, ◌≤◌, IsTrue};
-ghost use Rattle.std.specs.Char.{is_ascii_digit, is_digit};
+ghost use Rattle.std.specs.Prelude.{◌≡◌, IsTrue};
 ghost use Rattle.std.specs.Str.{chars};
 ghost use Rattle.lexical.specs.Ascii.{all_ascii};
+ghost use Rattle.lexical.specs.Bytes.{radix};
 ghost use Rattle.lexical.specs.Number as rule;
-ghost use Rattle.lexical.specs.Number.{
-  base_prefixes,
-  is_digit_or_underscore,
-  is_digit_or_underscore_in,
-  is_exponent_letter,
-  is_sign,
-  is_underscore,
-};
+ghost use Rattle.lexical.specs.Number.{base_prefixes};
 ghost use Rattle.lexical.specs.Reading as answers;
-ghost use Rattle.lexical.specs.Rule.{Exactly, One, Run, Then, find, perhaps};
-ghost use Rattle.lexical.specs.Step.{Passes, Reads};
+ghost use Rattle.lexical.specs.Rule.{Exactly, Then, find};
+ghost use Rattle.lexical.specs.Step.{Reads};
 ghost use Rattle.lexical.specs.Text.{begins_any};
 
-use crate::class::{continues_identifier, starts_identifier};
+use crate::bytes::{Base, Class, is_next, one, skip};
 use crate::cursor::Cursor;
 use crate::quoted::suffix;
-use crate::skip::{is_next, one, skip_while};
 use crate::text::begins;
-
-/// The place after all the digits and `_`.
-fn skip_digits(at: Cursor<'_>) -> Cursor<'_>
-    ensures { Passes (Run is_digit_or_underscore) at.entry result }
-{
-    skip_while(at, |c| c.is_ascii_digit() || c == '_')
-}
-
-/// The place after all the `_`.
-fn skip_underscores(at: Cursor<'_>) -> Cursor<'_>
-    ensures { Passes (Run is_underscore) at.entry result }
-{
-    skip_while(at, |c| c == '_')
-}
-
-/// The place after a digit.
-fn digit(at: Cursor<'_>) -> Option<Cursor<'_>>
-    ensures { Reads (One is_ascii_digit) at.entry result }
-{
-    one(at, |c| c.is_ascii_digit())
-}
 
 /// The place after the digits that stand at the place, by the rule `digits`.
 fn digits(at: Cursor<'_>) -> Option<Cursor<'_>>
     ensures { Reads rule.digits at.entry result }
 {
-    Some(skip_digits(digit(at)?))
+    let after = one(at, Class::Digit)?;
+    Some(skip(after, Class::DigitOrUnderscore))
 }
 
 /// The place after the suffix of a number, by the rule `number-end`.
@@ -58,7 +30,7 @@ fn end(at: Cursor<'_>) -> Option<Cursor<'_>>
     ensures { Reads rule.end at.entry result }
 {
     let end = suffix(at);
-    if is_next(end, continues_identifier) {
+    if is_next(end, Class::IdentifierContinue) {
         None
     } else {
         Some(end)
@@ -70,60 +42,35 @@ fn dot(at: Cursor<'_>) -> Option<Cursor<'_>>
     ensures { Reads rule.dot at.entry result }
 {
     let end = at.past(".")?;
-    if is_next(end, |c| c == '.' || starts_identifier(c)) {
+    if is_next(end, Class::BarsDot) {
         None
     } else {
         Some(end)
     }
 }
 
-/// The place after a sign.
-fn sign(at: Cursor<'_>) -> Option<Cursor<'_>>
-    ensures { Reads (One is_sign) at.entry result }
-{
-    one(at, |c| c == '+' || c == '-')
-}
-
-/// The place after a sign, if one stands at the place.
-fn skip_sign(at: Cursor<'_>) -> Cursor<'_>
-    ensures { Passes (perhaps (One is_sign)) at.entry result }
-{
-    match sign(at) {
-        Some(end) => end,
-        None => at,
-    }
-}
-
-/// The place after the letter of an exponent.
-fn exponent_letter(at: Cursor<'_>) -> Option<Cursor<'_>>
-    ensures { Reads (One is_exponent_letter) at.entry result }
-{
-    one(at, |c| c == 'e' || c == 'E')
-}
-
 /// The place after the exponent that stands at the place, by the rule `exponent`.
 fn exponent(at: Cursor<'_>) -> Option<Cursor<'_>>
     ensures { Reads rule.exponent at.entry result }
 {
-    let after = exponent_letter(at)?;
-    digits(skip_underscores(skip_sign(skip_underscores(after))))
-}
-
-/// The place after an exponent, if one stands at the place.
-fn skip_exponent(at: Cursor<'_>) -> Cursor<'_>
-    ensures { Passes (perhaps rule.exponent) at.entry result }
-{
-    match exponent(at) {
-        Some(end) => end,
-        None => at,
-    }
+    let letter = one(at, Class::ExponentLetter)?;
+    let sign = skip(letter, Class::Underscore);
+    let after = match one(sign, Class::Sign) {
+        Some(after) => after,
+        None => sign,
+    };
+    digits(skip(after, Class::Underscore))
 }
 
 /// The place after a dot and what follows it in a number.
 fn fraction(at: Cursor<'_>) -> Option<Cursor<'_>>
     ensures { Reads rule.fraction at.entry result }
 {
-    end(skip_exponent(skip_digits(dot(at)?)))
+    let after = skip(dot(at)?, Class::DigitOrUnderscore);
+    match exponent(after) {
+        Some(after) => end(after),
+        None => end(after),
+    }
 }
 
 /// The place after what makes a float of the digits before it.
@@ -147,42 +94,14 @@ fn decimal(at: Cursor<'_>) -> Option<Cursor<'_>>
     }
 }
 
-/// The place after all the digits of the base and `_`.
-fn skip_base_digits(at: Cursor<'_>, base: u32) -> Cursor<'_>
-    requires low { 2 ≤ base }
-    requires high { base ≤ 36 }
-    ensures { Passes (Run (is_digit_or_underscore_in base)) at.entry result }
-{
-    skip_while(at, |c| c.is_digit(base) || c == '_')
-}
-
-/// The place after a digit of the base.
-fn base_digit(at: Cursor<'_>, base: u32) -> Option<Cursor<'_>>
-    requires low { 2 ≤ base }
-    requires high { base ≤ 36 }
-    ensures { Reads (One (λ c. is_digit c base)) at.entry result }
-{
-    one(at, |c| c.is_digit(base))
-}
-
-/// The place after a digit of the base and all the digits and `_` after it.
-fn base_digits(at: Cursor<'_>, base: u32) -> Option<Cursor<'_>>
-    requires low { 2 ≤ base }
-    requires high { base ≤ 36 }
-    ensures { Reads (rule.base_digits base) at.entry result }
-{
-    Some(skip_base_digits(base_digit(at, base)?, base))
-}
-
 /// The place after the digits of the base, where none follows that is too large, by the rule
 /// `base-digits`.
-fn digits_in(at: Cursor<'_>, base: u32) -> Option<Cursor<'_>>
-    requires low { 2 ≤ base }
-    requires high { base ≤ 36 }
-    ensures { Reads (rule.digits_in base) at.entry result }
+fn digits_in(at: Cursor<'_>, base: Base) -> Option<Cursor<'_>>
+    ensures { Reads (rule.digits_in (radix base)) at.entry result }
 {
-    let end = base_digits(skip_underscores(at), base)?;
-    if is_next(end, |c| c.is_ascii_digit()) {
+    let first = one(skip(at, Class::Underscore), Class::DigitOf(base))?;
+    let end = skip(first, Class::DigitOrUnderscoreOf(base));
+    if is_next(end, Class::Digit) {
         None
     } else {
         Some(end)
@@ -190,11 +109,9 @@ fn digits_in(at: Cursor<'_>, base: u32) -> Option<Cursor<'_>>
 }
 
 /// The place after the prefix of a base and its digits.
-fn prefixed<'a>(at: Cursor<'a>, prefix: &str, base: u32) -> Option<Cursor<'a>>
-    requires low { 2 ≤ base }
-    requires high { base ≤ 36 }
+fn prefixed<'a>(at: Cursor<'a>, prefix: &str, base: Base) -> Option<Cursor<'a>>
     requires ascii { IsTrue (all_ascii prefix.now) }
-    ensures { Reads (Then (Exactly prefix.now) (rule.digits_in base)) at.entry result }
+    ensures { Reads (Then (Exactly prefix.now) (rule.digits_in (radix base))) at.entry result }
 {
     digits_in(at.past(prefix)?, base)
 }
@@ -203,12 +120,12 @@ fn prefixed<'a>(at: Cursor<'a>, prefix: &str, base: u32) -> Option<Cursor<'a>>
 fn based(at: Cursor<'_>) -> Option<Cursor<'_>>
     ensures { Reads rule.based at.entry result }
 {
-    if let Some(end) = prefixed(at, "0x", 16) {
+    if let Some(end) = prefixed(at, "0x", Base::Hexadecimal) {
         return Some(end);
     }
-    match prefixed(at, "0o", 8) {
+    match prefixed(at, "0o", Base::Octal) {
         Some(end) => Some(end),
-        None => prefixed(at, "0b", 2),
+        None => prefixed(at, "0b", Base::Binary),
     }
 }
 
