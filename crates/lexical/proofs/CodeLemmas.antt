@@ -4,9 +4,8 @@ use Rattle.std.specs.Prelude.{filter}
 use Rattle.std.specs.Char.{is_ascii_hexdigit, digit_value}
 use Rattle.std.specs.Int.{is_in_range}
 use Rattle.std.specs.List.{fold, list_all}
-use Rattle.std.proofs.lemmas.Bool.{cases_lt, both_ways, and_parts, or_cases, cond-true, cond-false, cond_both, leb-true, agree_below_at, false_from_ne_true, lt-ltb}
-use Rattle.std.proofs.lemmas.Bool.Decides.{nat_tests}
-use Rattle.lexical.specs.Quoted.{is_octal_digit, hex_value, is_scalar, is_code, is_code_digit}
+use Rattle.std.proofs.lemmas.Bool.{both_ways, and_parts, or_cases, cond-true, cond-false, cond_both, leb-true, agree_below_at, false_from_ne_true, lt-ltb}
+use Rattle.lexical.specs.Quoted.{hex_value, is_scalar, is_code, is_code_digit}
 
 -- the value with one digit more
 abbrev pub value_step : ℕ → ℕ → ℕ
@@ -35,13 +34,6 @@ digit_low c h = elim (or_cases (is_ascii_hexdigit c) (c == 95) h) [
       where
         up_to : (a b c : ℕ) → is_in_range a b c ≡ true → b < 128 → c < 128
         up_to a b c h top = let le = leb-true c b (and_parts (nat_le a c) (nat_le c b) h).1 in omega arith
-
--- a digit from 0 to 7 is one by its place in the order
-pub octal_is : (c : ℕ) → is_in_range 48 55 c ≡ is_octal_digit c
-octal_is c = elim (cases_lt c 128) [
-  | inl low ↦ agree_below_at (is_in_range 48 55) is_octal_digit 128 c refl low
-  | inr high ↦ grind (arith, nat_tests)
-]
 
 -- a hex digit is one by its value
 hex_is : (c : ℕ) → is_code_digit c ≡ true → is_ascii_hexdigit c ≡ nat_lt (digit_value c) 16

@@ -2,18 +2,18 @@
 #![tactic(auto, using(crate::proofs::RuleSteps::steps))]
 
 ghost use Rattle.std.specs.Prelude.{◌≡◌, IsTrue};
-ghost use Rattle.std.specs.Char.{is_ascii_hexdigit};
 ghost use Rattle.std.specs.List.{list_all};
 ghost use Rattle.std.specs.Str.{chars};
 ghost use Rattle.lexical.specs.Quoted as rule;
-ghost use Rattle.lexical.specs.Quoted.{is_code, is_code_digit, is_octal_digit, is_one_of};
+ghost use Rattle.lexical.specs.Quoted.{is_code, is_code_digit, is_one_of};
 ghost use Rattle.lexical.specs.Reading as answers;
 ghost use Rattle.lexical.specs.Rule.{One, find};
 ghost use Rattle.lexical.specs.Step.{Reads};
 
+use crate::bytes::{Base, Class, one, skip};
 use crate::cursor::Cursor;
 use crate::quoted::StringKind;
-use crate::skip::{one, skip_while};
+use crate::skip::one as one_that;
 use crate::text::{before, begins, split_first};
 
 /// Whether the letter is a simple escape, by the rule `simple-escape`.
@@ -31,28 +31,14 @@ fn is_letter(c: char, kind: StringKind) -> bool
 fn simple(at: Cursor<'_>, kind: StringKind) -> Option<Cursor<'_>>
     ensures { Reads (One (is_one_of (rule.letters kind))) at.entry result }
 {
-    one(at, |c| is_letter(c, kind))
-}
-
-/// The place after a hex digit.
-fn hex_digit(at: Cursor<'_>) -> Option<Cursor<'_>>
-    ensures { Reads (One is_ascii_hexdigit) at.entry result }
-{
-    one(at, |c| c.is_ascii_hexdigit())
-}
-
-/// The place after a digit from 0 to 7.
-fn octal_digit(at: Cursor<'_>) -> Option<Cursor<'_>>
-    ensures { Reads (One is_octal_digit) at.entry result }
-{
-    one(at, |c| matches!(c, '0'..='7'))
+    one_that(at, |c| is_letter(c, kind))
 }
 
 /// The place after two hex digits.
 fn hex_pair(at: Cursor<'_>) -> Option<Cursor<'_>>
     ensures { Reads rule.hex_pair at.entry result }
 {
-    hex_digit(hex_digit(at)?)
+    one(one(at, Class::HexDigit)?, Class::HexDigit)
 }
 
 /// The place after two hex digits that may stand after `x`.
@@ -60,7 +46,7 @@ fn pair(at: Cursor<'_>, kind: StringKind) -> Option<Cursor<'_>>
     ensures { Reads (rule.pair kind) at.entry result }
 {
     match kind {
-        StringKind::Plain => hex_digit(octal_digit(at)?),
+        StringKind::Plain => one(one(at, Class::DigitOf(Base::Octal))?, Class::HexDigit),
         StringKind::Byte => hex_pair(at),
         StringKind::C => {
             if begins(at.rest, "00") {
@@ -76,20 +62,6 @@ fn hex(at: Cursor<'_>, kind: StringKind) -> Option<Cursor<'_>>
     ensures { Reads (rule.hex (rule.pair kind)) at.entry result }
 {
     pair(at.past("x")?, kind)
-}
-
-/// Whether the character is a hex digit or `_`.
-fn goes_on(c: char) -> bool
-    ensures { result ≡ is_code_digit c }
-{
-    c.is_ascii_hexdigit() || c == '_'
-}
-
-/// The place after a hex digit and all the hex digits and `_` that follow it.
-fn digits(at: Cursor<'_>) -> Option<Cursor<'_>>
-    ensures { Reads rule.code_digits at.entry result }
-{
-    Some(skip_while(hex_digit(at)?, goes_on))
 }
 
 /// Whether the escape of a character may give this one.
@@ -127,11 +99,12 @@ fn writes_character(text: &str, kind: StringKind) -> bool
     char::from_u32(value).is_some() && allows(kind, value)
 }
 
-/// The place after the code of a character.
+/// The place after the code of a character: a hex digit and all the hex digits and `_` that follow it.
 fn code(at: Cursor<'_>, kind: StringKind) -> Option<Cursor<'_>>
     ensures { Reads (rule.code (rule.allows kind)) at.entry result }
 {
-    let end = digits(at)?;
+    let first = one(at, Class::HexDigit)?;
+    let end = skip(first, Class::CodeDigit);
     if !writes_character(before(at.rest, end.rest), kind) {
         return None;
     }
