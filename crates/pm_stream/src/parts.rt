@@ -1,10 +1,10 @@
 //! What the crates above make streams of, and users don't.
 ghost use Rattle.std.specs.Prelude.{◌≡◌, ◌<◌, ◌+◌, ◌^◌, IfErr, IfOk, length};
 ghost use Rattle.std.specs.Str.{chars};
-ghost use Rattle.pm_token.specs.Outcome.{IfLex};
+ghost use Rattle.pm_stream.specs.Fault.{IsFault};
 ghost use Rattle.pm_stream.specs.Forest.{IsBuilt};
 ghost use Rattle.pm_stream.specs.Level.{forest};
-ghost use Rattle.pm_stream.specs.Parsing.{FaultAt, ParsesTo};
+ghost use Rattle.pm_stream.specs.Parsing.{ParsesTo};
 
 use crate::parse::parse;
 use crate::stream::{Group, TokenStream, TokenTree};
@@ -28,15 +28,15 @@ pub fn stream(alloc: Global, trees: Vec<TokenTree>) -> Result<TokenStream, Alloc
 }
 
 /// The token trees of a text that is no file of a map (`parses-to`). Spans count its characters from `base` on, and no
-/// map holds them, but for chance. A fault is where `TokenStream::from_str` would find it in a file that begins at
-/// `base`.
+/// map holds them, but for chance. A fault has an empty span, where `TokenStream::from_str` would find it in a file that
+/// begins at `base`. `MapFull` is never answered, and `Memory` where a growth was refused.
 ///
 /// It takes no copy of the text.
 pub fn parse_at(alloc: Global, base: u32, text: &str) -> Result<TokenStream, ParseError>
     requires room { base + length (chars text.now) < 2 ^ 32 }
     ensures ok { IfOk result (λ stream. ParsesTo base (chars text.now) stream) }
     ensures built { IfOk result IsBuilt }
-    ensures lex { IfErr result (λ error. IfLex error (λ fault. FaultAt base (chars text.now) fault.lo)) }
+    ensures lex { IfErr result (IsFault base (chars text.now)) }
 {
     parse(alloc, base, text)
 }

@@ -1,8 +1,10 @@
 -- Templates that are given as text.
-use Rattle.std.specs.Prelude.{ℕ, ◌≡◌, List, Err}
+use Rattle.std.specs.Prelude.{ℕ, ◌≡◌, ◌⊎◌, List, Result, Ok, Err}
+use Rattle.proc_macro2.specs.Files.{Files, with_file}
 use Rattle.proc_macro2.specs.Forest.{Forest}
-use Rattle.proc_macro2.specs.Outcome.{IfLex}
 use Rattle.proc_macro2.specs.Parsing.{FaultAt, ParsesTo}
+use Rattle.proc_macro2.specs.declared.ParseError.{ParseError}
+use Rattle.proc_macro2.specs.declared.ParseError.TheVariants.{Lex, MapFull, Memory as NoMemory}
 use Rattle.quoting.specs.Filled.{filled}
 use Rattle.quoting.specs.Holes.{Named}
 use Rattle.quoting.specs.declared.errors.TemplateError.{TemplateError}
@@ -21,5 +23,21 @@ IsTextFault first text holes (NoList place) = IsTemplateFault first text holes (
 IsTextFault first text holes (UnequalLists place) = IsTemplateFault first text holes (UnequalLists place)
 IsTextFault first text holes (Nested place) = IsTemplateFault first text holes (Nested place)
 IsTextFault first text holes (TooDeep place) = IsTemplateFault first text holes (TooDeep place)
-IsTextFault first text holes (Parse error) = IfLex error (λ fault. FaultAt first text fault.lo)
+IsTextFault first text holes (Parse (Lex fault)) = (fault.lo ≡ fault.hi) × FaultAt first text fault.lo
+IsTextFault first text holes (Parse MapFull) = Unit {0}
+IsTextFault first text holes (Parse (NoMemory error)) = ⊥
 IsTextFault first text holes (Memory error) = Unit {0}
+
+-- the map after the call: with the text as its next file where that was read, and else as it was
+abbrev pub LeavesMap : Files → List ℕ → Files → Result (Unit {0}) TemplateError → Type 0
+LeavesMap old text new (Ok done) = new ≡ with_file old text
+LeavesMap old text new (Err (NoHole place)) = new ≡ with_file old text
+LeavesMap old text new (Err (LoneList place)) = new ≡ with_file old text
+LeavesMap old text new (Err (NoList place)) = new ≡ with_file old text
+LeavesMap old text new (Err (UnequalLists place)) = new ≡ with_file old text
+LeavesMap old text new (Err (Nested place)) = new ≡ with_file old text
+LeavesMap old text new (Err (TooDeep place)) = new ≡ with_file old text
+LeavesMap old text new (Err (Parse (Lex fault))) = new ≡ with_file old text
+LeavesMap old text new (Err (Parse MapFull)) = new ≡ old
+LeavesMap old text new (Err (Parse (NoMemory error))) = ⊥
+LeavesMap old text new (Err (Memory error)) = (new ≡ old) ⊎ (new ≡ with_file old text)

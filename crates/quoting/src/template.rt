@@ -1,18 +1,18 @@
 //! Templates that are filled and pushed.
-ghost use Rattle.std.specs.Prelude.{◌≡◌, IfErr, Ok, Err, OnErr, OnOk};
+ghost use Rattle.std.specs.Prelude.{◌≡◌, ◌↔◌, IfErr, Ok, Err, OnErr, OnOk, length};
 ghost use Rattle.std.specs.Str.{chars};
-ghost use Rattle.proc_macro2.specs.Files.{next_lo, with_file};
+ghost use Rattle.proc_macro2.specs.Files.{Fits, next_lo};
 ghost use Rattle.proc_macro2.specs.Forest.{Forest, joined};
 ghost use Rattle.proc_macro2.specs.Parsing.{ParsesTo};
 ghost use Rattle.quoting.specs.Filled.{filled};
 ghost use Rattle.quoting.specs.Given.{UnlessMemory, named_all};
-ghost use Rattle.quoting.specs.TextFault.{IsTextFault};
+ghost use Rattle.quoting.specs.TextFault.{IsTextFault, LeavesMap};
 
 use crate::errors::TemplateError;
 use crate::holes::Hole;
 use crate::quote::Quote;
 use crate::weave::woven;
-use proc_macro2::{SourceMap, TokenStream};
+use proc_macro2::{ParseError, SourceMap, TokenStream};
 
 // How many groups may stand one inside the other in a template.
 const DEPTH_LIMIT: usize = 64;
@@ -41,8 +41,9 @@ impl Quote {
     /// Puts the template that the text parses to after the other trees, its holes filled, as `fill` does. The text
     /// becomes the next file of the map, and the spans of the template are places in it.
     ///
-    /// `Parse` tells why the text was not parsed. After any failure the quote is as it was; where the text was parsed,
-    /// it stays in the map.
+    /// `Parse` tells why the text was not parsed: a fault of the text, which then is a file of the map too, or `MapFull`,
+    /// exactly where the text would end past the map's limit, which leaves the map as it was. After any failure the quote
+    /// is as it was. After a fault of the template the text stays in the map, and where memory ran out, if it was parsed.
     ///
     /// With `x` for `name`, `fn #name() {}` is `fn x() {}`.
     pub fn parse(
@@ -55,7 +56,9 @@ impl Quote {
             × ParsesTo (next_lo map.old) (chars template.now) trees
             × (filled (named_all holes.now) trees ≡ Ok stream) × (self.new ≡ joined self.old stream)) }
         ensures fault { IfErr result (IsTextFault (next_lo map.old) (chars template.now) (named_all holes.now)) }
-        ensures read { OnOk result (map.new ≡ with_file map.old (chars template.now)) }
+        ensures map_full { (result ≡ Err (TemplateError.Parse ParseError.MapFull))
+            ↔ (Fits map.old (length (chars template.now)) → ⊥) }
+        ensures map { LeavesMap map.old (chars template.now) map.new result }
         ensures kept { OnErr result (self.new ≡ self.old) }
     {
         let template = TokenStream::from_str(template, map)?;

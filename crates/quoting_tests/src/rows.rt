@@ -1,8 +1,9 @@
 // What comes out of trees of each kind. What is printed is parsed again and compared.
 use proc_macro2::{
-    Delimiter, Group, Ident, Literal, Punct, SourceMap, Spacing, Span, TokenStream, TokenTree,
+    Delimiter, Group, Ident, Literal, ParseError, Punct, SourceMap, Spacing, Span, TokenStream,
+    TokenTree,
 };
-use quoting::{Quote, QuoteError};
+use quoting::{Quote, QuoteError, TemplateError};
 use std::alloc::{AllocError, Global};
 use std::process::Abort;
 use std::test::Fail;
@@ -204,5 +205,9 @@ fn errors_say_why(rt: HostRuntime) -> Result<(), Fail> {
     assert_eq!(rt; text.as_str(), "a group has no delimiters");
     let text = format!(in alloc; "{:?}", QuoteError::LoneQuote)?;
     assert_eq!(rt; text.as_str(), "LoneQuote");
+    let text = format!(in alloc; "{:?}", TemplateError::NoHole(Span::call_site()))?;
+    assert_eq!(rt; text.as_str(), "NoHole(bytes(0..0))");
+    let text = format!(in alloc; "{:?}", TemplateError::Parse(ParseError::MapFull))?;
+    assert_eq!(rt; text.as_str(), "Parse(MapFull)");
     Ok(())
 }

@@ -1,20 +1,27 @@
 //! What is pushed to a quote, and what it gives.
 
 use crate::fails::Fail;
-use crate::shown::show_stream;
+use crate::shown::{show_map, show_stream};
 use crate::watched::watched;
-use proc_macro2::{Delimiter, Group, Ident, Punct, Spacing, Span, TokenStream, TokenTree};
-use quoting::Quote;
+use proc_macro2::{
+    Delimiter, Group, Ident, Punct, SourceMap, Spacing, Span, TokenStream, TokenTree,
+};
+use quoting::{Hole, Quote};
 use std::alloc::Global;
 use std::io::Write;
 
-/// Pushes to a quote of `x (+ y)`, whose `+` is Joint, or asks it for its stream, and writes what it gives then.
+/// A template with a name, a repetition and a group.
+const TEMPLATE: &str = "[#one] #(#each),*";
+
+/// Pushes to a quote of `x (+ y)`, whose `+` is Joint, fills it, or asks it for its stream, and writes what it gives then.
 pub fn run<W: Write>(alloc: Global, out: &mut W, call: &str) -> Result<(), Fail> {
     for _ in 0..2 {
         let mut quote = x_and_group(alloc)?;
         match call {
             "push" => push(alloc, out, &mut quote)?,
             "push_stream" => push_stream(alloc, out, &mut quote)?,
+            "fill" => fill(alloc, out, &mut quote)?,
+            "parse" => parse(alloc, out, &mut quote)?,
             "finish" => finish(out, &quote)?,
             _ => return Err(Fail::NoCase),
         }
@@ -34,6 +41,29 @@ fn push_stream<W: Write>(alloc: Global, out: &mut W, quote: &mut Quote) -> Resul
     let stream = TokenStream::from_tree(alloc, name(alloc, "z")?)?;
     let answer = watched!(out; quote.push_stream(stream));
     writeln!(out, "{answer:?}")?;
+    Ok(())
+}
+
+/// Fills a template with a stream for its name and one for each turn of its repetition.
+fn fill<W: Write>(alloc: Global, out: &mut W, quote: &mut Quote) -> Result<(), Fail> {
+    let template = TokenStream::from_str(TEMPLATE, &mut SourceMap::new(alloc))?;
+    let one = TokenStream::from_tree(alloc, name(alloc, "z")?)?;
+    let each = [one.clone()?, one.clone()?];
+    let holes = [Hole::one("one", &one), Hole::each("each", &each)];
+    let answer = watched!(out; quote.fill(&template, &holes));
+    writeln!(out, "{answer:?}")?;
+    Ok(())
+}
+
+/// The same of the template's text, which becomes a file of a map.
+fn parse<W: Write>(alloc: Global, out: &mut W, quote: &mut Quote) -> Result<(), Fail> {
+    let mut map = SourceMap::new(alloc);
+    let one = TokenStream::from_tree(alloc, name(alloc, "z")?)?;
+    let each = [one.clone()?, one.clone()?];
+    let holes = [Hole::one("one", &one), Hole::each("each", &each)];
+    let answer = watched!(out; quote.parse(TEMPLATE, &mut map, &holes));
+    writeln!(out, "{answer:?}")?;
+    show_map(out, &map)?;
     Ok(())
 }
 
