@@ -160,7 +160,7 @@ while_whole passes (c ∷ text) =
     (λ e. ap (λ ys. (c ∷ while_front passes text) ++ ys) (cond-true _ _ _ e) ∙ ap (λ ys. c ∷ ys) (while_whole passes text))
     (λ e. cond-false _ _ _ e)
 
-while_passes : (passes : ℕ → Bool) (text : List ℕ) → list_all passes (while_front passes text) ≡ true
+pub while_passes : (passes : ℕ → Bool) (text : List ℕ) → list_all passes (while_front passes text) ≡ true
 while_passes passes [] = refl
 while_passes passes (c ∷ text) =
     cond_both (passes c) (c ∷ while_front passes text) [] (λ xs. list_all passes xs ≡ true)

@@ -2,6 +2,10 @@ pub mod TextLemmas
 pub mod StripLemmas
 pub mod FinderLemmas
 pub mod ClassLemmas
+pub mod CountLemmas
+pub mod Scan
+pub mod SearchLemmas
+pub mod ByteLemmas
 pub mod RunLemmas
 pub mod QuotedLemmas
 pub mod BlockLemmas

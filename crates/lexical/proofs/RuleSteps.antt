@@ -27,7 +27,26 @@ pub suffix_passes : (at to : Cursor) → answers.Passes (find_suffix (chars at.r
 unfolding find
 suffix_passes at to h = record { front = h.front; found = h.found; count = h.count }
 
--- and the other way, where another rule finds the same
+-- and the other way
+pub one_answers : (passes : ℕ → Bool) (at to : Cursor) → Passes (One passes) at to → answers.Passes (find_one passes (chars at.rest.now)) at to
+unfolding find
+one_answers passes at to h = record {
+  front = h.front;
+  found = h.found;
+  whole = (found_is (One passes) tt (chars at.rest.now) h.front (chars to.rest.now) h.found).0;
+  count = h.count;
+}
+
+pub run_answers : (passes : ℕ → Bool) (at to : Cursor) → Passes (Run passes) at to → answers.Passes (find_run passes (chars at.rest.now)) at to
+unfolding find
+run_answers passes at to h = record {
+  front = h.front;
+  found = h.found;
+  whole = (found_is (Run passes) tt (chars at.rest.now) h.front (chars to.rest.now) h.found).0;
+  count = h.count;
+}
+
+-- and so, where another rule finds the same
 pub answers_read : (a b : Rule) → Clear a → (at : Cursor) (result : Option Cursor) → find b (chars at.rest.now) ≡ find a (chars at.rest.now)
     → Reads a at result → answers.Reads (find b (chars at.rest.now)) at result
 answers_read a b clear at None e none = e ∙ none

@@ -24,7 +24,7 @@ cons_of [] h = absurd (omega arith)
 cons_of (b ∷ more) h = (b, more, refl)
 
 -- a character past ASCII begins with a byte past ASCII
-first_byte : (d : ℕ) → 128 ≤ d → (b : ℕ) × (more : List ℕ) × (encode_utf8 d ≡ b ∷ more) × (128 ≤ b)
+pub first_byte : (d : ℕ) → 128 ≤ d → (b : ℕ) × (more : List ℕ) × (encode_utf8 d ≡ b ∷ more) × (128 ≤ b)
 first_byte d h =
     let cell = cons_of (encode_utf8 d) (omega (arith, length-encode d, len_utf8_bounds d)) in (
       cell.0,

@@ -1,8 +1,10 @@
 -- Classes of characters, by name.
-use Rattle.std.specs.Prelude.{ℕ, Bool, ◌==◌}
+use Rattle.std.specs.Prelude.{ℕ, Bool, not, ◌&&◌, ◌==◌, nat_eq, nat_lt, get_or, bit_and}
 use Rattle.std.specs.Char.{is_ascii_digit, is_ascii_hexdigit, is_digit}
 use Rattle.lexical.specs.Character.{hash_sign}
-use Rattle.lexical.specs.Class.{is_ident_start, is_ident_continue}
+use Rattle.lexical.specs.Class.{is_white, is_ident_start, is_ident_continue}
+use Rattle.lexical.specs.Delimiter.{is_opener, is_closer}
+use Rattle.lexical.specs.Mark.{is_mark}
 use Rattle.lexical.specs.Number.{bars_dot, is_digit_or_underscore, is_digit_or_underscore_in, is_exponent_letter, is_sign}
 use Rattle.lexical.specs.Number.{is_underscore}
 use Rattle.lexical.specs.Quoted.{is_code_digit}
@@ -12,6 +14,8 @@ use Rattle.lexical.specs.declared.bytes.Class.{Class}
 use Rattle.lexical.specs.declared.bytes.Class.TheVariants.{Digit, DigitOrUnderscore, Underscore, DigitOf, DigitOrUnderscoreOf}
 use Rattle.lexical.specs.declared.bytes.Class.TheVariants.{Sign, ExponentLetter, HexDigit, CodeDigit, Hash}
 use Rattle.lexical.specs.declared.bytes.Class.TheVariants.{IdentifierStart, IdentifierContinue, BarsDot}
+use Rattle.lexical.specs.declared.bytes.Class.TheVariants.{White, Opener, Closer, Mark}
+use Rattle.lexical.specs.declared.bytes.TheConstants.{KINDS}
 
 -- how many digits the base has
 abbrev pub radix : Base → ℕ
@@ -34,3 +38,15 @@ is_in Hash = λ c. c == hash_sign
 is_in IdentifierStart = is_ident_start
 is_in IdentifierContinue = is_ident_continue
 is_in BarsDot = bars_dot
+is_in White = is_white
+is_in Opener = is_opener
+is_in Closer = is_closer
+is_in Mark = is_mark
+
+-- whether the character is of ASCII and of the class
+abbrev pub ascii_in : Class → ℕ → Bool
+ascii_in class c = nat_lt c 128 && is_in class c
+
+-- whether the byte is of one of the kinds
+abbrev pub has_kind : ℕ → ℕ → Bool
+has_kind kinds byte = not (nat_eq (bit_and (get_or KINDS byte 0) kinds) 0)

@@ -1,17 +1,18 @@
 //! Classes of characters, and what stands at a place by its class.
+//!
+//! ASCII is read byte by byte, each by one look at a table. A character past ASCII is read whole.
 #![tactic(auto, using(crate::proofs::RuleSteps::steps))]
 
-ghost use Rattle.std.specs.Prelude.{◌≡◌};
+ghost use Rattle.std.specs.Prelude.{◌≡◌, ◌<◌, ℕ, length};
 ghost use Rattle.std.specs.Str.{chars};
-ghost use Rattle.lexical.specs.Bytes.{is_in};
-ghost use Rattle.lexical.specs.declared.bytes.Class.TheVariants as classes;
+ghost use Rattle.lexical.specs.Bytes.{ascii_in, has_kind, is_in};
+ghost use Rattle.lexical.specs.Finder.{while_front};
 ghost use Rattle.lexical.specs.Rule.{One, Run};
 ghost use Rattle.lexical.specs.Step.{Passes, Reads};
 ghost use Rattle.lexical.specs.Text.{first_passes};
 
-use crate::class::{continues_identifier, starts_identifier};
+use crate::class::{continues_identifier, is_white, starts_identifier};
 use crate::cursor::Cursor;
-use crate::skip::skip_while;
 
 /// The base of the digits that a prefix announces.
 #[derive(Clone, Copy)]
@@ -53,48 +54,179 @@ pub enum Class {
     IdentifierContinue,
     /// What bars the dot of a number before it: a dot, or what may begin an identifier.
     BarsDot,
+    /// White space, or one of the two marks of direction.
+    White,
+    /// One of `(`, `[`, `{`.
+    Opener,
+    /// One of `)`, `]`, `}`.
+    Closer,
+    /// One of the 22 marks.
+    Mark,
 }
 
-/// Whether the character is of the class.
-fn holds(class: Class, c: char) -> bool
-    ensures { result ≡ is_in class c }
+// Each byte is of one kind at most, which is a bit. A class has the characters of some kinds.
+const NONE: u16 = 0;
+
+const WHITE: u16 = 1;
+/// `0` and `1`.
+const BINARY: u16 = 2;
+/// The other octal digits.
+const OCTAL: u16 = 4;
+/// `8` and `9`.
+const DECIMAL: u16 = 8;
+/// `e` and `E`.
+const EXPONENT: u16 = 16;
+/// The other hex digits that are letters.
+const HEX: u16 = 32;
+/// The other letters.
+const LETTER: u16 = 64;
+
+const UNDERSCORE: u16 = 128;
+
+const SIGN: u16 = 256;
+
+const HASH: u16 = 512;
+
+const DOT: u16 = 1024;
+/// The other marks.
+const MARK: u16 = 2048;
+
+const OPENER: u16 = 4096;
+
+const CLOSER: u16 = 8192;
+
+const DIGITS: u16 = BINARY | OCTAL | DECIMAL;
+
+const LETTERS: u16 = EXPONENT | HEX | LETTER;
+
+/// The kind of each byte. Those past ASCII are of none.
+#[rattlefmt::skip]
+static KINDS: [u16; 256] = [
+    NONE, NONE, NONE, NONE, NONE, NONE, NONE, NONE,
+    NONE, WHITE, WHITE, WHITE, WHITE, WHITE, NONE, NONE,
+    NONE, NONE, NONE, NONE, NONE, NONE, NONE, NONE,
+    NONE, NONE, NONE, NONE, NONE, NONE, NONE, NONE,
+    WHITE, MARK, NONE, HASH, MARK, MARK, MARK, MARK,
+    OPENER, CLOSER, MARK, SIGN, MARK, SIGN, DOT, MARK,
+    BINARY, BINARY, OCTAL, OCTAL, OCTAL, OCTAL, OCTAL, OCTAL,
+    DECIMAL, DECIMAL, MARK, MARK, MARK, MARK, MARK, MARK,
+    MARK, HEX, HEX, HEX, HEX, EXPONENT, HEX, LETTER,
+    LETTER, LETTER, LETTER, LETTER, LETTER, LETTER, LETTER, LETTER,
+    LETTER, LETTER, LETTER, LETTER, LETTER, LETTER, LETTER, LETTER,
+    LETTER, LETTER, LETTER, OPENER, NONE, CLOSER, MARK, UNDERSCORE,
+    NONE, HEX, HEX, HEX, HEX, EXPONENT, HEX, LETTER,
+    LETTER, LETTER, LETTER, LETTER, LETTER, LETTER, LETTER, LETTER,
+    LETTER, LETTER, LETTER, LETTER, LETTER, LETTER, LETTER, LETTER,
+    LETTER, LETTER, LETTER, OPENER, MARK, CLOSER, MARK, NONE,
+    NONE, NONE, NONE, NONE, NONE, NONE, NONE, NONE, NONE, NONE, NONE, NONE, NONE, NONE, NONE, NONE,
+    NONE, NONE, NONE, NONE, NONE, NONE, NONE, NONE, NONE, NONE, NONE, NONE, NONE, NONE, NONE, NONE,
+    NONE, NONE, NONE, NONE, NONE, NONE, NONE, NONE, NONE, NONE, NONE, NONE, NONE, NONE, NONE, NONE,
+    NONE, NONE, NONE, NONE, NONE, NONE, NONE, NONE, NONE, NONE, NONE, NONE, NONE, NONE, NONE, NONE,
+    NONE, NONE, NONE, NONE, NONE, NONE, NONE, NONE, NONE, NONE, NONE, NONE, NONE, NONE, NONE, NONE,
+    NONE, NONE, NONE, NONE, NONE, NONE, NONE, NONE, NONE, NONE, NONE, NONE, NONE, NONE, NONE, NONE,
+    NONE, NONE, NONE, NONE, NONE, NONE, NONE, NONE, NONE, NONE, NONE, NONE, NONE, NONE, NONE, NONE,
+    NONE, NONE, NONE, NONE, NONE, NONE, NONE, NONE, NONE, NONE, NONE, NONE, NONE, NONE, NONE, NONE,
+];
+
+/// The kinds of the ASCII characters of the class.
+#[inline(always)]
+fn kinds(class: Class) -> u16
+    ensures { (byte : ℕ) → byte < 256 → has_kind result byte ≡ ascii_in class byte }
 {
     match class {
-        Class::Digit => c.is_ascii_digit(),
-        Class::DigitOrUnderscore => c.is_ascii_digit() || c == '_',
-        Class::Underscore => c == '_',
-        Class::DigitOf(base) => is_digit_of(base, c),
-        Class::DigitOrUnderscoreOf(base) => is_digit_of(base, c) || c == '_',
-        Class::Sign => c == '+' || c == '-',
-        Class::ExponentLetter => c == 'e' || c == 'E',
-        Class::HexDigit => c.is_ascii_hexdigit(),
-        Class::CodeDigit => c.is_ascii_hexdigit() || c == '_',
-        Class::Hash => c == '#',
-        Class::IdentifierStart => starts_identifier(c),
-        Class::IdentifierContinue => continues_identifier(c),
-        Class::BarsDot => c == '.' || starts_identifier(c),
+        Class::Digit => DIGITS,
+        Class::DigitOrUnderscore => DIGITS | UNDERSCORE,
+        Class::Underscore => UNDERSCORE,
+        Class::DigitOf(base) => match base {
+            Base::Binary => BINARY,
+            Base::Octal => BINARY | OCTAL,
+            Base::Hexadecimal => DIGITS | EXPONENT | HEX,
+        },
+        Class::DigitOrUnderscoreOf(base) => match base {
+            Base::Binary => BINARY | UNDERSCORE,
+            Base::Octal => BINARY | OCTAL | UNDERSCORE,
+            Base::Hexadecimal => DIGITS | EXPONENT | HEX | UNDERSCORE,
+        },
+        Class::Sign => SIGN,
+        Class::ExponentLetter => EXPONENT,
+        Class::HexDigit => DIGITS | EXPONENT | HEX,
+        Class::CodeDigit => DIGITS | EXPONENT | HEX | UNDERSCORE,
+        Class::Hash => HASH,
+        Class::IdentifierStart => LETTERS | UNDERSCORE,
+        Class::IdentifierContinue => LETTERS | UNDERSCORE | DIGITS,
+        Class::BarsDot => LETTERS | UNDERSCORE | DOT,
+        Class::White => WHITE,
+        Class::Opener => OPENER,
+        Class::Closer => CLOSER,
+        Class::Mark => SIGN | HASH | DOT | MARK,
     }
 }
 
-/// Whether the character is a digit of the base.
-fn is_digit_of(base: Base, c: char) -> bool
-    ensures { result ≡ is_in (classes.DigitOf base) c }
+/// Whether the byte is an ASCII character of the class.
+#[inline(always)]
+fn holds_ascii(class: Class, byte: u8) -> bool
+    ensures { result ≡ ascii_in class byte }
 {
-    match base {
-        Base::Binary => c.is_digit(2),
-        Base::Octal => c.is_digit(8),
-        Base::Hexadecimal => c.is_digit(16),
+    KINDS[byte as usize] & kinds(class) != 0
+}
+
+/// Whether the character is of the class.
+#[inline(always)]
+fn holds(class: Class, c: char) -> bool
+    ensures { result ≡ is_in class c }
+{
+    if c.is_ascii() {
+        return holds_ascii(class, c as u8);
+    }
+    match class {
+        Class::IdentifierStart | Class::BarsDot => starts_identifier(c),
+        Class::IdentifierContinue => continues_identifier(c),
+        Class::White => is_white(c),
+        _ => false,
+    }
+}
+
+/// How many bytes at the front are ASCII characters of the class.
+#[inline(always)]
+fn count_ascii(bytes: &[u8], class: Class) -> usize
+    ensures { result ≡ length (while_front (ascii_in class) bytes.now) }
+{
+    let mut count = 0;
+    while count < bytes.len() {
+        if !holds_ascii(class, bytes[count]) {
+            break;
+        }
+        count += 1;
+    }
+    count
+}
+
+/// The place after the ASCII characters of the class, up to one that isn't.
+#[inline(always)]
+fn skip_ascii(at: Cursor<'_>, class: Class) -> Cursor<'_>
+    ensures { Passes (Run (ascii_in class)) at.entry result }
+{
+    let size = count_ascii(at.rest.as_bytes(), class);
+    Cursor {
+        rest: &at.rest[size..],
+        chars_before: at.chars_before + size,
     }
 }
 
 /// The place after all the characters of the class, up to one that isn't.
+#[inline]
 pub fn skip(at: Cursor<'_>, class: Class) -> Cursor<'_>
     ensures { Passes (Run (is_in class)) at.entry result }
 {
-    skip_while(at, |c| holds(class, c))
+    let mut end = skip_ascii(at, class);
+    while let Some(after) = one(end, class) {
+        end = skip_ascii(after, class);
+    }
+    end
 }
 
 /// The place after the character at the place, if it is of the class.
+#[inline]
 pub fn one(at: Cursor<'_>, class: Class) -> Option<Cursor<'_>>
     ensures { Reads (One (is_in class)) at.entry result }
 {
@@ -103,6 +235,7 @@ pub fn one(at: Cursor<'_>, class: Class) -> Option<Cursor<'_>>
 }
 
 /// Whether a character of the class stands at the place.
+#[inline]
 pub fn is_next(at: Cursor<'_>, class: Class) -> bool
     ensures { result ≡ first_passes (is_in class) (chars at.entry.rest.now) }
 {

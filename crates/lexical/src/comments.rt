@@ -9,7 +9,7 @@ ghost use Rattle.lexical.specs.Reading.{Answers, Leads, Reads};
 use crate::cursor::Cursor;
 use crate::docs::comment_kind;
 use crate::piece::Piece;
-use crate::skip::skip_while;
+use crate::search::skip_to;
 use crate::text::before;
 
 /// The place after the line comment that stands at the place, by the rule `line-comment`.
@@ -17,7 +17,7 @@ fn skip_line(at: Cursor<'_>) -> Option<Cursor<'_>>
     ensures { Reads (find_line (chars at.entry.rest.now)) at.entry result }
 {
     let after = at.past("//")?;
-    Some(skip_while(after, |c| c != '\n'))
+    Some(skip_to(after, b'\n'))
 }
 
 /// The place after the sign or the character at the place, and how many block comments are open

@@ -4,7 +4,7 @@ ghost use Rattle.std.specs.Prelude.{◌≡◌, ◌+◌, ◌<◌, ◌^◌, length
 ghost use Rattle.std.specs.Str.{IsUtf8, chars};
 
 use crate::piece::{Piece, PieceKind};
-use crate::text::{split_first, strip};
+use crate::text::{char_count, split_first, strip};
 
 /// A place in a text.
 #[derive(Clone, Copy)]
@@ -19,8 +19,8 @@ pub struct Cursor<'a> {
 }
 
 impl<'a> Cursor<'a> {
-    ghost use Rattle.std.specs.Prelude.{◌∷◌, ◌++◌, [], IsTrue, List, ℕ, MatchOption};
-    ghost use Rattle.std.specs.Str.{encode_utf8_all};
+    ghost use Rattle.std.specs.Prelude.{◌∷◌, ◌++◌, [], IsTrue, List, ℕ, MatchOption, drop, take};
+    ghost use Rattle.std.specs.Str.{IsCharBoundary, encode_utf8_all};
     ghost use Rattle.lexical.specs.Ascii.{all_ascii};
     ghost use Rattle.lexical.specs.Finder.{find_text};
     ghost use Rattle.lexical.specs.Reading.{Reads};
@@ -63,6 +63,18 @@ impl<'a> Cursor<'a> {
             chars_before: self.chars_before + front.len(),
         };
         Some(after)
+    }
+
+    /// The place after the next `size` bytes, which are whole characters.
+    pub fn after_bytes(self, size: usize) -> Self
+        requires { IsCharBoundary self.rest.now size }
+        ensures rest { result.rest.now ≡ drop size self.entry.rest.now }
+        ensures count { result.chars_before ≡ self.entry.chars_before + length (chars (take size self.entry.rest.now)) }
+    {
+        Cursor {
+            rest: &self.rest[size..],
+            chars_before: self.chars_before + char_count(&self.rest[..size]),
+        }
     }
 
     /// How many bytes of the text stand before the place, which lies in it.

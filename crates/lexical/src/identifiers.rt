@@ -10,27 +10,23 @@ ghost use Rattle.lexical.specs.PieceFinder.{found_identifier, tagged};
 ghost use Rattle.lexical.specs.Reading.{Answers, IsFound, Passes, Reads};
 ghost use Rattle.lexical.specs.Text.{begins_any};
 
-use crate::class::{continues_identifier, starts_identifier};
+use crate::bytes::{Class, one, skip};
 use crate::cursor::Cursor;
 use crate::piece::{Piece, PieceKind};
-use crate::skip::skip_while;
 use crate::text::{before, begins, is_text};
 
 /// The place after all the characters that an identifier may go on with.
 fn skip_continues(at: Cursor<'_>) -> Cursor<'_>
     ensures { Passes (find_run is_ident_continue (chars at.entry.rest.now)) at.entry result }
 {
-    skip_while(at, continues_identifier)
+    skip(at, Class::IdentifierContinue)
 }
 
 /// The place after the name that stands at the place, by the rule `name`.
 pub fn name(at: Cursor<'_>) -> Option<Cursor<'_>>
     ensures { Reads (find_name (chars at.entry.rest.now)) at.entry result }
 {
-    let (first, after) = at.advance()?;
-    if !starts_identifier(first) {
-        return None;
-    }
+    let after = one(at, Class::IdentifierStart)?;
     Some(skip_continues(after))
 }
 

@@ -27,6 +27,7 @@ mod numbers;
 pub mod piece;
 mod quoted;
 mod raw_strings;
+mod search;
 mod single_quotes;
 mod skip;
 mod text;

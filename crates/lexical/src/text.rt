@@ -10,6 +10,7 @@ ghost use Rattle.std.specs.Prelude.{
   IfSome,
   IsTrue,
   false,
+  length,
   MatchOption,
   if◌then◌else◌,
   nat_eq,
@@ -29,6 +30,19 @@ pub fn split_first(text: &str) -> Option<(char, &str)>
     let mut characters = text.chars();
     let first = characters.next()?;
     Some((first, characters.as_str()))
+}
+
+/// How many characters the text has: as many as its bytes that begin one.
+pub fn char_count(text: &str) -> usize
+    ensures { result ≡ length (chars text.now) }
+{
+    let mut count = 0;
+    for byte in text.as_bytes() {
+        if *byte < 0x80 || *byte >= 0xC0 {
+            count += 1;
+        }
+    }
+    count
 }
 
 /// Whether the text begins with the ASCII text `front`.

@@ -1,0 +1,120 @@
+-- Classes of characters among the bytes of a text.
+use Rattle.std.proofs.Common.{◌≡◌, ℕ, ◌+◌, ◌<◌, ◌≤◌, Bool, true, false, List, [], ◌∷◌, ◌++◌, length, take, drop, refl, sym, ap, ◌∙◌, subst, arith, inl, inr, length-append, Some, None}
+use Rattle.std.specs.List.{list_all}
+use Rattle.std.specs.Str.{chars, IsUtf8, IsCharBoundary}
+use Rattle.std.proofs.lemmas.Bool.{agree_below_at, agree_below, and_left, and_parts, and_from, le-ltb, cond-true, cases_Bool}
+use Rattle.lexical.specs.Ascii.{all_ascii}
+use Rattle.lexical.specs.Bytes.{ascii_in, has_kind, is_in}
+use Rattle.lexical.specs.Text.{first_passes}
+use Rattle.lexical.specs.Finder.{Answer, while_front, while_rest}
+use Rattle.lexical.specs.Rule.{One, Run, find}
+use Rattle.lexical.specs.Step.{Passes}
+use Rattle.lexical.specs.declared.bytes.Class.{Class}
+use Rattle.lexical.specs.declared.cursor.Cursor.{Cursor}
+use Rattle.lexical.proofs.CountLemmas.{chars_cut}
+use Rattle.lexical.proofs.FinderLemmas.{while_passes}
+use Rattle.lexical.proofs.RuleLemmas.{found_is}
+use Rattle.lexical.proofs.RuleSteps.{run_passes}
+use Rattle.lexical.proofs.RunLemmas.{GoesOn, run_stop}
+use Rattle.lexical.proofs.Scan.{run_boundary, run_front, bytes_of, run_over}
+use Rattle.lexical.proofs.TextLemmas.{ascii_bytes}
+
+-- kinds that are those of the class at each byte
+pub same_class : {given class : Class} (kinds : ℕ) → given ≡ class → agree_below (has_kind kinds) (ascii_in class) 256 ≡ true
+    → (byte : ℕ) → byte < 256 → has_kind kinds byte ≡ ascii_in given byte
+same_class {given} {class} kinds is h byte low =
+    agree_below_at (has_kind kinds) (ascii_in class) 256 byte h low ∙ ap (λ x. ascii_in x byte) (sym is)
+
+-- ---- a run of ASCII characters
+
+pub ascii_past : (class : Class) (c : ℕ) → 128 ≤ c → ascii_in class c ≡ false
+ascii_past class c high = and_left _ _ (le-ltb c 128 high)
+
+all_low : (class : Class) (cs : List ℕ) → list_all (ascii_in class) cs ≡ true → all_ascii cs ≡ true
+all_low class [] h = refl
+all_low class (c ∷ cs) h = let parts = and_parts _ _ h in and_from _ _ (and_parts _ _ parts.0).0 (all_low class cs parts.1)
+
+-- so many bytes are of the run
+module _ (class : Class) (at : Cursor) (bytes : List ℕ) (same : bytes ≡ at.rest.now) (utf8 : IsUtf8 bytes)
+    (n : ℕ) (counted : n ≡ length (while_front (ascii_in class) bytes)) where
+  text_utf8 : IsUtf8 at.rest.now
+  text_utf8 = subst IsUtf8 same utf8
+
+  size : n ≡ length (while_front (ascii_in class) at.rest.now)
+  size = counted ∙ ap (λ x. length (while_front (ascii_in class) x)) same
+
+  pub ascii_boundary : IsCharBoundary at.rest.now n
+  ascii_boundary = run_boundary (ascii_in class) false (ascii_past class) at.rest.now text_utf8 n size
+
+  -- and as many characters are
+  pub ascii_count : length (chars (take n at.rest.now)) ≡ n
+  ascii_count =
+      let front = while_front (ascii_in class) (chars at.rest.now) in
+      ap length (run_front (ascii_in class) false (ascii_past class) at.rest.now text_utf8 n size)
+      ∙ (sym (ascii_bytes front (all_low class front (while_passes (ascii_in class) (chars at.rest.now))))
+      ∙ sym (bytes_of (ascii_in class) false (ascii_past class) at.rest.now text_utf8 n size))
+
+  pub ascii_whole : n + length (chars (drop n at.rest.now)) ≡ length (chars at.rest.now)
+  ascii_whole = omega (arith, ascii_count, chars_cut at.rest.now n text_utf8 ascii_boundary)
+
+  pub ascii_run : (to : Cursor) → to.rest.now ≡ drop n at.rest.now → to.chars_before ≡ at.chars_before + n → Passes (Run (ascii_in class)) at to
+  ascii_run to rest count =
+      run_over (ascii_in class) false (ascii_past class) at to text_utf8 n size rest (omega (arith, count, ascii_count))
+
+-- ---- a run that goes on
+
+run_goes : (test : ℕ → Bool) (p r : List ℕ) → list_all test p ≡ true
+    → (while_rest test (p ++ r) ≡ while_rest test r) × (while_front test (p ++ r) ≡ p ++ while_front test r)
+run_goes test [] r all = (refl, refl)
+run_goes test (c ∷ p) r all =
+    let parts = and_parts _ _ all in
+    let more = run_goes test p r parts.1 in
+    (cond-true _ _ _ parts.0 ∙ more.0, cond-true _ _ _ parts.0 ∙ ap (λ x. c ∷ x) more.1)
+
+goes_past : (test : ℕ → Bool) (at end to : Cursor) (p : List ℕ) → GoesOn test at end → chars end.rest.now ≡ p ++ chars to.rest.now
+    → to.chars_before ≡ end.chars_before + length p → list_all test p ≡ true → GoesOn test at to
+goes_past test at end to p goes whole count all =
+    let more = run_goes test p (chars to.rest.now) all in (
+      sym more.0 ∙ (ap (while_rest test) (sym whole) ∙ goes.0),
+      omega (arith, goes.1, count, ap length (ap (while_front test) whole ∙ more.1), length-append p (while_front test (chars to.rest.now))),
+    )
+
+of_class : (class : Class) (p : List ℕ) → list_all (ascii_in class) p ≡ true → list_all (is_in class) p ≡ true
+of_class class [] h = refl
+of_class class (c ∷ p) h = let parts = and_parts _ _ h in and_from _ _ (and_parts _ _ parts.0).1 (of_class class p parts.1)
+
+pub past_ascii : (class : Class) (at end to : Cursor) → GoesOn (is_in class) at end → Passes (Run (ascii_in class)) end to → GoesOn (is_in class) at to
+past_ascii class at end to goes h =
+    let is = found_is (Run (ascii_in class)) tt (chars end.rest.now) h.front (chars to.rest.now) h.found in
+    goes_past (is_in class) at end to h.front goes is.0 h.count (of_class class h.front is.1.each)
+
+pub past_one : (class : Class) (at end to : Cursor) → GoesOn (is_in class) at end → Passes (One (is_in class)) end to → GoesOn (is_in class) at to
+past_one class at end to goes h =
+    let is = found_is (One (is_in class)) tt (chars end.rest.now) h.front (chars to.rest.now) h.found in
+    goes_past (is_in class) at end to h.front goes is.0 h.count (ap (list_all (is_in class)) is.1.1 ∙ and_from _ _ is.1.2 refl)
+
+-- where no character of the class stands, the run ends
+none_stands : (test : ℕ → Bool) (text : List ℕ) → find (One test) text ≡ None → first_passes test text ≡ false
+unfolding find
+none_stands test [] none = refl
+none_stands test (c ∷ text) none = elim (cases_Bool (test c)) [
+  | inl on ↦ let clash : ◌≡◌ {A = Answer} (Some (c ∷ [], text)) None = sym (cond-true _ _ _ on) ∙ none in cc
+  | inr off ↦ off
+]
+
+pub past_all : (class : Class) (at end : Cursor) → GoesOn (is_in class) at end → find (One (is_in class)) (chars end.rest.now) ≡ None → Passes (Run (is_in class)) at end
+past_all class at end goes none =
+    run_passes (is_in class) at end (run_stop (is_in class) at end goes (none_stands (is_in class) (chars end.rest.now) none))
+
+-- past a character, and then past others, less is left
+pub less_left : (class : Class) (end mid to : Cursor) → Passes (One (is_in class)) end mid → Passes (Run (ascii_in class)) mid to
+    → length (chars to.rest.now) < length (chars end.rest.now)
+less_left class end mid to h j =
+    let one = found_is (One (is_in class)) tt (chars end.rest.now) h.front (chars mid.rest.now) h.found in
+    let run = found_is (Run (ascii_in class)) tt (chars mid.rest.now) j.front (chars to.rest.now) j.found in
+    omega (
+      arith,
+      ap length (one.0 ∙ ap (λ x. x ++ chars mid.rest.now) one.1.1),
+      ap length run.0,
+      length-append j.front (chars to.rest.now),
+    )

@@ -1,0 +1,89 @@
+-- A run over characters is a run over bytes, where the characters past ASCII all pass, or none does.
+use Rattle.std.proofs.Common.{◌≡◌, ℕ, suc, ◌+◌, ◌<◌, ◌≤◌, Bool, true, false, inl, inr, List, [], ◌∷◌, ◌++◌, length, get_or, take, drop, Some, refl, sym, ap, ◌∙◌, arith, append-nil}
+use Rattle.std.specs.Prelude.{encode_utf8}
+use Rattle.std.specs.List.{list_all}
+use Rattle.std.specs.Str.{chars, IsUtf8, IsCharBoundary, encode_utf8_all}
+use Rattle.std.proofs.lemmas.Bool.{cases_lt, cases_Bool, and_from, and_parts, cond-true, cond-false}
+use Rattle.std.proofs.lemmas.Str.{encode_ascii, inside_one, encodes-chars}
+use Rattle.lexical.specs.Text.{first_passes}
+use Rattle.lexical.specs.Finder.{while_front, while_rest}
+use Rattle.lexical.specs.Rule.{Run, find}
+use Rattle.lexical.specs.Step.{Passes}
+use Rattle.lexical.specs.declared.cursor.Cursor.{Cursor}
+use Rattle.lexical.proofs.FinderLemmas.{while_rest_none, while_whole}
+use Rattle.lexical.proofs.TextLemmas.{first_byte, seam_boundary, seam_take, seam_drop}
+
+-- each byte of a character past ASCII is past ASCII
+byte_high : (c : ℕ) → 128 ≤ c → (k : ℕ) → k < length (encode_utf8 c) → 128 ≤ get_or (encode_utf8 c) k 0
+byte_high c h k within = elim (cases_lt (get_or (encode_utf8 c) k 0) 128) [
+  | inl low ↦ let same = inside_one c [] (encode_utf8 c) k (sym (append-nil (encode_utf8 c))) within low in absurd (omega arith)
+  | inr high ↦ high
+]
+
+all_from : (test : ℕ → Bool) (bs : List ℕ) → ((b : ℕ) → 128 ≤ b → test b ≡ true) → ((k : ℕ) → k < length bs → 128 ≤ get_or bs k 0) → list_all test bs ≡ true
+all_from test [] each high = refl
+all_from test (b ∷ bs) each high = and_from _ _ (each b (high 0 (omega arith))) (all_from test bs each (λ k within. high (suc k) (omega arith)))
+
+-- one test for characters and bytes, which gives one answer past ASCII
+module _ (test : ℕ → Bool) (beyond : Bool) (high : (c : ℕ) → 128 ≤ c → test c ≡ beyond) where
+  char_on : (c : ℕ) → test c ≡ true → list_all test (encode_utf8 c) ≡ true
+  char_on c is = elim (cases_lt c 128) [
+    | inl ascii ↦ rw (encode_ascii c ascii) (and_from _ _ is refl)
+    | inr past ↦ all_from test (encode_utf8 c) (λ b h. high b h ∙ (sym (high c past) ∙ is)) (byte_high c past)
+  ]
+
+  char_off : (c : ℕ) (t : List ℕ) → test c ≡ false → first_passes test (encode_utf8 c ++ t) ≡ false
+  char_off c t is = elim (cases_lt c 128) [
+    | inl ascii ↦ rw (encode_ascii c ascii) is
+    | inr past ↦ let cell = first_byte c past in rw cell.2 (high cell.0 cell.3 ∙ (sym (high c past) ∙ is))
+  ]
+
+  run_on : (bs t : List ℕ) → list_all test bs ≡ true → while_front test (bs ++ t) ≡ bs ++ while_front test t
+  run_on [] t all = refl
+  run_on (b ∷ bs) t all =
+      let parts = and_parts _ _ all in
+      cond-true _ _ _ parts.0 ∙ ap (λ x. b ∷ x) (run_on bs t parts.1)
+
+  -- the run over the bytes is that over the characters
+  scan : (cs : List ℕ) → while_front test (encode_utf8_all cs) ≡ encode_utf8_all (while_front test cs)
+  scan [] = refl
+  scan (c ∷ cs) = elim (cases_Bool (test c)) [
+    | inl on ↦
+        run_on (encode_utf8 c) (encode_utf8_all cs) (char_on c on)
+        ∙ (ap (λ x. encode_utf8 c ++ x) (scan cs) ∙ sym (ap encode_utf8_all (cond-true _ _ _ on)))
+    | inr off ↦
+        (while_rest_none test (encode_utf8 c ++ encode_utf8_all cs) (char_off c (encode_utf8_all cs) off)).0
+        ∙ sym (ap encode_utf8_all (cond-false _ _ _ off))
+  ]
+
+  -- so many bytes of the text are of the run
+  module _ (text : List ℕ) (utf8 : IsUtf8 text) (n : ℕ) (size : n ≡ length (while_front test text)) where
+    front : List ℕ
+    front = while_front test (chars text)
+
+    whole : chars text ≡ while_front test (chars text) ++ while_rest test (chars text)
+    whole = sym (while_whole test (chars text))
+
+    pub bytes_of : n ≡ length (encode_utf8_all (while_front test (chars text)))
+    bytes_of = size ∙ ap length (ap (while_front test) (sym (encodes-chars text utf8)) ∙ scan (chars text))
+
+    pub run_boundary : IsCharBoundary text n
+    run_boundary = seam_boundary text _ _ n utf8 whole bytes_of
+
+    pub run_front : chars (take n text) ≡ while_front test (chars text)
+    run_front = seam_take text _ _ n utf8 whole bytes_of
+
+    pub run_rest : chars (drop n text) ≡ while_rest test (chars text)
+    run_rest = seam_drop text _ _ n utf8 whole bytes_of
+
+  -- and the place after them is that after the run
+  pub run_over : (at to : Cursor) → IsUtf8 at.rest.now → (n : ℕ) → n ≡ length (while_front test at.rest.now) → to.rest.now ≡ drop n at.rest.now
+      → to.chars_before ≡ at.chars_before + length (chars (take n at.rest.now)) → Passes (Run test) at to
+  unfolding find
+  run_over at to utf8 n size rest count =
+      let front = run_front at.rest.now utf8 n size in
+      record {
+        front = while_front test (chars at.rest.now);
+        found = ap (λ x. Some (while_front test (chars at.rest.now), x)) (sym (ap chars rest ∙ run_rest at.rest.now utf8 n size));
+        count = omega (arith, count, ap length front);
+      }

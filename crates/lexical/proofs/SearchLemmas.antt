@@ -1,0 +1,53 @@
+-- A search for a byte finds where a run ends.
+use Rattle.std.proofs.Common.{◌≡◌, ℕ, zero, suc, ◌+◌, ◌<◌, ◌≤◌, Bool, true, false, not, ◌==◌, ◌||◌, inl, inr, List, [], ◌∷◌, length, Some, None, Option, unwrap_or, take, drop, subst, refl, sym, ap, ◌∙◌, arith, ne_eqb}
+use Rattle.std.specs.Str.{chars, IsUtf8}
+use Rattle.std.proofs.lemmas.Bool.{cases_Bool, cond-true, cond-false, or_from, not_from_true, not_from_false}
+use Rattle.memchr.specs.Find.{IsFirstByte, IsFirst, Nowhere, NoneBefore, is_byte, is_byte2, is_byte3}
+use Rattle.memchr.specs.Find as bytes
+use Rattle.lexical.specs.Finder.{while_front}
+use Rattle.lexical.specs.Rule.{Run}
+use Rattle.lexical.specs.Step.{Passes}
+use Rattle.lexical.specs.declared.cursor.Cursor.{Cursor}
+use Rattle.lexical.proofs.Scan.{run_over}
+
+module _ (test : ℕ → Bool) where
+  run_to_end : (bs : List ℕ) → ((k : ℕ) → k < length bs → bytes.Passes test bs k → ⊥) → length (while_front (λ b. not (test b)) bs) ≡ length bs
+  run_to_end [] none = refl
+  run_to_end (b ∷ bs) none = elim (cases_Bool (test b)) [
+    | inl hit ↦ absurd (none 0 (omega arith) hit)
+    | inr miss ↦ ap length (cond-true _ _ _ (not_from_false _ miss))
+        ∙ ap suc (run_to_end bs (λ k within hit. none (suc k) (omega arith) hit))
+  ]
+
+  run_to : (bs : List ℕ) (k : ℕ) → k < length bs → ((i : ℕ) → i < k → bytes.Passes test bs i → ⊥) → bytes.Passes test bs k
+      → length (while_front (λ b. not (test b)) bs) ≡ k
+  run_to [] k within none hit = absurd (omega arith)
+  run_to (b ∷ bs) zero within none hit = ap length (cond-false _ _ _ (not_from_true _ hit))
+  run_to (b ∷ bs) (suc k) within none hit = elim (cases_Bool (test b)) [
+    | inl early ↦ absurd (none 0 (omega arith) early)
+    | inr miss ↦ ap length (cond-true _ _ _ (not_from_false _ miss))
+        ∙ ap suc (run_to bs k (omega arith) (λ i before at. none (suc i) (omega arith) at) hit)
+  ]
+
+  -- what the search answers, or the end of the bytes
+  found_end : (bs : List ℕ) (r : Option ℕ) → IsFirstByte test bs r → length (while_front (λ b. not (test b)) bs) ≡ unwrap_or r (length bs)
+  found_end bs None none = run_to_end bs (λ k within hit. none k (omega arith) within hit)
+  found_end bs (Some k) h = run_to bs k h.0.high (λ i before hit. h.0.before i (omega arith) before hit) h.1
+
+  -- the place where the search ends is that after the run
+  pub found_run : ((c : ℕ) → 128 ≤ c → test c ≡ false) → (at to : Cursor) (bs : List ℕ) (r : Option ℕ) (n : ℕ) → IsUtf8 bs → bs ≡ at.rest.now
+      → IsFirstByte test bs r → n ≡ unwrap_or r (length bs) → to.rest.now ≡ drop n at.rest.now
+      → to.chars_before ≡ at.chars_before + length (chars (take n at.rest.now)) → Passes (Run (λ c. not (test c))) at to
+  found_run past at to bs r n utf8 same found e rest count =
+      run_over (λ c. not (test c)) true (λ c high. not_from_false _ (past c high)) at to (subst IsUtf8 same utf8) n
+      (e ∙ (sym (found_end bs r found) ∙ ap (λ x. length (while_front (λ c. not (test c)) x)) same)) rest count
+
+-- no character past ASCII is one of ASCII
+pub past_byte : (a c : ℕ) → a < 128 → 128 ≤ c → (c == a) ≡ false
+past_byte a c low high = ne_eqb c a (λ e. omega arith)
+
+pub past_byte2 : (a b c : ℕ) → a < 128 → b < 128 → 128 ≤ c → (c == a || c == b) ≡ false
+past_byte2 a b c low_a low_b high = or_from _ _ (past_byte a c low_a high) (past_byte b c low_b high)
+
+pub past_byte3 : (a b d c : ℕ) → a < 128 → b < 128 → d < 128 → 128 ≤ c → (c == a || c == b || c == d) ≡ false
+past_byte3 a b d c low_a low_b low_d high = or_from _ _ (past_byte2 a b c low_a low_b high) (past_byte d c low_d high)

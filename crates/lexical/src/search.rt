@@ -1,0 +1,43 @@
+//! Searches for the character that ends a stretch of text.
+//!
+//! What is searched for is ASCII, so it is found among the bytes: no byte of another character is below 0x80.
+
+ghost use Rattle.std.specs.Prelude.{◌≡◌, ◌<◌, ◌==◌, ◌||◌, not};
+ghost use Rattle.lexical.specs.Rule.{Run};
+ghost use Rattle.lexical.specs.Step.{Passes};
+
+use crate::cursor::Cursor;
+use memchr::{memchr, memchr2, memchr3};
+
+/// The place before the first `stop`, an ASCII character, or at the end of the text where none stands.
+pub fn skip_to(at: Cursor<'_>, stop: u8) -> Cursor<'_>
+    requires { stop < 128 }
+    ensures { Passes (Run (λ c. not (c == stop))) at.entry result }
+{
+    let bytes = at.rest.as_bytes();
+    let size = memchr(stop, bytes).unwrap_or(bytes.len());
+    at.after_bytes(size)
+}
+
+/// The place before the first of the two ASCII characters, or at the end of the text where none stands.
+pub fn skip_to_either(at: Cursor<'_>, a: u8, b: u8) -> Cursor<'_>
+    requires ascii_a { a < 128 }
+    requires ascii_b { b < 128 }
+    ensures { Passes (Run (λ c. not (c == a || c == b))) at.entry result }
+{
+    let bytes = at.rest.as_bytes();
+    let size = memchr2(a, b, bytes).unwrap_or(bytes.len());
+    at.after_bytes(size)
+}
+
+/// The place before the first of the three ASCII characters, or at the end of the text where none stands.
+pub fn skip_to_any(at: Cursor<'_>, a: u8, b: u8, c: u8) -> Cursor<'_>
+    requires ascii_a { a < 128 }
+    requires ascii_b { b < 128 }
+    requires ascii_c { c < 128 }
+    ensures { Passes (Run (λ d. not (d == a || d == b || d == c))) at.entry result }
+{
+    let bytes = at.rest.as_bytes();
+    let size = memchr3(a, b, c, bytes).unwrap_or(bytes.len());
+    at.after_bytes(size)
+}
