@@ -1,21 +1,26 @@
 -- What the lexer's steps answer is what the finders find.
-use Rattle.std.proofs.Common.{◌≡◌, ℕ, Bool, true, false, List, [], ◌∷◌, length, Option, Some, None, IfSome, IfNone, refl, sym, ap, ◌∙◌, subst}
+use Rattle.std.proofs.Common.{◌≡◌, ℕ, ◌+◌, Bool, true, false, not, ◌&&◌, ◌==◌, List, [], ◌∷◌, ◌++◌, length, Some, refl, sym, ap, ◌∙◌, subst, arith}
 use Rattle.std.specs.Str.{chars, encode_utf8_all}
-use Rattle.std.proofs.lemmas.Bool.{cond-true, cond-false}
+use Rattle.std.proofs.lemmas.Bool.{and_from, cond-true, cond-false, not_from_false}
 use Rattle.lexical.specs.Class.{is_ident_start, is_ident_continue}
 use Rattle.lexical.specs.Text.{begins_any}
 use Rattle.lexical.specs.Form.{Form}
-use Rattle.lexical.specs.Piece.{Kind, HasNoPiece}
+use Rattle.lexical.specs.Comment.{Comment}
+use Rattle.lexical.specs.Mark.{is_mark, comment_fronts, joint_before}
+use Rattle.lexical.specs.Piece.{Kind, IsPiece}
 use Rattle.lexical.specs.Found.{kind_of, LendsText, IsPieceAt, IsAt}
 use Rattle.lexical.specs.Finder.{Answer, Finder, Finds, behind, and_find, find_not_at, find_one, find_run}
 use Rattle.lexical.specs.IdentifierFinder.{find_name}
-use Rattle.lexical.specs.PieceFinder.{tagged, found}
-use Rattle.lexical.specs.Reading.{Passes, IsFound, Answers}
+use Rattle.lexical.specs.CommentFinder.{find_comment}
+use Rattle.lexical.specs.MarkFinder.{find_mark, mark_kind}
+use Rattle.lexical.specs.PieceFinder.{Found, tagged, or_found, found}
+use Rattle.lexical.specs.Reading.{Passes, IsFound}
 use Rattle.lexical.specs.declared.cursor.Cursor.{Cursor}
-use Rattle.lexical.specs.declared.piece.Piece.{Piece}
 use Rattle.lexical.specs.declared.piece.PieceKind.{PieceKind}
+use Rattle.lexical.specs.declared.piece.PieceKind.TheVariants as kinds
 use Rattle.lexical.proofs.FinderLemmas.{found_is}
-use Rattle.lexical.proofs.PieceLemmas.{piece_from_found, none_from_found}
+use Rattle.lexical.proofs.CommentFinderLemmas.{finds_comment}
+use Rattle.lexical.proofs.PieceLemmas.{piece_from_found}
 
 -- ---- what is found
 
@@ -37,19 +42,42 @@ name_found text rest back after c e h run =
 
 -- ---- what a step answers
 
--- a piece by its kind and size
-pub found_piece : (kind : List ℕ → List ℕ → Kind) (answer : Answer) (piece : Piece) (k : PieceKind) (front rest : List ℕ) → answer ≡ Some (front, rest)
-    → piece.kind ≡ k → kind_of k front ≡ kind front rest → LendsText k
-    → (piece.bytes ≡ length (encode_utf8_all front)) × (piece.chars ≡ length front)
-    → IsFound (tagged kind answer) piece
-found_piece kind answer piece k front rest e is same lends size = record {
+-- the kind and the place after it, by what was found
+pub read_as : (kind : List ℕ → List ℕ → Kind) (o : Answer) (answer : Found) (at end : Cursor) (k : PieceKind) (front : List ℕ)
+    → answer ≡ tagged kind o → o ≡ Some (front, chars end.rest.now) → end.chars_before ≡ at.chars_before + length front
+    → kind_of k front ≡ kind front (chars end.rest.now) → LendsText k → IsFound answer at (k, end)
+read_as kind o answer at end k front tags found count same lends = record {
   front = front;
-  rest = rest;
-  found = ap (tagged kind) e ∙ ap (λ x. Some (x, front, rest)) (sym (ap (λ x. kind_of x front) is ∙ same));
-  bytes = size.0;
-  chars = size.1;
-  lends = subst LendsText (sym is) lends;
+  found = tags ∙ (ap (tagged kind) found ∙ ap (λ x. Some (x, front, chars end.rest.now)) (sym same));
+  count = count;
+  lends = lends;
 }
+
+-- the same, where one character was found
+pub read_one : (kind : List ℕ → List ℕ → Kind) (o : Answer) (answer : Found) (at after : Cursor) (k : PieceKind) (c : ℕ)
+    → answer ≡ tagged kind o → o ≡ Some (c ∷ [], chars after.rest.now) → after.chars_before ≡ at.chars_before + 1
+    → kind_of k (c ∷ []) ≡ kind (c ∷ []) (chars after.rest.now) → LendsText k → IsFound answer at (k, after)
+read_one kind o answer at after k c = read_as kind o answer at after k (c ∷ [])
+
+-- the first of two was found
+pub read_first : (answer o u : Found) (at : Cursor) (x : PieceKind × Cursor) → answer ≡ or_found o u → IsFound o at x → IsFound answer at x
+read_first answer o u at x e h = record { front = h.front; found = e ∙ ap (λ o. or_found o u) h.found; count = h.count; lends = h.lends }
+
+-- a mark
+pub mark_read : (answer : Found) (at after : Cursor) (c : ℕ) (k : PieceKind) → answer ≡ tagged mark_kind (find_mark (chars at.rest.now))
+    → chars at.rest.now ≡ c ∷ chars after.rest.now → after.chars_before ≡ at.chars_before + 1
+    → begins_any comment_fronts (chars at.rest.now) ≡ false → is_mark c ≡ true → (c == 39) ≡ false
+    → k ≡ kinds.Mark c (joint_before (chars after.rest.now)) → IsFound answer at (k, after)
+mark_read answer at after c k tags split one plain mark other is =
+    read_one mark_kind (find_mark (chars at.rest.now)) answer at after k c tags
+    (one_found_not_at comment_fronts (λ d. is_mark d && not (d == 39)) _ _ _ split plain (and_from _ _ mark (not_from_false _ other)))
+    one (ap (λ k. kind_of k (c ∷ [])) is) (subst LendsText (sym is) tt)
+
+-- a comment
+pub comment_stands : (at end : Cursor) (p : List ℕ) (h : Passes (find_comment (chars at.rest.now)) at end) → p ≡ h.front → Comment p (chars end.rest.now)
+comment_stands at end p h e =
+    subst (λ q. Comment q (chars end.rest.now)) (sym e)
+    (found_is find_comment Comment finds_comment (chars at.rest.now) h.front (chars end.rest.now) h.found).1
 
 -- ---- what a caller sees
 
@@ -64,13 +92,25 @@ is_at f A finds at end text bytes e h size = record {
   size = size;
 }
 
-pub piece_is_at : (first : Bool) (text : List ℕ) (result : Option Piece) → Answers (found first text) result
-    → IfSome result (λ piece. IsPieceAt first text piece)
-piece_is_at first text None h = tt
-piece_is_at first text (Some piece) h =
-    let at = piece_from_found first text h.front h.rest (kind_of piece.kind h.front) h.found in
-    record { front = h.front; rest = h.rest; whole = at.0; stands = at.1; bytes = h.bytes; chars = h.chars; lends = h.lends }
+-- what was read stands at the place
+pub read_stands : (first : Bool) (at : Cursor) (x : PieceKind × Cursor) (text : List ℕ) → chars at.rest.now ≡ text
+    → (h : IsFound (found first (chars at.rest.now)) at x)
+    → (text ≡ h.front ++ chars x.1.rest.now) × IsPiece first (kind_of x.0 h.front) h.front (chars x.1.rest.now)
+read_stands first at x text e h =
+    let is = piece_from_found first (chars at.rest.now) h.front (chars x.1.rest.now) (kind_of x.0 h.front) h.found in
+    (sym e ∙ is.0, is.1)
 
-pub no_piece_is_at : (first : Bool) (text : List ℕ) (result : Option Piece) → Answers (found first text) result → IfNone result (HasNoPiece first text)
-no_piece_is_at first text None h = none_from_found first text h
-no_piece_is_at first text (Some piece) h = tt
+pub piece_is_at : (first : Bool) (at : Cursor) (kind : PieceKind) (end : Cursor) (text : List ℕ) (bytes : ℕ)
+    → chars at.rest.now ≡ text → at.chars_before ≡ 0 → (h : IsFound (found first (chars at.rest.now)) at (kind, end))
+    → bytes ≡ length (encode_utf8_all h.front) → IsPieceAt first text (record { kind = kind; bytes = bytes; chars = end.chars_before })
+piece_is_at first at kind end text bytes e front h size =
+    let is = read_stands first at (kind, end) text e h in
+    record {
+      front = h.front;
+      rest = chars end.rest.now;
+      whole = is.0;
+      stands = is.1;
+      bytes = size;
+      chars = omega (arith, h.count, front);
+      lends = h.lends;
+    }

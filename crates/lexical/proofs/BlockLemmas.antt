@@ -50,24 +50,10 @@ at_other depth c (d ∷ text) h =
 -- ---- a body is found
 
 body_found : {body after : List ℕ} (depth : ℕ) → BlockBody body after → find_ends (suc depth) (body ++ after) ≡ behind body (find_ends (suc depth) after)
-body_found {after = after} depth (Empty e) =
-    ap (λ p. find_ends (suc depth) (p ++ after)) e
-    ∙ (sym (behind_nothing _) ∙ ap (λ p. behind p (find_ends (suc depth) after)) (sym e))
-body_found {after = after} depth (Nested inner more e nested h) =
-    let tail = codes "*/" ++ (more ++ after) in
-    ap (λ p. find_ends (suc depth) (p ++ after)) e
-    ∙ (ap (λ t. find_ends (suc depth) (codes "/*" ++ t)) (append_assoc inner (codes "*/" ++ more) after)
-    ∙ (at_open depth (inner ++ tail)
-    ∙ (ap (behind (codes "/*")) (body_found (suc depth) nested
-    ∙ ap (behind inner) (at_close (suc depth) (more ++ after) ∙ ap (behind (codes "*/")) (body_found depth h)))
-    ∙ (ap (λ o. behind (codes "/*") (behind inner o)) (behind_behind (codes "*/") more _)
-    ∙ (ap (behind (codes "/*")) (behind_behind inner (codes "*/" ++ more) _)
-    ∙ (behind_behind (codes "/*") (inner ++ (codes "*/" ++ more)) _
-    ∙ ap (λ p. behind p (find_ends (suc depth) after)) (sym e)))))))
-body_found {after = after} depth (Single c more e plain h) =
-    ap (λ p. find_ends (suc depth) (p ++ after)) e
-    ∙ (at_other depth c (more ++ after) plain
-    ∙ (ap (behind (c ∷ [])) (body_found depth h) ∙ (behind_behind (c ∷ []) more _ ∙ ap (λ p. behind p (find_ends (suc depth) after)) (sym e))))
+body_found depth (Empty e) = rw e (sym (behind_nothing _))
+body_found depth (Nested inner more e nested h) =
+    rw e (simp (append_assoc, at_open, body_found (suc depth) nested, at_close, body_found depth h, behind_behind))
+body_found {after = after} depth (Single c more e plain h) = rw e (at_other depth c (more ++ after) plain ∙ simp (body_found depth h, behind_behind))
 
 -- ---- what is found
 
@@ -85,23 +71,14 @@ close_step depth p r h = record {
   second = record { front = codes "*/"; back = p; whole = refl; first = refl; second = h };
 }
 
--- what a body and its end are
-ends_parts : (depth : ℕ) (p r : List ℕ) (h : Ends (suc depth) p r) → h.back ≡ codes "*/" ++ h.second.back
-ends_parts depth p r h = h.second.whole ∙ ap (λ x. x ++ h.second.back) h.second.first
-
 open_step : (depth : ℕ) (p r : List ℕ) → Ends (suc (suc depth)) p r → Ends (suc depth) (codes "/*" ++ p) r
 open_step depth p r h =
     let outer = h.second.second in
-    let inner_back : h.back ≡ codes "*/" ++ (outer.front ++ outer.back) = ends_parts (suc depth) p r h ∙ ap (λ x. codes "*/" ++ x) outer.whole in
-    let split : p ≡ (h.front ++ (codes "*/" ++ outer.front)) ++ outer.back =
-    h.whole ∙ (ap (λ x. h.front ++ x) inner_back ∙ sym (append_assoc h.front (codes "*/" ++ outer.front) outer.back)) in
-    let after : h.back ++ r ≡ codes "*/" ++ (outer.front ++ (outer.back ++ r)) =
-    ap (λ x. x ++ r) inner_back ∙ ap (λ x. codes "*/" ++ x) (append_assoc outer.front outer.back r) in
     record {
       front = codes "/*" ++ (h.front ++ (codes "*/" ++ outer.front));
       back = outer.back;
-      whole = ap (λ x. codes "/*" ++ x) split;
-      first = Nested h.front outer.front refl (subst (BlockBody h.front) after h.first) outer.first;
+      whole = simp (h.whole, h.second.whole, h.second.first, outer.whole, append_assoc);
+      first = Nested h.front outer.front refl (simp (h.second.whole, h.second.first, outer.whole, append_assoc) at h.first) outer.first;
       second = outer.second;
     }
 
@@ -110,9 +87,7 @@ other_step depth c p r plain h = record {
   front = c ∷ h.front;
   back = h.back;
   whole = ap (λ x. c ∷ x) h.whole;
-  first =
-      Single c h.front refl (ap (λ x. begins_any block_signs (c ∷ x))
-      (sym (append_assoc h.front h.back r) ∙ ap (λ x. x ++ r) (sym h.whole)) ∙ plain) h.first;
+  first = Single c h.front refl (rw (h.whole, append_assoc h.front h.back r) at plain) h.first;
   second = h.second;
 }
 
@@ -158,16 +133,17 @@ ends_sound (suc depth) (c ∷ (d ∷ text)) =
 
 -- one body and its end
 ends_to : (p r : List ℕ) → Ends 1 p r → Then BlockBody (Exactly (codes "*/")) p r
-ends_to p r h =
-    let back : h.back ≡ codes "*/" = ends_parts 0 p r h ∙ ap (λ x. codes "*/" ++ x) h.second.second in
-    record { front = h.front; back = h.back; whole = h.whole; first = h.first; second = back }
+ends_to p r h = record {
+  front = h.front;
+  back = h.back;
+  whole = h.whole;
+  first = h.first;
+  second = simp (h.second.whole, h.second.first, h.second.second);
+}
 
 body_complete : (p r : List ℕ) → Then BlockBody (Exactly (codes "*/")) p r → find_ends 1 (p ++ r) ≡ Some (p, r)
 body_complete p r h =
-    ap (find_ends 1) (ap (λ x. x ++ r) h.whole ∙ append_assoc h.front h.back r)
-    ∙ (body_found 0 h.first
-    ∙ (ap (behind h.front) (ap (λ x. find_ends 1 (x ++ r)) h.second ∙ (at_close 0 r ∙ ap (behind (codes "*/")) (at_none r)))
-    ∙ ap (λ x. Some (x, r)) (ap (λ x. h.front ++ x) (sym h.second) ∙ sym h.whole)))
+    rw (h.whole, append_assoc, body_found 0 h.first, h.second) (ap (behind h.front) (at_close 0 r ∙ ap (behind (codes "*/")) (at_none r)))
 
 pub finds_body : Finds (find_ends 1) (Then BlockBody (Exactly (codes "*/")))
 finds_body = record {

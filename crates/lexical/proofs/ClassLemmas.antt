@@ -2,11 +2,12 @@
 use Rattle.std.proofs.Common.{◌≡◌, ℕ, ◌<◌, ◌≤◌, nat_le, ◌⊎◌, Bool, true, false, cond, ◌||◌, ◌&&◌, ◌==◌, List, [], ◌∷◌, codes, refl, sym, ap, arith, ◌∙◌, subst, inl, inr, eqb-true, eq-eqb}
 use Rattle.std.specs.List.{list_any, AllByRecursion}
 use Rattle.std.specs.Char.{is_ascii_alphabetic, is_ascii_alphanumeric, is_ascii_digit}
-use Rattle.std.proofs.lemmas.Bool.{both_ways, and_parts, or_cases, or_parts, leb-true, not-true, agree_below_at, cond-true, cond-false, cond_both}
+use Rattle.std.proofs.lemmas.Bool.{both_ways, and_parts, or_cases, or_parts, or_from, and_left, leb-true, false_from_ne_true, not-true, agree_below_at, cond-true, cond-false, cond_both}
 use Rattle.unicode_ident.proofs.Computing.{unicode_ident}
 use Rattle.unicode_ident.proofs.IdentLemmas.{is_xid_continue-ascii}
 use Rattle.lexical.specs.Class.{is_white, is_ident_start, is_ident_continue}
-use Rattle.lexical.specs.Mark.{is_mark, marks}
+use Rattle.lexical.specs.Text.{begins_any}
+use Rattle.lexical.specs.Mark.{is_mark, marks, comment_fronts}
 use Rattle.lexical.specs.Delimiter.{is_opener, is_closer}
 use Rattle.lexical.specs.PieceFinder.{start}
 use Rattle.lexical.specs.declared.class.Start.{Start}
@@ -66,7 +67,7 @@ start_closer c h = any_of (λ d. start d ≡ starts.Closer) (codes ")]}") c (ref
 
 -- the class of a mark
 abbrev HasMarkClass : ℕ → Type 0
-HasMarkClass d = (start d ≡ starts.Other) ⊎ ((start d ≡ starts.Slash) ⊎ (d ≡ 39))
+HasMarkClass d = (start d ≡ starts.Mark) ⊎ ((start d ≡ starts.Slash) ⊎ (d ≡ 39))
 
 last_marks : AllByRecursion HasMarkClass (codes "+|;:,<.>/?'")
 unfolding unicode_ident
@@ -79,9 +80,9 @@ all_marks =
     (inl refl, (inl refl, (inl refl, (inl refl, (inl refl, (inl refl, (inl refl, (inl refl, (inl refl, (inl refl, (inl refl, last_marks)))))))))))
 
 -- a mark, but `'`
-pub start_mark : (c : ℕ) → is_mark c ≡ true → (c == 39) ≡ false → (start c ≡ starts.Other) ⊎ (start c ≡ starts.Slash)
+pub start_mark : (c : ℕ) → is_mark c ≡ true → (c == 39) ≡ false → (start c ≡ starts.Mark) ⊎ (start c ≡ starts.Slash)
 start_mark c h plain = elim (any_of HasMarkClass marks c all_marks h) [
-  | inl other ↦ inl other
+  | inl mark ↦ inl mark
   | inr more ↦ elim more [ inl slash ↦ inr slash | inr quote ↦ absurd (both_ways _ plain (eq-eqb c 39 quote)) ]
 ]
 
@@ -108,63 +109,43 @@ start_front_mark = refl
 
 -- ---- what a start tells
 
--- a choice that gives neither
-past : (b : Bool) {x y z : Start} → (x ≡ z → ⊥) → cond b x y ≡ z → y ≡ z
-past true differs h = absurd (differs h)
-past false differs h = h
-
-chosen : (b : Bool) (x y z : Start) → cond b x y ≡ z → (y ≡ z → ⊥) → b ≡ true
-chosen true x y z h differs = refl
-chosen false x y z h differs = absurd (differs h)
-
--- past the classes
-past_classes : (c : ℕ) (s : Start) → start c ≡ s → (starts.White ≡ s → ⊥) → (starts.Letter ≡ s → ⊥)
-    → (starts.Digit ≡ s → ⊥) → (starts.Opener ≡ s → ⊥) → (starts.Closer ≡ s → ⊥) → (starts.Slash ≡ s → ⊥)
-    → cond (c == 39) starts.Quote (cond (c == 34) starts.DoubleQuote (cond (c == 0xFEFF) starts.FrontMark starts.Other)) ≡ s
-past_classes c s h white letter digit opener closer slash =
-    past (c == 47) slash (past (is_closer c) closer
-    (past (is_opener c) opener (past (is_ascii_digit c) digit
-    (past (is_ident_start c) letter (past (is_white c) white h)))))
-
-pub quote_is : (c : ℕ) → start c ≡ starts.Quote → c ≡ 39
-quote_is c h =
-    let quote = past_classes c starts.Quote h (λ e. cc) (λ e. cc) (λ e. cc) (λ e. cc) (λ e. cc) (λ e. cc) in
-    eqb-true c 39 (chosen (c == 39) _ _ _ quote (λ rest.
-    let other : starts.Other ≡ starts.Quote = past (c == 0xFEFF) (λ e. cc) (past (c == 34) (λ e. cc) rest) in
-    cc))
-
-pub front_mark_is : (c : ℕ) → start c ≡ starts.FrontMark → c ≡ 0xFEFF
-front_mark_is c h =
-    let mark = past_classes c starts.FrontMark h (λ e. cc) (λ e. cc) (λ e. cc) (λ e. cc) (λ e. cc) (λ e. cc) in
-    eqb-true c 0xFEFF (chosen (c == 0xFEFF) _ _ _ (past (c == 34) (λ e. cc) (past (c == 39) (λ e. cc) mark)) (λ e. cc))
-
--- of which class the character is, at four of the starts
+-- of which class the character is, at each start
 abbrev pub is_of : Start → ℕ → Bool
 is_of starts.White c = is_white c
 is_of starts.Letter c = is_ident_start c
+is_of starts.Digit c = is_ascii_digit c
 is_of starts.Opener c = is_opener c
 is_of starts.Closer c = is_closer c
-is_of s c = true
+is_of starts.Slash c = c == 47
+is_of starts.Quote c = c == 39
+is_of starts.DoubleQuote c = c == 34
+is_of starts.FrontMark c = c == 0xFEFF
+is_of starts.Mark c = is_mark c
+is_of starts.Other c = true
 
 of_choice : (c : ℕ) (b : Bool) (x y : Start) → (b ≡ true → is_of x c ≡ true) → is_of y c ≡ true → is_of (cond b x y) c ≡ true
 of_choice c b x y here there = cond_both b x y (λ s. is_of s c ≡ true) here (λ _. there)
 
-pub start_is_of : (c : ℕ) → is_of (start c) c ≡ true
+start_is_of : (c : ℕ) → is_of (start c) c ≡ true
 start_is_of c =
     of_choice c (is_white c) _ _ (λ h. h) (of_choice c (is_ident_start c) _ _ (λ h. h)
-    (of_choice c (is_ascii_digit c) _ _ (λ _. refl) (of_choice c (is_opener c) _ _ (λ h. h)
-    (of_choice c (is_closer c) _ _ (λ h. h) (of_choice c (c == 47) _ _ (λ _. refl)
-    (of_choice c (c == 39) _ _ (λ _. refl) (of_choice c (c == 34) _ _ (λ _. refl)
-    (of_choice c (c == 0xFEFF) _ _ (λ _. refl) refl))))))))
+    (of_choice c (is_ascii_digit c) _ _ (λ h. h) (of_choice c (is_opener c) _ _ (λ h. h)
+    (of_choice c (is_closer c) _ _ (λ h. h) (of_choice c (c == 47) _ _ (λ h. h)
+    (of_choice c (c == 39) _ _ (λ h. h) (of_choice c (c == 34) _ _ (λ h. h)
+    (of_choice c (c == 0xFEFF) _ _ (λ h. h) (of_choice c (is_mark c) _ _ (λ h. h) refl)))))))))
 
-pub white_is : (c : ℕ) → start c ≡ starts.White → is_white c ≡ true
-white_is c h = subst (λ s. is_of s c ≡ true) h (start_is_of c)
+pub of_start : (s : Start) (c : ℕ) → s ≡ start c → is_of s c ≡ true
+of_start s c h = subst (λ s. is_of s c ≡ true) (sym h) (start_is_of c)
 
-pub letter_is : (c : ℕ) → start c ≡ starts.Letter → is_ident_start c ≡ true
-letter_is c h = subst (λ s. is_of s c ≡ true) h (start_is_of c)
+-- characters that start otherwise differ
+other_start : (s t : Start) (c d : ℕ) → s ≡ start c → t ≡ start d → (s ≡ t → ⊥) → (c == d) ≡ false
+other_start s t c d h e differs = false_from_ne_true _ (λ same. differs (h ∙ (ap start (eqb-true c d same) ∙ sym e)))
 
-pub opener_is : (c : ℕ) → start c ≡ starts.Opener → is_opener c ≡ true
-opener_is c h = subst (λ s. is_of s c ≡ true) h (start_is_of c)
+pub mark_not_quote : (c : ℕ) → starts.Mark ≡ start c → (c == 39) ≡ false
+mark_not_quote c h = other_start starts.Mark starts.Quote c 39 h (sym start_quote) (λ e. cc)
 
-pub closer_is : (c : ℕ) → start c ≡ starts.Closer → is_closer c ≡ true
-closer_is c h = subst (λ s. is_of s c ≡ true) h (start_is_of c)
+-- no comment begins with a mark that isn't `/`
+pub mark_plain : (c : ℕ) (text rest : List ℕ) → text ≡ c ∷ rest → starts.Mark ≡ start c → begins_any comment_fronts text ≡ false
+mark_plain c text rest e h =
+    let slash : (47 == c) ≡ false = other_start starts.Slash starts.Mark 47 c (sym start_slash) h (λ e. cc) in
+    ap (begins_any comment_fronts) e ∙ or_from _ _ (and_left _ _ slash) (or_from _ _ (and_left _ _ slash) refl)

@@ -1,5 +1,5 @@
 -- What identifiers and marks give to the laws of texts.
-use Rattle.std.proofs.Common.{◌≡◌, ℕ, Bool, true, false, not, ◌==◌, ◌⊎◌, List, [], ◌∷◌, ◌++◌, drop, Some, None, IsTrue, inl, inr, codes, refl, sym, ap, ◌∙◌}
+use Rattle.std.proofs.Common.{◌≡◌, ℕ, Bool, true, false, not, ◌==◌, ◌⊎◌, List, [], ◌∷◌, ◌++◌, drop, Some, None, IsTrue, inl, inr, codes, refl, sym, ap, ap₂, ◌∙◌}
 use Rattle.std.specs.List.{list_any}
 use Rattle.std.proofs.lemmas.Bool.{both_ways, and_left, cond_both, not-true}
 use Rattle.unicode_ident.proofs.Computing.{unicode_ident}
@@ -13,7 +13,7 @@ use Rattle.lexical.specs.Mark.{is_mark, comment_fronts, joint_before, bars_quote
 use Rattle.lexical.specs.Piece.{Kind, Leaf, Stands, IsPiece}
 use Rattle.lexical.specs.QuotedFinder.{find_quoted}
 use Rattle.lexical.specs.IdentifierFinder.{find_plain, find_raw, raw_kind, name_kind}
-use Rattle.lexical.specs.PieceFinder.{Found, literal_kind, tagged, or_found, found_identifier, found_quoted, found_at_letter, found}
+use Rattle.lexical.specs.PieceFinder.{Found, literal_kind, tagged, or_found, found_identifier, found_quoted, found}
 use Rattle.lexical.specs.declared.class.Start.TheVariants as starts
 use Rattle.lexical.specs.Finder.{Answer}
 use Rattle.lexical.proofs.TextLemmas.{any_cut}
@@ -110,30 +110,21 @@ follows_something h = both_ways _ refl (follows_start [] h)
 abbrev pub IsNameOrLiteral : Kind → Type 0
 IsNameOrLiteral kind = ((raw : Bool) × (name : List ℕ) × (kind ≡ Leaf (Name raw name))) ⊎ ((text : List ℕ) × (kind ≡ Leaf (Literal text)))
 
--- the identifier that is found where a letter begins
-identifier_kind : (text : List ℕ) (k : Kind) (p r : List ℕ) → found_identifier text ≡ Some (k, p, r) → IsNameOrLiteral k
-identifier_kind text k p r =
-    cond_both (begins_with (codes "r#") text) _ _ (λ o. o ≡ Some (k, p, r) → IsNameOrLiteral k)
-    (λ e. raw (find_raw text)) (λ e. plain (find_plain text))
+-- what was found with a kind has it
+tagged_kind : (kind : List ℕ → List ℕ → Kind) (o : Answer) (k : Kind) (p r : List ℕ) → tagged kind o ≡ Some (k, p, r) → k ≡ kind p r
+tagged_kind kind None k p r e = absurd (cc)
+tagged_kind kind (Some x) k p r e =
+    let same : ◌≡◌ {A = Kind × List ℕ × List ℕ} (k, p, r) (kind x.0 x.1, x.0, x.1) = cc in
+    ap (λ y. y.0) same ∙ sym (ap₂ kind (ap (λ y. y.1) same) (ap (λ y. y.2) same))
+
+-- what is found where a letter begins
+letter_kind : (text : List ℕ) (k : Kind) (p r : List ℕ) → or_found (found_identifier text) (found_quoted text) ≡ Some (k, p, r) → IsNameOrLiteral k
+letter_kind text k p r =
+    either (found_identifier text) (cond_both (begins_with (codes "r#") text) _ _ (λ o. o ≡ Some (k, p, r) → IsNameOrLiteral k)
+    (λ _ e. inl (true, drop 2 p, tagged_kind raw_kind (find_raw text) k p r e)) (λ _ e. inl (false, p, tagged_kind name_kind (find_plain text) k p r e)))
   where
-    raw : (o : Answer) → tagged raw_kind o ≡ Some (k, p, r) → IsNameOrLiteral k
-    raw None e = absurd (cc)
-    raw (Some x) e = let same : ◌≡◌ {A = Kind × List ℕ × List ℕ} (k, p, r) (raw_kind x.0 x.1, x.0, x.1) = cc in inl (true, drop 2 x.0, ap (λ y. y.0) same)
-
-    plain : (o : Answer) → tagged name_kind o ≡ Some (k, p, r) → IsNameOrLiteral k
-    plain None e = absurd (cc)
-    plain (Some x) e = let same : ◌≡◌ {A = Kind × List ℕ × List ℕ} (k, p, r) (name_kind x.0 x.1, x.0, x.1) = cc in inl (false, x.0, ap (λ y. y.0) same)
-
--- and what is found there
-letter_kind : (text : List ℕ) (k : Kind) (p r : List ℕ) → found_at_letter text ≡ Some (k, p, r) → IsNameOrLiteral k
-letter_kind text k p r = either (found_identifier text) (identifier_kind text k p r)
-  where
-    literal : (o : Answer) → tagged literal_kind o ≡ Some (k, p, r) → IsNameOrLiteral k
-    literal None e = absurd (cc)
-    literal (Some x) e = let same : ◌≡◌ {A = Kind × List ℕ × List ℕ} (k, p, r) (literal_kind x.0 x.1, x.0, x.1) = cc in inr (x.0, ap (λ y. y.0) same)
-
     either : (o : Found) → (o ≡ Some (k, p, r) → IsNameOrLiteral k) → or_found o (found_quoted text) ≡ Some (k, p, r) → IsNameOrLiteral k
-    either None one e = literal (find_quoted text) e
+    either None one e = inr (p, tagged_kind literal_kind (find_quoted text) k p r e)
     either (Some x) one e = one e
 
 -- the piece that follows it is one of these

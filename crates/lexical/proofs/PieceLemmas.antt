@@ -1,5 +1,5 @@
 -- What the lexer finds is the piece that stands there, and no other.
-use Rattle.std.proofs.Common.{◌≡◌, ℕ, Bool, true, false, ◌&&◌, ◌==◌, List, [], ◌∷◌, ◌++◌, drop, Some, None, IfSome, inl, inr, codes, refl, sym, ap, ap₂, ◌∙◌, subst, eqb-true, eq-eqb, append_assoc}
+use Rattle.std.proofs.Common.{◌≡◌, ℕ, Bool, true, false, ◌&&◌, ◌==◌, List, [], ◌∷◌, ◌++◌, Some, None, IfSome, inl, inr, codes, refl, sym, ap, ◌∙◌, subst, eqb-true, eq-eqb, append_assoc}
 use Rattle.std.proofs.lemmas.Bool.{and_parts, and_from, or_parts, cond-true, cond-false, cond_both, not-true, not_from_false}
 use Rattle.lexical.specs.Text.{begins_with, begins_any, first_of}
 use Rattle.lexical.specs.Class.{is_white}
@@ -73,9 +73,7 @@ raw_piece : (first : Bool) (p r : List ℕ)
     → IsPiece first (raw_kind p r) p r
 raw_piece first p r h =
     let whole : p ≡ codes "r#" ++ h.0.back = h.0.whole ∙ ap (λ x. x ++ h.0.back) h.0.first in
-    let name : h.0.back ≡ drop 2 p = sym (ap (drop 2) whole) in
-    let again : p ≡ codes "r#" ++ drop 2 p = whole ∙ ap (λ x. codes "r#" ++ x) name in
-    (again, (subst (λ q. identifiers.RawIdentifier q r) name h.0.second, ap (λ q. begins_any identifiers.literal_prefixes (q ++ r)) (sym again) ∙ h.1))
+    rw whole (refl, (h.0.second, rw whole at h.1))
 
 quote_piece : (first : Bool) (p r : List ℕ) → marks.LoneQuote p r → IsPiece first (quote_kind p r) p r
 quote_piece first p r h = (h.0, inr ((refl, h.1), refl))
@@ -134,7 +132,8 @@ start_sound first starts.Quote text =
     (quoted_sound first text)
 start_sound first starts.DoubleQuote text = quoted_sound first text
 start_sound first starts.FrontMark text = tagged_sound first _ front_mark_kind (λ p r h. h) text _ ((finds_front_mark first).sound text)
-start_sound first starts.Other text = mark_sound first text
+start_sound first starts.Mark text = mark_sound first text
+start_sound first starts.Other text = tt
 
 pub found_sound : (first : Bool) (text : List ℕ) → IfSome (found first text) (IsTagged first text)
 unfolding found
@@ -166,7 +165,7 @@ found_mark : (first : Bool) (text : List ℕ) (c : ℕ) (rest : List ℕ) → te
     → (c == 39) ≡ false → begins_any marks.comment_fronts text ≡ false
     → found first text ≡ tagged mark_kind (find_mark text)
 found_mark first text c rest e is other plain = elim (start_mark c is other) [
-  | inl other ↦ from_start first text c rest starts.Other e other
+  | inl mark ↦ from_start first text c rest starts.Mark e mark
   | inr slash ↦ from_start first text c rest starts.Slash e slash ∙ cond-false _ _ _ plain
 ]
 
@@ -217,10 +216,9 @@ literal_complete first p r h = elim h [ inl quoted ↦ quoted_complete first p r
 
 error_complete : (first : Bool) (p r : List ℕ) → literals.ErrorLiteral p r → found first (p ++ r) ≡ Some (Leaf (Literal p), p, r)
 error_complete first p r h =
-    let text : p ++ r ≡ error_literal ++ r = ap (λ q. q ++ r) h in
-    let none : find_opener (p ++ r) ≡ None = cond-true _ _ _ (ap (begins_any (error_literal ∷ [])) text) in
-    from_start first (p ++ r) 40 (codes "/*ERROR*/)" ++ r) starts.Opener text (start_opener 40 refl)
-    ∙ (ap (λ o. or_found (tagged opener_kind o) (found_error (p ++ r))) none ∙ ap (tagged literal_kind) ((finds_text error_literal).complete p r h))
+    let text = error_literal ++ r in
+    rw h (from_start first text 40 (codes "/*ERROR*/)" ++ r) starts.Opener refl (start_opener 40 refl)
+    ∙ ap (tagged literal_kind) ((finds_text error_literal).complete error_literal r refl))
 
 pub found_complete : (first : Bool) (k : Kind) (p r : List ℕ) → IsPiece first k p r → found first (p ++ r) ≡ Some (k, p, r)
 found_complete first FrontMark p r h =
@@ -241,40 +239,31 @@ found_complete first (Close c) p r h =
     from_start first (p ++ r) c r starts.Closer (one_front c p r one.0) (start_closer c one.1)
     ∙ (ap (tagged closer_kind) (finds_closer.complete p r (c, one.0, one.1)) ∙ ap (λ d. Some (Close d, p, r)) (ap first_of one.0))
 found_complete first (Leaf (Name true name)) p r h =
-    let text : Then (Exactly (codes "r#")) identifiers.RawIdentifier p r =
-    record { front = codes "r#"; back = name; whole = h.0; first = refl; second = h.1.0 } in
-    let apart : begins_any identifiers.literal_prefixes (p ++ r) ≡ false = ap (λ q. begins_any identifiers.literal_prefixes (q ++ r)) h.0 ∙ h.1.1 in
-    from_start first (p ++ r) 114 (35 ∷ (name ++ r)) starts.Letter (ap (λ q. q ++ r) h.0) start_raw
-    ∙ (ap (λ o. or_found o (found_quoted (p ++ r))) (cond-true _ _ _ (ap (λ q. begins_with (codes "r#") (q ++ r)) h.0)
-    ∙ ap (tagged raw_kind) (finds_raw.complete p r (text, apart))) ∙ (ap (λ q. Some (Leaf (Name true q), p, r)) (ap (drop 2) h.0)))
+    let text = codes "r#" ++ (name ++ r) in
+    let raw : Then (Exactly (codes "r#")) identifiers.RawIdentifier (codes "r#" ++ name) r =
+    record { front = codes "r#"; back = name; whole = refl; first = refl; second = h.1.0 } in
+    rw h.0 (from_start first text 114 (35 ∷ (name ++ r)) starts.Letter refl start_raw
+    ∙ ap (λ o. or_found (tagged raw_kind o) (found_quoted text)) (finds_raw.complete (codes "r#" ++ name) r (raw, h.1.1)))
 found_complete first (Leaf (Name false name)) p r h =
     let plain = h.1.0.0 in
-    let whole : p ++ r ≡ plain.first.0 ∷ (plain.back ++ r) =
-    ap (λ q. q ++ r) h.0 ∙ (ap (λ q. q ++ r) plain.whole ∙ (append_assoc plain.front plain.back r ∙ ap (λ q. q ++ (plain.back ++ r)) plain.first.1)) in
-    from_start first (p ++ r) plain.first.0 (plain.back ++ r) starts.Letter whole (start_letter plain.first.0 plain.first.2)
-    ∙ (ap (λ o. or_found o (found_quoted (p ++ r))) (cond-false _ _ _ (ap (λ q. begins_with (codes "r#") (q ++ r)) h.0 ∙ (or_parts _ _ h.1.0.1).0)
-    ∙ ap (tagged name_kind) (finds_plain.complete p r (subst (λ q. identifiers.Identifier false q r) (sym h.0) h.1)))
-    ∙ (ap (λ q. Some (Leaf (Name false q), p, r)) h.0))
-found_complete first (Leaf (Mark c joint)) p r h = elim h.1 [
+    rw h.0 (from_start first (name ++ r) plain.first.0 (plain.back ++ r) starts.Letter (simp (plain.whole, plain.first.1, append_assoc))
+    (start_letter plain.first.0 plain.first.2)
+    ∙ ap (λ o. or_found o (found_quoted (name ++ r))) (cond-false (begins_with (codes "r#") (name ++ r)) _ _ (or_parts _ _ h.1.0.1).0
+    ∙ ap (tagged name_kind) (finds_plain.complete name r h.1)))
+found_complete first (Leaf (Mark c joint)) p r h = rw h.0 (elim h.1 [
   | inl mark ↦
-      let one = mark.0.0 in
-      let is : c ≡ one.0 = cc in
-      let passes = and_parts _ _ one.2 in
-      found_mark first (p ++ r) c r (one_front c p r h.0) (ap marks.is_mark is ∙ passes.0) (ap (λ d. d == 39) is ∙ not-true _ passes.1)
-      (ap (λ q. begins_any marks.comment_fronts (q ++ r)) h.0 ∙ mark.0.1)
-      ∙ (ap (tagged mark_kind) (finds_mark.complete p r (subst (λ q. marks.Mark q r) (sym h.0) mark.0))
-      ∙ ap₂ (λ d b. Some (Leaf (Mark d b), p, r)) (ap first_of h.0) (sym mark.1))
+      let is : c ≡ mark.0.0.0 = cc in
+      let passes = and_parts _ _ mark.0.0.2 in
+      found_mark first (c ∷ r) c r refl (ap marks.is_mark is ∙ passes.0) (ap (λ d. d == 39) is ∙ not-true _ passes.1) mark.0.1
+      ∙ (ap (tagged mark_kind) (finds_mark.complete (c ∷ []) r mark.0) ∙ ap (λ b. Some (Leaf (Mark c b), c ∷ [], r)) (sym mark.1))
   | inr quote ↦
       let is : c ≡ 39 = cc in
-      let text : p ≡ codes "'" = h.0 ∙ quote.0.0 in
-      from_start first (p ++ r) 39 r starts.Quote (one_front 39 p r text) start_quote
-      ∙ (ap (λ o. or_found (tagged quote_kind o) (found_quoted (p ++ r)))
-      (finds_lone_quote.complete p r (text, quote.0.1))
-      ∙ ap₂ (λ d b. Some (Leaf (Mark d b), p, r)) (sym is) (sym quote.1))
-]
-found_complete first (Leaf (Literal text)) p r h = subst (λ q. found first (p ++ r) ≡ Some (Leaf (Literal q), p, r)) h.0 (elim h.1 [
-  | inl literal ↦ literal_complete first p r (subst (λ q. literals.Literal q r) (sym h.0) literal)
-  | inr error ↦ error_complete first p r (h.0 ∙ error)
+      rw (is, quote.1) (from_start first (39 ∷ r) 39 r starts.Quote refl start_quote
+      ∙ ap (λ o. or_found (tagged quote_kind o) (found_quoted (39 ∷ r))) (finds_lone_quote.complete (39 ∷ []) r (refl, quote.0.1)))
+])
+found_complete first (Leaf (Literal text)) p r h = rw h.0 (elim h.1 [
+  | inl literal ↦ literal_complete first text r literal
+  | inr error ↦ error_complete first text r error
 ])
 
 -- ---- the laws

@@ -5,8 +5,8 @@ use Rattle.std.proofs.lemmas.Bool.{and_parts, or_from, both_ways, false_from_ne_
 use Rattle.lexical.specs.Text.{begins_with, begins_any}
 use Rattle.lexical.specs.Form.{Exactly}
 use Rattle.lexical.specs.Comment.{block_signs}
-use Rattle.lexical.specs.Finder.{Answer, behind, find_text}
-use Rattle.lexical.specs.CommentFinder.{find_ends}
+use Rattle.lexical.specs.Finder.{Answer, behind, and_find, find_text}
+use Rattle.lexical.specs.CommentFinder.{find_ends, find_block}
 use Rattle.lexical.specs.Reading.{Passes, Leads}
 use Rattle.lexical.specs.declared.cursor.Cursor.{Cursor}
 use Rattle.lexical.proofs.FinderLemmas.{finds_text, found_is, none_found}
@@ -25,7 +25,7 @@ text_not_found front text h =
     (λ p r e is. both_ways _ h (ap (begins_with front) (e ∙ ap (λ x. x ++ r) is) ∙ begins_front front r))
 
 -- and the other way
-not_found_text : (front text : List ℕ) → find_text front text ≡ None → begins_with front text ≡ false
+pub not_found_text : (front text : List ℕ) → find_text front text ≡ None → begins_with front text ≡ false
 not_found_text front text none =
     false_from_ne_true _ (λ begins.
     let split = begins_splits front text begins in
@@ -42,11 +42,9 @@ past_text front at to h = h.whole ∙ ap (λ x. x ++ chars to.rest.now) (text_pa
 
 -- ---- within block comments
 
-suc_of : (n : ℕ) → 0 < n → (m : ℕ) × (n ≡ suc m)
-suc_of n h = (n - 1, omega arith)
-
-pub leads_on : (at mid to : Cursor) (depth between inside : ℕ) → Leads at depth mid between → Leads mid between to inside → Leads at depth to inside
-leads_on at mid to depth between inside h j = record {
+pub leads_on : (answer : Answer) (at mid to : Cursor) (between inside : ℕ) → Leads answer at mid between
+    → Leads (find_ends between (chars mid.rest.now)) mid to inside → Leads answer at to inside
+leads_on answer at mid to between inside h j = record {
   front = h.front ++ j.front;
   found = h.found ∙ (ap (behind h.front) j.found ∙ behind_behind h.front j.front _);
   whole = h.whole ∙ (ap (λ x. h.front ++ x) j.whole ∙ sym (append_assoc h.front j.front (chars to.rest.now)));
@@ -55,8 +53,8 @@ leads_on at mid to depth between inside h j = record {
 }
 
 -- where none is open any more
-pub leads_out : (at to : Cursor) (depth inside : ℕ) → Leads at depth to inside → inside ≤ 0 → Passes (find_ends depth (chars at.rest.now)) at to
-leads_out at to depth inside h out =
+pub leads_out : (answer : Answer) (at to : Cursor) (inside : ℕ) → Leads answer at to inside → inside ≤ 0 → Passes answer at to
+leads_out answer at to inside h out =
     let none : inside ≡ 0 = omega arith in
     record {
       front = h.front;
@@ -68,57 +66,43 @@ leads_out at to depth inside h out =
     }
 
 -- where the text ends
-pub leads_to_end : (at to : Cursor) (depth inside : ℕ) → Leads at depth to inside → 0 < inside
-    → chars to.rest.now ≡ [] → find_ends depth (chars at.rest.now) ≡ None
-leads_to_end at to depth inside h some end =
-    let cell = suc_of inside some in
-    h.found ∙ ap (behind h.front) (ap₂ find_ends cell.1 end ∙ at_nothing cell.0)
+pub leads_to_end : (answer : Answer) (at to : Cursor) (inside : ℕ) → Leads answer at to inside → 0 < inside
+    → chars to.rest.now ≡ [] → answer ≡ None
+leads_to_end answer at to inside h some end =
+    let more : inside ≡ suc (inside - 1) = omega arith in
+    h.found ∙ ap (behind h.front) (ap₂ find_ends more end ∙ at_nothing (inside - 1))
 
--- two characters of a sign
-sign_whole : (c d : ℕ) (at mid to : Cursor) → chars at.rest.now ≡ c ∷ chars mid.rest.now
-    → Passes (find_text (d ∷ []) (chars mid.rest.now)) mid to → chars at.rest.now ≡ c ∷ d ∷ chars to.rest.now
-sign_whole c d at mid to e h = e ∙ ap (λ x. c ∷ x) (h.whole ∙ ap (λ x. x ++ chars to.rest.now) (text_passed (d ∷ []) mid to h))
+-- after the sign that begins a comment
+pub leads_in : (at to : Cursor) → Passes (find_text (codes "/*") (chars at.rest.now)) at to → Leads (find_block (chars at.rest.now)) at to 1
+leads_in at to h = record {
+  front = h.front;
+  found = ap (and_find (find_ends 1)) h.found;
+  whole = h.whole;
+  count = h.count;
+  fits = omega (arith, h.count, ap length (text_passed (codes "/*") at to h));
+}
 
-sign_count : (c d : ℕ) (at mid to : Cursor) → mid.chars_before ≡ at.chars_before + 1
-    → Passes (find_text (d ∷ []) (chars mid.rest.now)) mid to → to.chars_before ≡ at.chars_before + 2
-sign_count c d at mid to one h = omega (arith, h.count, one, ap length (text_passed (d ∷ []) mid to h))
+pub closes : (depth : ℕ) (text : List ℕ) → 0 < depth → find_ends depth (codes "*/" ++ text) ≡ behind (codes "*/") (find_ends (depth - 1) text)
+closes depth text some =
+    let more : depth ≡ suc (depth - 1) = omega arith in
+    ap (λ n. find_ends n (codes "*/" ++ text)) more ∙ at_close (depth - 1) text
 
-pub leads_close : (at mid to : Cursor) (depth : ℕ) → chars at.rest.now ≡ 42 ∷ chars mid.rest.now → mid.chars_before ≡ at.chars_before + 1
-    → Passes (find_text (codes "/") (chars mid.rest.now)) mid to → 0 < depth → depth ≤ at.chars_before → Leads at depth to (depth - 1)
-leads_close at mid to depth e one h inside fits =
-    let whole = sign_whole 42 47 at mid to e h in
-    let cell = suc_of depth inside in
-    let size = sign_count 42 47 at mid to one h in
-    let less : cell.0 ≡ depth - 1 = omega (arith, cell.1) in
-    record {
-      front = codes "*/";
-      found =
-          ap (λ n. find_ends n (chars at.rest.now)) cell.1
-          ∙ (ap (find_ends (suc cell.0)) whole
-          ∙ (at_close cell.0 (chars to.rest.now)
-          ∙ ap (λ n. behind (codes "*/") (find_ends n (chars to.rest.now))) less));
-      whole = whole;
-      count = size;
-      fits = omega (arith, size);
-    }
+pub opens : (depth : ℕ) (text : List ℕ) → 0 < depth → find_ends depth (codes "/*" ++ text) ≡ behind (codes "/*") (find_ends (depth + 1) text)
+opens depth text some =
+    let more : depth ≡ suc (depth - 1) = omega arith in
+    let deeper : suc (suc (depth - 1)) ≡ depth + 1 = omega arith in
+    ap (λ n. find_ends n (codes "/*" ++ text)) more
+    ∙ (at_open (depth - 1) text ∙ ap (λ n. behind (codes "/*") (find_ends n text)) deeper)
 
-pub leads_open : (at mid to : Cursor) (depth : ℕ) → chars at.rest.now ≡ 47 ∷ chars mid.rest.now → mid.chars_before ≡ at.chars_before + 1
-    → Passes (find_text (codes "*") (chars mid.rest.now)) mid to → 0 < depth → depth ≤ at.chars_before → Leads at depth to (depth + 1)
-leads_open at mid to depth e one h inside fits =
-    let whole = sign_whole 47 42 at mid to e h in
-    let cell = suc_of depth inside in
-    let size = sign_count 47 42 at mid to one h in
-    let deeper : suc (suc cell.0) ≡ depth + 1 = omega (arith, cell.1) in
-    record {
-      front = codes "/*";
-      found = ap (λ n. find_ends n (chars at.rest.now)) cell.1
-          ∙ (ap (find_ends (suc cell.0)) whole
-          ∙ (at_open cell.0 (chars to.rest.now)
-          ∙ ap (λ n. behind (codes "/*") (find_ends n (chars to.rest.now))) deeper));
-      whole = whole;
-      count = size;
-      fits = omega (arith, size);
-    }
+-- past the two characters of a sign
+pub leads_sign : (c d depth inside : ℕ) (at mid to : Cursor) → chars at.rest.now ≡ c ∷ chars mid.rest.now → mid.chars_before ≡ at.chars_before + 1
+    → Passes (find_text (d ∷ []) (chars mid.rest.now)) mid to
+    → find_ends depth (c ∷ d ∷ chars to.rest.now) ≡ behind (c ∷ d ∷ []) (find_ends inside (chars to.rest.now))
+    → inside ≤ at.chars_before + 2 → Leads (find_ends depth (chars at.rest.now)) at to inside
+leads_sign c d depth inside at mid to e one h step fits =
+    let whole = e ∙ ap (λ x. c ∷ x) (past_text (d ∷ []) mid to h) in
+    let size : to.chars_before ≡ at.chars_before + 2 = omega (arith, h.count, one, ap length (text_passed (d ∷ []) mid to h)) in
+    record { front = c ∷ d ∷ []; found = ap (find_ends depth) whole ∙ step; whole = whole; count = size; fits = omega (arith, size) }
 
 -- no sign begins at a character where none was found
 no_sign : (c d e : ℕ) (text : List ℕ) → (e ≡ c → find_text (d ∷ []) text ≡ None) → begins_with (c ∷ d ∷ []) (e ∷ text) ≡ false
@@ -127,19 +111,19 @@ no_sign c d e text none =
     let parts = and_parts (c == e) (begins_with (d ∷ []) text) begins in
     both_ways _ (not_found_text (d ∷ []) text (none (sym (eqb-true c e parts.0)))) parts.1)
 
+-- past a character where no sign begins
 pub leads_past : (at mid : Cursor) (depth c : ℕ) → chars at.rest.now ≡ c ∷ chars mid.rest.now → mid.chars_before ≡ at.chars_before + 1
     → (c ≡ 42 → find_text (codes "/") (chars mid.rest.now) ≡ None) → (c ≡ 47 → find_text (codes "*") (chars mid.rest.now) ≡ None)
-    → 0 < depth → depth ≤ at.chars_before → Leads at depth mid depth
+    → 0 < depth → depth ≤ at.chars_before → Leads (find_ends depth (chars at.rest.now)) at mid depth
 leads_past at mid depth c e one closes opens inside fits =
-    let cell = suc_of depth inside in
+    let more : depth ≡ suc (depth - 1) = omega arith in
     let plain : begins_any block_signs (c ∷ chars mid.rest.now) ≡ false =
     or_from _ _ (no_sign 47 42 c (chars mid.rest.now) opens) (or_from _ _ (no_sign 42 47 c (chars mid.rest.now) closes) refl) in
     record {
       front = c ∷ [];
-      found = ap (λ n. find_ends n (chars at.rest.now)) cell.1
-          ∙ (ap (find_ends (suc cell.0)) e
-          ∙ (at_other cell.0 c (chars mid.rest.now) plain
-          ∙ ap (λ n. behind (c ∷ []) (find_ends n (chars mid.rest.now))) (sym cell.1)));
+      found = ap₂ find_ends more e
+          ∙ (at_other (depth - 1) c (chars mid.rest.now) plain
+          ∙ ap (λ n. behind (c ∷ []) (find_ends n (chars mid.rest.now))) (sym more));
       whole = e;
       count = one;
       fits = omega arith;

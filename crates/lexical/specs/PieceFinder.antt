@@ -5,7 +5,7 @@ use Rattle.lexical.specs.Character.{double_quote, single_quote, slash}
 use Rattle.lexical.specs.Text.{begins_with, begins_any}
 use Rattle.lexical.specs.Class.{is_white, is_ident_start}
 use Rattle.lexical.specs.Token.{Literal}
-use Rattle.lexical.specs.Mark.{comment_fronts}
+use Rattle.lexical.specs.Mark.{is_mark, comment_fronts}
 use Rattle.lexical.specs.Delimiter.{is_opener, is_closer, error_literal}
 use Rattle.lexical.specs.Piece.{Kind, FrontMark, Gap, Leaf}
 use Rattle.lexical.specs.Finder.{Answer, Finder, find_if, find_else, find_one, find_text}
@@ -85,12 +85,8 @@ start c =
     else if c == single_quote then starts.Quote
     else if c == double_quote then starts.DoubleQuote
     else if c == 0xFEFF then starts.FrontMark
+    else if is_mark c then starts.Mark
     else starts.Other
-
--- the comment or the mark at the front of a text that begins with `/`
-abbrev pub found_at_slash : List ℕ → Found
-found_at_slash text =
-    cond (begins_any comment_fronts text) (comment_found (find_comment text)) (tagged mark_kind (find_mark text))
 
 -- the identifier at the front of a text that begins with a letter
 abbrev pub found_identifier : List ℕ → Found
@@ -107,34 +103,24 @@ found_quoted text = tagged literal_kind (find_quoted text)
 abbrev pub found_number : List ℕ → Found
 found_number text = tagged literal_kind (find number text)
 
--- the identifier or the literal at the front of a text that begins with a letter
-abbrev pub found_at_letter : List ℕ → Found
-found_at_letter text = or_found (found_identifier text) (found_quoted text)
-
--- the mark or the literal at the front of a text that begins with `'`
-abbrev pub found_at_quote : List ℕ → Found
-found_at_quote text = or_found (tagged quote_kind (find_lone_quote text)) (found_quoted text)
-
 -- the error literal at the front of a text
 abbrev pub found_error : List ℕ → Found
 found_error text = tagged literal_kind (find_text error_literal text)
 
--- the opener or the error literal at the front of a text
-abbrev pub found_at_opener : List ℕ → Found
-found_at_opener text = or_found (tagged opener_kind (find_opener text)) (found_error text)
-
 -- the piece at the front of a text that starts so
 abbrev pub found_from : Bool → Start → List ℕ → Found
 found_from first starts.White text = tagged gap_kind (find_white text)
-found_from first starts.Letter text = found_at_letter text
+found_from first starts.Letter text = or_found (found_identifier text) (found_quoted text)
 found_from first starts.Digit text = found_number text
-found_from first starts.Opener text = found_at_opener text
+found_from first starts.Opener text = or_found (tagged opener_kind (find_opener text)) (found_error text)
 found_from first starts.Closer text = tagged closer_kind (find_closer text)
-found_from first starts.Slash text = found_at_slash text
-found_from first starts.Quote text = found_at_quote text
+found_from first starts.Slash text =
+    cond (begins_any comment_fronts text) (comment_found (find_comment text)) (tagged mark_kind (find_mark text))
+found_from first starts.Quote text = or_found (tagged quote_kind (find_lone_quote text)) (found_quoted text)
 found_from first starts.DoubleQuote text = found_quoted text
 found_from first starts.FrontMark text = tagged front_mark_kind (find_front_mark first text)
-found_from first starts.Other text = tagged mark_kind (find_mark text)
+found_from first starts.Mark text = tagged mark_kind (find_mark text)
+found_from first starts.Other text = None
 
 -- the piece at the front of a text; `first` says that this is place 0
 unfoldable pub found : Bool → List ℕ → Found

@@ -2,14 +2,13 @@
 use Rattle.std.specs.Prelude.{ℕ, ◌≡◌, ◌≤◌, ◌+◌, List, ◌++◌, length, Option, Some, None, MatchOption, IsTrue}
 use Rattle.std.specs.Borrow.{Bor}
 use Rattle.lexical.specs.Ascii.{all_ascii}
-use Rattle.std.specs.Str.{chars, encode_utf8_all}
+use Rattle.std.specs.Str.{chars}
 use Rattle.lexical.specs.Found.{kind_of, LendsText}
 use Rattle.lexical.specs.Piece.{Kind}
 use Rattle.lexical.specs.Finder.{Answer, behind}
 use Rattle.lexical.specs.CommentFinder.{find_ends}
 use Rattle.lexical.specs.PieceFinder.{Found}
 use Rattle.lexical.specs.declared.cursor.Cursor.{Cursor}
-use Rattle.lexical.specs.declared.piece.Piece.{Piece}
 use Rattle.lexical.specs.declared.piece.PieceKind.{PieceKind}
 
 -- from one place to the other stands the piece that was found
@@ -34,10 +33,11 @@ pub record PassesText (answer : Answer) (at : Cursor) (x : Bor (List ℕ) × Cur
 abbrev pub ReadsText : Answer → Cursor → Option (Bor (List ℕ) × Cursor) → Type 0
 ReadsText answer at result = MatchOption result (answer ≡ None) (PassesText answer at)
 
--- from one place to the other lead signs and characters of block comments, so many open at each
-pub record Leads (at : Cursor) (depth : ℕ) (to : Cursor) (inside : ℕ) : Type 0 where
+-- from one place to the other lead signs and characters of comments, so many open at the other, where the answer is
+-- what ends them
+pub record Leads (answer : Answer) (at to : Cursor) (inside : ℕ) : Type 0 where
   pub front : List ℕ
-  pub found : find_ends depth (chars at.rest.now) ≡ behind front (find_ends inside (chars to.rest.now))
+  pub found : answer ≡ behind front (find_ends inside (chars to.rest.now))
   pub whole : chars at.rest.now ≡ front ++ chars to.rest.now
   pub count : to.chars_before ≡ at.chars_before + length front
   pub fits : inside ≤ to.chars_before
@@ -46,15 +46,13 @@ pub record Leads (at : Cursor) (depth : ℕ) (to : Cursor) (inside : ℕ) : Type
 abbrev pub Tells : Option Kind → List ℕ → Option PieceKind → Type 0
 Tells answer p result = MatchOption result (answer ≡ None) (λ kind. (answer ≡ Some (kind_of kind p)) × LendsText kind)
 
--- the piece is the one that was found
-pub record IsFound (answer : Found) (piece : Piece) : Type 0 where
+-- from the place to the other stands the piece that was found, and this is its kind
+pub record IsFound (answer : Found) (at : Cursor) (x : PieceKind × Cursor) : Type 0 where
   pub front : List ℕ
-  pub rest : List ℕ
-  pub found : answer ≡ Some (kind_of piece.kind front, front, rest)
-  pub bytes : piece.bytes ≡ length (encode_utf8_all front)
-  pub chars : piece.chars ≡ length front
-  pub lends : LendsText piece.kind
+  pub found : answer ≡ Some (kind_of x.0 front, front, chars x.1.rest.now)
+  pub count : x.1.chars_before ≡ at.chars_before + length front
+  pub lends : LendsText x.0
 
--- the lexer answers the piece that was found, or none where none was
-abbrev pub Answers : Found → Option Piece → Type 0
-Answers answer result = MatchOption result (answer ≡ None) (IsFound answer)
+-- the step answers the kind of the piece that was found and leads past it, or fails where none was
+abbrev pub Answers : Found → Cursor → Option (PieceKind × Cursor) → Type 0
+Answers answer at result = MatchOption result (answer ≡ None) (IsFound answer at)

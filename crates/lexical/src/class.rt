@@ -4,8 +4,10 @@ ghost use Rattle.std.specs.Prelude.{◌≡◌};
 ghost use Rattle.lexical.specs.Class.{is_white as white, is_ident_start, is_ident_continue};
 ghost use Rattle.lexical.specs.PieceFinder.{start};
 
+use crate::marks::is_mark;
+
 /// What the first character of a text says of the piece that may stand there.
-#[derive(Clone, Copy, Debug, PartialEq, Eq)]
+#[derive(Drop)]
 pub enum Start {
     /// A white character.
     White,
@@ -25,6 +27,8 @@ pub enum Start {
     DoubleQuote,
     /// U+FEFF.
     FrontMark,
+    /// Another of the marks.
+    Mark,
     /// Any other.
     Other,
 }
@@ -79,6 +83,7 @@ pub fn start_of(c: char) -> Start
         '\'' => Start::Quote,
         '"' => Start::DoubleQuote,
         '\u{FEFF}' => Start::FrontMark,
+        _ if is_mark(c) => Start::Mark,
         _ => Start::Other,
     }
 }

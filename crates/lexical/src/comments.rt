@@ -8,7 +8,7 @@ ghost use Rattle.lexical.specs.Reading.{Answers, Leads, Reads};
 
 use crate::cursor::Cursor;
 use crate::docs::comment_kind;
-use crate::piece::Piece;
+use crate::piece::PieceKind;
 use crate::search::skip_to;
 use crate::text::before;
 
@@ -25,7 +25,8 @@ fn skip_line(at: Cursor<'_>) -> Option<Cursor<'_>>
 fn step(at: Cursor<'_>, depth: usize) -> Option<(Cursor<'_>, usize)>
     requires inside { 0 < depth }
     requires fits { depth ≤ at.chars_before }
-    ensures leads { MatchOption result (chars at.entry.rest.now ≡ []) (λ x. Leads at.entry depth x.0 x.1) }
+    ensures leads { MatchOption result (chars at.entry.rest.now ≡ [])
+        (λ x. Leads (find_ends depth (chars at.entry.rest.now)) at.entry x.0 x.1) }
     ensures on { IfSome result (λ x. at.entry.chars_before < x.0.chars_before) }
 {
     let (c, after) = at.advance()?;
@@ -42,12 +43,11 @@ fn step(at: Cursor<'_>, depth: usize) -> Option<(Cursor<'_>, usize)>
     Some((after, depth))
 }
 
-/// The place where the block comment ends that is open at the place.
-fn skip_body(at: Cursor<'_>) -> Option<Cursor<'_>>
-    requires { 1 ≤ at.chars_before }
-    ensures { Reads (find_ends 1 (chars at.entry.rest.now)) at.entry result }
+/// The place after the block comment that stands at the place, by the rule `block-comment`.
+fn skip_block(at: Cursor<'_>) -> Option<Cursor<'_>>
+    ensures { Reads (find_block (chars at.entry.rest.now)) at.entry result }
 {
-    let mut end = at;
+    let mut end = at.past("/*")?;
     let mut depth = 1;
     while depth > 0 {
         let (after, inside) = step(end, depth)?;
@@ -57,29 +57,15 @@ fn skip_body(at: Cursor<'_>) -> Option<Cursor<'_>>
     Some(end)
 }
 
-/// The place after the block comment that stands at the place, by the rule `block-comment`.
-fn skip_block(at: Cursor<'_>) -> Option<Cursor<'_>>
-    ensures { Reads (find_block (chars at.entry.rest.now)) at.entry result }
+/// The comment that stands at the place, a gap or a doc comment: its kind, and the place after it.
+/// None stands where a doc comment has a CR that no LF follows in its text.
+pub fn comment(at: Cursor<'_>) -> Option<(PieceKind<'_>, Cursor<'_>)>
+    ensures { Answers (comment_found (find_comment (chars at.entry.rest.now))) at.entry result }
 {
-    skip_body(at.past("/*")?)
-}
-
-/// The place after the comment that stands at the place.
-fn skip_comment(at: Cursor<'_>) -> Option<Cursor<'_>>
-    ensures { Reads (find_comment (chars at.entry.rest.now)) at.entry result }
-{
-    match skip_line(at) {
-        Some(end) => Some(end),
-        None => skip_block(at),
-    }
-}
-
-/// The comment at the front of the text, a gap or a doc comment. None stands where a doc comment
-/// has a CR that no LF follows in its text.
-pub fn comment(text: &str) -> Option<Piece<'_>>
-    ensures { Answers (comment_found (find_comment (chars text.now))) result }
-{
-    let end = skip_comment(Cursor::new(text))?;
-    let kind = comment_kind(before(text, end.rest), end.rest)?;
-    Some(end.piece_from(text, kind))
+    let end = match skip_line(at) {
+        Some(end) => end,
+        None => skip_block(at)?,
+    };
+    let kind = comment_kind(before(at.rest, end.rest), end.rest)?;
+    Some((kind, end))
 }

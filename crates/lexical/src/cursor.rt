@@ -3,7 +3,6 @@
 ghost use Rattle.std.specs.Prelude.{◌≡◌, ◌+◌, ◌<◌, ◌^◌, length};
 ghost use Rattle.std.specs.Str.{IsUtf8, chars};
 
-use crate::piece::{Piece, PieceKind};
 use crate::text::{char_count, split_first, strip};
 
 /// A place in a text.
@@ -84,20 +83,5 @@ impl<'a> Cursor<'a> {
             → result ≡ length (encode_utf8_all front) }
     {
         text.len() - self.rest.len()
-    }
-
-    /// The piece of this kind from the front of the text up to the place, which lies in it.
-    pub fn piece_from(self, text: &str, kind: PieceKind<'a>) -> Piece<'a>
-        requires { (front : List ℕ) × (chars text.now ≡ front ++ chars self.rest.now)
-            × (self.chars_before ≡ length front) }
-        ensures kind { result.kind ≡ kind.entry }
-        ensures size { (front : List ℕ) → chars text.now ≡ front ++ chars self.entry.rest.now
-            → (result.bytes ≡ length (encode_utf8_all front)) × (result.chars ≡ length front) }
-    {
-        Piece {
-            kind,
-            bytes: self.bytes_in(text),
-            chars: self.chars_before,
-        }
     }
 }

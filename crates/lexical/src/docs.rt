@@ -1,6 +1,6 @@
 //! Doc comments.
 
-ghost use Rattle.std.specs.Prelude.{◌≡◌, IsTrue, drop};
+ghost use Rattle.std.specs.Prelude.{◌≡◌};
 ghost use Rattle.std.specs.Str.{chars};
 ghost use Rattle.lexical.specs.Comment.{Comment, has_bare_return as bare, is_doc as documents, is_inner as inward};
 ghost use Rattle.lexical.specs.CommentFinder.{comment_kind as kind_of_comment, doc_text as text_of_doc};
@@ -27,20 +27,12 @@ fn is_doc(comment: &str) -> bool
     is_inner(comment) || outer && !plain
 }
 
-/// What follows the first three characters of a doc comment.
-fn after_front(comment: &str) -> &str
-    requires { IsTrue (documents (chars comment.now)) }
-    ensures { chars result.now ≡ drop 3 (chars comment.now) }
-{
-    &comment[3..]
-}
-
 /// The text of a doc comment before `rest`, by the rule `doc-text`.
 fn doc_text<'a>(comment: &'a str, rest: &str) -> &'a str
     requires { Where documents Comment (chars comment.now) (chars rest.now) }
     ensures { chars result.now ≡ text_of_doc (chars comment.now) (chars rest.now) }
 {
-    let said = after_front(comment);
+    let said = &comment[3..];
     if begins(comment, "/*") {
         before(said, "*/")
     } else if begins(rest, "\n") {

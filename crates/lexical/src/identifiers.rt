@@ -1,33 +1,25 @@
 //! Identifiers.
 
-ghost use Rattle.std.specs.Prelude.{◌≡◌, ◌∷◌, ◌++◌, IsTrue, List, ℕ, codes};
+ghost use Rattle.std.specs.Prelude.{◌≡◌, ◌+◌, ◌∷◌, IsTrue, List, ℕ};
 ghost use Rattle.std.specs.Str.{chars};
-ghost use Rattle.lexical.specs.Class.{is_ident_continue, is_ident_start};
-ghost use Rattle.lexical.specs.Finder.{find_run};
+ghost use Rattle.lexical.specs.Class.{is_ident_start};
 ghost use Rattle.lexical.specs.Identifier.{is_reserved as reserved, literal_prefixes};
-ghost use Rattle.lexical.specs.IdentifierFinder.{find_name, find_raw_name, find_raw_text, name_kind, raw_kind};
-ghost use Rattle.lexical.specs.PieceFinder.{found_identifier, tagged};
-ghost use Rattle.lexical.specs.Reading.{Answers, IsFound, Passes, Reads};
+ghost use Rattle.lexical.specs.IdentifierFinder.{find_name, find_raw_name};
+ghost use Rattle.lexical.specs.PieceFinder.{found_identifier};
+ghost use Rattle.lexical.specs.Reading.{Answers, Reads};
 ghost use Rattle.lexical.specs.Text.{begins_any};
 
 use crate::bytes::{Class, one, skip};
 use crate::cursor::Cursor;
-use crate::piece::{Piece, PieceKind};
+use crate::piece::PieceKind;
 use crate::text::{before, begins, is_text};
-
-/// The place after all the characters that an identifier may go on with.
-fn skip_continues(at: Cursor<'_>) -> Cursor<'_>
-    ensures { Passes (find_run is_ident_continue (chars at.entry.rest.now)) at.entry result }
-{
-    skip(at, Class::IdentifierContinue)
-}
 
 /// The place after the name that stands at the place, by the rule `name`.
 pub fn name(at: Cursor<'_>) -> Option<Cursor<'_>>
     ensures { Reads (find_name (chars at.entry.rest.now)) at.entry result }
 {
     let after = one(at, Class::IdentifierStart)?;
-    Some(skip_continues(after))
+    Some(skip(after, Class::IdentifierContinue))
 }
 
 /// Whether the text begins as a literal with letters before its quote does, by the rule
@@ -70,49 +62,33 @@ pub fn raw_name(at: Cursor<'_>) -> Option<Cursor<'_>>
     Some(end)
 }
 
-/// The raw identifier at the front of the text, by the rule `raw-identifier`. The place is that
-/// after `r#`.
-fn raw_identifier<'a>(text: &'a str, at: Cursor<'a>) -> Option<Piece<'a>>
-    requires split { chars text.now ≡ codes "r#" ++ chars at.rest.now }
-    requires two { at.chars_before ≡ 2 }
-    ensures { Answers (tagged raw_kind (find_raw_text (chars text.now))) result }
-{
-    let end = raw_name(at)?;
-    let kind = PieceKind::Name {
-        raw: true,
-        name: before(at.rest, end.rest),
-    };
-    Some(end.piece_from(text, kind))
-}
-
-/// The name at the front of the text. The place is that after its first character.
-fn plain_identifier<'a>(text: &'a str, first: char, after: Cursor<'a>) -> Piece<'a>
+/// The identifier that stands at the place, by the rule `identifier`: its kind, and the place after
+/// it. `first` is the character at the place, and `after` the place after that.
+pub fn identifier<'a>(
+    at: Cursor<'a>,
+    first: char,
+    after: Cursor<'a>,
+) -> Option<(PieceKind<'a>, Cursor<'a>)>
     requires starts { IsTrue (is_ident_start first) }
-    requires split { chars text.now ≡ first ∷ chars after.rest.now }
-    requires one { after.chars_before ≡ 1 }
-    ensures { IsFound (tagged name_kind (find_name (chars text.now))) result }
+    requires split { chars at.rest.now ≡ first ∷ chars after.rest.now }
+    requires one { after.chars_before ≡ at.chars_before + 1 }
+    ensures { Answers (found_identifier (chars at.entry.rest.now)) at.entry result }
 {
-    let end = skip_continues(after);
-    let kind = PieceKind::Name {
-        raw: false,
-        name: before(text, end.rest),
-    };
-    end.piece_from(text, kind)
-}
-
-/// The identifier at the front of the text, by the rule `identifier`. The place is that after its
-/// first character.
-pub fn identifier<'a>(text: &'a str, first: char, after: Cursor<'a>) -> Option<Piece<'a>>
-    requires starts { IsTrue (is_ident_start first) }
-    requires split { chars text.now ≡ first ∷ chars after.rest.now }
-    requires one { after.chars_before ≡ 1 }
-    ensures { Answers (found_identifier (chars text.now)) result }
-{
-    if begins_literal(text, first) {
+    if begins_literal(at.rest, first) {
         return None;
     }
-    match Cursor::new(text).past("r#") {
-        Some(at) => raw_identifier(text, at),
-        None => Some(plain_identifier(text, first, after)),
+    if let Some(inside) = at.past("r#") {
+        let end = raw_name(inside)?;
+        let kind = PieceKind::Name {
+            raw: true,
+            name: before(inside.rest, end.rest),
+        };
+        return Some((kind, end));
     }
+    let end = skip(after, Class::IdentifierContinue);
+    let kind = PieceKind::Name {
+        raw: false,
+        name: before(at.rest, end.rest),
+    };
+    Some((kind, end))
 }

@@ -14,7 +14,6 @@ mod bytes;
 mod class;
 mod comments;
 mod cursor;
-mod delimiters;
 mod docs;
 mod escapes;
 mod gaps;

@@ -3,13 +3,12 @@
 ghost use Rattle.std.specs.Str.{chars};
 ghost use Rattle.lexical.specs.Finder.{find_else};
 ghost use Rattle.lexical.specs.QuotedFinder.{find_byte, find_bytes, find_character, find_quoted, find_string};
-ghost use Rattle.lexical.specs.PieceFinder.{find_literal, found_error, found_number, found_quoted};
-ghost use Rattle.lexical.specs.Reading.{Answers, Reads};
+ghost use Rattle.lexical.specs.PieceFinder.{find_literal};
+ghost use Rattle.lexical.specs.Reading.{Reads};
 ghost use Rattle.lexical.specs.declared.quoted.StringKind.TheVariants as kinds;
 
 use crate::cursor::Cursor;
 use crate::numbers::number;
-use crate::piece::{Piece, PieceKind};
 use crate::quoted::{StringKind, string};
 use crate::raw_strings::raw_string;
 use crate::single_quotes::{byte, character};
@@ -74,28 +73,4 @@ pub fn literal(at: Cursor<'_>) -> Option<Cursor<'_>>
         Some(end) => Some(end),
         None => number(at),
     }
-}
-
-/// The number at the front of the text, by the rule `number`.
-pub fn number_piece(text: &str) -> Option<Piece<'_>>
-    ensures { Answers (found_number (chars text.now)) result }
-{
-    let end = number(Cursor::new(text))?;
-    Some(end.piece_from(text, PieceKind::Literal))
-}
-
-/// The literal between quotes at the front of the text, by the rule `quoted-literal`.
-pub fn quoted_piece(text: &str) -> Option<Piece<'_>>
-    ensures { Answers (found_quoted (chars text.now)) result }
-{
-    let end = quoted(Cursor::new(text))?;
-    Some(end.piece_from(text, PieceKind::Literal))
-}
-
-/// The error literal at the front of the text, by the rule `error-literal`.
-pub fn error_literal(text: &str) -> Option<Piece<'_>>
-    ensures { Answers (found_error (chars text.now)) result }
-{
-    let end = Cursor::new(text).past("(/*ERROR*/)")?;
-    Some(end.piece_from(text, PieceKind::Literal))
 }

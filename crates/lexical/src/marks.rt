@@ -1,17 +1,15 @@
 //! Marks.
 
-ghost use Rattle.std.specs.Prelude.{◌≡◌, ◌∷◌, not};
+ghost use Rattle.std.specs.Prelude.{◌≡◌, not};
 ghost use Rattle.std.specs.Str.{chars};
-ghost use Rattle.lexical.specs.Character.{single_quote};
 ghost use Rattle.lexical.specs.Mark.{is_mark as is_one_of_marks, bars_quote, comment_fronts, joint_before};
-ghost use Rattle.lexical.specs.MarkFinder.{find_lone_quote, find_mark, follows_quote as follows, mark_kind, quote_kind};
-ghost use Rattle.lexical.specs.PieceFinder.{tagged};
-ghost use Rattle.lexical.specs.Reading.{Answers};
+ghost use Rattle.lexical.specs.MarkFinder.{follows_quote as follows};
 ghost use Rattle.lexical.specs.Text.{begins_any, first_passes};
+ghost use Rattle.lexical.specs.declared.piece.PieceKind.TheVariants as kinds;
 
 use crate::cursor::Cursor;
 use crate::identifiers::{name, raw_name};
-use crate::piece::{Piece, PieceKind};
+use crate::piece::PieceKind;
 use crate::text::{begins, split_first};
 
 /// Whether the character is one of the 22 marks, by the rule `marks`.
@@ -51,30 +49,15 @@ pub fn begins_comment(text: &str) -> bool
     begins(text, "//") || begins(text, "/*")
 }
 
-/// Whether a mark before this text is Joint, by the rule `joint`.
-fn is_joint_before(rest: &str) -> bool
-    ensures { result ≡ joint_before (chars rest.now) }
+/// The mark before `rest`, which is Joint by the rule `joint`.
+pub fn mark<'a>(mark: char, rest: &str) -> PieceKind<'a>
+    ensures { result ≡ kinds.Mark mark (joint_before (chars rest.now)) }
 {
-    match split_first(rest) {
+    let joint = match split_first(rest) {
         Some((next, _)) => is_mark(next) && !begins_comment(rest),
         None => false,
-    }
-}
-
-/// The mark at the front of the text, by the rule `mark`, which isn't `'`. The place is that after the first character.
-pub fn mark<'a>(text: &'a str, first: char, after: Cursor<'a>) -> Option<Piece<'a>>
-    requires split { chars text.now ≡ first ∷ chars after.rest.now }
-    requires one { after.chars_before ≡ 1 }
-    ensures { Answers (tagged mark_kind (find_mark (chars text.now))) result }
-{
-    if !is_mark(first) || first == '\'' || begins_comment(text) {
-        return None;
-    }
-    let kind = PieceKind::Mark {
-        mark: first,
-        joint: is_joint_before(after.rest),
     };
-    Some(after.piece_from(text, kind))
+    PieceKind::Mark { mark, joint }
 }
 
 /// Whether no character follows the place that bars a `'` before the identifier that ends there.
@@ -88,7 +71,7 @@ fn is_unbarred(end: Cursor<'_>, raw: bool) -> bool
 }
 
 /// Whether a lone quote may stand before the place, by the rule `lone-quote`.
-fn follows_quote(at: Cursor<'_>) -> bool
+pub fn follows_quote(at: Cursor<'_>) -> bool
     ensures { result ≡ follows (chars at.entry.rest.now) }
 {
     if let Some(inside) = at.past("r#") {
@@ -101,20 +84,4 @@ fn follows_quote(at: Cursor<'_>) -> bool
         Some(end) => is_unbarred(end, false),
         None => false,
     }
-}
-
-/// The mark `'` at the front of the text, by the rule `lone-quote`. The place is that after it.
-pub fn lone_quote<'a>(text: &'a str, after: Cursor<'a>) -> Option<Piece<'a>>
-    requires split { chars text.now ≡ single_quote ∷ chars after.rest.now }
-    requires one { after.chars_before ≡ 1 }
-    ensures { Answers (tagged quote_kind (find_lone_quote (chars text.now))) result }
-{
-    if !follows_quote(after) {
-        return None;
-    }
-    let kind = PieceKind::Mark {
-        mark: '\'',
-        joint: true,
-    };
-    Some(after.piece_from(text, kind))
 }

@@ -2,7 +2,7 @@ use Rattle.std.proofs.Common.{rules, ap, sym, ◌∙◌}
 use Rattle.std.specs.Str.{chars}
 use Rattle.lexical.specs.Class.{is_ident_continue, is_ident_start}
 use Rattle.lexical.specs.Finder.{and_find, find_one, find_run}
-use Rattle.lexical.proofs.RuleSteps.{find_class, one_answers}
+use Rattle.lexical.proofs.RuleSteps.{find_class, one_answers, run_answers}
 use Rattle.lexical.proofs.StepLemmas.{passes_then}
 use Rattle.lexical.proofs.identifiers.name.Goals as goal
 
@@ -14,4 +14,4 @@ returns-in_err-after c =
 pub returns : goal.returns
 returns c =
     passes_then (find_one is_ident_start) (find_run is_ident_continue) _ _ _
-    (one_answers is_ident_start _ _ c.in_ok-after.ensures) c.skip_continues.ensures
+    (one_answers is_ident_start _ _ c.in_ok-after.ensures) (run_answers is_ident_continue _ _ c.skip.ensures)
