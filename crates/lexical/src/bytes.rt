@@ -65,8 +65,9 @@ pub enum Class {
 }
 
 // Each byte is of one kind at most, which is a bit. A class has the characters of some kinds.
+/// No kind: other characters of ASCII, and the bytes past it.
 const NONE: u16 = 0;
-
+/// White space.
 const WHITE: u16 = 1;
 /// `0` and `1`.
 const BINARY: u16 = 2;
@@ -80,23 +81,24 @@ const EXPONENT: u16 = 16;
 const HEX: u16 = 32;
 /// The other letters.
 const LETTER: u16 = 64;
-
+/// `_`.
 const UNDERSCORE: u16 = 128;
-
+/// `+` and `-`.
 const SIGN: u16 = 256;
-
+/// `#`.
 const HASH: u16 = 512;
-
+/// `.`.
 const DOT: u16 = 1024;
 /// The other marks.
 const MARK: u16 = 2048;
-
+/// `(`, `[` and `{`.
 const OPENER: u16 = 4096;
-
+/// `)`, `]` and `}`.
 const CLOSER: u16 = 8192;
 
+/// The kinds of digits.
 const DIGITS: u16 = BINARY | OCTAL | DECIMAL;
-
+/// The kinds of letters.
 const LETTERS: u16 = EXPONENT | HEX | LETTER;
 
 /// The kind of each byte. Those past ASCII are of none.

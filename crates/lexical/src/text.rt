@@ -36,6 +36,9 @@ pub fn split_first(text: &str) -> Option<(char, &str)>
 pub fn char_count(text: &str) -> usize
     ensures { result ≡ length (chars text.now) }
 {
+    if text.is_ascii() {
+        return text.len();
+    }
     let mut count = 0;
     for byte in text.as_bytes() {
         if *byte < 0x80 || *byte >= 0xC0 {

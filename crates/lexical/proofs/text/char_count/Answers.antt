@@ -1,7 +1,11 @@
-use Rattle.std.proofs.Common.{ap, ◌∙◌, arith, length, take_all}
+use Rattle.std.proofs.Common.{ap, sym, ◌∙◌, arith, length, take_all}
 use Rattle.std.specs.List.{count_by}
+use Rattle.std.proofs.lemmas.Str.{chars-IsAscii}
 use Rattle.lexical.proofs.CountLemmas.{is_first_byte, chars_counted}
 use Rattle.lexical.proofs.text.char_count.Goals as goal
+
+pub returns-then-is_ascii : goal.returns-then-is_ascii
+returns-then-is_ascii c = ap length (sym (chars-IsAscii c.args.text.now c.if-is_ascii.ensures.cases))
 
 pub returns : goal.returns
 returns c =
