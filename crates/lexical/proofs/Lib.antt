@@ -22,6 +22,7 @@ pub mod HashLemmas
 pub mod QuotedFinderLemmas
 pub mod RuleLemmas
 pub mod RuleSteps
+pub mod UnitSteps
 pub mod NumberFinderLemmas
 pub mod LiteralFinderLemmas
 pub mod PieceLemmas

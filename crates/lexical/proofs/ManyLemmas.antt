@@ -1,15 +1,11 @@
 -- Pieces of one form in a row are found.
-use Rattle.std.proofs.Common.{◌≡◌, ℕ, zero, suc, ◌+◌, ◌≤◌, ◌<◌, true, List, [], ◌∷◌, ◌++◌, length, Some, None, is_some, IfSome, refl, sym, ap, ◌∙◌, subst, arith, append_assoc, length-append}
+use Rattle.std.proofs.Common.{◌≡◌, ℕ, zero, suc, ◌≤◌, true, List, [], ◌∷◌, ◌++◌, length, Some, None, is_some, IfSome, refl, sym, ap, ◌∙◌, subst, arith, append_assoc, length-append}
 use Rattle.std.specs.List.{concat}
-use Rattle.std.specs.Str.{chars}
 use Rattle.std.proofs.lemmas.Bool.{both_ways}
 use Rattle.lexical.specs.Form.{Form, HasNone, Then, Each, Many}
 use Rattle.lexical.specs.Finder.{Answer, Finder, Finds, behind, find_then, find_some_of, or_stop, find_many}
-use Rattle.lexical.specs.Reading.{Passes}
-use Rattle.lexical.specs.declared.cursor.Cursor.{Cursor}
 use Rattle.lexical.proofs.FinderLemmas.{IsSplit, none_found, none_is, found_is, finds_then, finds_same}
 use Rattle.lexical.proofs.WordLemmas.{Disjoint, NotEmpty}
-use Rattle.lexical.proofs.BlockLemmas.{behind_nothing, behind_behind}
 
 -- pieces of the form, as long as one stands
 abbrev pub AllOf : Form → Form
@@ -116,53 +112,11 @@ module _ (f : Finder) (A : Form) (h : Finds f A) (some : NotEmpty A) where
       ap (λ t. find_many f t) (e ∙ (ap (λ xs. unit ++ xs) sound.0 ∙ sym (append_assoc unit x.0 x.1)))
       ∙ (finds_many f A h some).complete (unit ++ x.0) x.1 all
 
-  many_found : (text unit rest : List ℕ) → f text ≡ Some (unit, rest) → find_many f text ≡ behind unit (find_many f rest)
+  pub many_found : (text unit rest : List ℕ) → f text ≡ Some (unit, rest) → find_many f text ≡ behind unit (find_many f rest)
   unfolding find_many
   many_found text unit rest e =
       let at = found_is f A h text unit rest e in
       more_of unit rest text at.0 at.1 (find_many f rest) ((finds_many f A h some).sound rest) refl (many_stands f (length rest) rest)
 
-  many_ends : (text : List ℕ) → f text ≡ None → find_many f text ≡ Some ([], text)
+  pub many_ends : (text : List ℕ) → f text ≡ None → find_many f text ≡ Some ([], text)
   many_ends text e = (finds_many f A h some).complete [] text (record { units = []; whole = refl; each = tt }, none_is f A h text e)
-
-  -- a unit is not empty
-  pub unit_shortens : (at to : Cursor) → Passes (f (chars at.rest.now)) at to → length (chars to.rest.now) < length (chars at.rest.now)
-  unit_shortens at to pass =
-      let long = some pass.front (chars to.rest.now) (found_is f A h (chars at.rest.now) pass.front (chars to.rest.now) pass.found).1 in
-      omega (arith, length-append pass.front (chars to.rest.now), ap length pass.whole)
-
--- ---- the loop over units
-
--- from one place to the other lead units
-pub record LeadsBy (f : Finder) (at to : Cursor) : Type 0 where
-  pub front : List ℕ
-  pub found : find_many f (chars at.rest.now) ≡ behind front (find_many f (chars to.rest.now))
-  pub whole : chars at.rest.now ≡ front ++ chars to.rest.now
-  pub count : to.chars_before ≡ at.chars_before + length front
-
-pub stays : (f : Finder) (at : Cursor) → LeadsBy f at at
-stays f at = record { front = []; found = sym (behind_nothing _); whole = refl; count = omega arith }
-
-module _ (f : Finder) (A : Form) (h : Finds f A) (some : NotEmpty A) where
-  pub goes_on : (at mid to : Cursor) → LeadsBy f at mid → Passes (f (chars mid.rest.now)) mid to → LeadsBy f at to
-  goes_on at mid to lead pass = record {
-    front = lead.front ++ pass.front;
-    found =
-        lead.found ∙ (ap (behind lead.front)
-        (many_found f A h some (chars mid.rest.now) pass.front (chars to.rest.now) pass.found)
-        ∙ behind_behind lead.front pass.front _);
-    whole = lead.whole ∙ (ap (λ x. lead.front ++ x) pass.whole ∙ sym (append_assoc lead.front pass.front (chars to.rest.now)));
-    count = omega (arith, lead.count, pass.count, length-append lead.front pass.front);
-  }
-
-  pub ends : (at to : Cursor) → LeadsBy f at to → f (chars to.rest.now) ≡ None → Passes (find_many f (chars at.rest.now)) at to
-  ends at to lead none = record {
-    front = lead.front;
-    found = lead.found ∙ (ap (behind lead.front) (many_ends f A h some (chars to.rest.now) none) ∙ nothing_behind lead.front (chars to.rest.now));
-    whole = lead.whole;
-    count = lead.count;
-  }
-    where
-      nothing_behind : (front rest : List ℕ) → behind front (Some ([], rest)) ≡ Some (front, rest)
-      nothing_behind [] rest = refl
-      nothing_behind (c ∷ front) rest = ap (behind (c ∷ [])) (nothing_behind front rest)

@@ -5,8 +5,6 @@ use Rattle.std.proofs.lemmas.Bool.{cond-true, cond-false}
 use Rattle.lexical.specs.Text.{begins_any, first_passes}
 use Rattle.lexical.specs.Finder.{and_find, behind, or_find, unless_next, if_passes, find_one, find_run, find_text}
 use Rattle.lexical.specs.Rule.{Rule, One, Run, Exactly, Then, Either, Else, NotAt, NotBefore, Where, find, nothing, perhaps}
-use Rattle.lexical.specs.Quoted.{suffix}
-use Rattle.lexical.specs.QuotedFinder.{find_suffix}
 use Rattle.lexical.specs.Reading as answers
 use Rattle.lexical.specs.Step.{Passes, Reads}
 use Rattle.lexical.specs.declared.cursor.Cursor.{Cursor}
@@ -22,10 +20,6 @@ one_reads passes at (Some to) h = record { front = h.front; found = h.found; cou
 pub run_passes : (passes : ℕ → Bool) (at to : Cursor) → answers.Passes (find_run passes (chars at.rest.now)) at to → Passes (Run passes) at to
 unfolding find
 run_passes passes at to h = record { front = h.front; found = h.found; count = h.count }
-
-pub suffix_passes : (at to : Cursor) → answers.Passes (find_suffix (chars at.rest.now)) at to → Passes suffix at to
-unfolding find
-suffix_passes at to h = record { front = h.front; found = h.found; count = h.count }
 
 -- and the other way
 pub one_answers : (passes : ℕ → Bool) (at to : Cursor) → Passes (One passes) at to → answers.Passes (find_one passes (chars at.rest.now)) at to
@@ -174,4 +168,4 @@ find_nothing text = refl
 
 -- ---- all of them
 
-pub ruleset steps = (find_then, find_either, find_other, find_not_at, find_not_before, find_where, find_exactly, find_nothing, length-append, one_reads, run_passes, suffix_passes, then_passes, then_reads, then_lacks, then_fails, either_first, either_reads, else_first, else_reads, perhaps_stays, before_passes, before_lacks)
+pub ruleset steps = (find_then, find_either, find_other, find_not_at, find_not_before, find_where, find_exactly, find_nothing, length-append, one_reads, run_passes, then_passes, then_reads, then_lacks, then_fails, either_first, either_reads, else_first, else_reads, perhaps_stays, before_passes, before_lacks)

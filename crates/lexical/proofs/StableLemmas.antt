@@ -49,6 +49,8 @@ Looks class (rules.One passes) = Unit {0}
 Looks class (rules.Run passes) = Sub passes class
 Looks class (rules.Exactly text) = Unit {0}
 Looks class (rules.Then a b) = (Looks class a ⊎ (Local (Stands a) × NotEmpty (Stands b))) × Looks class b
+Looks class (rules.Next a b) = Stable class (Stands (rules.Next a b))
+Looks class (rules.UpTo a b) = Stable class (Stands (rules.UpTo a b))
 Looks class (rules.Either a b) = Looks class a × Looks class b
 Looks class (rules.Else a b) = Looks class a × Looks class b × StaysNone class (Stands a)
 Looks class (rules.NotAt fronts a) = Stable class (Stands (rules.NotAt fronts a))
@@ -107,6 +109,8 @@ module _ (class : ℕ → Bool) where
     | inl far ↦ stable_then (Stands a) (Stands b) (stable a far) (stable b looks.1)
     | inr near ↦ stable_local (Stands a) (Stands b) near.0 near.1 (stable b looks.1)
   ]
+  stable (rules.Next a b) looks = looks
+  stable (rules.UpTo a b) looks = looks
   stable (rules.Either a b) looks = λ p between r s ends is. elim is [
     | inl x ↦ inl (stable a looks.0 p between r s ends x)
     | inr y ↦ inr (stable b looks.1 p between r s ends y)
@@ -147,6 +151,8 @@ Within class (rules.One passes) = Sub passes class
 Within class (rules.Run passes) = Sub passes class
 Within class (rules.Exactly text) = list_all class text ≡ true
 Within class (rules.Then a b) = Within class a × Within class b
+Within class (rules.Next a b) = AllIn class (Stands (rules.Next a b))
+Within class (rules.UpTo a b) = AllIn class (Stands (rules.UpTo a b))
 Within class (rules.Either a b) = Within class a × Within class b
 Within class (rules.Else a b) = Within class a × Within class b
 Within class (rules.NotAt fronts a) = Within class a
@@ -169,6 +175,8 @@ module _ (class : ℕ → Bool) where
   all_in (rules.Then a b) within = λ p r is.
       ap (list_all class) is.whole
       ∙ all_append is.front is.back (all_in a within.0 is.front (is.back ++ r) is.first) (all_in b within.1 is.back r is.second)
+  all_in (rules.Next a b) within = within
+  all_in (rules.UpTo a b) within = within
   all_in (rules.Either a b) within = λ p r is. elim is [ inl x ↦ all_in a within.0 p r x | inr y ↦ all_in b within.1 p r y ]
   all_in (rules.Else a b) within = λ p r is. elim is [ inl x ↦ all_in a within.0 p r x | inr y ↦ all_in b within.1 p r y.1 ]
   all_in (rules.NotAt fronts a) within = λ p r is. all_in a within p r is.0

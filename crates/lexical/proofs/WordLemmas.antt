@@ -2,8 +2,7 @@
 use Rattle.std.proofs.Common.{◌≡◌, ℕ, ◌≤◌, Bool, true, false, not, ◌==◌, ◌||◌, List, [], ◌∷◌, ◌++◌, length, Some, None, IfSome, refl, sym, ap, ◌∙◌, subst, inl, inr, arith, append_assoc, length-append, eqb-true, eq-eqb}
 use Rattle.std.proofs.lemmas.Bool.{both_ways, false_from_ne_true, or_cases, not-true}
 use Rattle.lexical.specs.Text.{first_passes}
-use Rattle.lexical.specs.Form.{Form, HasNone, Then, Either, Else, Nothing, Perhaps, Exactly, One}
-use Rattle.lexical.specs.RawString.{Next}
+use Rattle.lexical.specs.Form.{Form, HasNone, Then, Next, Either, Else, Nothing, Perhaps, Exactly, One}
 use Rattle.lexical.specs.Finder.{Answer, Finder, Finds, behind, or_find, find_else, and_next, find_next, find_nothing}
 use Rattle.lexical.proofs.FinderLemmas.{IsSplit, none_is, none_found, finds_either, then_whole}
 

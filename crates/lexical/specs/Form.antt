@@ -20,6 +20,14 @@ pub record Then (A B : Form) (p r : List ℕ) : Type 0 where
   pub first : A front (back ++ r)
   pub second : B back r
 
+-- a piece of the first form, and then one of the second, which depends on the first
+pub record Next (A : Form) (B : List ℕ → Form) (p r : List ℕ) : Type 0 where
+  pub front : List ℕ
+  pub back : List ℕ
+  pub whole : p ≡ front ++ back
+  pub first : A front (back ++ r)
+  pub second : B front back r
+
 -- a piece of the form, where the text begins with none of these
 abbrev pub NotAt : List (List ℕ) → Form → Form
 NotAt fronts A p r = A p r × IsFalse (begins_any fronts (p ++ r))

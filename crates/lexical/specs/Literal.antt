@@ -2,12 +2,28 @@
 use Rattle.std.specs.Prelude.{ℕ, List, []}
 use Rattle.lexical.specs.Form.{Form, Either, Exactly}
 use Rattle.lexical.specs.Delimiter.{error_literal}
-use Rattle.lexical.specs.Quoted.{Str, ByteStr, CStr}
-use Rattle.lexical.specs.RawString.{RawStr, RawByteStr, RawCStr}
-use Rattle.lexical.specs.SingleQuoted.{Character, Byte}
+use Rattle.lexical.specs.Quoted.{Str, ByteStr, CStr, cooked}
+use Rattle.lexical.specs.RawString.{RawStr, RawByteStr, RawCStr, raw_string}
+use Rattle.lexical.specs.Rule as rules
+use Rattle.lexical.specs.Rule.{Rule}
+use Rattle.lexical.specs.SingleQuoted.{Character, Byte, character, byte}
+use Rattle.lexical.specs.declared.quoted.StringKind.{StringKind}
+use Rattle.lexical.specs.declared.quoted.StringKind.TheVariants as kinds
 use Rattle.lexical.specs.Number.{Number}
 
+-- a string of the kind, with escapes or raw
+abbrev pub string : StringKind → Rule
+string kind = rules.Either (cooked kind) (raw_string kind)
+
 -- `quoted-literal`: a string, a byte string or a C string, each with escapes or raw, a character or a byte
+abbrev pub quoted_literal : Rule
+quoted_literal =
+    rules.Either (string kinds.Plain)
+    (rules.Either character
+    (rules.Either (string kinds.Byte)
+    (rules.Either byte (string kinds.C))))
+
+-- what it says
 abbrev pub QuotedLiteral : Form
 QuotedLiteral =
     Either (Either Str RawStr)

@@ -108,16 +108,16 @@ CEscape = Stands (escape C)
 -- ---- the body
 
 -- CR LF
-abbrev pub Newline : Form
-Newline = Exactly (codes "\r\n")
+abbrev pub newline : Rule
+newline = rules.Exactly (codes "\r\n")
 
 -- `continuation`: a line end, of which the backslash before it makes nothing
-abbrev pub Continuation : Form
-Continuation = Either (Exactly (codes "\n")) Newline
+abbrev pub continuation : Rule
+continuation = rules.Either (rules.Exactly (codes "\n")) newline
 
--- a character that passes, a line end, or a backslash and what may stand after it
-abbrev pub BodyUnit : (ℕ → Bool) → Form → Form
-BodyUnit plain Escape = Either (One plain) (Either Newline (Then (Exactly (codes "\\")) (Either Continuation Escape)))
+-- what may stand after a backslash
+abbrev pub escaped : StringKind → Rule
+escaped kind = rules.Either continuation (escape kind)
 
 -- any character but `"`, `\` and CR
 abbrev pub is_string_plain : ℕ → Bool
@@ -131,17 +131,38 @@ is_byte_plain c = is_string_plain c && is_ascii c
 abbrev pub is_c_plain : ℕ → Bool
 is_c_plain c = is_string_plain c && not (c == 0)
 
--- `string-unit`
+-- the characters that stand for themselves
+abbrev pub is_plain : StringKind → ℕ → Bool
+is_plain Plain = is_string_plain
+is_plain Byte = is_byte_plain
+is_plain C = is_c_plain
+
+-- `string-unit`, `byte-string-unit`, `c-string-unit`: a character that passes, a line end, or a backslash and what may
+-- stand after it
+abbrev pub unit : StringKind → Rule
+unit kind =
+    rules.Either (rules.One (is_plain kind))
+    (rules.Either newline (rules.Then (rules.Exactly (codes "\\")) (escaped kind)))
+
+-- what they say
+abbrev pub Newline : Form
+Newline = Stands newline
+
+abbrev pub Continuation : Form
+Continuation = Stands continuation
+
 abbrev pub StringUnit : Form
-StringUnit = BodyUnit is_string_plain StringEscape
+StringUnit = Stands (unit Plain)
 
--- `byte-string-unit`
 abbrev pub ByteUnit : Form
-ByteUnit = BodyUnit is_byte_plain ByteEscape
+ByteUnit = Stands (unit Byte)
 
--- `c-string-unit`
 abbrev pub CUnit : Form
-CUnit = BodyUnit is_c_plain CEscape
+CUnit = Stands (unit C)
+
+-- a unit, whatever passes and whatever the escapes are
+abbrev pub BodyUnit : (ℕ → Bool) → Form → Form
+BodyUnit plain Escape = Either (One plain) (Either Newline (Then (Exactly (codes "\\")) (Either Continuation Escape)))
 
 -- ---- cooked strings
 
@@ -153,22 +174,37 @@ suffix = perhaps name
 abbrev pub Suffix : Form
 Suffix = Stands suffix
 
--- `string-body`: units up to what closes the literal, that, and a suffix
-abbrev pub Body : Form → List ℕ → Form
-Body Unit close = Then (Many Unit) (Then (Exactly close) Suffix)
+-- what closes a literal, and a suffix
+abbrev pub close : List ℕ → Rule
+close text = rules.Then (rules.Exactly text) suffix
 
--- what opens it, and the units up to the first `"` that is in none of them
+-- `string-body`: units up to what closes the literal, that, and a suffix
+abbrev pub body : Rule → List ℕ → Rule
+body unit text = rules.UpTo unit (close text)
+
+-- what opens a string
+abbrev pub front : StringKind → List ℕ
+front Plain = codes "\""
+front Byte = codes "b\""
+front C = codes "c\""
+
+-- `string`, `byte-string`, `c-string`: what opens it, and the units up to the first `"` that is in none of them
+abbrev pub cooked : StringKind → Rule
+cooked kind = rules.Then (rules.Exactly (front kind)) (body (unit kind) (codes "\""))
+
+-- what they say: `string` is a literal between `"` and `"`
+unfoldable pub Str : Form
+Str = Stands (cooked Plain)
+
+abbrev pub ByteStr : Form
+ByteStr = Stands (cooked Byte)
+
+abbrev pub CStr : Form
+CStr = Stands (cooked C)
+
+-- the same of any units
+abbrev pub Body : Form → List ℕ → Form
+Body Unit text = Then (Many Unit) (Stands (close text))
+
 abbrev pub Cooked : List ℕ → Form → Form
 Cooked front Unit = Then (Exactly front) (Body Unit (codes "\""))
-
--- `string`: a literal between `"` and `"`
-unfoldable pub Str : Form
-Str = Cooked (codes "\"") StringUnit
-
--- `byte-string`
-abbrev pub ByteStr : Form
-ByteStr = Cooked (codes "b\"") ByteUnit
-
--- `c-string`
-abbrev pub CStr : Form
-CStr = Cooked (codes "c\"") CUnit

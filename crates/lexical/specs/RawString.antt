@@ -1,43 +1,65 @@
 -- Strings without escapes.
-use Rattle.std.specs.Prelude.{ℕ, Bool, true, not, ◌&&◌, ◌==◌, ◌≡◌, List, [], ◌∷◌, ◌++◌, codes, nat_le, length}
+use Rattle.std.specs.Prelude.{ℕ, Bool, true, not, ◌&&◌, ◌==◌, List, [], ◌∷◌, codes, nat_le, length}
 use Rattle.std.specs.Char.{is_ascii}
 use Rattle.lexical.specs.Character.{carriage_return, double_quote, hash_sign}
-use Rattle.lexical.specs.Form.{Form, Then, NotAt, Where, Either, Exactly, One, Run}
-use Rattle.lexical.specs.Quoted.{Newline, Body}
-
--- a piece of the first form, and then one of the second, which depends on the first
-pub record Next (A : Form) (B : List ℕ → Form) (p r : List ℕ) : Type 0 where
-  pub front : List ℕ
-  pub back : List ℕ
-  pub whole : p ≡ front ++ back
-  pub first : A front (back ++ r)
-  pub second : B front back r
+use Rattle.lexical.specs.Form.{Form}
+use Rattle.lexical.specs.Rule.{Rule, One, Run, Exactly, Then, Next, Either, NotAt, Where, Stands}
+use Rattle.lexical.specs.Quoted.{newline, body}
+use Rattle.lexical.specs.declared.quoted.StringKind.{StringKind}
+use Rattle.lexical.specs.declared.quoted.StringKind.TheVariants.{Plain, Byte, C}
 
 -- `raw-hashes`: all the hash signs, 255 at most
-abbrev pub Hashes : Form
-Hashes = Where (λ hashes. nat_le (length hashes) 255) (Run (λ c. c == hash_sign))
+abbrev pub hashes : Rule
+hashes = Where (λ hashes. nat_le (length hashes) 255) (Run (λ c. c == hash_sign))
 
 -- `raw-unit`: a character that is allowed, or CR LF, where what closes the string doesn't begin
-abbrev pub RawUnit : (ℕ → Bool) → List ℕ → Form
-RawUnit allowed close = NotAt (close ∷ []) (Either (One (λ c. allowed c && not (c == carriage_return))) Newline)
+abbrev pub raw_unit : (ℕ → Bool) → List ℕ → Rule
+raw_unit allowed close = NotAt (close ∷ []) (Either (One (λ c. allowed c && not (c == carriage_return))) newline)
 
 -- after the hash signs: a quote, and the units up to the first quote with those signs after it
-abbrev pub RawQuotes : (ℕ → Bool) → List ℕ → Form
-RawQuotes allowed hashes =
-    Then (Exactly (codes "\"")) (Body (RawUnit allowed (double_quote ∷ hashes)) (double_quote ∷ hashes))
+abbrev pub raw_quotes : (ℕ → Bool) → List ℕ → Rule
+raw_quotes allowed hashes =
+    Then (Exactly (codes "\"")) (body (raw_unit allowed (double_quote ∷ hashes)) (double_quote ∷ hashes))
 
 -- what opens it, hash signs, and the string between its quotes
+abbrev pub raw : List ℕ → (ℕ → Bool) → Rule
+raw front allowed = Then (Exactly front) (Next hashes (raw_quotes allowed))
+
+-- the characters that may stand in a raw string
+abbrev pub is_raw : StringKind → ℕ → Bool
+is_raw Plain c = true
+is_raw Byte c = is_ascii c
+is_raw C c = not (c == 0)
+
+-- what opens a raw string
+abbrev pub raw_front : StringKind → List ℕ
+raw_front Plain = codes "r"
+raw_front Byte = codes "br"
+raw_front C = codes "cr"
+
+-- `raw-string`, `raw-byte-string`, `raw-c-string`
+abbrev pub raw_string : StringKind → Rule
+raw_string kind = raw (raw_front kind) (is_raw kind)
+
+-- ---- what they say
+
+abbrev pub Hashes : Form
+Hashes = Stands hashes
+
+abbrev pub RawUnit : (ℕ → Bool) → List ℕ → Form
+RawUnit allowed close = Stands (raw_unit allowed close)
+
+abbrev pub RawQuotes : (ℕ → Bool) → List ℕ → Form
+RawQuotes allowed hashes = Stands (raw_quotes allowed hashes)
+
 abbrev pub Raw : List ℕ → (ℕ → Bool) → Form
-Raw front allowed = Then (Exactly front) (Next Hashes (RawQuotes allowed))
+Raw front allowed = Stands (raw front allowed)
 
--- `raw-string`
 abbrev pub RawStr : Form
-RawStr = Raw (codes "r") (λ c. true)
+RawStr = Stands (raw_string Plain)
 
--- `raw-byte-string`
 abbrev pub RawByteStr : Form
-RawByteStr = Raw (codes "br") is_ascii
+RawByteStr = Stands (raw_string Byte)
 
--- `raw-c-string`
 abbrev pub RawCStr : Form
-RawCStr = Raw (codes "cr") (λ c. not (c == 0))
+RawCStr = Stands (raw_string C)

@@ -2,8 +2,8 @@
 use Rattle.std.specs.Prelude.{ℕ, Bool, List, []}
 use Rattle.lexical.specs.Form as forms
 use Rattle.lexical.specs.Form.{Form}
-use Rattle.lexical.specs.Finder.{Finder, find_then, find_else, find_not_at, find_not_before}
-use Rattle.lexical.specs.Finder.{find_where, find_one, find_run, find_text}
+use Rattle.lexical.specs.Finder.{Finder, find_then, find_next, find_else, find_not_at, find_not_before}
+use Rattle.lexical.specs.Finder.{find_where, find_one, find_run, find_text, find_many}
 
 -- a rule, by the words that forms are made of
 pub data Rule : Type 0 where
@@ -15,6 +15,10 @@ pub data Rule : Type 0 where
   Exactly : List ℕ → Rule
   -- a piece of the first rule, and then one of the second
   Then : Rule → Rule → Rule
+  -- the same, where the second rule depends on the first piece
+  Next : Rule → (List ℕ → Rule) → Rule
+  -- pieces of the first rule, any number of them, up to one of the second
+  UpTo : Rule → Rule → Rule
   -- a piece of one of the rules, which stand apart: no text begins with a piece of each
   Either : Rule → Rule → Rule
   -- a piece of the first rule where one stands, and else one of the second
@@ -32,6 +36,8 @@ Stands (One passes) = forms.One passes
 Stands (Run passes) = forms.Run passes
 Stands (Exactly text) = forms.Exactly text
 Stands (Then a b) = forms.Then (Stands a) (Stands b)
+Stands (Next a b) = forms.Next (Stands a) (λ front. Stands (b front))
+Stands (UpTo a b) = forms.Then (forms.Many (Stands a)) (Stands b)
 Stands (Either a b) = forms.Either (Stands a) (Stands b)
 Stands (Else a b) = forms.Else (Stands a) (Stands b)
 Stands (NotAt fronts a) = forms.NotAt fronts (Stands a)
@@ -44,6 +50,8 @@ find (One passes) text = find_one passes text
 find (Run passes) text = find_run passes text
 find (Exactly front) text = find_text front text
 find (Then a b) text = find_then (find a) (find b) text
+find (Next a b) text = find_next (find a) (λ front. find (b front)) text
+find (UpTo a b) text = find_then (find_many (find a)) (find b) text
 find (Either a b) text = find_else (find a) (find b) text
 find (Else a b) text = find_else (find a) (find b) text
 find (NotAt fronts a) text = find_not_at fronts (find a) text

@@ -1,11 +1,15 @@
 //! Literals.
 
 ghost use Rattle.std.specs.Str.{chars};
-ghost use Rattle.lexical.specs.Finder.{find_else};
-ghost use Rattle.lexical.specs.QuotedFinder.{find_byte, find_bytes, find_character, find_quoted, find_string};
+ghost use Rattle.std.specs.Prelude.{◌&&◌, IsTrue, codes};
+ghost use Rattle.lexical.specs.Ascii.{all_ascii};
 ghost use Rattle.lexical.specs.PieceFinder.{find_literal};
+ghost use Rattle.lexical.specs.Quoted.{body, unit};
+ghost use Rattle.lexical.specs.QuotedFinder.{find_quoted};
+ghost use Rattle.lexical.specs.RawString.{is_raw, raw};
 ghost use Rattle.lexical.specs.Reading.{Reads};
-ghost use Rattle.lexical.specs.declared.quoted.StringKind.TheVariants as kinds;
+ghost use Rattle.lexical.specs.Rule.{Either, Exactly, Then};
+ghost use Rattle.lexical.specs.Step as rules;
 
 use crate::cursor::Cursor;
 use crate::numbers::number;
@@ -13,55 +17,44 @@ use crate::quoted::{StringKind, string};
 use crate::raw_strings::raw_string;
 use crate::single_quotes::{byte, character};
 
-/// The place after the string of the kind that stands at the place, with escapes or raw.
-fn any_string(at: Cursor<'_>, kind: StringKind) -> Option<Cursor<'_>>
-    ensures { Reads (find_string kind (chars at.entry.rest.now)) at.entry result }
-{
-    match string(at, kind) {
-        Some(end) => Some(end),
-        None => raw_string(at, kind),
-    }
-}
-
-/// The place after a byte or a string of C.
-fn byte_or_c_string(at: Cursor<'_>) -> Option<Cursor<'_>>
-    ensures { Reads (find_else find_byte (find_string kinds.C) (chars at.entry.rest.now)) at.entry result }
-{
-    match byte(at) {
-        Some(end) => Some(end),
-        None => any_string(at, StringKind::C),
-    }
-}
-
-/// The place after a byte, a byte string or a string of C.
-fn bytes(at: Cursor<'_>) -> Option<Cursor<'_>>
-    ensures { Reads (find_bytes (chars at.entry.rest.now)) at.entry result }
-{
-    match any_string(at, StringKind::Byte) {
-        Some(end) => Some(end),
-        None => byte_or_c_string(at),
-    }
-}
-
-/// The place after a character, or what has `b` or `c` before its quote.
-fn character_or_bytes(at: Cursor<'_>) -> Option<Cursor<'_>>
-    ensures { Reads (find_else find_character find_bytes (chars at.entry.rest.now)) at.entry result }
-{
-    match character(at) {
-        Some(end) => Some(end),
-        None => bytes(at),
-    }
-}
-
 /// The place after the literal between quotes that stands at the place, by the rule
 /// `quoted-literal`.
-#[tactic(auto, unfolding(crate::specs::QuotedFinder::find_quoted))]
+#[tactic(auto, using(crate::proofs::QuotedFinderLemmas::passes_quoted, crate::proofs::QuotedFinderLemmas::reads_quoted, crate::proofs::UnitSteps::unit_steps))]
 pub fn quoted(at: Cursor<'_>) -> Option<Cursor<'_>>
     ensures { Reads (find_quoted (chars at.entry.rest.now)) at.entry result }
 {
-    match any_string(at, StringKind::Plain) {
+    if let Some(end) = any_string(at, "\"", "r", StringKind::Plain) {
+        return Some(end);
+    }
+    if let Some(end) = character(at) {
+        return Some(end);
+    }
+    if let Some(end) = any_string(at, "b\"", "br", StringKind::Byte) {
+        return Some(end);
+    }
+    match byte(at) {
         Some(end) => Some(end),
-        None => character_or_bytes(at),
+        None => any_string(at, "c\"", "cr", StringKind::C),
+    }
+}
+
+/// The place after the string that stands at the place, with escapes after the first text or raw
+/// after the second.
+#[tactic(auto, using(crate::proofs::UnitSteps::unit_steps))]
+fn any_string<'a>(
+    at: Cursor<'a>,
+    front: &str,
+    raw_front: &str,
+    kind: StringKind,
+) -> Option<Cursor<'a>>
+    requires ascii { IsTrue (all_ascii front.now && all_ascii raw_front.now) }
+    ensures { rules.Reads
+        (Either (Then (Exactly front.now) (body (unit kind) (codes "\""))) (raw raw_front.now (is_raw kind)))
+        at.entry result }
+{
+    match string(at, front, kind) {
+        Some(end) => Some(end),
+        None => raw_string(at, raw_front, kind),
     }
 }
 

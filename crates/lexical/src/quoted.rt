@@ -1,19 +1,11 @@
 //! Strings with escapes.
+#![tactic(auto, using(crate::proofs::UnitSteps::unit_steps))]
 
-ghost use Rattle.std.specs.Prelude.{◌≡◌, codes};
-ghost use Rattle.std.specs.Str.{chars};
-ghost use Rattle.lexical.specs.Finder.{find_else, find_many, find_text, find_then};
-ghost use Rattle.lexical.specs.QuotedFinder.{
-  find_body,
-  find_cooked,
-  find_escaped,
-  find_newline,
-  find_suffix,
-  find_unit,
-  is_plain,
-  string_front,
-};
-ghost use Rattle.lexical.specs.Reading.{Passes, Reads};
+ghost use Rattle.std.specs.Prelude.{◌≡◌, codes, IsTrue};
+ghost use Rattle.lexical.specs.Ascii.{all_ascii};
+ghost use Rattle.lexical.specs.Quoted as rule;
+ghost use Rattle.lexical.specs.Rule.{Exactly, Then};
+ghost use Rattle.lexical.specs.Step.{Passes, Reads};
 
 use crate::cursor::Cursor;
 use crate::escapes::escape;
@@ -21,7 +13,7 @@ use crate::identifiers::name;
 use crate::skip::one;
 
 /// What a string is made of.
-#[derive(Clone, Copy, Debug, PartialEq, Eq)]
+#[derive(Clone, Copy)]
 pub enum StringKind {
     /// Characters.
     Plain,
@@ -33,7 +25,7 @@ pub enum StringKind {
 
 /// The place after the suffix of a literal, by the rule `suffix`.
 pub fn suffix(at: Cursor<'_>) -> Cursor<'_>
-    ensures { Passes (find_suffix (chars at.entry.rest.now)) at.entry result }
+    ensures { Passes rule.suffix at.entry result }
 {
     match name(at) {
         Some(end) => end,
@@ -43,7 +35,7 @@ pub fn suffix(at: Cursor<'_>) -> Cursor<'_>
 
 /// Whether the character stands for itself.
 fn stands_for_itself(c: char, kind: StringKind) -> bool
-    ensures { result ≡ is_plain kind c }
+    ensures { result ≡ rule.is_plain kind c }
 {
     match c {
         '"' | '\\' | '\r' => false,
@@ -55,95 +47,42 @@ fn stands_for_itself(c: char, kind: StringKind) -> bool
     }
 }
 
-/// The place after a line end.
-fn line_end(at: Cursor<'_>) -> Option<Cursor<'_>>
-    ensures { Reads (find_else (find_text (codes "\n")) find_newline (chars at.entry.rest.now)) at.entry result }
-{
-    match at.past("\n") {
-        Some(end) => Some(end),
-        None => at.past("\r\n"),
-    }
-}
-
 /// The place after what may stand after a backslash in a string.
 fn escaped(at: Cursor<'_>, kind: StringKind) -> Option<Cursor<'_>>
-    ensures { Reads (find_escaped kind (chars at.entry.rest.now)) at.entry result }
+    ensures { Reads (rule.escaped kind) at.entry result }
 {
-    match line_end(at) {
+    if let Some(end) = at.past("\n") {
+        return Some(end);
+    }
+    match at.past("\r\n") {
         Some(end) => Some(end),
         None => escape(at, kind),
     }
 }
 
-/// The place after a backslash and what may stand after it.
-fn backslash(at: Cursor<'_>, kind: StringKind) -> Option<Cursor<'_>>
-    ensures { Reads (find_then (find_text (codes "\\")) (find_escaped kind) (chars at.entry.rest.now)) at.entry result }
+/// The place after a unit of a string, by the rules `string-unit`, `byte-string-unit` and
+/// `c-string-unit`.
+fn unit(at: Cursor<'_>, kind: StringKind) -> Option<Cursor<'_>>
+    ensures { Reads (rule.unit kind) at.entry result }
 {
-    escaped(at.past("\\")?, kind)
-}
-
-/// The place after CR LF, or a backslash and what may stand after it.
-fn long_unit(at: Cursor<'_>, kind: StringKind) -> Option<Cursor<'_>>
-    ensures { Reads
-        (find_else find_newline (find_then (find_text (codes "\\")) (find_escaped kind)) (chars at.entry.rest.now))
-        at.entry result }
-{
+    if let Some(end) = one(at, |c| stands_for_itself(c, kind)) {
+        return Some(end);
+    }
     match at.past("\r\n") {
         Some(end) => Some(end),
-        None => backslash(at, kind),
+        None => escaped(at.past("\\")?, kind),
     }
 }
 
-/// The place after a unit of a string.
-fn unit(at: Cursor<'_>, kind: StringKind) -> Option<Cursor<'_>>
-    ensures { Reads (find_unit kind (chars at.entry.rest.now)) at.entry result }
+/// The place after the string with escapes that stands at the place behind the text `front`, by the
+/// rules `string`, `byte-string` and `c-string`.
+pub fn string<'a>(at: Cursor<'a>, front: &str, kind: StringKind) -> Option<Cursor<'a>>
+    requires ascii { IsTrue (all_ascii front.now) }
+    ensures { Reads (Then (Exactly front.now) (rule.body (rule.unit kind) (codes "\""))) at.entry result }
 {
-    match one(at, |c| stands_for_itself(c, kind)) {
-        Some(end) => Some(end),
-        None => long_unit(at, kind),
-    }
-}
-
-/// The place after all the units from the place on.
-fn units(at: Cursor<'_>, kind: StringKind) -> Cursor<'_>
-    ensures { Passes (find_many (find_unit kind) (chars at.entry.rest.now)) at.entry result }
-{
-    let mut end = at;
+    let mut end = at.past(front)?;
     while let Some(after) = unit(end, kind) {
         end = after;
     }
-    end
-}
-
-/// The place after the closing quote and the suffix.
-fn close(at: Cursor<'_>) -> Option<Cursor<'_>>
-    ensures { Reads (find_then (find_text (codes "\"")) find_suffix (chars at.entry.rest.now)) at.entry result }
-{
-    Some(suffix(at.past("\"")?))
-}
-
-/// The place after the units, the closing quote and the suffix, by the rule `string-body`.
-fn body(at: Cursor<'_>, kind: StringKind) -> Option<Cursor<'_>>
-    ensures { Reads (find_body (find_unit kind) (codes "\"") (chars at.entry.rest.now)) at.entry result }
-{
-    close(units(at, kind))
-}
-
-/// The place after what opens a string of the kind.
-fn open(at: Cursor<'_>, kind: StringKind) -> Option<Cursor<'_>>
-    ensures { Reads (find_text (string_front kind) (chars at.entry.rest.now)) at.entry result }
-{
-    match kind {
-        StringKind::Plain => at.past("\""),
-        StringKind::Byte => at.past("b\""),
-        StringKind::C => at.past("c\""),
-    }
-}
-
-/// The place after the string with escapes that stands at the place, by the rules `string`,
-/// `byte-string` and `c-string`.
-pub fn string(at: Cursor<'_>, kind: StringKind) -> Option<Cursor<'_>>
-    ensures { Reads (find_cooked kind (chars at.entry.rest.now)) at.entry result }
-{
-    body(open(at, kind)?, kind)
+    Some(suffix(end.past("\"")?))
 }

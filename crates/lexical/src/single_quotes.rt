@@ -1,14 +1,12 @@
 //! Characters and bytes.
+#![tactic(auto, using(crate::proofs::UnitSteps::unit_steps))]
 
-ghost use Rattle.std.specs.Prelude.{◌≡◌, codes};
-ghost use Rattle.std.specs.Str.{chars};
-ghost use Rattle.lexical.specs.Finder.{find_text, find_then};
-ghost use Rattle.lexical.specs.Quoted as rule;
-ghost use Rattle.lexical.specs.QuotedFinder.{find_byte, find_character, find_single_end, find_single_unit};
-ghost use Rattle.lexical.specs.Reading.{Reads};
-ghost use Rattle.lexical.specs.Rule.{find};
-ghost use Rattle.lexical.specs.SingleQuoted.{is_byte_char_plain, is_char_plain};
-ghost use Rattle.lexical.specs.declared.quoted.StringKind.TheVariants as kinds;
+ghost use Rattle.std.specs.Prelude.{◌≡◌};
+ghost use Rattle.lexical.specs.Quoted.{escape};
+ghost use Rattle.lexical.specs.Rule.{Either, Exactly, One, Then};
+ghost use Rattle.lexical.specs.SingleQuoted as rule;
+ghost use Rattle.lexical.specs.SingleQuoted.{is_plain};
+ghost use Rattle.lexical.specs.Step.{Reads};
 
 use crate::cursor::Cursor;
 use crate::escapes::escape;
@@ -16,76 +14,37 @@ use crate::quoted::{StringKind, suffix};
 use crate::skip::one;
 
 /// Whether the character stands for itself between single quotes.
-fn stands_bare(c: char) -> bool
-    ensures { result ≡ is_char_plain c }
+fn stands_bare(c: char, kind: StringKind) -> bool
+    ensures { result ≡ is_plain kind c }
 {
     match c {
         '\'' | '\\' | '\n' | '\r' | '\t' => false,
-        _ => true,
+        _ => !matches!(kind, StringKind::Byte) || c.is_ascii(),
     }
-}
-
-/// The place after a backslash and an escape.
-fn escaped(at: Cursor<'_>, kind: StringKind) -> Option<Cursor<'_>>
-    ensures { Reads
-        (find_then (find_text (codes "\\")) (find (rule.escape kind)) (chars at.entry.rest.now)) at.entry result }
-{
-    escape(at.past("\\")?, kind)
 }
 
 /// The place after one character that may stand bare, or a backslash and an escape.
-fn character_unit(at: Cursor<'_>) -> Option<Cursor<'_>>
-    ensures { Reads (find_single_unit is_char_plain kinds.Plain (chars at.entry.rest.now)) at.entry result }
+fn unit(at: Cursor<'_>, kind: StringKind) -> Option<Cursor<'_>>
+    ensures { Reads (rule.unit (is_plain kind) (escape kind)) at.entry result }
 {
-    match one(at, |c| stands_bare(c)) {
+    match one(at, |c| stands_bare(c, kind)) {
         Some(end) => Some(end),
-        None => escaped(at, StringKind::Plain),
+        None => escape(at.past("\\")?, kind),
     }
-}
-
-/// The place after one character of ASCII that may stand bare, or a backslash and an escape.
-fn byte_unit(at: Cursor<'_>) -> Option<Cursor<'_>>
-    ensures { Reads (find_single_unit is_byte_char_plain kinds.Byte (chars at.entry.rest.now)) at.entry result }
-{
-    match one(at, |c| stands_bare(c) && c.is_ascii()) {
-        Some(end) => Some(end),
-        None => escaped(at, StringKind::Byte),
-    }
-}
-
-/// The place after the closing quote and the suffix.
-fn close(at: Cursor<'_>) -> Option<Cursor<'_>>
-    ensures { Reads (find_single_end (chars at.entry.rest.now)) at.entry result }
-{
-    Some(suffix(at.past("'")?))
-}
-
-/// The place after the unit of a character, the closing quote and the suffix.
-fn character_body(at: Cursor<'_>) -> Option<Cursor<'_>>
-    ensures { Reads (find_then (find_single_unit is_char_plain kinds.Plain) find_single_end (chars at.entry.rest.now))
-        at.entry result }
-{
-    close(character_unit(at)?)
-}
-
-/// The place after the unit of a byte, the closing quote and the suffix.
-fn byte_body(at: Cursor<'_>) -> Option<Cursor<'_>>
-    ensures { Reads (find_then (find_single_unit is_byte_char_plain kinds.Byte) find_single_end (chars at.entry.rest.now))
-        at.entry result }
-{
-    close(byte_unit(at)?)
 }
 
 /// The place after the character literal that stands at the place, by the rule `character`.
 pub fn character(at: Cursor<'_>) -> Option<Cursor<'_>>
-    ensures { Reads (find_character (chars at.entry.rest.now)) at.entry result }
+    ensures { Reads rule.character at.entry result }
 {
-    character_body(at.past("'")?)
+    let end = unit(at.past("'")?, StringKind::Plain)?;
+    Some(suffix(end.past("'")?))
 }
 
 /// The place after the byte literal that stands at the place, by the rule `byte`.
 pub fn byte(at: Cursor<'_>) -> Option<Cursor<'_>>
-    ensures { Reads (find_byte (chars at.entry.rest.now)) at.entry result }
+    ensures { Reads rule.byte at.entry result }
 {
-    byte_body(at.past("b'")?)
+    let end = unit(at.past("b'")?, StringKind::Byte)?;
+    Some(suffix(end.past("'")?))
 }
