@@ -11,7 +11,6 @@ pub mod QuotedLemmas
 pub mod BlockLemmas
 pub mod CommentFinderLemmas
 pub mod CommentLemmas
-pub mod StepLemmas
 pub mod SkipLemmas
 pub mod NameFinderLemmas
 pub mod WhiteRunLemmas

@@ -2,8 +2,8 @@
 use Rattle.std.proofs.Common.{◌≡◌, ℕ, ◌≤◌, Bool, true, false, not, ◌==◌, ◌||◌, List, [], ◌∷◌, ◌++◌, length, Some, None, IfSome, refl, sym, ap, ◌∙◌, subst, inl, inr, arith, append_assoc, length-append, eqb-true, eq-eqb}
 use Rattle.std.proofs.lemmas.Bool.{both_ways, false_from_ne_true, or_cases, not-true}
 use Rattle.lexical.specs.Text.{first_passes}
-use Rattle.lexical.specs.Form.{Form, HasNone, Then, Next, Either, Else, Nothing, Perhaps, Exactly, One}
-use Rattle.lexical.specs.Finder.{Answer, Finder, Finds, behind, or_find, find_else, and_next, find_next, find_nothing}
+use Rattle.lexical.specs.Form.{Form, HasNone, Then, Next, Either, Else, Exactly, One}
+use Rattle.lexical.specs.Finder.{Answer, Finder, Finds, behind, or_find, find_else, and_next, find_next}
 use Rattle.lexical.proofs.FinderLemmas.{IsSplit, none_is, none_found, finds_either, then_whole}
 
 -- ---- `Either` of forms that stand apart
@@ -27,7 +27,7 @@ none_apart f A B h apart p r b = none_found f A h (p ++ r) (λ q s e a. apart q 
 pub finds_apart : (f g : Finder) (A B : Form) → Finds f A → Finds g B → Disjoint A B → Finds (find_else f g) (Either A B)
 finds_apart f g A B h j apart = finds_either f g A B h j (none_apart f A B h apart)
 
--- ---- `Perhaps`
+-- ---- `Else`
 
 else_sound : (A B : Form) (text : List ℕ) (o u : Answer) → IfSome o (IsSplit A text) → IfSome u (IsSplit B text)
     → (o ≡ None → HasNone A text) → IfSome (or_find o u) (IsSplit (Else A B) text)
@@ -43,12 +43,6 @@ finds_else f g A B h j = record {
     | inr b ↦ ap (λ o. or_find o (g (p ++ r))) (none_found f A h (p ++ r) b.0) ∙ j.complete p r b.1
   ];
 }
-
-finds_nothing : Finds find_nothing Nothing
-finds_nothing = record { sound = λ text. (refl, refl); complete = λ p r is. subst (λ q. find_nothing (q ++ r) ≡ Some (q, r)) (sym is) refl }
-
-pub finds_perhaps : (f : Finder) (A : Form) → Finds f A → Finds (find_else f find_nothing) (Perhaps A)
-finds_perhaps f A h = finds_else f find_nothing A Nothing h finds_nothing
 
 -- ---- `Next`
 

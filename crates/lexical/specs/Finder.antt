@@ -99,10 +99,6 @@ abbrev pub find_text : List ℕ → Finder
 find_text [] text = Some ([], text)
 find_text (c ∷ front) text = find_then (find_one (λ d. d == c)) (find_text front) text
 
--- `Nothing`
-abbrev pub find_nothing : Finder
-find_nothing text = Some ([], text)
-
 -- what was found and what is found after it, or nothing
 abbrev pub or_stop : List ℕ → (List ℕ × List ℕ → Answer) → Answer → Answer
 or_stop text go None = Some ([], text)

@@ -15,7 +15,7 @@ use crate::cursor::Cursor;
 use crate::numbers::number;
 use crate::quoted::{StringKind, string};
 use crate::raw_strings::raw_string;
-use crate::single_quotes::{byte, character};
+use crate::single_quotes::single;
 
 /// The place after the literal between quotes that stands at the place, by the rule
 /// `quoted-literal`.
@@ -26,20 +26,20 @@ pub fn quoted(at: Cursor<'_>) -> Option<Cursor<'_>>
     if let Some(end) = any_string(at, "\"", "r", StringKind::Plain) {
         return Some(end);
     }
-    if let Some(end) = character(at) {
+    if let Some(end) = single(at, "'", StringKind::Plain) {
         return Some(end);
     }
     if let Some(end) = any_string(at, "b\"", "br", StringKind::Byte) {
         return Some(end);
     }
-    match byte(at) {
+    match single(at, "b'", StringKind::Byte) {
         Some(end) => Some(end),
         None => any_string(at, "c\"", "cr", StringKind::C),
     }
 }
 
-/// The place after the string that stands at the place, with escapes after the first text or raw
-/// after the second.
+/// The place after the string that stands at the place: with escapes, which the text `front` opens,
+/// or raw, which `raw_front` opens.
 #[tactic(auto, using(crate::proofs::UnitSteps::unit_steps))]
 fn any_string<'a>(
     at: Cursor<'a>,

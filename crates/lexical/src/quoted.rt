@@ -74,8 +74,8 @@ fn unit(at: Cursor<'_>, kind: StringKind) -> Option<Cursor<'_>>
     }
 }
 
-/// The place after the string with escapes that stands at the place behind the text `front`, by the
-/// rules `string`, `byte-string` and `c-string`.
+/// The place after the string with escapes that stands at the place, which the text `front` opens,
+/// by the rules `string`, `byte-string` and `c-string`.
 pub fn string<'a>(at: Cursor<'a>, front: &str, kind: StringKind) -> Option<Cursor<'a>>
     requires ascii { IsTrue (all_ascii front.now) }
     ensures { Reads (Then (Exactly front.now) (rule.body (rule.unit kind) (codes "\""))) at.entry result }

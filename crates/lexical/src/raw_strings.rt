@@ -63,8 +63,8 @@ fn raw_unit<'a>(at: Cursor<'a>, kind: StringKind, hashes: &str) -> Option<Cursor
     }
 }
 
-/// The place after the raw string that stands at the place behind the text `front`, by the rules
-/// `raw-string`, `raw-byte-string` and `raw-c-string`.
+/// The place after the raw string that stands at the place, which the text `front` opens, by the
+/// rules `raw-string`, `raw-byte-string` and `raw-c-string`.
 pub fn raw_string<'a>(at: Cursor<'a>, front: &str, kind: StringKind) -> Option<Cursor<'a>>
     requires ascii { IsTrue (all_ascii front.now) }
     ensures { Reads (rule.raw front.now (is_raw kind)) at.entry result }

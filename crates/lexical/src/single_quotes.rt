@@ -1,9 +1,9 @@
 //! Characters and bytes.
 #![tactic(auto, using(crate::proofs::UnitSteps::unit_steps))]
 
-ghost use Rattle.std.specs.Prelude.{◌≡◌};
+ghost use Rattle.std.specs.Prelude.{◌≡◌, IsTrue};
+ghost use Rattle.lexical.specs.Ascii.{all_ascii};
 ghost use Rattle.lexical.specs.Quoted.{escape};
-ghost use Rattle.lexical.specs.Rule.{Either, Exactly, One, Then};
 ghost use Rattle.lexical.specs.SingleQuoted as rule;
 ghost use Rattle.lexical.specs.SingleQuoted.{is_plain};
 ghost use Rattle.lexical.specs.Step.{Reads};
@@ -33,18 +33,12 @@ fn unit(at: Cursor<'_>, kind: StringKind) -> Option<Cursor<'_>>
     }
 }
 
-/// The place after the character literal that stands at the place, by the rule `character`.
-pub fn character(at: Cursor<'_>) -> Option<Cursor<'_>>
-    ensures { Reads rule.character at.entry result }
+/// The place after the literal between single quotes that stands at the place, which the text
+/// `front` opens, by the rules `character` and `byte`.
+pub fn single<'a>(at: Cursor<'a>, front: &str, kind: StringKind) -> Option<Cursor<'a>>
+    requires ascii { IsTrue (all_ascii front.now) }
+    ensures { Reads (rule.single front.now (is_plain kind) (escape kind)) at.entry result }
 {
-    let end = unit(at.past("'")?, StringKind::Plain)?;
-    Some(suffix(end.past("'")?))
-}
-
-/// The place after the byte literal that stands at the place, by the rule `byte`.
-pub fn byte(at: Cursor<'_>) -> Option<Cursor<'_>>
-    ensures { Reads rule.byte at.entry result }
-{
-    let end = unit(at.past("b'")?, StringKind::Byte)?;
+    let end = unit(at.past(front)?, kind)?;
     Some(suffix(end.past("'")?))
 }

@@ -20,20 +20,20 @@ others = Either character bytes
 pub returns-in-Some : goal.returns-in-Some
 returns-in-Some c = passes_quoted _ _ (either_first (string kinds.Plain) others _ _ c.in-Some.ensures)
 
-pub returns-in-Some-character : goal.returns-in-Some-character
-returns-in-Some-character c = passes_quoted _ _
+pub returns-in-Some-single : goal.returns-in-Some-single
+returns-in-Some-single c = passes_quoted _ _
     (either_reads (string kinds.Plain) others _ (Some _) c.in_default.ensures
-    (either_first character bytes _ _ c.in-Some-character.ensures))
+    (either_first character bytes _ _ c.in-Some-single.ensures))
 
 pub returns-in-Some-any_string : goal.returns-in-Some-any_string
 returns-in-Some-any_string c = passes_quoted _ _
     (either_reads (string kinds.Plain) others _ (Some _) c.in_default.ensures
-    (either_reads character bytes _ (Some _) c.in_default-character.ensures
+    (either_reads character bytes _ (Some _) c.in_default-single.ensures
     (either_first (string kinds.Byte) last _ _ c.in-Some-any_string.ensures)))
 
-pub returns-in-Some-byte : goal.returns-in-Some-byte
-returns-in-Some-byte c = passes_quoted _ _
+pub returns-in-Some-single-2 : goal.returns-in-Some-single-2
+returns-in-Some-single-2 c = passes_quoted _ _
     (either_reads (string kinds.Plain) others _ (Some _) c.in_default.ensures
-    (either_reads character bytes _ (Some _) c.in_default-character.ensures
+    (either_reads character bytes _ (Some _) c.in_default-single.ensures
     (either_reads (string kinds.Byte) last _ (Some _) c.in_default-any_string.ensures
-    (either_first byte (string kinds.C) _ _ c.in-Some-byte.ensures))))
+    (either_first byte (string kinds.C) _ _ c.in-Some-single-2.ensures))))
