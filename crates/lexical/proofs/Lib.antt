@@ -6,6 +6,7 @@ pub mod CountLemmas
 pub mod Scan
 pub mod SearchLemmas
 pub mod ByteLemmas
+pub mod ReturnLemmas
 pub mod RunLemmas
 pub mod QuotedLemmas
 pub mod BlockLemmas

@@ -9,6 +9,7 @@ ghost use Rattle.lexical.specs.Reading.{Tells};
 
 use crate::cursor::Cursor;
 use crate::piece::PieceKind;
+use crate::search::skip_to;
 use crate::text::{before, begins, without_return};
 
 /// Whether the comment documents what it stands in.
@@ -46,12 +47,12 @@ fn doc_text<'a>(comment: &'a str, rest: &str) -> &'a str
 fn has_bare_return(text: &str) -> bool
     ensures { result ≡ bare (chars text.now) }
 {
-    let mut at = Cursor::new(text);
-    while let Some((c, after)) = at.advance() {
-        if c == '\r' && !begins(after.rest, "\n") {
+    let mut at = skip_to(Cursor::new(text), b'\r');
+    while let Some((_, after)) = at.advance() {
+        if !begins(after.rest, "\n") {
             return true;
         }
-        at = after;
+        at = skip_to(after, b'\r');
     }
     false
 }

@@ -1,10 +1,10 @@
-use Rattle.std.proofs.Common.{◌≡◌, length}
+use Rattle.std.proofs.Common.{length}
 use Rattle.std.specs.Str.{chars}
-use Rattle.lexical.specs.Comment.{has_bare_return as bare}
+use Rattle.lexical.proofs.ReturnLemmas.{AtReturn}
 use Rattle.lexical.proofs.docs.has_bare_return.Given as goal
 
-abbrev pub invariant-loop-c : goal.invariant-loop-c
-invariant-loop-c l = bare (chars l.at.rest.now) ≡ bare (chars l.text)
+abbrev pub invariant-loop-after : goal.invariant-loop-after
+invariant-loop-after l = AtReturn (chars l.text) l.at
 
-abbrev pub decreases-loop-c : goal.decreases-loop-c
-decreases-loop-c l = length (chars l.at.rest.now)
+abbrev pub decreases-loop-after : goal.decreases-loop-after
+decreases-loop-after l = length (chars l.at.rest.now)
