@@ -1,5 +1,5 @@
 -- What the lexer's steps answer is what the finders find.
-use Rattle.std.proofs.Common.{◌≡◌, ℕ, ◌+◌, Bool, true, false, not, ◌&&◌, ◌==◌, List, [], ◌∷◌, ◌++◌, length, Some, refl, sym, ap, ◌∙◌, subst, arith}
+use Rattle.std.proofs.Common.{◌≡◌, ℕ, ◌+◌, Bool, true, false, not, ◌&&◌, ◌==◌, cond, List, [], ◌∷◌, ◌++◌, length, Some, None, refl, sym, ap, ◌∙◌, subst, arith, eqb-true}
 use Rattle.std.specs.Str.{chars, encode_utf8_all}
 use Rattle.std.proofs.lemmas.Bool.{and_from, cond-true, cond-false, not_from_false}
 use Rattle.lexical.specs.Class.{is_ident_start, is_ident_continue}
@@ -12,15 +12,18 @@ use Rattle.lexical.specs.Found.{kind_of, LendsText, IsPieceAt, IsAt}
 use Rattle.lexical.specs.Finder.{Answer, Finder, Finds, behind, and_find, find_not_at, find_one, find_run}
 use Rattle.lexical.specs.IdentifierFinder.{find_name}
 use Rattle.lexical.specs.CommentFinder.{find_comment}
-use Rattle.lexical.specs.MarkFinder.{find_mark, mark_kind}
-use Rattle.lexical.specs.PieceFinder.{Found, tagged, or_found, found}
+use Rattle.lexical.specs.MarkFinder.{find_lone_quote, find_mark, follows_quote, mark_kind}
+use Rattle.lexical.specs.PieceFinder.{Found, literal_kind, tagged, or_found, start, found_from, found}
 use Rattle.lexical.specs.Reading.{Passes, IsFound}
 use Rattle.lexical.specs.declared.cursor.Cursor.{Cursor}
 use Rattle.lexical.specs.declared.piece.PieceKind.{PieceKind}
 use Rattle.lexical.specs.declared.piece.PieceKind.TheVariants as kinds
+use Rattle.lexical.specs.declared.class.Start.{Start}
+use Rattle.lexical.specs.declared.class.Start.TheVariants as starts
 use Rattle.lexical.proofs.FinderLemmas.{found_is}
+use Rattle.lexical.proofs.ClassLemmas.{is_of, of_start}
 use Rattle.lexical.proofs.CommentFinderLemmas.{finds_comment}
-use Rattle.lexical.proofs.PieceLemmas.{piece_from_found}
+use Rattle.lexical.proofs.PieceLemmas.{from_start, piece_from_found}
 
 -- ---- what is found
 
@@ -33,6 +36,15 @@ pub one_found_not_at : (fronts : List (List ℕ)) (passes : ℕ → Bool) (text 
     → begins_any fronts text ≡ false → passes c ≡ true
     → find_not_at fronts (find_one passes) text ≡ Some (c ∷ [], rest)
 one_found_not_at fronts passes text rest c e plain h = cond-false _ _ _ plain ∙ one_found passes text rest c e h
+
+-- the first character, by what it starts
+pub first_found : (s : Start) {text rest : List ℕ} {c : ℕ} → text ≡ c ∷ rest → s ≡ start c → find_one (is_of s) text ≡ Some (c ∷ [], rest)
+first_found s {text} {rest} {c} e h = one_found (is_of s) text rest c e (of_start s c h)
+
+-- a lone quote
+pub quote_found : {text rest : List ℕ} {c : ℕ} → text ≡ c ∷ rest → starts.Quote ≡ start c
+    → find_lone_quote text ≡ cond (follows_quote rest) (Some (39 ∷ [], rest)) None
+quote_found {rest = rest} {c = c} e h = ap find_lone_quote (e ∙ ap (λ d. d ∷ rest) (eqb-true c 39 (of_start starts.Quote c h)))
 
 -- a name, by its first character and the run after it
 pub name_found : (text rest back after : List ℕ) (c : ℕ) → text ≡ c ∷ rest → is_ident_start c ≡ true
@@ -62,6 +74,18 @@ read_one kind o answer at after k c = read_as kind o answer at after k (c ∷ []
 -- the first of two was found
 pub read_first : (answer o u : Found) (at : Cursor) (x : PieceKind × Cursor) → answer ≡ or_found o u → IsFound o at x → IsFound answer at x
 read_first answer o u at x e h = record { front = h.front; found = e ∙ ap (λ o. or_found o u) h.found; count = h.count; lends = h.lends }
+
+-- the second of two was found, if the first was not
+pub second : {o answer u : Found} → o ≡ None → answer ≡ or_found o u → answer ≡ u
+second {u = u} none e = e ∙ ap (λ o. or_found o u) none
+
+-- a text that starts so
+pub at_start : (first : Bool) (s : Start) {text rest : List ℕ} {c : ℕ} → text ≡ c ∷ rest → s ≡ start c → found first text ≡ found_from first s text
+at_start first s {text} {rest} {c} e is = from_start first text c rest s e (sym is)
+
+-- a literal
+pub literal_read : (o : Answer) (answer : Found) (at end : Cursor) → answer ≡ tagged literal_kind o → Passes o at end → IsFound answer at (kinds.Literal, end)
+literal_read o answer at end e h = read_as literal_kind o answer at end kinds.Literal h.front e h.found h.count refl tt
 
 -- a mark
 pub mark_read : (answer : Found) (at after : Cursor) (c : ℕ) (k : PieceKind) → answer ≡ tagged mark_kind (find_mark (chars at.rest.now))
