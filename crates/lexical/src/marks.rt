@@ -49,7 +49,7 @@ pub fn begins_comment(text: &str) -> bool
     begins(text, "//") || begins(text, "/*")
 }
 
-/// The mark before `rest`, which is Joint by the rule `joint`.
+/// The kind of the mark that stands before `rest`, by the rules `mark` and `joint`.
 pub fn mark<'a>(mark: char, rest: &str) -> PieceKind<'a>
     ensures { result ≡ kinds.Mark mark (joint_before (chars rest.now)) }
 {
