@@ -13,6 +13,7 @@ pub mod BlockLemmas
 pub mod CommentFinderLemmas
 pub mod CommentLemmas
 pub mod SkipLemmas
+pub mod StepLemmas
 pub mod NameFinderLemmas
 pub mod WhiteRunLemmas
 pub mod WordLemmas
