@@ -166,7 +166,7 @@ fn kinds(class: Class) -> u16
 
 /// Whether the byte is an ASCII character of the class.
 #[inline(always)]
-fn holds_ascii(class: Class, byte: u8) -> bool
+pub fn holds_ascii(class: Class, byte: u8) -> bool
     ensures { result ≡ ascii_in class byte }
 {
     KINDS[byte as usize] & kinds(class) != 0
@@ -174,7 +174,7 @@ fn holds_ascii(class: Class, byte: u8) -> bool
 
 /// Whether the character is of the class.
 #[inline(always)]
-fn holds(class: Class, c: char) -> bool
+pub fn holds(class: Class, c: char) -> bool
     ensures { result ≡ is_in class c }
 {
     if c.is_ascii() {

@@ -4,7 +4,7 @@ ghost use Rattle.std.specs.Prelude.{◌≡◌};
 ghost use Rattle.lexical.specs.Class.{is_white as white, is_ident_start, is_ident_continue};
 ghost use Rattle.lexical.specs.PieceFinder.{start};
 
-use crate::marks::is_mark;
+use crate::bytes::{Class, holds};
 
 /// What the first character of a text says of the piece that may stand there.
 #[derive(Drop)]
@@ -67,13 +67,13 @@ pub fn continues_identifier(c: char) -> bool
 pub fn start_of(c: char) -> Start
     ensures { result ≡ start c }
 {
-    if starts_identifier(c) {
+    if holds(Class::IdentifierStart, c) {
         return Start::Letter;
     }
-    if is_white(c) {
+    if holds(Class::White, c) {
         return Start::White;
     }
-    if c.is_ascii_digit() {
+    if holds(Class::Digit, c) {
         return Start::Digit;
     }
     match c {
@@ -83,7 +83,7 @@ pub fn start_of(c: char) -> Start
         '\'' => Start::Quote,
         '"' => Start::DoubleQuote,
         '\u{FEFF}' => Start::FrontMark,
-        _ if is_mark(c) => Start::Mark,
+        _ if holds(Class::Mark, c) => Start::Mark,
         _ => Start::Other,
     }
 }

@@ -3,7 +3,7 @@
 ghost use Rattle.std.specs.Str.{IsUtf8, chars};
 ghost use Rattle.lexical.specs.WhiteRun.{IsPastWhite};
 
-use crate::class::is_white;
+use crate::bytes::{Class, holds_ascii};
 
 /// What follows the white characters of ASCII at the front of the text, each a piece by the rule
 /// `gap`, and how many characters they are.
@@ -16,7 +16,7 @@ pub fn past_white(text: &str) -> (&str, usize)
 {
     let mut white = 0;
     for byte in text.as_bytes() {
-        if !byte.is_ascii() || !is_white(*byte as char) {
+        if !holds_ascii(Class::White, *byte) {
             break;
         }
         white += 1;

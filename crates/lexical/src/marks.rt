@@ -7,6 +7,7 @@ ghost use Rattle.lexical.specs.MarkFinder.{follows_quote as follows};
 ghost use Rattle.lexical.specs.Text.{begins_any, first_passes};
 ghost use Rattle.lexical.specs.declared.piece.PieceKind.TheVariants as kinds;
 
+use crate::bytes::{Class, holds};
 use crate::cursor::Cursor;
 use crate::identifiers::{name, raw_name};
 use crate::piece::PieceKind;
@@ -16,30 +17,7 @@ use crate::text::{begins, split_first};
 pub fn is_mark(c: char) -> bool
     ensures { result ≡ is_one_of_marks c }
 {
-    matches!(
-        c,
-        '~' | '!'
-            | '@'
-            | '#'
-            | '$'
-            | '%'
-            | '^'
-            | '&'
-            | '*'
-            | '-'
-            | '='
-            | '+'
-            | '|'
-            | ';'
-            | ':'
-            | ','
-            | '<'
-            | '.'
-            | '>'
-            | '/'
-            | '?'
-            | '\''
-    )
+    holds(Class::Mark, c)
 }
 
 /// Whether a comment begins the text.

@@ -1,12 +1,10 @@
 use Rattle.std.proofs.Common.{◌≡◌, ◌<◌, true, false, length, get_or, take, sym, ap, ap₂, subst, ◌∙◌, arith}
 use Rattle.std.specs.List.{list_all}
 use Rattle.std.specs.Str.{chars}
-use Rattle.std.proofs.lemmas.Bool.{and_left, and_right}
 use Rattle.lexical.specs.WhiteRun.{ascii_white, IsPastWhite}
 use Rattle.lexical.proofs.WhiteRunLemmas.{white_run, white_boundary}
 use Rattle.lexical.proofs.gaps.past_white.Goals as goal
-use Rattle.lexical.proofs.gaps.past_white.Goals.{else-loop-byte-test, then-loop-byte-test+then-not-is_ascii}
-use Rattle.lexical.proofs.gaps.past_white.Goals.{then-not-is_ascii-via-then-not-is_ascii, then-not-is_ascii-via-else-not-is_ascii+then-not-is_white}
+use Rattle.lexical.proofs.gaps.past_white.Goals.{else-loop-byte-test, then-loop-byte-test+then-not-holds_ascii}
 
 pub range_from-requires : goal.range_from-requires
 range_from-requires c =
@@ -21,12 +19,9 @@ returns-clause-passed c =
     let same = ap length c.as_bytes-byte-items.ensures.value in
     let stops : n < length text → ascii_white (get_or text n 0) ≡ false = λ more. elim c.loop-byte-test.branch [
       | else-loop-byte-test w ↦ absurd (omega (arith, c.loop-byte.invariant.0, same))
-      | then-loop-byte-test+then-not-is_ascii w ↦
+      | then-loop-byte-test+then-not-holds_ascii w ↦
           ap₂ (λ bs i. ascii_white (get_or bs i 0)) (sym c.as_bytes-byte-items.ensures.value) c.loop-byte.invariant.0
-          ∙ elim w.then-not-is_ascii.branch [
-            | then-not-is_ascii-via-then-not-is_ascii v ↦ and_left _ _ (sym w.is_ascii.ensures ∙ v.if-not-is_ascii.true)
-            | then-not-is_ascii-via-else-not-is_ascii+then-not-is_white v ↦ and_right _ _ (sym v.is_white.ensures ∙ v.if-not-is_white.true)
-          ]
+          ∙ (sym w.holds_ascii.ensures ∙ w.if-not-holds_ascii.true)
     ] in
     subst (λ r. IsPastWhite (chars text) (chars r) n) (sym c.range_from.ensures.value)
     (white_run text n c.utf8.text (omega (arith, c.loop-byte.invariant.0, same))
