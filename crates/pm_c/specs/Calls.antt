@@ -1,11 +1,11 @@
 -- What the calls of a session answer.
-use Rattle.std.specs.Prelude.{ℕ, Bool, ◌≡◌, ◌↔◌, List, flat_map, length, take, Some, None, Result, Ok}
+use Rattle.std.specs.Prelude.{ℕ, Bool, ◌≡◌, ◌↔◌, ◌⊎◌, List, [], ◌∷◌, flat_map, length, take, Some, None, Result, Ok}
 use Rattle.std.specs.String.{string_bytes}
-use Rattle.std.specs.Str.{chars, encode_utf8_all}
-use Rattle.slab.specs.Slab.{get, Updates}
+use Rattle.std.specs.Str.{chars, encode_utf8_all, IsUtf8}
+use Rattle.slab.specs.Slab.{get, SameValues, Updates}
 use Rattle.proc_macro2.specs.CString.{IsCStringText}
 use Rattle.proc_macro2.specs.Extent.{Extent}
-use Rattle.proc_macro2.specs.Files.{next_lo, with_file}
+use Rattle.proc_macro2.specs.Files.{Files, Fits, next_lo, with_file}
 use Rattle.proc_macro2.specs.Forest.{Forest}
 use Rattle.proc_macro2.specs.IdentFault.{ident_fault}
 use Rattle.proc_macro2.specs.InOrder.{in_order}
@@ -18,10 +18,50 @@ use Rattle.proc_macro2.specs.declared.IdentError.TheVariants as faults
 use Rattle.proc_macro2.specs.declared.ParseError.{ParseError}
 use Rattle.proc_macro2.specs.declared.ParseError.TheVariants.{Lex, MapFull, Memory}
 use Rattle.pm_c.specs.Listing.{kept_text, records_from}
+use Rattle.pm_c.specs.declared.codes.TheConstants.{DONE, FAULT, MAP_FULL, NO_MEMORY, NOT_UTF8, TOO_LONG}
 use Rattle.pm_c.specs.declared.codes.TheConstants.{NAME_EMPTY, NAME_NUMBER, NAME_INVALID, NAME_RESERVED}
 use Rattle.pm_c.specs.declared.records.PmAnswer.{PmAnswer}
 use Rattle.pm_c.specs.declared.records.PmTree.{PmTree}
 use Rattle.pm_c.specs.declared.session.Session.{Session}
+
+-- the code is one of these
+abbrev pub IsAmong : List ℕ → ℕ → Type 0
+IsAmong [] code = ⊥
+IsAmong (one ∷ others) code = (code ≡ one) ⊎ IsAmong others code
+
+-- what a session answers that keeps or lists a stream
+abbrev pub stream_codes : List ℕ
+stream_codes = DONE ∷ NO_MEMORY ∷ TOO_LONG ∷ []
+
+-- what a session answers that reads a text
+abbrev pub read_codes : List ℕ
+read_codes = FAULT ∷ MAP_FULL ∷ NOT_UTF8 ∷ stream_codes
+
+-- nothing of the session is another but its records and its text
+abbrev pub KeepsAllButListing : Session → Session → Type 0
+KeepsAllButListing old new = new ≡ record old { trees = new.trees; text = new.text }
+
+-- nothing of the session is another but its text
+abbrev pub KeepsAllButText : Session → Session → Type 0
+KeepsAllButText old new = new ≡ record old { text = new.text }
+
+-- the bytes are a text that has more characters than the map has room for
+abbrev pub Overflows : Files → List ℕ → Type 0
+Overflows map bytes = IsUtf8 bytes × (Fits map (length (chars bytes)) → ⊥)
+
+-- what a call that reads a text leaves where it isn't done: `read` is the map that has the text
+pub record Leaves (old : Session) (read : Files) (code : ℕ) (new : Session) : Type 0 where
+  -- bytes that aren't UTF-8 change nothing, and no more does a text that doesn't fit
+  pub not_utf8 : code ≡ NOT_UTF8 → new ≡ old
+  pub map_full : code ≡ MAP_FULL → new ≡ old
+  -- a text with a fault changes the map alone
+  pub fault : code ≡ FAULT → new ≡ record old { map = read }
+  -- memory may run out before the map has the text, or later
+  pub memory : code ≡ NO_MEMORY → (new.map ≡ old.map) ⊎ (new.map ≡ read)
+  -- the text was read, but it has too many streams or trees
+  pub too_long : code ≡ TOO_LONG → new.map ≡ read
+  -- each stream keeps its number
+  pub streams : (code ≡ DONE → ⊥) → SameValues old.streams new.streams
 
 -- the stream has this number now, which no stream had before
 pub record IsKept (old : Session) (stream : Forest) (new : Session) (number : ℕ) : Type 0 where
@@ -36,6 +76,13 @@ pub record IsRead (old : Session) (source : List ℕ) (new : Session) (number : 
   pub vacant : get old.streams number ≡ None
   pub stands : Updates old.streams new.streams number (Some stream)
   pub map : new.map ≡ with_file old.map source
+  pub rest : new ≡ record old { map = new.map; streams = new.streams }
+
+-- the code of an error
+abbrev pub refusal_code : ParseError → ℕ
+refusal_code (Lex fault) = FAULT
+refusal_code MapFull = MAP_FULL
+refusal_code (Memory error) = NO_MEMORY
 
 -- the error is a fault at this position
 abbrev pub IsFaultAt : ParseError → ℕ → Type 0
@@ -48,6 +95,7 @@ pub record IsFreed (old : Session) (number : ℕ) (new : Session) : Type 0 where
   pub stream : Forest
   pub stood : get old.streams number ≡ Some stream
   pub gone : Updates old.streams new.streams number None
+  pub rest : new ≡ record old { streams = new.streams }
 
 -- the answer counts the session's records, and the bytes of its text
 pub record HasCounts (session : Session) (answer : PmAnswer) : Type 0 where
@@ -66,6 +114,7 @@ pub record IsReadAndListed (old : Session) (source : List ℕ) (new : Session) (
   pub lends : Lends new stream
   pub counts : HasCounts new answer
   pub map : new.map ≡ with_file old.map source
+  pub rest : new ≡ record old { map = new.map; trees = new.trees; text = new.text }
 
 -- the text was parsed as the first file of a map would be, and the records and texts are those of its stream
 pub record IsReadOnce (source : List ℕ) (new : Session) (answer : PmAnswer) : Type 0 where

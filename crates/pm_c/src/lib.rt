@@ -10,11 +10,12 @@ mod listing;
 mod records;
 mod session;
 
-ghost use Rattle.std.specs.Prelude.{◌≡◌, ◌↔◌, [], Err, false, true};
+ghost use Rattle.std.specs.Prelude.{◌≡◌, ◌↔◌, ◌≤◌, [], ◌∷◌, length, Err, None, false, true};
 ghost use Rattle.std.specs.Str.{chars, IsUtf8};
 ghost use Rattle.std.specs.String.{string_bytes};
+ghost use Rattle.slab.specs.Slab.{get};
 ghost use Rattle.proc_macro2.specs.Escaped.{byte_string_text, byte_text, character_text, string_text};
-ghost use Rattle.proc_macro2.specs.Files.{next_lo};
+ghost use Rattle.proc_macro2.specs.Files.{next_lo, with_file};
 ghost use Rattle.proc_macro2.specs.LiteralText.{IsWholeLiteral};
 ghost use Rattle.proc_macro2.specs.Lookup.{AreInOneFile, HasBytes, StartsAt, joined};
 ghost use Rattle.proc_macro2.specs.Parsing.{FaultAt};
@@ -24,6 +25,7 @@ ghost use Rattle.pm_c.specs.Calls.{
   HasBytesValue,
   HasText,
   HasTextValue,
+  IsAmong,
   IsFreed,
   IsListed,
   IsPrinted,
@@ -31,15 +33,22 @@ ghost use Rattle.pm_c.specs.Calls.{
   IsReadAndListed,
   IsReadLiteral,
   IsReadOnce,
+  KeepsAllButListing,
+  KeepsAllButText,
+  Leaves,
   LendsName,
   LendsSource,
   MakesCString,
   NamesFault,
+  Overflows,
   PrintsRecords,
   StandInFront,
+  read_codes,
   span,
+  stream_codes,
 };
-ghost use Rattle.pm_c.specs.declared.codes.TheConstants.{DONE, FAULT, NO_ROOM, NOT_JOINED, NOT_LIVE, OTHER_KIND};
+ghost use Rattle.pm_c.specs.declared.codes.TheConstants.{DONE, FAULT, MAP_FULL, NO_MEMORY, NO_ROOM, NO_STREAM};
+ghost use Rattle.pm_c.specs.declared.codes.TheConstants.{NOT_JOINED, NOT_LIVE, NOT_UTF8, OTHER_KIND};
 
 use codes::{DONE, NO_MEMORY, NOT_LIVE};
 pub use handle::PmSession;
@@ -80,11 +89,18 @@ pub extern "C" fn pm_session_free(session: PmSession) -> u32
 #[unsafe(no_mangle)]
 pub extern "C" fn pm_parse(session: PmSession, back: &mut PmSession, text: &[u8]) -> PmAnswer
     ensures live { session.live ≡ true → back.new.live ≡ true }
-    ensures not_live { session.live ≡ false → result.code ≡ NOT_LIVE }
+    ensures not_live { (result.code ≡ NOT_LIVE) ↔ (session.live ≡ false) }
+    ensures unwritten { session.live ≡ false → back.new ≡ back.old }
     ensures utf8 { result.code ≡ DONE → IsUtf8 text.now }
     ensures done { result.code ≡ DONE
         → IsRead session.inside.value (chars text.now) back.new.inside.value result.number }
     ensures fault { result.code ≡ FAULT → FaultAt (next_lo session.inside.value.map) (chars text.now) result.number }
+    ensures not_utf8 { session.live ≡ true → ((result.code ≡ NOT_UTF8) ↔ (IsUtf8 text.now → ⊥)) }
+    ensures map_full { session.live ≡ true
+        → ((result.code ≡ MAP_FULL) ↔ Overflows session.inside.value.map text.now) }
+    ensures codes { IsAmong (NOT_LIVE ∷ read_codes) result.code }
+    ensures left { session.live ≡ true → Leaves session.inside.value
+        (with_file session.inside.value.map (chars text.now)) result.code back.new.inside.value }
 {
     let Some(mut inside) = session.open() else {
         return PmAnswer::refused(NOT_LIVE);
@@ -98,11 +114,18 @@ pub extern "C" fn pm_parse(session: PmSession, back: &mut PmSession, text: &[u8]
 #[unsafe(no_mangle)]
 pub extern "C" fn pm_read(session: PmSession, back: &mut PmSession, text: &[u8]) -> PmAnswer
     ensures live { session.live ≡ true → back.new.live ≡ true }
-    ensures not_live { session.live ≡ false → result.code ≡ NOT_LIVE }
+    ensures not_live { (result.code ≡ NOT_LIVE) ↔ (session.live ≡ false) }
+    ensures unwritten { session.live ≡ false → back.new ≡ back.old }
     ensures utf8 { result.code ≡ DONE → IsUtf8 text.now }
     ensures done { result.code ≡ DONE
         → IsReadAndListed session.inside.value (chars text.now) back.new.inside.value result }
     ensures fault { result.code ≡ FAULT → FaultAt (next_lo session.inside.value.map) (chars text.now) result.number }
+    ensures not_utf8 { session.live ≡ true → ((result.code ≡ NOT_UTF8) ↔ (IsUtf8 text.now → ⊥)) }
+    ensures map_full { session.live ≡ true
+        → ((result.code ≡ MAP_FULL) ↔ Overflows session.inside.value.map text.now) }
+    ensures codes { IsAmong (NOT_LIVE ∷ read_codes) result.code }
+    ensures left { session.live ≡ true → Leaves session.inside.value
+        (with_file session.inside.value.map (chars text.now)) result.code back.new.inside.value }
 {
     let Some(mut inside) = session.open() else {
         return PmAnswer::refused(NOT_LIVE);
@@ -123,12 +146,20 @@ pub extern "C" fn pm_read_once(
     into: &mut [u8],
 ) -> PmAnswer
     ensures live { session.live ≡ true → back.new.live ≡ true }
-    ensures not_live { session.live ≡ false → result.code ≡ NOT_LIVE }
+    ensures not_live { (result.code ≡ NOT_LIVE) ↔ (session.live ≡ false) }
+    ensures unwritten { session.live ≡ false → back.new ≡ back.old }
     ensures utf8 { result.code ≡ DONE → IsUtf8 text.now }
     ensures done { result.code ≡ DONE → IsReadOnce (chars text.now) back.new.inside.value result }
     ensures copied { result.code ≡ DONE → StandInFront back.new.inside.value trees.new into.new }
     ensures no_room { result.code ≡ NO_ROOM → IsReadOnce (chars text.now) back.new.inside.value result }
     ensures fault { result.code ≡ FAULT → FaultAt 1 (chars text.now) result.number }
+    ensures not_utf8 { session.live ≡ true → ((result.code ≡ NOT_UTF8) ↔ (IsUtf8 text.now → ⊥)) }
+    ensures map_full { session.live ≡ true
+        → ((result.code ≡ MAP_FULL) ↔ (IsUtf8 text.now × (4294967295 ≤ length text.now))) }
+    ensures codes { IsAmong (NOT_LIVE ∷ NO_ROOM ∷ read_codes) result.code }
+    ensures left { session.live ≡ true
+        → Leaves session.inside.value session.inside.value.map result.code back.new.inside.value }
+    ensures kept { session.live ≡ true → KeepsAllButListing session.inside.value back.new.inside.value }
 {
     let Some(mut inside) = session.open() else {
         return PmAnswer::refused(NOT_LIVE);
@@ -142,8 +173,13 @@ pub extern "C" fn pm_read_once(
 #[unsafe(no_mangle)]
 pub extern "C" fn pm_stream_free(session: PmSession, back: &mut PmSession, stream: u32) -> u32
     ensures live { session.live ≡ true → back.new.live ≡ true }
-    ensures not_live { session.live ≡ false → result ≡ NOT_LIVE }
+    ensures not_live { (result ≡ NOT_LIVE) ↔ (session.live ≡ false) }
+    ensures unwritten { session.live ≡ false → back.new ≡ back.old }
     ensures done { result ≡ DONE → IsFreed session.inside.value stream back.new.inside.value }
+    ensures no_stream { session.live ≡ true
+        → ((result ≡ NO_STREAM) ↔ (get session.inside.value.streams stream ≡ None)) }
+    ensures codes { IsAmong (NOT_LIVE ∷ DONE ∷ NO_STREAM ∷ []) result }
+    ensures left { result ≡ NO_STREAM → back.new.inside.value ≡ session.inside.value }
 {
     let Some(mut inside) = session.open() else {
         return NOT_LIVE;
@@ -157,8 +193,14 @@ pub extern "C" fn pm_stream_free(session: PmSession, back: &mut PmSession, strea
 #[unsafe(no_mangle)]
 pub extern "C" fn pm_list(session: PmSession, back: &mut PmSession, stream: u32) -> PmAnswer
     ensures live { session.live ≡ true → back.new.live ≡ true }
-    ensures not_live { session.live ≡ false → result.code ≡ NOT_LIVE }
+    ensures not_live { (result.code ≡ NOT_LIVE) ↔ (session.live ≡ false) }
+    ensures unwritten { session.live ≡ false → back.new ≡ back.old }
     ensures done { result.code ≡ DONE → IsListed session.inside.value stream back.new.inside.value result }
+    ensures no_stream { session.live ≡ true
+        → ((result.code ≡ NO_STREAM) ↔ (get session.inside.value.streams stream ≡ None)) }
+    ensures codes { IsAmong (NOT_LIVE ∷ NO_STREAM ∷ stream_codes) result.code }
+    ensures left { result.code ≡ NO_STREAM → back.new.inside.value ≡ session.inside.value }
+    ensures kept { session.live ≡ true → KeepsAllButListing session.inside.value back.new.inside.value }
 {
     let Some(mut inside) = session.open() else {
         return PmAnswer::refused(NOT_LIVE);
@@ -172,8 +214,14 @@ pub extern "C" fn pm_list(session: PmSession, back: &mut PmSession, stream: u32)
 #[unsafe(no_mangle)]
 pub extern "C" fn pm_print(session: PmSession, back: &mut PmSession, stream: u32) -> PmAnswer
     ensures live { session.live ≡ true → back.new.live ≡ true }
-    ensures not_live { session.live ≡ false → result.code ≡ NOT_LIVE }
+    ensures not_live { (result.code ≡ NOT_LIVE) ↔ (session.live ≡ false) }
+    ensures unwritten { session.live ≡ false → back.new ≡ back.old }
     ensures done { result.code ≡ DONE → IsPrinted session.inside.value stream back.new.inside.value result }
+    ensures no_stream { session.live ≡ true
+        → ((result.code ≡ NO_STREAM) ↔ (get session.inside.value.streams stream ≡ None)) }
+    ensures codes { IsAmong (NOT_LIVE ∷ DONE ∷ NO_MEMORY ∷ NO_STREAM ∷ []) result.code }
+    ensures left { result.code ≡ NO_STREAM → back.new.inside.value ≡ session.inside.value }
+    ensures kept { session.live ≡ true → KeepsAllButText session.inside.value back.new.inside.value }
 {
     let Some(mut inside) = session.open() else {
         return PmAnswer::refused(NOT_LIVE);

@@ -1,8 +1,9 @@
 //! The trees of a stream as records, in reading order.
-ghost use Rattle.std.specs.Prelude.{◌≡◌, ◌++◌, flat_map, length, string_bytes, IfOk, OnOk};
+ghost use Rattle.std.specs.Prelude.{◌≡◌, [], ◌∷◌, ◌++◌, flat_map, length, string_bytes, IfOk, OnOk};
 ghost use Rattle.proc_macro2.specs.InOrder.{in_order};
+ghost use Rattle.pm_c.specs.Calls.{IsAmong};
 ghost use Rattle.pm_c.specs.Listing.{delimiter_number, kept_text, record_of, records_from, spacing_number, width};
-ghost use Rattle.pm_c.specs.declared.codes.TheConstants.{DONE, FAULT, NO_ROOM};
+ghost use Rattle.pm_c.specs.declared.codes.TheConstants.{NO_MEMORY, TOO_LONG};
 
 use crate::codes::{NO_MEMORY, TOO_LONG};
 use crate::records::PmTree;
@@ -23,9 +24,7 @@ pub(crate) enum ListError {
 impl ListError {
     /// Its code.
     pub(crate) fn code(&self) -> u32
-        ensures done { result ≡ DONE → ⊥ }
-        ensures fault { result ≡ FAULT → ⊥ }
-        ensures room { result ≡ NO_ROOM → ⊥ }
+        ensures codes { IsAmong (NO_MEMORY ∷ TOO_LONG ∷ []) result }
     {
         match self {
             ListError::TooLong => TOO_LONG,

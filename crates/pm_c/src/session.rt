@@ -1,10 +1,12 @@
 //! A session: a map, the streams that were read, and what is lent of them.
-ghost use Rattle.std.specs.Prelude.{◌≡◌, IfErr, IfOk, IsOk, OnOk};
+ghost use Rattle.std.specs.Prelude.{◌≡◌, ◌↔◌, ◌≤◌, ◌==◌, [], ◌∷◌, length, None, if◌then◌else◌, IfErr, IfOk, IsOk, OnOk};
 ghost use Rattle.std.specs.Str.{chars, IsUtf8};
-ghost use Rattle.proc_macro2.specs.Files.{next_lo, with_file};
+ghost use Rattle.slab.specs.Slab.{SameValues, get};
+ghost use Rattle.proc_macro2.specs.Files.{Fits, next_lo, with_file};
 ghost use Rattle.proc_macro2.specs.Parsing.{FaultAt, ParsesTo};
 ghost use Rattle.pm_c.specs.Calls.{
   HasCounts,
+  IsAmong,
   IsFaultAt,
   IsFreed,
   IsKept,
@@ -13,9 +15,16 @@ ghost use Rattle.pm_c.specs.Calls.{
   IsRead,
   IsReadAndListed,
   IsReadOnce,
+  KeepsAllButListing,
+  KeepsAllButText,
+  Leaves,
+  Overflows,
   StandInFront,
+  read_codes,
+  refusal_code,
+  stream_codes,
 };
-ghost use Rattle.pm_c.specs.declared.codes.TheConstants.{DONE, FAULT, NO_ROOM};
+ghost use Rattle.pm_c.specs.declared.codes.TheConstants.{DONE, FAULT, MAP_FULL, NO_MEMORY, NO_ROOM, NO_STREAM, NOT_UTF8};
 
 mod copies;
 mod lookups;
@@ -63,6 +72,10 @@ impl Session {
         ensures utf8 { result.code ≡ DONE → IsUtf8 source.now }
         ensures done { result.code ≡ DONE → IsRead self.old (chars source.now) self.new result.number }
         ensures fault { result.code ≡ FAULT → FaultAt (next_lo self.old.map) (chars source.now) result.number }
+        ensures not_utf8 { (result.code ≡ NOT_UTF8) ↔ (IsUtf8 source.now → ⊥) }
+        ensures map_full { (result.code ≡ MAP_FULL) ↔ Overflows self.old.map source.now }
+        ensures codes { IsAmong read_codes result.code }
+        ensures left { Leaves self.old (with_file self.old.map (chars source.now)) result.code self.new }
     {
         match self.stream_of(source) {
             Ok(stream) => self.keep(stream),
@@ -75,6 +88,10 @@ impl Session {
         ensures utf8 { result.code ≡ DONE → IsUtf8 source.now }
         ensures done { result.code ≡ DONE → IsReadAndListed self.old (chars source.now) self.new result }
         ensures fault { result.code ≡ FAULT → FaultAt (next_lo self.old.map) (chars source.now) result.number }
+        ensures not_utf8 { (result.code ≡ NOT_UTF8) ↔ (IsUtf8 source.now → ⊥) }
+        ensures map_full { (result.code ≡ MAP_FULL) ↔ Overflows self.old.map source.now }
+        ensures codes { IsAmong read_codes result.code }
+        ensures left { Leaves self.old (with_file self.old.map (chars source.now)) result.code self.new }
     {
         match self.stream_of(source) {
             Ok(stream) => {
@@ -98,6 +115,11 @@ impl Session {
         ensures copied { result.code ≡ DONE → StandInFront self.new trees.new text.new }
         ensures no_room { result.code ≡ NO_ROOM → IsReadOnce (chars source.now) self.new result }
         ensures fault { result.code ≡ FAULT → FaultAt 1 (chars source.now) result.number }
+        ensures not_utf8 { (result.code ≡ NOT_UTF8) ↔ (IsUtf8 source.now → ⊥) }
+        ensures map_full { (result.code ≡ MAP_FULL) ↔ (IsUtf8 source.now × (4294967295 ≤ length source.now)) }
+        ensures codes { IsAmong (NO_ROOM ∷ read_codes) result.code }
+        ensures left { Leaves self.old self.old.map result.code self.new }
+        ensures kept { KeepsAllButListing self.old self.new }
     {
         let answer = self.read_unkept(source);
         if answer.code == DONE && !self.copy_fronts(trees, text) {
@@ -114,8 +136,12 @@ impl Session {
     fn read_unkept(&mut self, source: &[u8]) -> PmAnswer
         ensures utf8 { result.code ≡ DONE → IsUtf8 source.now }
         ensures done { result.code ≡ DONE → IsReadOnce (chars source.now) self.new result }
-        ensures other { result.code ≡ NO_ROOM → ⊥ }
         ensures fault { result.code ≡ FAULT → FaultAt 1 (chars source.now) result.number }
+        ensures not_utf8 { (result.code ≡ NOT_UTF8) ↔ (IsUtf8 source.now → ⊥) }
+        ensures map_full { (result.code ≡ MAP_FULL) ↔ (IsUtf8 source.now × (4294967295 ≤ length source.now)) }
+        ensures codes { IsAmong read_codes result.code }
+        ensures left { Leaves self.old self.old.map result.code self.new }
+        ensures kept { KeepsAllButListing self.old self.new }
     {
         let Ok(text) = str::from_utf8(source) else {
             return PmAnswer::refused(NOT_UTF8);
@@ -136,9 +162,14 @@ impl Session {
     fn stream_of(&mut self, source: &[u8]) -> Result<TokenStream, PmAnswer>
         ensures utf8 { OnOk result (IsUtf8 source.now) }
         ensures parses { IfOk result (ParsesTo (next_lo self.old.map) (chars source.now)) }
-        ensures refused { IfErr result (λ answer. answer.code ≡ DONE → ⊥) }
+        ensures fits { OnOk result (Fits self.old.map (length (chars source.now))) }
         ensures fault { IfErr result (λ answer. answer.code ≡ FAULT
             → FaultAt (next_lo self.old.map) (chars source.now) answer.number) }
+        ensures not_utf8 { IfErr result (λ answer. (answer.code ≡ NOT_UTF8) ↔ (IsUtf8 source.now → ⊥)) }
+        ensures map_full { IfErr result (λ answer. (answer.code ≡ MAP_FULL) ↔ Overflows self.old.map source.now) }
+        ensures codes { IfErr result (λ answer. IsAmong (FAULT ∷ MAP_FULL ∷ NO_MEMORY ∷ NOT_UTF8 ∷ []) answer.code) }
+        ensures left { IfErr result (λ answer. self.new ≡ (if answer.code == FAULT
+            then record self.old { map = with_file self.old.map (chars source.now) } else self.old)) }
         ensures read { OnOk result (self.new ≡ record self.old { map = with_file self.old.map (chars source.now) }) }
     {
         let Ok(text) = str::from_utf8(source) else {
@@ -153,7 +184,9 @@ impl Session {
     /// Keeps a stream, and answers its number.
     fn keep(&mut self, stream: TokenStream) -> PmAnswer
         ensures done { result.code ≡ DONE → IsKept self.old stream self.new result.number }
-        ensures other { result.code ≡ FAULT → ⊥ }
+        ensures codes { IsAmong stream_codes result.code }
+        ensures streams { (result.code ≡ DONE → ⊥) → SameValues self.old.streams self.new.streams }
+        ensures rest { self.new ≡ record self.old { streams = self.new.streams } }
     {
         match self.streams.insert(stream) {
             Ok(key) => {
@@ -170,7 +203,10 @@ impl Session {
 
     /// Lets a stream go, whose number the next stream may get.
     pub(crate) fn free(&mut self, number: u32) -> u32
-        ensures { result ≡ DONE → IsFreed self.old number self.new }
+        ensures done { result ≡ DONE → IsFreed self.old number self.new }
+        ensures no_stream { (result ≡ NO_STREAM) ↔ (get self.old.streams number ≡ None) }
+        ensures codes { IsAmong (DONE ∷ NO_STREAM ∷ []) result }
+        ensures left { result ≡ NO_STREAM → self.new ≡ self.old }
     {
         match self.streams.try_remove(number as usize) {
             Some(_) => DONE,
@@ -180,7 +216,11 @@ impl Session {
 
     /// Lists a stream into the session's records and text.
     pub(crate) fn list(&mut self, number: u32) -> PmAnswer
-        ensures { result.code ≡ DONE → IsListed self.old number self.new result }
+        ensures done { result.code ≡ DONE → IsListed self.old number self.new result }
+        ensures no_stream { (result.code ≡ NO_STREAM) ↔ (get self.old.streams number ≡ None) }
+        ensures codes { IsAmong (NO_STREAM ∷ stream_codes) result.code }
+        ensures left { result.code ≡ NO_STREAM → self.new ≡ self.old }
+        ensures kept { KeepsAllButListing self.old self.new }
     {
         let Some(stream) = self.streams.get(number as usize) else {
             return PmAnswer::refused(NO_STREAM);
@@ -193,8 +233,7 @@ impl Session {
     fn answer_listed(&self, listed: Result<(), ListError>) -> PmAnswer
         ensures done { result.code ≡ DONE → IsOk listed }
         ensures counts { result.code ≡ DONE → HasCounts self.now result }
-        ensures other { result.code ≡ FAULT → ⊥ }
-        ensures room { result.code ≡ NO_ROOM → ⊥ }
+        ensures codes { IsAmong stream_codes result.code }
     {
         if let Err(error) = listed {
             return PmAnswer::refused(error.code());
@@ -208,7 +247,11 @@ impl Session {
 
     /// Prints a stream into the session's text.
     pub(crate) fn print(&mut self, number: u32) -> PmAnswer
-        ensures { result.code ≡ DONE → IsPrinted self.old number self.new result }
+        ensures done { result.code ≡ DONE → IsPrinted self.old number self.new result }
+        ensures no_stream { (result.code ≡ NO_STREAM) ↔ (get self.old.streams number ≡ None) }
+        ensures codes { IsAmong (DONE ∷ NO_MEMORY ∷ NO_STREAM ∷ []) result.code }
+        ensures left { result.code ≡ NO_STREAM → self.new ≡ self.old }
+        ensures kept { KeepsAllButText self.old self.new }
     {
         let Some(stream) = self.streams.get(number as usize) else {
             return PmAnswer::refused(NO_STREAM);
@@ -222,8 +265,7 @@ impl Session {
 
 /// What a call answers to a text that wasn't read.
 fn refusal(error: ParseError) -> PmAnswer
-    ensures refused { result.code ≡ DONE → ⊥ }
-    ensures room { result.code ≡ NO_ROOM → ⊥ }
+    ensures code { result.code ≡ refusal_code error }
     ensures fault { result.code ≡ FAULT → IsFaultAt error result.number }
 {
     match error {
