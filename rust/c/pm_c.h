@@ -12,8 +12,10 @@
  * have its own. Nothing here is for signal handlers.
  *
  * No pointer may be null, not even to no bytes, and what one points to overlaps with nothing else of the call. All else
- * is answered by a code: a call that isn't PM_DONE leaves the session live and its streams as they were, but perhaps
- * other records, text or bytes.
+ * is answered by a code: a call that isn't PM_DONE leaves the session live and its streams as they were. It leaves the
+ * rest as it was too, but for these: PM_NO_MEMORY and PM_TOO_LONG may leave another text, other records, and the text
+ * that was read as a file of the session; PM_FAULT, and PM_NO_LITERAL of pm_read_literal, leave that file; and
+ * PM_NO_ROOM of pm_read_once and PM_NO_LISTING may leave other records and another text.
  */
 #ifndef PM_C_H
 #define PM_C_H
@@ -95,7 +97,7 @@ uint32_t pm_session_free(pm_session session);
 
 /* Reads a text into a stream of the session, whose number is `number`; pm_stream_free or pm_session_free frees it. The
  * text is a file of the session from then on, also if it has a fault. Codes: PM_FAULT, PM_MAP_FULL, PM_NO_MEMORY,
- * PM_NOT_UTF8, PM_TOO_LONG. */
+ * PM_NOT_UTF8, PM_TOO_LONG. After PM_MAP_FULL and PM_NOT_UTF8 it is no file; after PM_NO_MEMORY it may be one. */
 pm_answer pm_parse(pm_session session, pm_session *back, const uint8_t *text, size_t bytes);
 
 /* Reads a text and lists its trees, as pm_parse and pm_list do, and keeps no stream. */
@@ -104,8 +106,9 @@ pm_answer pm_read(pm_session session, pm_session *back, const uint8_t *text, siz
 /* Reads a text that is no file of the session, and lists its trees as pm_list does, in one call: positions begin at 1,
  * and no look-up is to be asked about them. The records and the text are copied to the fronts of two buffers, which have
  * room for `count` records and for `room` bytes. Where one is too short, that is PM_NO_ROOM, and `number` and `bytes` say
- * what to give pm_copy_trees and pm_copy_text. A short text is read soonest so. Codes: PM_FAULT, PM_MAP_FULL,
- * PM_NO_MEMORY, PM_NOT_UTF8, PM_NO_ROOM, PM_TOO_LONG. */
+ * what to give pm_copy_trees and pm_copy_text. A short text is read soonest so. Where it isn't PM_DONE nothing is
+ * copied. Codes: PM_FAULT, PM_NO_MEMORY, PM_NOT_UTF8, PM_NO_ROOM, PM_TOO_LONG, and PM_MAP_FULL for a text of 4294967295
+ * bytes or more. */
 pm_answer pm_read_once(pm_session session, pm_session *back, const uint8_t *text, size_t bytes, pm_tree *trees,
                        size_t count, uint8_t *into, size_t room);
 
@@ -125,7 +128,8 @@ pm_answer pm_print(pm_session session, pm_session *back, uint32_t stream);
 pm_answer pm_print_records(pm_session session, pm_session *back, const pm_tree *trees, size_t count,
                            const uint8_t *text, size_t bytes);
 
-/* Copy the session's text, bytes and records into a buffer of just their number. Codes: PM_NO_ROOM. */
+/* Copy the session's text, bytes and records into a buffer of just their number. Codes: PM_NO_ROOM for a buffer of any
+ * other length, which isn't written then. */
 uint32_t pm_copy_text(pm_session session, pm_session *back, uint8_t *into, size_t bytes);
 uint32_t pm_copy_bytes(pm_session session, pm_session *back, uint8_t *into, size_t bytes);
 uint32_t pm_copy_trees(pm_session session, pm_session *back, pm_tree *into, size_t count);

@@ -1,5 +1,6 @@
 -- What the calls of a session answer.
-use Rattle.std.specs.Prelude.{ℕ, Bool, ◌≡◌, ◌↔◌, ◌⊎◌, List, [], ◌∷◌, flat_map, length, take, Some, None, Result, Ok}
+use Rattle.std.specs.Prelude.{ℕ, Bool, ◌≡◌, ◌↔◌, ◌⊎◌, ◌<◌, List, [], ◌∷◌, flat_map, length, take}
+use Rattle.std.specs.Prelude.{Some, None, Result, Ok, Err}
 use Rattle.std.specs.String.{string_bytes}
 use Rattle.std.specs.Str.{chars, encode_utf8_all, IsUtf8}
 use Rattle.slab.specs.Slab.{get, SameValues, Updates}
@@ -17,8 +18,12 @@ use Rattle.proc_macro2.specs.declared.ConversionErrorKind.{ConversionErrorKind}
 use Rattle.proc_macro2.specs.declared.IdentError.TheVariants as faults
 use Rattle.proc_macro2.specs.declared.ParseError.{ParseError}
 use Rattle.proc_macro2.specs.declared.ParseError.TheVariants.{Lex, MapFull, Memory}
+use Rattle.proc_macro2.specs.declared.ConversionErrorKind.TheVariants.{FailedToUnescape}
+use Rattle.proc_macro2.specs.declared.EscapeError.{EscapeError}
+use Rattle.pm_c.specs.Faults.{fault_number}
 use Rattle.pm_c.specs.Listing.{kept_text, records_from}
 use Rattle.pm_c.specs.declared.codes.TheConstants.{DONE, FAULT, MAP_FULL, NO_MEMORY, NOT_UTF8, TOO_LONG}
+use Rattle.pm_c.specs.declared.codes.TheConstants.{NO_LITERAL, NO_ROOM, NOT_UNESCAPED, OTHER_KIND}
 use Rattle.pm_c.specs.declared.codes.TheConstants.{NAME_EMPTY, NAME_NUMBER, NAME_INVALID, NAME_RESERVED}
 use Rattle.pm_c.specs.declared.records.PmAnswer.{PmAnswer}
 use Rattle.pm_c.specs.declared.records.PmTree.{PmTree}
@@ -33,6 +38,22 @@ IsAmong (one ∷ others) code = (code ≡ one) ⊎ IsAmong others code
 abbrev pub stream_codes : List ℕ
 stream_codes = DONE ∷ NO_MEMORY ∷ TOO_LONG ∷ []
 
+-- what is answered of a name
+abbrev pub name_codes : List ℕ
+name_codes = DONE ∷ NAME_EMPTY ∷ NAME_NUMBER ∷ NAME_INVALID ∷ NAME_RESERVED ∷ NOT_UTF8 ∷ NO_MEMORY ∷ []
+
+-- what a session answers that copies what it lends
+abbrev pub copy_codes : List ℕ
+copy_codes = DONE ∷ NO_ROOM ∷ []
+
+-- what a session answers that makes the text of a literal
+abbrev pub make_codes : List ℕ
+make_codes = DONE ∷ NO_MEMORY ∷ []
+
+-- what a session answers that is asked for the value of a literal
+abbrev pub value_codes : List ℕ
+value_codes = NOT_UTF8 ∷ NO_LITERAL ∷ OTHER_KIND ∷ NOT_UNESCAPED ∷ make_codes
+
 -- what a session answers that reads a text
 abbrev pub read_codes : List ℕ
 read_codes = FAULT ∷ MAP_FULL ∷ NOT_UTF8 ∷ stream_codes
@@ -44,6 +65,14 @@ KeepsAllButListing old new = new ≡ record old { trees = new.trees; text = new.
 -- nothing of the session is another but its text
 abbrev pub KeepsAllButText : Session → Session → Type 0
 KeepsAllButText old new = new ≡ record old { text = new.text }
+
+-- nothing of the session is another but its bytes
+abbrev pub KeepsAllButBytes : Session → Session → Type 0
+KeepsAllButBytes old new = new ≡ record old { bytes = new.bytes }
+
+-- the bytes are a text that isn't a literal
+abbrev pub IsOtherText : List ℕ → Type 0
+IsOtherText bytes = IsUtf8 bytes × (IsWholeLiteral (chars bytes) → ⊥)
 
 -- the bytes are a text that has more characters than the map has room for
 abbrev pub Overflows : Files → List ℕ → Type 0
@@ -128,6 +157,11 @@ pub record StandInFront (session : Session) (trees : List PmTree) (text : List �
   pub records : take (length session.trees.items) trees ≡ session.trees.items
   pub texts : take (length (string_bytes session.text)) text ≡ string_bytes session.text
 
+-- one of these has less room than the session's records or text take
+abbrev pub IsTooShort : Session → List PmTree → List ℕ → Type 0
+IsTooShort session trees text =
+    (length trees < length session.trees.items) ⊎ (length text < length (string_bytes session.text))
+
 -- the records and texts are those of the stream of this number
 pub record IsListed (old : Session) (number : ℕ) (new : Session) (answer : PmAnswer) : Type 0 where
   pub stream : Forest
@@ -178,6 +212,18 @@ pub record MakesCString (bytes : List ℕ) (session : Session) (answer : PmAnswe
   pub text : IsCStringText bytes (chars (string_bytes session.text))
   pub count : answer.bytes ≡ length (string_bytes session.text)
 
+-- the error is the fault of this number in the content of a literal
+pub record IsNumbered (error : ConversionErrorKind) (number : ℕ) : Type 0 where
+  pub fault : EscapeError
+  pub is : error ≡ FailedToUnescape fault
+  pub counted : number ≡ fault_number fault
+
+-- there is no value, since the content of the literal has the fault of this number
+pub record IsFaulty (value : Result (List ℕ) ConversionErrorKind) (number : ℕ) : Type 0 where
+  pub error : ConversionErrorKind
+  pub is : value ≡ Err error
+  pub numbered : IsNumbered error number
+
 -- the literal's value is the session's text, and the answer says how many bytes it has
 pub record HasTextValue (value : Result (List ℕ) ConversionErrorKind) (session : Session) (answer : PmAnswer) : Type 0
   where
@@ -190,12 +236,14 @@ pub record HasBytesValue (value : Result (List ℕ) ConversionErrorKind) (sessio
     pub is : value ≡ Ok session.bytes.items
     pub count : answer.bytes ≡ length session.bytes.items
 
--- the text is a literal, and is the next file of the map: the answer says where it begins and how many characters it has
+-- the text is a literal, and is the next file of the map: the answer says where it begins and how many
+-- characters it has
 pub record IsReadLiteral (old : Session) (source : List ℕ) (new : Session) (answer : PmAnswer) : Type 0 where
   pub whole : IsWholeLiteral source
   pub number : answer.number ≡ next_lo old.map
   pub count : answer.bytes ≡ length source
   pub map : new.map ≡ with_file old.map source
+  pub rest : new ≡ record old { map = new.map }
 
 -- the session's text is the source text of the span
 pub record LendsSource (old : Session) (span : Extent) (session : Session) (answer : PmAnswer) : Type 0 where

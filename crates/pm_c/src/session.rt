@@ -15,6 +15,7 @@ ghost use Rattle.pm_c.specs.Calls.{
   IsRead,
   IsReadAndListed,
   IsReadOnce,
+  IsTooShort,
   KeepsAllButListing,
   KeepsAllButText,
   Leaves,
@@ -24,7 +25,8 @@ ghost use Rattle.pm_c.specs.Calls.{
   refusal_code,
   stream_codes,
 };
-ghost use Rattle.pm_c.specs.declared.codes.TheConstants.{DONE, FAULT, MAP_FULL, NO_MEMORY, NO_ROOM, NO_STREAM, NOT_UTF8};
+ghost use Rattle.pm_c.specs.declared.codes.TheConstants.{DONE, FAULT, MAP_FULL, NO_MEMORY};
+ghost use Rattle.pm_c.specs.declared.codes.TheConstants.{NO_ROOM, NO_STREAM, NOT_UTF8};
 
 mod copies;
 mod lookups;
@@ -114,6 +116,8 @@ impl Session {
         ensures done { result.code ≡ DONE → IsReadOnce (chars source.now) self.new result }
         ensures copied { result.code ≡ DONE → StandInFront self.new trees.new text.new }
         ensures no_room { result.code ≡ NO_ROOM → IsReadOnce (chars source.now) self.new result }
+        ensures short { result.code ≡ NO_ROOM → IsTooShort self.new trees.old text.old }
+        ensures uncopied { (result.code ≡ DONE → ⊥) → (trees.new ≡ trees.old) × (text.new ≡ text.old) }
         ensures fault { result.code ≡ FAULT → FaultAt 1 (chars source.now) result.number }
         ensures not_utf8 { (result.code ≡ NOT_UTF8) ↔ (IsUtf8 source.now → ⊥) }
         ensures map_full { (result.code ≡ MAP_FULL) ↔ (IsUtf8 source.now × (4294967295 ≤ length source.now)) }

@@ -1,10 +1,23 @@
 //! The values of literals.
-ghost use Rattle.std.specs.Prelude.{◌≡◌, Err, IfErr, IfOk};
-ghost use Rattle.std.specs.Str.{chars};
+ghost use Rattle.std.specs.Prelude.{◌≡◌, ◌↔◌, [], ◌∷◌, Err, IfErr, IfOk, OnOk};
+ghost use Rattle.std.specs.Str.{chars, IsUtf8};
+ghost use Rattle.proc_macro2.specs.LiteralText.{IsWholeLiteral};
 ghost use Rattle.proc_macro2.specs.Value.{byte_str_value, cstr_value, str_value};
 ghost use Rattle.proc_macro2.specs.declared.ConversionErrorKind.TheVariants.{InvalidLiteralKind};
-ghost use Rattle.pm_c.specs.Calls.{HasBytesValue, HasTextValue};
-ghost use Rattle.pm_c.specs.declared.codes.TheConstants.{DONE, OTHER_KIND};
+ghost use Rattle.pm_c.specs.Calls.{
+  HasBytesValue,
+  HasTextValue,
+  IsAmong,
+  IsFaulty,
+  IsNumbered,
+  IsOtherText,
+  KeepsAllButBytes,
+  KeepsAllButText,
+  value_codes,
+};
+ghost use Rattle.pm_c.specs.Faults.{fault_number};
+ghost use Rattle.pm_c.specs.declared.codes.TheConstants.{DONE, NO_LITERAL, NO_MEMORY, NOT_UTF8};
+ghost use Rattle.pm_c.specs.declared.codes.TheConstants.{NOT_UNESCAPED, OTHER_KIND};
 
 use crate::codes::{NO_LITERAL, NO_MEMORY, NOT_UNESCAPED, NOT_UTF8, OTHER_KIND};
 use crate::records::PmAnswer;
@@ -18,6 +31,12 @@ impl Session {
     pub(crate) fn str_value(&mut self, text: &[u8]) -> PmAnswer
         ensures done { result.code ≡ DONE → HasTextValue (str_value (chars text.now)) self.new result }
         ensures kind { result.code ≡ OTHER_KIND → str_value (chars text.now) ≡ Err InvalidLiteralKind }
+        ensures unescaped { result.code ≡ NOT_UNESCAPED → IsFaulty (str_value (chars text.now)) result.number }
+        ensures not_utf8 { (result.code ≡ NOT_UTF8) ↔ (IsUtf8 text.now → ⊥) }
+        ensures no_literal { (result.code ≡ NO_LITERAL) ↔ IsOtherText text.now }
+        ensures codes { IsAmong value_codes result.code }
+        ensures left { (result.code ≡ DONE → ⊥) → self.new ≡ self.old }
+        ensures kept { KeepsAllButText self.old self.new }
     {
         let literal = match literal_of(self.alloc, text) {
             Ok(literal) => literal,
@@ -36,6 +55,12 @@ impl Session {
     pub(crate) fn byte_str_value(&mut self, text: &[u8]) -> PmAnswer
         ensures done { result.code ≡ DONE → HasBytesValue (byte_str_value (chars text.now)) self.new result }
         ensures kind { result.code ≡ OTHER_KIND → byte_str_value (chars text.now) ≡ Err InvalidLiteralKind }
+        ensures unescaped { result.code ≡ NOT_UNESCAPED → IsFaulty (byte_str_value (chars text.now)) result.number }
+        ensures not_utf8 { (result.code ≡ NOT_UTF8) ↔ (IsUtf8 text.now → ⊥) }
+        ensures no_literal { (result.code ≡ NO_LITERAL) ↔ IsOtherText text.now }
+        ensures codes { IsAmong value_codes result.code }
+        ensures left { (result.code ≡ DONE → ⊥) → self.new ≡ self.old }
+        ensures kept { KeepsAllButBytes self.old self.new }
     {
         let literal = match literal_of(self.alloc, text) {
             Ok(literal) => literal,
@@ -54,6 +79,12 @@ impl Session {
     pub(crate) fn cstr_value(&mut self, text: &[u8]) -> PmAnswer
         ensures done { result.code ≡ DONE → HasBytesValue (cstr_value (chars text.now)) self.new result }
         ensures kind { result.code ≡ OTHER_KIND → cstr_value (chars text.now) ≡ Err InvalidLiteralKind }
+        ensures unescaped { result.code ≡ NOT_UNESCAPED → IsFaulty (cstr_value (chars text.now)) result.number }
+        ensures not_utf8 { (result.code ≡ NOT_UTF8) ↔ (IsUtf8 text.now → ⊥) }
+        ensures no_literal { (result.code ≡ NO_LITERAL) ↔ IsOtherText text.now }
+        ensures codes { IsAmong value_codes result.code }
+        ensures left { (result.code ≡ DONE → ⊥) → self.new ≡ self.old }
+        ensures kept { KeepsAllButBytes self.old self.new }
     {
         let literal = match literal_of(self.alloc, text) {
             Ok(literal) => literal,
@@ -72,8 +103,11 @@ impl Session {
 /// The literal that the whole text is.
 fn literal_of(alloc: Global, text: &[u8]) -> Result<Literal, PmAnswer>
     ensures ok { IfOk result (λ literal. literal.text ≡ chars text.now) }
-    ensures done { IfErr result (λ answer. answer.code ≡ DONE → ⊥) }
-    ensures kind { IfErr result (λ answer. answer.code ≡ OTHER_KIND → ⊥) }
+    ensures utf8 { OnOk result (IsUtf8 text.now) }
+    ensures whole { OnOk result (IsWholeLiteral (chars text.now)) }
+    ensures not_utf8 { IfErr result (λ answer. (answer.code ≡ NOT_UTF8) ↔ (IsUtf8 text.now → ⊥)) }
+    ensures no_literal { IfErr result (λ answer. (answer.code ≡ NO_LITERAL) ↔ IsOtherText text.now) }
+    ensures codes { IfErr result (λ answer. IsAmong (NOT_UTF8 ∷ NO_LITERAL ∷ NO_MEMORY ∷ []) answer.code) }
 {
     let Ok(text) = str::from_utf8(text) else {
         return Err(PmAnswer::refused(NOT_UTF8));
@@ -89,8 +123,9 @@ fn literal_of(alloc: Global, text: &[u8]) -> Result<Literal, PmAnswer>
 
 /// Why there is no value.
 fn refusal(error: ConversionErrorKind) -> PmAnswer
-    ensures done { result.code ≡ DONE → ⊥ }
+    ensures codes { IsAmong (NO_MEMORY ∷ NOT_UNESCAPED ∷ OTHER_KIND ∷ []) result.code }
     ensures kind { result.code ≡ OTHER_KIND → error ≡ InvalidLiteralKind }
+    ensures unescaped { result.code ≡ NOT_UNESCAPED → IsNumbered error result.number }
 {
     match error {
         ConversionErrorKind::InvalidLiteralKind => PmAnswer::refused(OTHER_KIND),
@@ -104,7 +139,9 @@ fn refusal(error: ConversionErrorKind) -> PmAnswer
 }
 
 /// The number of a fault: the faults count from 0 in the order in which they are declared.
-fn fault_number(fault: &EscapeError) -> u32 {
+fn fault_number(fault: &EscapeError) -> u32
+    ensures { result ≡ fault_number fault.now }
+{
     match fault {
         EscapeError::ZeroChars => 0,
         EscapeError::MoreThanOneChar => 1,
