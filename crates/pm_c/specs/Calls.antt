@@ -1,12 +1,12 @@
 -- What the calls of a session answer.
-use Rattle.std.specs.Prelude.{ℕ, Bool, ◌≡◌, ◌↔◌, ◌⊎◌, ◌<◌, List, [], ◌∷◌, flat_map, length, take}
+use Rattle.std.specs.Prelude.{ℕ, Bool, ◌≡◌, ◌↔◌, ◌⊎◌, ◌<◌, ◌≤◌, List, [], ◌∷◌, flat_map, length, take}
 use Rattle.std.specs.Prelude.{Some, None, Result, Ok, Err}
 use Rattle.std.specs.String.{string_bytes}
 use Rattle.std.specs.Str.{chars, encode_utf8_all, IsUtf8}
 use Rattle.slab.specs.Slab.{get, SameValues, Updates}
 use Rattle.proc_macro2.specs.CString.{IsCStringText}
 use Rattle.proc_macro2.specs.Extent.{Extent}
-use Rattle.proc_macro2.specs.Files.{Files, Fits, next_lo, with_file}
+use Rattle.proc_macro2.specs.Files.{Files, Fits, Holds, next_lo, with_file}
 use Rattle.proc_macro2.specs.Forest.{Forest}
 use Rattle.proc_macro2.specs.IdentFault.{ident_fault}
 use Rattle.proc_macro2.specs.InOrder.{in_order}
@@ -244,6 +244,10 @@ pub record IsReadLiteral (old : Session) (source : List ℕ) (new : Session) (an
   pub count : answer.bytes ≡ length source
   pub map : new.map ≡ with_file old.map source
   pub rest : new ≡ record old { map = new.map }
+
+-- the positions are in order, and a file of the map has all from the first to the last
+abbrev pub IsHeld : Files → ℕ → ℕ → Type 0
+IsHeld map lo hi = (lo ≤ hi) × Holds map (span lo hi)
 
 -- the session's text is the source text of the span
 pub record LendsSource (old : Session) (span : Extent) (session : Session) (answer : PmAnswer) : Type 0 where

@@ -1,6 +1,7 @@
 //! Streams from records.
-ghost use Rattle.std.specs.Prelude.{◌≡◌};
-ghost use Rattle.pm_c.specs.declared.codes.TheConstants.{DONE};
+ghost use Rattle.std.specs.Prelude.{[], ◌∷◌};
+ghost use Rattle.pm_c.specs.Calls.{IsAmong};
+ghost use Rattle.pm_c.specs.declared.codes.TheConstants.{NO_LISTING, NO_MEMORY};
 
 use crate::codes::{NO_LISTING, NO_MEMORY};
 use crate::records::PmTree;
@@ -23,7 +24,7 @@ pub(crate) enum BuildError {
 impl BuildError {
     /// Its code.
     pub(crate) fn code(&self) -> u32
-        ensures { result ≡ DONE → ⊥ }
+        ensures { IsAmong (NO_LISTING ∷ NO_MEMORY ∷ []) result }
     {
         match self {
             BuildError::NoTree => NO_LISTING,

@@ -33,6 +33,7 @@ ghost use Rattle.pm_c.specs.Calls.{
   IsAmong,
   IsFaulty,
   IsFreed,
+  IsHeld,
   IsListed,
   IsOtherText,
   IsPrinted,
@@ -61,7 +62,8 @@ ghost use Rattle.pm_c.specs.Calls.{
   value_codes,
 };
 ghost use Rattle.pm_c.specs.declared.codes.TheConstants.{DONE, FAULT, MAP_FULL, NO_MEMORY, NO_ROOM, NO_STREAM};
-ghost use Rattle.pm_c.specs.declared.codes.TheConstants.{NO_CHARACTER, NO_LITERAL, NOT_JOINED, NOT_LIVE};
+ghost use Rattle.pm_c.specs.declared.codes.TheConstants.{NO_CHARACTER, NO_LISTING, NO_LITERAL};
+ghost use Rattle.pm_c.specs.declared.codes.TheConstants.{NOT_HELD, NOT_JOINED, NOT_LIVE};
 ghost use Rattle.pm_c.specs.declared.codes.TheConstants.{NOT_UNESCAPED, NOT_UTF8, OTHER_KIND};
 
 use codes::{DONE, NO_MEMORY, NOT_LIVE};
@@ -271,8 +273,11 @@ pub extern "C" fn pm_print_records(
     text: &[u8],
 ) -> PmAnswer
     ensures live { session.live ≡ true → back.new.live ≡ true }
-    ensures not_live { session.live ≡ false → result.code ≡ NOT_LIVE }
+    ensures not_live { (result.code ≡ NOT_LIVE) ↔ (session.live ≡ false) }
+    ensures unwritten { session.live ≡ false → back.new ≡ back.old }
     ensures done { result.code ≡ DONE → PrintsRecords trees.now text.now back.new.inside.value result }
+    ensures codes { IsAmong (NOT_LIVE ∷ NO_LISTING ∷ stream_codes) result.code }
+    ensures kept { session.live ≡ true → KeepsAllButListing session.inside.value back.new.inside.value }
 {
     let Some(mut inside) = session.open() else {
         return PmAnswer::refused(NOT_LIVE);
@@ -591,10 +596,15 @@ pub extern "C" fn pm_cstr_value(session: PmSession, back: &mut PmSession, text: 
 #[unsafe(no_mangle)]
 pub extern "C" fn pm_place_of(session: PmSession, back: &mut PmSession, position: u32) -> PmPlace
     ensures live { session.live ≡ true → back.new.live ≡ true }
-    ensures not_live { session.live ≡ false → result.code ≡ NOT_LIVE }
+    ensures not_live { (result.code ≡ NOT_LIVE) ↔ (session.live ≡ false) }
+    ensures unwritten { session.live ≡ false → back.new ≡ back.old }
     ensures done { result.code ≡ DONE
         → StartsAt session.inside.value.map (span position position)
         (record { line = result.line; column = result.column }) }
+    ensures not_held { session.live ≡ true
+        → ((result.code ≡ NOT_HELD) ↔ (IsHeld session.inside.value.map position position → ⊥)) }
+    ensures codes { IsAmong (NOT_LIVE ∷ DONE ∷ NOT_HELD ∷ []) result.code }
+    ensures kept { session.live ≡ true → back.new.inside.value ≡ session.inside.value }
 {
     let Some(inside) = session.open() else {
         return PmPlace::refused(NOT_LIVE);
@@ -613,9 +623,14 @@ pub extern "C" fn pm_byte_range(
     hi: u32,
 ) -> PmRange
     ensures live { session.live ≡ true → back.new.live ≡ true }
-    ensures not_live { session.live ≡ false → result.code ≡ NOT_LIVE }
+    ensures not_live { (result.code ≡ NOT_LIVE) ↔ (session.live ≡ false) }
+    ensures unwritten { session.live ≡ false → back.new ≡ back.old }
     ensures done { result.code ≡ DONE
         → HasBytes session.inside.value.map (span lo hi) (record { start = result.start; end = result.end }) }
+    ensures not_held { session.live ≡ true
+        → ((result.code ≡ NOT_HELD) ↔ (IsHeld session.inside.value.map lo hi → ⊥)) }
+    ensures codes { IsAmong (NOT_LIVE ∷ DONE ∷ NOT_HELD ∷ []) result.code }
+    ensures kept { session.live ≡ true → back.new.inside.value ≡ session.inside.value }
 {
     let Some(mut inside) = session.open() else {
         return PmRange::refused(NOT_LIVE);
@@ -634,8 +649,12 @@ pub extern "C" fn pm_source_text(
     hi: u32,
 ) -> PmAnswer
     ensures live { session.live ≡ true → back.new.live ≡ true }
-    ensures not_live { session.live ≡ false → result.code ≡ NOT_LIVE }
+    ensures not_live { (result.code ≡ NOT_LIVE) ↔ (session.live ≡ false) }
+    ensures unwritten { session.live ≡ false → back.new ≡ back.old }
     ensures done { result.code ≡ DONE → LendsSource session.inside.value (span lo hi) back.new.inside.value result }
+    ensures codes { IsAmong (NOT_LIVE ∷ DONE ∷ NOT_HELD ∷ NO_MEMORY ∷ []) result.code }
+    ensures left { result.code ≡ NOT_HELD → back.new.inside.value ≡ session.inside.value }
+    ensures kept { session.live ≡ true → KeepsAllButText session.inside.value back.new.inside.value }
 {
     let Some(mut inside) = session.open() else {
         return PmAnswer::refused(NOT_LIVE);
@@ -654,8 +673,14 @@ pub extern "C" fn pm_file_name(
     hi: u32,
 ) -> PmAnswer
     ensures live { session.live ≡ true → back.new.live ≡ true }
-    ensures not_live { session.live ≡ false → result.code ≡ NOT_LIVE }
+    ensures not_live { (result.code ≡ NOT_LIVE) ↔ (session.live ≡ false) }
+    ensures unwritten { session.live ≡ false → back.new ≡ back.old }
     ensures done { result.code ≡ DONE → LendsName session.inside.value (span lo hi) back.new.inside.value result }
+    ensures not_held { session.live ≡ true
+        → ((result.code ≡ NOT_HELD) ↔ (IsHeld session.inside.value.map lo hi → ⊥)) }
+    ensures codes { IsAmong (NOT_LIVE ∷ DONE ∷ NOT_HELD ∷ NO_MEMORY ∷ []) result.code }
+    ensures left { session.live ≡ true → (result.code ≡ DONE → ⊥) → back.new.inside.value ≡ session.inside.value }
+    ensures kept { session.live ≡ true → KeepsAllButText session.inside.value back.new.inside.value }
 {
     let Some(mut inside) = session.open() else {
         return PmAnswer::refused(NOT_LIVE);
@@ -676,12 +701,15 @@ pub extern "C" fn pm_join(
     other_hi: u32,
 ) -> PmRange
     ensures live { session.live ≡ true → back.new.live ≡ true }
-    ensures not_live { session.live ≡ false → result.code ≡ NOT_LIVE }
+    ensures not_live { (result.code ≡ NOT_LIVE) ↔ (session.live ≡ false) }
+    ensures unwritten { session.live ≡ false → back.new ≡ back.old }
     ensures one_file { result.code ≡ DONE
         → AreInOneFile session.inside.value.map (span lo hi) (span other_lo other_hi) }
     ensures done { result.code ≡ DONE → span result.start result.end ≡ joined (span lo hi) (span other_lo other_hi) }
     ensures not_joined { result.code ≡ NOT_JOINED
         → AreInOneFile session.inside.value.map (span lo hi) (span other_lo other_hi) → ⊥ }
+    ensures codes { IsAmong (NOT_LIVE ∷ DONE ∷ NOT_HELD ∷ NOT_JOINED ∷ []) result.code }
+    ensures kept { session.live ≡ true → back.new.inside.value ≡ session.inside.value }
 {
     let Some(inside) = session.open() else {
         return PmRange::refused(NOT_LIVE);
@@ -695,8 +723,12 @@ pub extern "C" fn pm_join(
 #[unsafe(no_mangle)]
 pub extern "C" fn pm_forget(session: PmSession, back: &mut PmSession) -> u32
     ensures live { session.live ≡ true → back.new.live ≡ true }
-    ensures not_live { session.live ≡ false → result ≡ NOT_LIVE }
+    ensures not_live { (result ≡ NOT_LIVE) ↔ (session.live ≡ false) }
+    ensures unwritten { session.live ≡ false → back.new ≡ back.old }
     ensures done { result ≡ DONE → back.new.inside.value.map.texts ≡ [] }
+    ensures codes { IsAmong (NOT_LIVE ∷ DONE ∷ []) result }
+    ensures kept { session.live ≡ true → back.new.inside.value
+        ≡ record session.inside.value { map = back.new.inside.value.map } }
 {
     let Some(mut inside) = session.open() else {
         return NOT_LIVE;

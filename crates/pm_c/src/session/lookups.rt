@@ -1,9 +1,9 @@
 //! What the map is asked of positions.
-ghost use Rattle.std.specs.Prelude.{◌≡◌, [], IfSome};
+ghost use Rattle.std.specs.Prelude.{◌≡◌, ◌↔◌, ◌≤◌, [], ◌∷◌, IfNone, IfSome, OnSome};
 ghost use Rattle.proc_macro2.specs.Files.{Holds};
 ghost use Rattle.proc_macro2.specs.Lookup.{AreInOneFile, HasBytes, StartsAt, joined};
-ghost use Rattle.pm_c.specs.Calls.{LendsName, LendsSource, span};
-ghost use Rattle.pm_c.specs.declared.codes.TheConstants.{DONE, NOT_JOINED};
+ghost use Rattle.pm_c.specs.Calls.{IsAmong, IsHeld, KeepsAllButText, LendsName, LendsSource, span};
+ghost use Rattle.pm_c.specs.declared.codes.TheConstants.{DONE, NO_MEMORY, NOT_HELD, NOT_JOINED};
 
 use crate::codes::{DONE, NO_MEMORY, NOT_HELD, NOT_JOINED};
 use crate::records::{PmAnswer, PmPlace, PmRange};
@@ -14,7 +14,9 @@ use proc_macro2::Span;
 impl Session {
     /// The span between two positions, if the map holds it.
     fn held(&self, lo: u32, hi: u32) -> Option<Span>
-        ensures { IfSome result (λ found. (found ≡ span lo hi) × Holds self.now.map found) }
+        ensures found { IfSome result (λ found. (found ≡ span lo hi) × Holds self.now.map found) }
+        ensures held { IfNone result (IsHeld self.now.map lo hi → ⊥) }
+        ensures order { OnSome result (lo ≤ hi) }
     {
         if lo > hi {
             return None;
@@ -29,8 +31,10 @@ impl Session {
 
     /// The line and column of a position.
     pub(crate) fn place(&self, position: u32) -> PmPlace
-        ensures { result.code ≡ DONE → StartsAt self.now.map (span position position)
+        ensures done { result.code ≡ DONE → StartsAt self.now.map (span position position)
             (record { line = result.line; column = result.column }) }
+        ensures not_held { (result.code ≡ NOT_HELD) ↔ (IsHeld self.now.map position position → ⊥) }
+        ensures codes { IsAmong (DONE ∷ NOT_HELD ∷ []) result.code }
     {
         match self.held(position, position) {
             Some(span) => {
@@ -47,8 +51,11 @@ impl Session {
 
     /// The bytes of its file that a span takes.
     pub(crate) fn byte_range(&mut self, lo: u32, hi: u32) -> PmRange
-        ensures { result.code ≡ DONE → HasBytes self.old.map (span lo hi)
+        ensures done { result.code ≡ DONE → HasBytes self.old.map (span lo hi)
             (record { start = result.start; end = result.end }) }
+        ensures not_held { (result.code ≡ NOT_HELD) ↔ (IsHeld self.old.map lo hi → ⊥) }
+        ensures codes { IsAmong (DONE ∷ NOT_HELD ∷ []) result.code }
+        ensures kept { self.new ≡ self.old }
     {
         match self.held(lo, hi) {
             Some(span) => {
@@ -61,7 +68,10 @@ impl Session {
 
     /// The source text of a span, as the session's text.
     pub(crate) fn source_text(&mut self, lo: u32, hi: u32) -> PmAnswer
-        ensures { result.code ≡ DONE → LendsSource self.old (span lo hi) self.new result }
+        ensures done { result.code ≡ DONE → LendsSource self.old (span lo hi) self.new result }
+        ensures codes { IsAmong (DONE ∷ NOT_HELD ∷ NO_MEMORY ∷ []) result.code }
+        ensures left { result.code ≡ NOT_HELD → self.new ≡ self.old }
+        ensures kept { KeepsAllButText self.old self.new }
     {
         let Some(span) = self.held(lo, hi) else {
             return PmAnswer::refused(NOT_HELD);
@@ -80,7 +90,11 @@ impl Session {
 
     /// The name of the file that a span is in, as the session's text.
     pub(crate) fn file_name(&mut self, lo: u32, hi: u32) -> PmAnswer
-        ensures { result.code ≡ DONE → LendsName self.old (span lo hi) self.new result }
+        ensures done { result.code ≡ DONE → LendsName self.old (span lo hi) self.new result }
+        ensures not_held { (result.code ≡ NOT_HELD) ↔ (IsHeld self.old.map lo hi → ⊥) }
+        ensures codes { IsAmong (DONE ∷ NOT_HELD ∷ NO_MEMORY ∷ []) result.code }
+        ensures left { (result.code ≡ DONE → ⊥) → self.new ≡ self.old }
+        ensures kept { KeepsAllButText self.old self.new }
     {
         let Some(span) = self.held(lo, hi) else {
             return PmAnswer::refused(NOT_HELD);
@@ -101,6 +115,7 @@ impl Session {
             → span result.start result.end ≡ joined (span lo hi) (span other_lo other_hi) }
         ensures not_joined { result.code ≡ NOT_JOINED
             → AreInOneFile self.now.map (span lo hi) (span other_lo other_hi) → ⊥ }
+        ensures codes { IsAmong (DONE ∷ NOT_HELD ∷ NOT_JOINED ∷ []) result.code }
     {
         let Some(span) = self.held(lo, hi) else {
             return PmRange::refused(NOT_HELD);

@@ -1,10 +1,10 @@
 //! Printing records.
-ghost use Rattle.std.specs.Prelude.{◌≡◌, IsTrue, OnOk};
+ghost use Rattle.std.specs.Prelude.{◌≡◌, ◌∷◌, IsTrue, OnOk};
 ghost use Rattle.std.specs.Str.{encode_utf8_all};
 ghost use Rattle.std.specs.String.{string_bytes};
 ghost use Rattle.proc_macro2.specs.Printed.{printed};
-ghost use Rattle.pm_c.specs.Calls.{ListsAs, PrintsRecords};
-ghost use Rattle.pm_c.specs.declared.codes.TheConstants.{DONE};
+ghost use Rattle.pm_c.specs.Calls.{IsAmong, KeepsAllButListing, ListsAs, PrintsRecords, stream_codes};
+ghost use Rattle.pm_c.specs.declared.codes.TheConstants.{DONE, NO_LISTING};
 
 use crate::build::build;
 use crate::codes::{DONE, NO_LISTING, NO_MEMORY};
@@ -21,7 +21,9 @@ impl Session {
     /// The stream is built, and then listed: where its list is another than the one that was given, that one isn't
     /// the list of a stream.
     pub(crate) fn print_records(&mut self, trees: &[PmTree], text: &[u8]) -> PmAnswer
-        ensures { result.code ≡ DONE → PrintsRecords trees.now text.now self.new result }
+        ensures done { result.code ≡ DONE → PrintsRecords trees.now text.now self.new result }
+        ensures codes { IsAmong (NO_LISTING ∷ stream_codes) result.code }
+        ensures kept { KeepsAllButListing self.old self.new }
     {
         let stream = match build(self.alloc, trees, text) {
             Ok(stream) => stream,
@@ -39,7 +41,9 @@ impl Session {
 
     /// Lists the stream, and compares the list with the one that was given.
     fn compare(&mut self, stream: &TokenStream, trees: &[PmTree], text: &[u8]) -> u32
-        ensures { result ≡ DONE → ListsAs stream.now trees.now text.now }
+        ensures done { result ≡ DONE → ListsAs stream.now trees.now text.now }
+        ensures codes { IsAmong (NO_LISTING ∷ stream_codes) result }
+        ensures kept { KeepsAllButListing self.old self.new }
     {
         if let Err(error) = list(stream, &mut self.trees, &mut self.text) {
             return error.code();
