@@ -16,4 +16,6 @@ mod lexer_literals;
 #[cfg(test)]
 mod shown_units;
 #[cfg(test)]
+mod slow;
+#[cfg(test)]
 mod walk;
