@@ -1,17 +1,21 @@
 -- Lemmas on the steps past what forms find.
-use Rattle.std.proofs.Common.{◌≡◌, ℕ, suc, ◌+◌, ◌-◌, ◌<◌, ◌≤◌, false, ◌==◌, List, [], ◌∷◌, ◌++◌, codes, length, Some, None, refl, sym, ap, ap₂, ◌∙◌, arith, append_assoc, append-nil, length-append, eqb-true}
+use Rattle.std.proofs.Common.{◌≡◌, ℕ, suc, ◌+◌, ◌-◌, ◌<◌, ◌≤◌, true, false, not, ◌||◌, ◌==◌, List, [], ◌∷◌, ◌++◌, codes, length, Some, None, refl, sym, ap, ap₂, ◌∙◌, arith, append_assoc, append-nil, length-append, eqb-true, eq-eqb}
 use Rattle.std.specs.Str.{chars}
-use Rattle.std.proofs.lemmas.Bool.{and_parts, or_from, both_ways, false_from_ne_true}
+use Rattle.std.specs.List.{list_all}
+use Rattle.std.proofs.lemmas.Bool.{and_parts, or_parts, or_from, not-true, both_ways, false_from_ne_true}
 use Rattle.lexical.specs.Text.{begins_with, begins_any}
 use Rattle.lexical.specs.Form.{Exactly}
 use Rattle.lexical.specs.Comment.{block_signs}
 use Rattle.lexical.specs.Finder.{Answer, behind, and_find, find_text}
 use Rattle.lexical.specs.CommentFinder.{find_ends, find_block}
 use Rattle.lexical.specs.Reading.{Passes, Leads}
+use Rattle.lexical.specs.Rule.{Run}
+use Rattle.lexical.specs.Step as steps
 use Rattle.lexical.specs.declared.cursor.Cursor.{Cursor}
 use Rattle.lexical.proofs.FinderLemmas.{finds_text, found_is, none_found}
+use Rattle.lexical.proofs.RuleLemmas.{found_is as found_by}
 use Rattle.lexical.proofs.TextLemmas.{begins_splits, begins_front}
-use Rattle.lexical.proofs.BlockLemmas.{behind_behind, at_none, at_nothing, at_close, at_open, at_other}
+use Rattle.lexical.proofs.BlockLemmas.{behind_nothing, behind_behind, at_none, at_nothing, at_close, at_open, at_other}
 
 -- ---- a text
 
@@ -127,4 +131,32 @@ leads_past at mid depth c e one closes opens inside fits =
       whole = e;
       count = one;
       fits = omega arith;
+    }
+
+-- past characters that begin no sign
+run_ends : (depth : ℕ) (front rest : List ℕ) → list_all (λ c. not (c == 42 || c == 47)) front ≡ true
+    → find_ends (suc depth) (front ++ rest) ≡ behind front (find_ends (suc depth) rest)
+run_ends depth [] rest all = sym (behind_nothing _)
+run_ends depth (c ∷ front) rest all =
+    let parts = and_parts _ _ all in
+    let other = or_parts (c == 42) (c == 47) (not-true _ parts.0) in
+    let plain : begins_any block_signs (c ∷ (front ++ rest)) ≡ false =
+    or_from _ _ (no_sign 47 42 c (front ++ rest) (λ e. absurd (both_ways _ other.1 (eq-eqb c 47 e))))
+    (or_from _ _ (no_sign 42 47 c (front ++ rest) (λ e. absurd (both_ways _ other.0 (eq-eqb c 42 e)))) refl) in
+    at_other depth c (front ++ rest) plain
+    ∙ (ap (behind (c ∷ [])) (run_ends depth front rest parts.1) ∙ behind_behind (c ∷ []) front _)
+
+pub leads_run : (at mid : Cursor) (depth : ℕ) → steps.Passes (Run (λ c. not (c == 42 || c == 47))) at mid
+    → 0 < depth → depth ≤ at.chars_before → Leads (find_ends depth (chars at.rest.now)) at mid depth
+leads_run at mid depth h inside fits =
+    let is = found_by (Run (λ c. not (c == 42 || c == 47))) tt (chars at.rest.now) h.front (chars mid.rest.now) h.found in
+    let more : depth ≡ suc (depth - 1) = omega arith in
+    record {
+      front = h.front;
+      found = ap₂ find_ends more is.0
+          ∙ (run_ends (depth - 1) h.front (chars mid.rest.now) is.1.each
+          ∙ ap (λ n. behind h.front (find_ends n (chars mid.rest.now))) (sym more));
+      whole = is.0;
+      count = h.count;
+      fits = omega (arith, h.count);
     }

@@ -9,7 +9,7 @@ ghost use Rattle.lexical.specs.Reading.{Answers, Leads, Reads};
 use crate::cursor::Cursor;
 use crate::docs::comment_kind;
 use crate::piece::PieceKind;
-use crate::search::skip_to;
+use crate::search::{skip_to, skip_to_either};
 use crate::text::before;
 
 /// The place after the line comment that stands at the place, by the rule `line-comment`.
@@ -50,7 +50,8 @@ fn skip_block(at: Cursor<'_>) -> Option<Cursor<'_>>
     let mut end = at.past("/*")?;
     let mut depth = 1;
     while depth > 0 {
-        let (after, inside) = step(end, depth)?;
+        let sign = skip_to_either(end, b'*', b'/');
+        let (after, inside) = step(sign, depth)?;
         end = after;
         depth = inside;
     }
