@@ -1,12 +1,15 @@
 -- Steps over the units of a string.
-use Rattle.std.proofs.Common.{◌≡◌, ℕ, ◌+◌, ◌<◌, ◌==◌, List, [], ◌∷◌, ◌++◌, length, Option, Some, None, refl, sym, ap, ◌∙◌, subst, arith, length-append}
+use Rattle.std.proofs.Common.{◌≡◌, ℕ, ◌+◌, ◌<◌, ◌≤◌, ◌==◌, Bool, true, codes, List, [], ◌∷◌, ◌++◌, length, Option, Some, None, refl, sym, ap, ◌∙◌, subst, arith, length-append}
 use Rattle.std.specs.Borrow.{Bor}
 use Rattle.std.specs.Str.{chars}
-use Rattle.std.proofs.lemmas.Bool.{cond_both}
-use Rattle.lexical.specs.Finder.{Answer, and_find, and_next, behind, find_text}
+use Rattle.std.specs.List.{list_all}
+use Rattle.std.proofs.lemmas.Bool.{and_parts, cond_both, cond-true}
+use Rattle.lexical.specs.Finder.{Answer, and_find, and_next, behind, or_find, find_many, find_text}
 use Rattle.lexical.specs.Identifier.{name}
 use Rattle.lexical.specs.IdentifierFinder.{find_name}
-use Rattle.lexical.specs.Rule.{Rule, Exactly, Then, Next, UpTo, Stands, find}
+use Rattle.lexical.specs.Rule.{Rule, Run, Exactly, Then, Either, Next, UpTo, Stands, find}
+use Rattle.lexical.specs.Quoted.{is_plain, newline, escaped, unit as unit_of}
+use Rattle.lexical.specs.declared.quoted.StringKind.{StringKind}
 use Rattle.lexical.specs.Reading as answers
 use Rattle.lexical.specs.Step.{Passes, Reads}
 use Rattle.lexical.specs.declared.cursor.Cursor.{Cursor}
@@ -140,6 +143,43 @@ module _ (unit after : Rule) (clear : Clear (UpTo unit after)) where
       let is = found_is unit clear.0 (chars at.rest.now) h.front (chars to.rest.now) h.found in
       let long = clear.2 h.front (chars to.rest.now) is.1 in
       omega (arith, length-append h.front (chars to.rest.now), ap length is.0)
+
+  -- past characters that are each a unit
+  module _ (plain : ℕ → Bool) (alone : (c : ℕ) (text : List ℕ) → plain c ≡ true → find unit (c ∷ text) ≡ Some (c ∷ [], text)) where
+    units_over : (front rest : List ℕ) → list_all plain front ≡ true
+        → find_many (find unit) (front ++ rest) ≡ behind front (find_many (find unit) rest)
+    units_over [] rest all = sym (behind_nothing _)
+    units_over (c ∷ front) rest all =
+        let parts = and_parts _ _ all in
+        many_found (find unit) (Stands unit) (exact unit clear.0) clear.2
+        (c ∷ (front ++ rest)) (c ∷ []) (front ++ rest) (alone c (front ++ rest) parts.0)
+        ∙ (ap (behind (c ∷ [])) (units_over front rest parts.1) ∙ behind_behind (c ∷ []) front _)
+
+    pub leads_run : (rule : Rule) (at mid to : Cursor) → Leads rule at (UpTo unit after) mid → Passes (Run plain) mid to
+        → Leads rule at (UpTo unit after) to
+    unfolding find
+    leads_run rule at mid to h run =
+        let is = found_is (Run plain) tt (chars mid.rest.now) run.front (chars to.rest.now) run.found in
+        record {
+          front = h.front ++ run.front;
+          found = h.found
+              ∙ (ap (behind h.front) (ap (and_find (find after)) (ap (find_many (find unit)) is.0
+              ∙ units_over run.front (chars to.rest.now) is.1.each)
+              ∙ and_behind (find after) run.front _)
+              ∙ behind_behind h.front run.front _);
+          count = omega (arith, h.count, run.count, length-append h.front run.front);
+        }
+
+-- a run leads no way back
+pub run_goes_on : (plain : ℕ → Bool) (at to : Cursor) → Passes (Run plain) at to → length (chars to.rest.now) ≤ length (chars at.rest.now)
+run_goes_on plain at to h =
+    let is = found_is (Run plain) tt (chars at.rest.now) h.front (chars to.rest.now) h.found in
+    omega (arith, length-append h.front (chars to.rest.now), ap length is.0)
+
+-- a plain character is a unit of a string
+pub plain_unit : (kind : StringKind) (c : ℕ) (text : List ℕ) → is_plain kind c ≡ true → find (unit_of kind) (c ∷ text) ≡ Some (c ∷ [], text)
+unfolding find
+plain_unit kind c text e = ap (λ o. or_find o (find (Either newline (Then (Exactly (codes "\\")) (escaped kind))) (c ∷ text))) (cond-true _ _ _ e)
 
 -- ---- all of them
 

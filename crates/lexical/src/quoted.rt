@@ -4,13 +4,14 @@
 ghost use Rattle.std.specs.Prelude.{◌≡◌, codes, IsTrue};
 ghost use Rattle.lexical.specs.Ascii.{all_ascii};
 ghost use Rattle.lexical.specs.Quoted as rule;
-ghost use Rattle.lexical.specs.Rule.{Exactly, Then};
+ghost use Rattle.lexical.specs.Rule.{Exactly, Run, Then};
 ghost use Rattle.lexical.specs.Step.{Passes, Reads};
 
 use crate::cursor::Cursor;
 use crate::escapes::escape;
 use crate::identifiers::name;
-use crate::skip::one;
+use crate::search::skip_to_any;
+use crate::skip::{one, skip_while};
 
 /// What a string is made of.
 #[derive(Clone, Copy)]
@@ -47,6 +48,16 @@ fn stands_for_itself(c: char, kind: StringKind) -> bool
     }
 }
 
+/// The place after all the characters that stand for themselves.
+fn skip_plain(at: Cursor<'_>, kind: StringKind) -> Cursor<'_>
+    ensures { Passes (Run (rule.is_plain kind)) at.entry result }
+{
+    match kind {
+        StringKind::Plain => skip_to_any(at, b'"', b'\\', b'\r'),
+        _ => skip_while(at, |c| stands_for_itself(c, kind)),
+    }
+}
+
 /// The place after what may stand after a backslash in a string.
 fn escaped(at: Cursor<'_>, kind: StringKind) -> Option<Cursor<'_>>
     ensures { Reads (rule.escaped kind) at.entry result }
@@ -80,9 +91,11 @@ pub fn string<'a>(at: Cursor<'a>, front: &str, kind: StringKind) -> Option<Curso
     requires ascii { IsTrue (all_ascii front.now) }
     ensures { Reads (Then (Exactly front.now) (rule.body (rule.unit kind) (codes "\""))) at.entry result }
 {
-    let mut end = at.past(front)?;
+    let inside = at.past(front)?;
+    let mut end = skip_plain(inside, kind);
     while let Some(after) = unit(end, kind) {
-        end = after;
+        end = skip_plain(after, kind);
     }
-    Some(suffix(end.past("\"")?))
+    let closed = end.past("\"")?;
+    Some(suffix(closed))
 }
