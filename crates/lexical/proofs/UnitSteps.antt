@@ -1,15 +1,17 @@
 -- Steps over the units of a string.
-use Rattle.std.proofs.Common.{◌≡◌, ℕ, ◌+◌, ◌<◌, ◌≤◌, ◌==◌, Bool, true, codes, List, [], ◌∷◌, ◌++◌, length, Option, Some, None, refl, sym, ap, ◌∙◌, subst, arith, length-append}
+use Rattle.std.proofs.Common.{◌≡◌, ℕ, ◌+◌, ◌<◌, ◌≤◌, ◌==◌, Bool, true, false, not, codes, List, [], ◌∷◌, ◌++◌, length, Option, Some, None, refl, sym, ap, ◌∙◌, subst, arith, length-append, eqb-true, eq-eqb}
 use Rattle.std.specs.Borrow.{Bor}
 use Rattle.std.specs.Str.{chars}
 use Rattle.std.specs.List.{list_all}
-use Rattle.std.proofs.lemmas.Bool.{and_parts, cond_both, cond-true}
+use Rattle.std.proofs.lemmas.Bool.{and_parts, and_from, and_left, or_parts, or_from, not-true, both_ways, false_from_ne_true, cond_both, cond-true, cond-false}
 use Rattle.lexical.specs.Finder.{Answer, and_find, and_next, behind, or_find, find_many, find_text}
 use Rattle.lexical.specs.Identifier.{name}
 use Rattle.lexical.specs.IdentifierFinder.{find_name}
 use Rattle.lexical.specs.Rule.{Rule, Run, Exactly, Then, Either, Next, UpTo, Stands, find}
 use Rattle.lexical.specs.Quoted.{is_plain, newline, escaped, unit as unit_of}
 use Rattle.lexical.specs.declared.quoted.StringKind.{StringKind}
+use Rattle.lexical.specs.RawString.{is_raw, is_raw_plain, raw_unit}
+use Rattle.lexical.specs.Text.{begins_any}
 use Rattle.lexical.specs.Reading as answers
 use Rattle.lexical.specs.Step.{Passes, Reads}
 use Rattle.lexical.specs.declared.cursor.Cursor.{Cursor}
@@ -180,6 +182,18 @@ run_goes_on plain at to h =
 pub plain_unit : (kind : StringKind) (c : ℕ) (text : List ℕ) → is_plain kind c ≡ true → find (unit_of kind) (c ∷ text) ≡ Some (c ∷ [], text)
 unfolding find
 plain_unit kind c text e = ap (λ o. or_find o (find (Either newline (Then (Exactly (codes "\\")) (escaped kind))) (c ∷ text))) (cond-true _ _ _ e)
+
+-- and of a raw one
+pub raw_plain_unit : (kind : StringKind) (hashes : List ℕ) (c : ℕ) (text : List ℕ) → is_raw_plain kind c ≡ true
+    → find (raw_unit (is_raw kind) (34 ∷ hashes)) (c ∷ text) ≡ Some (c ∷ [], text)
+unfolding find
+raw_plain_unit kind hashes c text e =
+    let parts = and_parts _ _ e in
+    let other = or_parts (c == 34) (c == 13) (not-true _ parts.1) in
+    let quote : (34 == c) ≡ false = false_from_ne_true _ (λ h. both_ways _ other.0 (eq-eqb c 34 (sym (eqb-true 34 c h)))) in
+    let goes_on : begins_any ((34 ∷ hashes) ∷ []) (c ∷ text) ≡ false = or_from _ _ (and_left _ _ quote) refl in
+    cond-false _ _ _ goes_on
+    ∙ ap (λ o. or_find o (find newline (c ∷ text))) (cond-true _ _ _ (and_from _ _ parts.0 (ap not other.1)))
 
 -- ---- all of them
 

@@ -1,5 +1,5 @@
 -- Strings without escapes.
-use Rattle.std.specs.Prelude.{ℕ, Bool, true, not, ◌&&◌, ◌==◌, List, [], ◌∷◌, codes, nat_le, length}
+use Rattle.std.specs.Prelude.{ℕ, Bool, true, not, ◌&&◌, ◌||◌, ◌==◌, List, [], ◌∷◌, codes, nat_le, length}
 use Rattle.std.specs.Char.{is_ascii}
 use Rattle.lexical.specs.Character.{carriage_return, double_quote, hash_sign}
 use Rattle.lexical.specs.Form.{Form}
@@ -30,6 +30,10 @@ abbrev pub is_raw : StringKind → ℕ → Bool
 is_raw Plain c = true
 is_raw Byte c = is_ascii c
 is_raw C c = not (c == 0)
+
+-- and neither end it nor begin CR LF
+abbrev pub is_raw_plain : StringKind → ℕ → Bool
+is_raw_plain kind c = is_raw kind c && not ((c == double_quote) || (c == carriage_return))
 
 -- what opens a raw string
 abbrev pub raw_front : StringKind → List ℕ

@@ -8,12 +8,14 @@ ghost use Rattle.lexical.specs.Character.{double_quote};
 ghost use Rattle.lexical.specs.RawString as rule;
 ghost use Rattle.lexical.specs.RawString.{is_raw};
 ghost use Rattle.lexical.specs.Reading.{ReadsText};
-ghost use Rattle.lexical.specs.Rule.{find};
-ghost use Rattle.lexical.specs.Step.{Reads};
+ghost use Rattle.lexical.specs.Rule.{Run, find};
+ghost use Rattle.lexical.specs.Step.{Passes, Reads};
 
 use crate::bytes::{Class, skip};
 use crate::cursor::Cursor;
 use crate::quoted::{StringKind, suffix};
+use crate::search::skip_to_either;
+use crate::skip::skip_while;
 use crate::text::{before, begins};
 
 /// How many hash signs a raw string may have at most.
@@ -40,6 +42,16 @@ fn may_stand(c: char, kind: StringKind) -> bool
         StringKind::Plain => true,
         StringKind::Byte => c.is_ascii(),
         StringKind::C => c != '\0',
+    }
+}
+
+/// The place after all the characters that may stand in a raw string, up to a quote or a CR.
+fn skip_plain(at: Cursor<'_>, kind: StringKind) -> Cursor<'_>
+    ensures { Passes (Run (rule.is_raw_plain kind)) at.entry result }
+{
+    match kind {
+        StringKind::Plain => skip_to_either(at, b'"', b'\r'),
+        _ => skip_while(at, |c| may_stand(c, kind) && !(c == '"' || c == '\r')),
     }
 }
 
@@ -72,7 +84,7 @@ pub fn raw_string<'a>(at: Cursor<'a>, front: &str, kind: StringKind) -> Option<C
     let (hashes, quote) = hashes(at.past(front)?)?;
     let mut end = quote.past("\"")?;
     while let Some(after) = raw_unit(end, kind, hashes) {
-        end = after;
+        end = skip_plain(after, kind);
     }
     Some(suffix(end.past("\"")?.past(hashes)?))
 }

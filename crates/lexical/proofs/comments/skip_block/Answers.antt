@@ -8,14 +8,14 @@ loop-depth-init c = leads_in c.args.at c.in_ok-end.end c.in_ok-end.ensures
 pub returns-in_err-after : goal.returns-in_err-after
 returns-in_err-after c =
     let sign = leads_on _ c.args.at _ _ _ _ c.loop-depth.invariant
-        (leads_run _ _ _ c.skip_to_either-sign.ensures c.loop-depth-test.true c.loop-depth.invariant.fits) in
+    (leads_run _ _ _ c.skip_to_either-sign.ensures c.loop-depth-test.true c.loop-depth.invariant.fits) in
     let nothing = leads_to_end _ c.args.at _ _ sign c.loop-depth-test.true c.in_err-after.ensures.leads in
     search (rules, nothing)
 
 pub loop-depth-preserved : goal.loop-depth-preserved
 loop-depth-preserved c =
     let sign = leads_on _ c.args.at _ _ _ _ c.loop-depth.invariant
-        (leads_run _ _ _ c.skip_to_either-sign.ensures c.loop-depth-test.true c.loop-depth.invariant.fits) in
+    (leads_run _ _ _ c.skip_to_either-sign.ensures c.loop-depth-test.true c.loop-depth.invariant.fits) in
     leads_on _ c.args.at _ _ _ _ sign c.in_ok-after.ensures.leads
 
 pub returns : goal.returns

@@ -1,10 +1,10 @@
-use Rattle.std.proofs.Common.{ℕ, List, ◌∷◌, codes}
+use Rattle.std.proofs.Common.{ℕ, List, ◌∷◌, codes, arith}
 use Rattle.lexical.specs.Quoted.{body, close, suffix}
-use Rattle.lexical.specs.RawString.{hashes, is_raw, raw, raw_quotes, raw_unit}
+use Rattle.lexical.specs.RawString.{hashes, is_raw, is_raw_plain, raw, raw_quotes, raw_unit}
 use Rattle.lexical.specs.Rule.{Exactly, Next}
 use Rattle.lexical.proofs.QuotedFinderLemmas.{clear_raw_body}
 use Rattle.lexical.proofs.RuleSteps.{then_passes, then_lacks}
-use Rattle.lexical.proofs.UnitSteps.{past_passes, past_lacks, cons_passes, cons_lacks, cons_fails, next_lacks, leads_then, leads_next, leads_on, leads_fails, leads_passes, leads_unit, leads_last, unit_shortens}
+use Rattle.lexical.proofs.UnitSteps.{past_passes, past_lacks, cons_passes, cons_lacks, cons_fails, next_lacks, leads_then, leads_next, leads_on, leads_fails, leads_passes, leads_unit, leads_last, unit_shortens, leads_run, run_goes_on, raw_plain_unit}
 use Rattle.lexical.proofs.raw_strings.raw_string.Goals as goal
 
 pub returns-in_err-hashes : goal.returns-in_err-hashes
@@ -34,12 +34,16 @@ loop-after-init c =
 pub loop-after-smaller : goal.loop-after-smaller
 loop-after-smaller c =
     let text : List ℕ = 34 ∷ c.in_ok-hashes.hashes.now in
-    unit_shortens (raw_unit (is_raw c.args.kind) text) (close text) (clear_raw_body c.args.kind text) _ _ c.in-Some.ensures
+    let shorter = unit_shortens (raw_unit (is_raw c.args.kind) text) (close text) (clear_raw_body c.args.kind text) _ _ c.in-Some.ensures in
+    omega (arith, shorter, run_goes_on _ _ _ c.skip_plain-end.ensures)
 
 pub loop-after-preserved : goal.loop-after-preserved
 loop-after-preserved c =
     let text : List ℕ = 34 ∷ c.in_ok-hashes.hashes.now in
-    leads_unit (raw_unit (is_raw c.args.kind) text) (close text) (clear_raw_body c.args.kind text) _ _ _ _ c.loop-after.invariant c.in-Some.ensures
+    let lead = leads_unit (raw_unit (is_raw c.args.kind) text) (close text) (clear_raw_body c.args.kind text)
+    _ _ _ _ c.loop-after.invariant c.in-Some.ensures in
+    leads_run (raw_unit (is_raw c.args.kind) text) (close text) (clear_raw_body c.args.kind text) (is_raw_plain c.args.kind)
+    (raw_plain_unit c.args.kind c.in_ok-hashes.hashes.now) _ _ _ _ lead c.skip_plain-end.ensures
 
 pub returns-in_err-past-2 : goal.returns-in_err-past-2
 returns-in_err-past-2 c =
