@@ -1,11 +1,17 @@
 -- A text that grows, by its characters.
-use Rattle.std.proofs.Common.{◌≡◌, ℕ, List, [], ◌∷◌, ◌++◌, if◌then◌else◌, Result, Ok, Err, OnOk, sym, ap, ◌∙◌}
-use Rattle.std.proofs.Common.{append-nil, append_assoc, length, arith}
+use Rattle.std.proofs.Common.{◌≡◌, ℕ, ◌≤◌, ◌<◌, true, false, List, [], ◌∷◌, ◌++◌, if◌then◌else◌, Result, Ok, Err, OnOk, refl, sym, ap, ap₂, ◌∙◌, subst}
+use Rattle.std.proofs.Common.{append-nil, append_assoc, length, length-append, arith, ne_eqb, take, drop, leb-true, ltb-true, nat_le, ◌==◌, not}
 use Rattle.std.specs.Prelude.{encode_utf8, is_ok}
 use Rattle.std.specs.Char.{IsScalar}
-use Rattle.std.specs.Str.{chars, IsUtf8}
+use Rattle.std.specs.List.{list_all}
+use Rattle.std.specs.Str.{chars, IsCharBoundary, IsUtf8}
 use Rattle.std.proofs.lemmas.Str.{chars-nil, chars-append, chars_past_char, IsUtf8-encode}
-use Rattle.pm_token.specs.Escaped.{written_char, written, content}
+use Rattle.std.proofs.lemmas.Bool.{and_left, and_right, and_parts, and_from, cond-true, cond-false, lt-ltb, le-ltb, not-true}
+use Rattle.lexical.specs.Finder.{while_front, while_rest}
+use Rattle.lexical.specs.Form.{Run}
+use Rattle.lexical.proofs.FinderLemmas.{finds_run}
+use Rattle.lexical.proofs.Scan.{run_boundary, run_front, run_rest}
+use Rattle.pm_token.specs.Escaped.{is_plain_ascii, written_char, written, content}
 
 -- the characters of one character's bytes
 chars-encode : (c : ℕ) → IsScalar c → chars (encode_utf8 c) ≡ c ∷ []
@@ -30,3 +36,66 @@ content_more quote c old new text rest utf8 split e =
 pub content_end : (quote : ℕ) (old text : List ℕ) → length text ≡ 0 → old ++ content quote written_char (chars text) ≡ old
 content_end quote old [] e = ap (λ cs. old ++ content quote written_char cs) chars-nil ∙ append-nil old
 content_end quote old (b ∷ text) e = absurd (omega arith)
+
+-- ---- characters that stand for themselves
+
+-- none is past ASCII
+pub plain_past : (quote c : ℕ) → 128 ≤ c → is_plain_ascii quote c ≡ false
+plain_past quote c high = and_right (nat_le 32 c) _ (and_left _ _ (le-ltb c 127 (omega arith)))
+
+-- each is written as it is
+plain_written : (quote c : ℕ) (rest : List ℕ) → is_plain_ascii quote c ≡ true → written quote written_char c rest ≡ c ∷ []
+plain_written quote c rest is =
+    let low = and_parts _ _ is in
+    let high = and_parts _ _ low.1 in
+    let signs = and_parts _ _ high.1 in
+    let above : 32 ≤ c = leb-true 32 c low.0 in
+    let below : c < 127 = ltb-true c 127 high.0 in
+    let other : (n : ℕ) → n < 32 → (c == n) ≡ false = λ n few. ne_eqb c n (λ e. omega arith) in
+    cond-false _ _ _ (and_left _ _ (other 0 (omega arith)))
+    ∙ (cond-false _ _ _ (other 0 (omega arith))
+    ∙ (cond-false _ _ _ (other 9 (omega arith))
+    ∙ (cond-false _ _ _ (other 13 (omega arith))
+    ∙ (cond-false _ _ _ (other 10 (omega arith))
+    ∙ (cond-false _ _ _ (not-true _ signs.0)
+    ∙ (cond-false _ _ _ (not-true _ signs.1)
+    ∙ cond-true _ _ _ (cond-true _ _ _ (lt-ltb c 128 (omega arith)) ∙ and_from _ _ low.0 (ap not (ne_eqb c 127 (λ e. omega arith))))))))))
+
+pub content_plain : (quote : ℕ) (front rest : List ℕ) → list_all (is_plain_ascii quote) front ≡ true
+    → content quote written_char (front ++ rest) ≡ front ++ content quote written_char rest
+content_plain quote [] rest all = refl
+content_plain quote (c ∷ front) rest all =
+    let parts = and_parts _ _ all in
+    ap₂ (λ x y. x ++ y) (plain_written quote c (front ++ rest) parts.0) (content_plain quote front rest parts.1)
+
+-- what is written and what is still to be written stay the same
+pub content_past : (quote : ℕ) (old new front text rest : List ℕ) → text ≡ front ++ rest → new ≡ old ++ front
+    → list_all (is_plain_ascii quote) front ≡ true → new ++ content quote written_char rest ≡ old ++ content quote written_char text
+content_past quote old new front text rest split wrote plain =
+    ap (λ x. x ++ content quote written_char rest) wrote
+    ∙ (append_assoc old front (content quote written_char rest)
+    ∙ ap (λ x. old ++ x) (sym (ap (content quote written_char) split ∙ content_plain quote front rest plain)))
+
+-- what follows it is no longer than the text
+pub past_shorter : (front text rest : List ℕ) → text ≡ front ++ rest → length rest ≤ length text
+past_shorter front text rest split = omega (arith, ap length split, length-append front rest)
+
+-- so many bytes are of the front that stands for itself
+module _ (quote n : ℕ) (text : List ℕ) (utf8 : IsUtf8 text) (size : n ≡ length (while_front (is_plain_ascii quote) text)) where
+  pub plain_boundary : IsCharBoundary text n
+  plain_boundary = run_boundary (is_plain_ascii quote) false (plain_past quote) text utf8 n size
+
+  -- and they are written
+  pub plain_pushed : (old new back : List ℕ) → IsUtf8 old → new ≡ old ++ take n text → back ≡ drop n text
+      → (front : List ℕ) × (chars text ≡ front ++ chars back) × (chars new ≡ chars old ++ front) × Run (is_plain_ascii quote) front (chars back)
+  plain_pushed old new back is wrote rest =
+      let run = (finds_run (is_plain_ascii quote)).sound (chars text) in
+      let same : while_rest (is_plain_ascii quote) (chars text) ≡ chars back =
+      sym (ap chars rest ∙ run_rest (is_plain_ascii quote) false (plain_past quote) text utf8 n size) in (
+        while_front (is_plain_ascii quote) (chars text),
+        subst (λ x. chars text ≡ while_front (is_plain_ascii quote) (chars text) ++ x) same run.0,
+        ap chars wrote
+            ∙ (chars-append old (take n text) is
+            ∙ ap (λ x. chars old ++ x) (run_front (is_plain_ascii quote) false (plain_past quote) text utf8 n size)),
+        subst (Run (is_plain_ascii quote) (while_front (is_plain_ascii quote) (chars text))) same run.1,
+      )

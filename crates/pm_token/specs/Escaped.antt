@@ -65,6 +65,10 @@ written quote plain c rest =
     else if c == quote then backslash ∷ quote ∷ []
     else plain c
 
+-- an ASCII character that prints and is neither this quote nor a backslash stands for itself
+abbrev pub is_plain_ascii : ℕ → ℕ → Bool
+is_plain_ascii quote c = nat_le 32 c && (nat_lt c 127 && (not (c == backslash) && not (c == quote)))
+
 -- `content`: the characters one after another
 abbrev pub content : ℕ → (ℕ → List ℕ) → List ℕ → List ℕ
 content quote plain [] = []

@@ -1,10 +1,12 @@
 //! How literals between quotes are written.
-ghost use Rattle.std.specs.Prelude.{◌≡◌, ◌∷◌, ◌++◌, [], codes, IfOk, OnOk};
-ghost use Rattle.std.specs.Str.{chars};
+ghost use Rattle.std.specs.Prelude.{◌≡◌, ◌∷◌, ◌++◌, ℕ, List, [], codes, length, IfOk, OnOk};
+ghost use Rattle.std.specs.Str.{IsUtf8, chars};
 ghost use Rattle.std.specs.Char.Escape.{escape_unicode};
 ghost use Rattle.lexical.specs.Text.{first_passes};
+ghost use Rattle.lexical.specs.Finder.{while_front};
+ghost use Rattle.lexical.specs.Form.{Run};
 ghost use Rattle.lexical.specs.Quoted.{is_octal_digit};
-ghost use Rattle.pm_token.specs.Escaped.{is_hidden, is_bare as bare, written_char, written, content};
+ghost use Rattle.pm_token.specs.Escaped.{is_hidden, is_bare as bare, is_plain_ascii, written_char, written, content};
 ghost use Rattle.pm_token.specs.Text.{IsText};
 
 mod bytes;
@@ -123,16 +125,51 @@ impl Draft {
         }
     }
 
+    /// Writes the front of the text that stands for itself between these quotes, as far as it is ASCII, and answers
+    /// what follows it.
+    fn push_plain<'a>(&mut self, quote: char, text: &'a str) -> Result<&'a str, AllocError>
+        ensures ok { IfOk result (λ rest. (front : List ℕ) × (chars text.now ≡ front ++ chars rest.now)
+            × (self.new ≡ self.old ++ front) × Run (is_plain_ascii quote) front (chars rest.now)) }
+        ensures utf8 { IfOk result (λ rest. IsUtf8 rest.now) }
+    {
+        let size = count_plain(text.as_bytes(), quote);
+        let (front, rest) = text.split_at(size);
+        self.text.push_str(front)?;
+        Ok(rest)
+    }
+
     /// Writes the characters of the text between these quotes.
     pub(crate) fn push_content(&mut self, quote: char, text: &str) -> Result<(), AllocError>
         ensures ok { OnOk result (self.new ≡ self.old ++ content quote written_char (chars text.now)) }
     {
-        let mut rest = text.chars();
+        let mut rest = self.push_plain(quote, text)?.chars();
         while let Some(c) = rest.next() {
             self.push_escaped(quote, c, rest.as_str())?;
+            rest = self.push_plain(quote, rest.as_str())?.chars();
         }
         Ok(())
     }
+}
+
+/// How many bytes at the front are ASCII characters that stand for themselves between these quotes.
+fn count_plain(bytes: &[u8], quote: char) -> usize
+    ensures { result ≡ length (while_front (is_plain_ascii quote) bytes.now) }
+{
+    let mut count = 0;
+    while count < bytes.len() {
+        if !stands_for_itself(bytes[count], quote) {
+            break;
+        }
+        count += 1;
+    }
+    count
+}
+
+/// Whether the byte is an ASCII character that prints and is neither this quote nor a backslash.
+fn stands_for_itself(byte: u8, quote: char) -> bool
+    ensures { result ≡ is_plain_ascii quote byte }
+{
+    byte >= b' ' && byte < 0x7F && byte != b'\\' && char::from(byte) != quote
 }
 
 /// Whether the text begins with one of the digits 0 to 7.

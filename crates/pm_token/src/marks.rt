@@ -132,8 +132,7 @@ impl fmt::Display for Punct {
     ghost output = { λ punct. Some (encode_utf8_all (token_text (mark_token punct))) };
 
     fn fmt<W: fmt::Write>(&self, f: &mut fmt::Formatter<W>) -> fmt::Result {
-        let mark = self.mark;
-        write!(f, "{mark}")
+        f.write_char(self.mark)
     }
 }
 
