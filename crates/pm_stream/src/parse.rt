@@ -187,6 +187,8 @@ impl Reading {
     }
 
     /// Takes a literal of this text, by the rule `literal-token`.
+    // Out of line, as are doc comments and closers: most pieces are none of these, and pass by at less cost.
+    #[inline(never)]
     fn push_literal(&mut self, text: &str, span: Span) -> Result<(), AllocError>
         requires { IsBuiltToken (tokens.Literal (chars text.now)) }
         ensures ok { OnOk result ((events : List Event) → written self.new events
@@ -198,6 +200,7 @@ impl Reading {
     }
 
     /// Takes a doc comment: the mark `#`, the mark `!` if it is inner, and the group of its text.
+    #[inline(never)]
     fn push_doc(&mut self, inner: bool, text: &str, span: Span) -> Result<(), AllocError>
         ensures ok { OnOk result ((events : List Event) → written self.new events
             ≡ written self.old (doc_onto span.lo span.hi inner (chars text.now) events)) }
@@ -228,6 +231,7 @@ impl Reading {
     }
 
     /// Takes a closer from `lo` to `hi`. It is a fault unless it closes the innermost open group.
+    #[inline(never)]
     fn close(&mut self, delimiter: Delimiter, lo: u32, hi: u32) -> Result<(), ParseError>
         requires ordered { lo ≤ hi }
         requires built { IsBuiltTo lo self.old }

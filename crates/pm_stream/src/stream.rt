@@ -103,7 +103,10 @@ impl Drop for TokenStream {
                 outer = way.into_inside(alloc);
                 continue;
             };
-            let inside = tree.into_inside(alloc);
+            let TokenTree::Group(group) = tree else {
+                continue;
+            };
+            let inside = group.stream;
             if inside.is_empty() {
                 continue;
             }

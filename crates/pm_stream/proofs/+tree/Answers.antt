@@ -1,7 +1,7 @@
 use Rattle.std.proofs.Common.{rules, ◌<◌, arith, ap, sym, subst, ◌∙◌}
 use denote.Param.Weighed.{most}
 use Rattle.pm_stream.specs.Forest.{IsBuilt}
-use Rattle.pm_stream.specs.Level.{held}
+use Rattle.pm_stream.specs.Level.{held, inside}
 use Rattle.pm_stream.specs.Size.{count}
 use Rattle.pm_stream.specs.declared.stream.TokenStream.TheDeep.{size-TokenTree}
 use Rattle.pm_stream.proofs.Levels.{IsBuilt-taken, count-not_nil, count-taken, shared_size_le}
@@ -33,13 +33,13 @@ stream::TokenStream::drop-loop-init t c =
 pub stream::TokenStream::drop-drop-inside-requires : goal.stream::TokenStream::drop-drop-inside-requires
 stream::TokenStream::drop-drop-inside-requires t c =
     let taken = count-taken _ _ c.in-Some-take_last-2.tree c.in-Some-take_last-2.ensures in
-    let into = ap count c.into_inside-inside.ensures in
+    let into = ap (λ tree. count (inside tree)) c.in-Group.is in
     (omega (arith, taken, into, c.loop.invariant.here, c.decreases), tt)
 
 pub stream::TokenStream::drop-drop-inside-requires-in-Err-1 : goal.stream::TokenStream::drop-drop-inside-requires-in-Err-1
 stream::TokenStream::drop-drop-inside-requires-in-Err-1 t c =
     let taken = count-taken _ _ c.in-Some-take_last-2.tree c.in-Some-take_last-2.ensures in
-    let into = ap count c.into_inside-inside.ensures in
+    let into = ap (λ tree. count (inside tree)) c.in-Group.is in
     (omega (arith, taken, into, c.loop.invariant.here, c.decreases), tt)
 
 -- the walk goes back to the group's list
@@ -54,7 +54,18 @@ stream::TokenStream::drop-loop-preserved-in_default-take_last-2 t c =
       both = omega (arith, was.outer, taken, into);
     }
 
--- there is nothing inside the tree
+-- the tree is a token
+pub stream::TokenStream::drop-loop-preserved-in_default-tree : goal.stream::TokenStream::drop-loop-preserved-in_default-tree
+stream::TokenStream::drop-loop-preserved-in_default-tree t c =
+    let was = c.loop.invariant in
+    let taken = count-taken _ _ c.in-Some-take_last-2.tree c.in-Some-take_last-2.ensures in
+    record {
+      here = omega (arith, was.here, taken);
+      outer = omega (arith, was.outer);
+      both = omega (arith, was.both, taken);
+    }
+
+-- there is nothing inside the group
 pub stream::TokenStream::drop-loop-preserved-then-is_empty : goal.stream::TokenStream::drop-loop-preserved-then-is_empty
 stream::TokenStream::drop-loop-preserved-then-is_empty t c =
     let was = c.loop.invariant in
@@ -72,8 +83,8 @@ stream::TokenStream::drop-loop-preserved t c =
     let taken = count-taken _ _ c.in-Some-take_last-2.tree c.in-Some-take_last-2.ensures in
     elim c.match-push_outer.branch [
       | stream::TokenStream::drop-in-Ok w ↦
-          let into = ap count c.into_inside-inside.ensures in
-          let some : 0 < count c.into_inside-inside.result =
+          let into = ap (λ tree. count (inside tree)) c.in-Group.is in
+          let some : 0 < count c.in-Group.group.stream =
           count-not_nil _ (search (rules, c.is_empty.ensures, c.if-is_empty.false)) in
           let here = ap count w.here-is in
           let outer = ap count w.outer-is in
