@@ -1,56 +1,50 @@
 -- What the lexer's steps answer is what the finders find.
-use Rattle.std.proofs.Common.{◌≡◌, ℕ, ◌+◌, Bool, true, false, not, ◌&&◌, ◌==◌, cond, List, [], ◌∷◌, ◌++◌, length, Some, None, refl, sym, ap, ◌∙◌, subst, arith, eqb-true}
-use Rattle.std.specs.Str.{chars, encode_utf8_all}
-use Rattle.std.proofs.lemmas.Bool.{and_from, cond-true, cond-false, not_from_false}
-use Rattle.lexical.specs.Class.{is_ident_start, is_ident_continue}
-use Rattle.lexical.specs.Text.{begins_any}
+use Rattle.std.proofs.Common.{◌≡◌, ℕ, ◌+◌, Bool, true, false, not, ◌&&◌, ◌==◌, cond, codes, List, [], ◌∷◌, ◌++◌, length, drop, Option, Some, None, refl, sym, ap, ◌∙◌, subst, arith, append_assoc, eqb-true}
+use Rattle.std.specs.Borrow.{Bor}
+use Rattle.std.specs.Str.{chars, IsUtf8, encode_utf8_all}
+use Rattle.std.proofs.lemmas.Bool.{and_from, cond-false, not_from_false}
+use Rattle.std.proofs.lemmas.List.{append_cancel_left}
+use Rattle.lexical.specs.Text.{begins_with, begins_any}
+use Rattle.lexical.specs.Token.{Name, raw_front}
 use Rattle.lexical.specs.Form.{Form}
-use Rattle.lexical.specs.Comment.{Comment}
-use Rattle.lexical.specs.Mark.{is_mark, comment_fronts, joint_before}
-use Rattle.lexical.specs.Piece.{Kind, IsPiece}
+use Rattle.lexical.specs.Rule.{Rule, One, Exactly, NotAt, find}
+use Rattle.lexical.specs.Identifier.{literal_prefixes, raw_name, written, identifier}
+use Rattle.lexical.specs.Mark.{is_mark, comment_fronts, mark, joint_before, follows_quote}
+use Rattle.lexical.specs.Piece.{Kind, Leaf, IsPiece}
 use Rattle.lexical.specs.Found.{kind_of, LendsText, IsPieceAt, IsAt}
-use Rattle.lexical.specs.Finder.{Answer, Finder, Finds, behind, and_find, find_not_at, find_one, find_run}
-use Rattle.lexical.specs.IdentifierFinder.{find_name}
-use Rattle.lexical.specs.CommentFinder.{find_comment}
-use Rattle.lexical.specs.MarkFinder.{find_lone_quote, find_mark, follows_quote, mark_kind}
-use Rattle.lexical.specs.PieceFinder.{Found, literal_kind, tagged, or_found, start, found_from, found}
-use Rattle.lexical.specs.Reading.{Passes, IsFound}
+use Rattle.lexical.specs.Finder.{Answer, Finds}
+use Rattle.lexical.specs.PieceFinder.{Found, find_lone_quote, literal_kind, mark_kind, name_kind, tagged, or_found, start, found_identifier, found_literal, found_from, found}
+use Rattle.lexical.specs.Reading.{IsFound, Answers}
+use Rattle.lexical.specs.Step.{Passes}
 use Rattle.lexical.specs.declared.cursor.Cursor.{Cursor}
 use Rattle.lexical.specs.declared.piece.PieceKind.{PieceKind}
 use Rattle.lexical.specs.declared.piece.PieceKind.TheVariants as kinds
 use Rattle.lexical.specs.declared.class.Start.{Start}
 use Rattle.lexical.specs.declared.class.Start.TheVariants as starts
 use Rattle.lexical.proofs.FinderLemmas.{found_is}
+use Rattle.lexical.proofs.RuleSteps.{passed, one_found, past_text, then_reads, IsBetween}
+use Rattle.lexical.proofs.NameFinderLemmas.{clear_written, written_named}
 use Rattle.lexical.proofs.ClassLemmas.{is_of, of_start}
-use Rattle.lexical.proofs.CommentFinderLemmas.{finds_comment}
 use Rattle.lexical.proofs.PieceLemmas.{from_start, piece_from_found}
 
 -- ---- what is found
 
--- one character that passes
-pub one_found : (passes : ℕ → Bool) (text rest : List ℕ) (c : ℕ) → text ≡ c ∷ rest → passes c ≡ true → find_one passes text ≡ Some (c ∷ [], rest)
-one_found passes text rest c e h = ap (find_one passes) e ∙ cond-true _ _ _ h
-
 -- one character that passes, where none of the fronts begins
 pub one_found_not_at : (fronts : List (List ℕ)) (passes : ℕ → Bool) (text rest : List ℕ) (c : ℕ) → text ≡ c ∷ rest
     → begins_any fronts text ≡ false → passes c ≡ true
-    → find_not_at fronts (find_one passes) text ≡ Some (c ∷ [], rest)
-one_found_not_at fronts passes text rest c e plain h = cond-false _ _ _ plain ∙ one_found passes text rest c e h
+    → find (NotAt fronts (One passes)) text ≡ Some (c ∷ [], rest)
+unfolding find
+one_found_not_at fronts passes text rest c e plain h = cond-false _ _ _ plain ∙ one_found passes c text rest e h
 
 -- the first character, by what it starts
-pub first_found : (s : Start) {text rest : List ℕ} {c : ℕ} → text ≡ c ∷ rest → s ≡ start c → find_one (is_of s) text ≡ Some (c ∷ [], rest)
-first_found s {text} {rest} {c} e h = one_found (is_of s) text rest c e (of_start s c h)
+pub first_found : (s : Start) {text rest : List ℕ} {c : ℕ} → text ≡ c ∷ rest → s ≡ start c → find (One (is_of s)) text ≡ Some (c ∷ [], rest)
+first_found s {text} {rest} {c} e h = one_found (is_of s) c text rest e (of_start s c h)
 
 -- a lone quote
 pub quote_found : {text rest : List ℕ} {c : ℕ} → text ≡ c ∷ rest → starts.Quote ≡ start c
     → find_lone_quote text ≡ cond (follows_quote rest) (Some (39 ∷ [], rest)) None
+unfolding find
 quote_found {rest = rest} {c = c} e h = ap find_lone_quote (e ∙ ap (λ d. d ∷ rest) (eqb-true c 39 (of_start starts.Quote c h)))
-
--- a name, by its first character and the run after it
-pub name_found : (text rest back after : List ℕ) (c : ℕ) → text ≡ c ∷ rest → is_ident_start c ≡ true
-    → find_run is_ident_continue rest ≡ Some (back, after) → find_name text ≡ Some (c ∷ back, after)
-name_found text rest back after c e h run =
-    ap find_name e ∙ (ap (and_find (find_run is_ident_continue)) (one_found is_ident_start (c ∷ rest) rest c refl h) ∙ ap (behind (c ∷ [])) run)
 
 -- ---- what a step answers
 
@@ -79,42 +73,67 @@ read_first answer o u at x e h = record { front = h.front; found = e ∙ ap (λ 
 pub second : {o answer u : Found} → o ≡ None → answer ≡ or_found o u → answer ≡ u
 second {u = u} none e = e ∙ ap (λ o. or_found o u) none
 
+pub same_answers : {answer other : Found} (at : Cursor) (result : Option (PieceKind × Cursor)) → answer ≡ other → Answers other at result → Answers answer at result
+same_answers at result e h = subst (λ o. Answers o at result) (sym e) h
+
 -- a text that starts so
 pub at_start : (first : Bool) (s : Start) {text rest : List ℕ} {c : ℕ} → text ≡ c ∷ rest → s ≡ start c → found first text ≡ found_from first s text
 at_start first s {text} {rest} {c} e is = from_start first text c rest s e (sym is)
 
 -- a literal
-pub literal_read : (o : Answer) (answer : Found) (at end : Cursor) → answer ≡ tagged literal_kind o → Passes o at end → IsFound answer at (kinds.Literal, end)
-literal_read o answer at end e h = read_as literal_kind o answer at end kinds.Literal h.front e h.found h.count refl tt
+pub literal_read : (rule : Rule) (at end : Cursor) → Passes rule at end → IsFound (found_literal rule (chars at.rest.now)) at (kinds.Literal, end)
+literal_read rule at end h = read_as literal_kind (find rule (chars at.rest.now)) _ at end kinds.Literal h.front refl h.found h.count refl tt
+
+-- an identifier, whose name follows `r#` or nothing
+pub name_read : (raw : Bool) (at inside end : Cursor) (name : Bor (List ℕ)) → chars at.rest.now ≡ raw_front raw ++ chars inside.rest.now
+    → begins_with (codes "r#") (chars at.rest.now) ≡ raw → begins_any literal_prefixes (chars at.rest.now) ≡ false
+    → Passes (written raw) at end → IsBetween (chars name.now) inside end → IsUtf8 name.now
+    → IsFound (found_identifier (chars at.rest.now)) at (kinds.Name raw name, end)
+unfolding find
+name_read raw at inside end name split begins plain h between utf8 =
+    let is = passed (written raw) (clear_written raw) at end h in
+    let named = written_named raw h.front (chars end.rest.now) is.1 in
+    let whole = is.0 ∙ (ap (λ p. p ++ chars end.rest.now) named.1 ∙ append_assoc (raw_front raw) named.0 (chars end.rest.now)) in
+    let same = between named.0 (append_cancel_left (raw_front raw) _ _ (sym split ∙ whole)) in
+    read_as (name_kind raw) (find (identifier raw) (chars at.rest.now)) _ at end (kinds.Name raw name) h.front
+    (ap (λ b. tagged (name_kind b) (find (identifier b) (chars at.rest.now))) begins)
+    (cond-false _ _ _ plain ∙ h.found) h.count (by_raw raw h.front (chars name.now) (named.1 ∙ ap (λ q. raw_front raw ++ q) (sym same))) utf8
+  where
+    by_raw : (raw : Bool) (p q : List ℕ) → p ≡ raw_front raw ++ q → Leaf (Name raw q) ≡ name_kind raw p []
+    by_raw true p q e = ap (λ x. Leaf (Name true (drop 2 x))) (sym e)
+    by_raw false p q e = ap (λ x. Leaf (Name false x)) (sym e)
+
+-- none, where nothing that a raw one may be called follows `r#`
+pub name_lacks : (at inside : Cursor) → begins_any literal_prefixes (chars at.rest.now) ≡ false → Passes (Exactly (codes "r#")) at inside
+    → find raw_name (chars inside.rest.now) ≡ None → found_identifier (chars at.rest.now) ≡ None
+unfolding find
+name_lacks at inside plain h none =
+    let begins = ap (begins_with (codes "r#")) (past_text (codes "r#") at inside h).0 in
+    ap (λ b. tagged (name_kind b) (find (identifier b) (chars at.rest.now))) begins
+    ∙ ap (tagged (name_kind true)) (cond-false _ _ _ plain ∙ then_reads (Exactly (codes "r#")) raw_name at inside None h none)
 
 -- a mark
-pub mark_read : (answer : Found) (at after : Cursor) (c : ℕ) (k : PieceKind) → answer ≡ tagged mark_kind (find_mark (chars at.rest.now))
+pub mark_read : (answer : Found) (at after : Cursor) (c : ℕ) (k : PieceKind) → answer ≡ tagged mark_kind (find mark (chars at.rest.now))
     → chars at.rest.now ≡ c ∷ chars after.rest.now → after.chars_before ≡ at.chars_before + 1
     → begins_any comment_fronts (chars at.rest.now) ≡ false → is_mark c ≡ true → (c == 39) ≡ false
     → k ≡ kinds.Mark c (joint_before (chars after.rest.now)) → IsFound answer at (k, after)
-mark_read answer at after c k tags split one plain mark other is =
-    read_one mark_kind (find_mark (chars at.rest.now)) answer at after k c tags
-    (one_found_not_at comment_fronts (λ d. is_mark d && not (d == 39)) _ _ _ split plain (and_from _ _ mark (not_from_false _ other)))
+mark_read answer at after c k tags split one plain among other is =
+    read_one mark_kind (find mark (chars at.rest.now)) answer at after k c tags
+    (one_found_not_at comment_fronts (λ d. is_mark d && not (d == 39)) _ _ _ split plain (and_from _ _ among (not_from_false _ other)))
     one (ap (λ k. kind_of k (c ∷ [])) is) (subst LendsText (sym is) tt)
-
--- a comment
-pub comment_stands : (at end : Cursor) (p : List ℕ) (h : Passes (find_comment (chars at.rest.now)) at end) → p ≡ h.front → Comment p (chars end.rest.now)
-comment_stands at end p h e =
-    subst (λ q. Comment q (chars end.rest.now)) (sym e)
-    (found_is find_comment Comment finds_comment (chars at.rest.now) h.front (chars end.rest.now) h.found).1
 
 -- ---- what a caller sees
 
-pub is_at : (f : Finder) (A : Form) → Finds f A → (at end : Cursor) (text : List ℕ) (bytes : ℕ)
-    → chars at.rest.now ≡ text → (h : Passes (f (chars at.rest.now)) at end)
-    → bytes ≡ length (encode_utf8_all h.front) → IsAt A text bytes
-is_at f A finds at end text bytes e h size = record {
-  front = h.front;
-  rest = chars end.rest.now;
-  whole = sym e ∙ h.whole;
-  stands = (found_is f A finds (chars at.rest.now) h.front (chars end.rest.now) h.found).1;
-  size = size;
-}
+pub is_in : (rule : Rule) (A : Form) → Finds (find rule) A → (at end : Cursor) (text : List ℕ) → at.rest.now ≡ text → Passes rule at end
+    → (front : List ℕ) × (chars text ≡ front ++ chars end.rest.now)
+is_in rule A finds at end text e h = (h.front, ap chars (sym e) ∙ (found_is (find rule) A finds (chars at.rest.now) h.front (chars end.rest.now) h.found).0)
+
+pub is_at : (rule : Rule) (A : Form) → Finds (find rule) A → (at end : Cursor) (text : List ℕ) (bytes : ℕ) → at.rest.now ≡ text → Passes rule at end
+    → ((front : List ℕ) → chars text ≡ front ++ chars end.rest.now → bytes ≡ length (encode_utf8_all front)) → IsAt A (chars text) bytes
+is_at rule A finds at end text bytes e h size =
+    let is = found_is (find rule) A finds (chars at.rest.now) h.front (chars end.rest.now) h.found in
+    let whole = ap chars (sym e) ∙ is.0 in
+    record { front = h.front; rest = chars end.rest.now; whole = whole; stands = is.1; size = size h.front whole }
 
 -- what was read stands at the place
 pub read_stands : (first : Bool) (at : Cursor) (x : PieceKind × Cursor) (text : List ℕ) → chars at.rest.now ≡ text

@@ -1,12 +1,12 @@
--- Block comments: their finder is exact.
-use Rattle.std.proofs.Common.{◌≡◌, ℕ, zero, suc, true, false, cond, ◌&&◌, ◌||◌, ◌==◌, List, [], ◌∷◌, ◌++◌, codes, Some, None, IfSome, refl, sym, ap, ap₂, ◌∙◌, subst, append_assoc, eqb-true}
-use Rattle.std.proofs.lemmas.Bool.{cond-false, cond_both, or_parts, or_from, and_parts}
+-- Block comments: what is found is all up to where so many of them end.
+use Rattle.std.proofs.Common.{◌≡◌, ℕ, zero, suc, false, List, [], ◌∷◌, ◌++◌, codes, Some, None, IfSome, refl, sym, ap, ◌∙◌, subst, append_assoc}
+use Rattle.std.proofs.lemmas.Bool.{cond-false, cond_both, or_parts, or_from}
 use Rattle.lexical.specs.Text.{begins_with, begins_any}
-use Rattle.lexical.specs.Form.{Form, Then, Exactly}
-use Rattle.lexical.specs.Comment.{block_signs, BlockBody, Empty, Nested, Single, BlockComment}
+use Rattle.lexical.specs.Form.{Form}
+use Rattle.lexical.specs.Block.{block_signs, BlockBody, Empty, Nested, Single, Closed, Ends, find_ends}
 use Rattle.lexical.specs.Finder.{Answer, Finds, behind}
-use Rattle.lexical.specs.CommentFinder.{find_ends, find_block}
-use Rattle.lexical.proofs.FinderLemmas.{IsSplit, finds_then, finds_text}
+use Rattle.lexical.proofs.FinderLemmas.{IsSplit}
+use Rattle.lexical.proofs.TextLemmas.{begins_splits}
 
 -- ---- what the finder does at each sign and character
 
@@ -18,72 +18,67 @@ pub behind_behind : (p q : List ℕ) (o : Answer) → behind p (behind q o) ≡ 
 behind_behind p q None = refl
 behind_behind p q (Some x) = ap (λ y. Some (y, x.1)) (sym (append_assoc p q x.0))
 
-pub at_none : (text : List ℕ) → find_ends 0 text ≡ Some ([], text)
+pub at_close : (outer : ℕ) (text : List ℕ) → find_ends (suc outer) (codes "*/" ++ text) ≡ behind (codes "*/") (find_ends outer text)
 unfolding find_ends
-at_none text = refl
+at_close outer text = refl
 
-pub at_nothing : (depth : ℕ) → find_ends (suc depth) [] ≡ None
+pub at_open : (outer : ℕ) (text : List ℕ) → find_ends (suc outer) (codes "/*" ++ text) ≡ behind (codes "/*") (find_ends (suc (suc outer)) text)
 unfolding find_ends
-at_nothing depth = refl
+at_open outer text = refl
 
-pub at_close : (depth : ℕ) (text : List ℕ) → find_ends (suc depth) (codes "*/" ++ text) ≡ behind (codes "*/") (find_ends depth text)
+pub at_other : (outer c : ℕ) (text : List ℕ) → begins_any block_signs (c ∷ text) ≡ false
+    → find_ends (suc outer) (c ∷ text) ≡ behind (c ∷ []) (find_ends (suc outer) text)
 unfolding find_ends
-at_close depth text = refl
+at_other outer c [] h = refl
+at_other outer c (d ∷ text) h =
+    let opens = or_parts _ _ h in
+    let closes = or_parts _ false opens.1 in
+    cond-false _ _ _ closes.0 ∙ cond-false _ _ _ opens.0
 
-pub at_open : (depth : ℕ) (text : List ℕ) → find_ends (suc depth) (codes "/*" ++ text) ≡ behind (codes "/*") (find_ends (suc (suc depth)) text)
+-- ---- what ends so many comments is found
+
+body_found : {body after : List ℕ} (outer : ℕ) → BlockBody body after → find_ends (suc outer) (body ++ after) ≡ behind body (find_ends (suc outer) after)
+body_found outer (Empty e) = rw e (sym (behind_nothing _))
+body_found outer (Nested inner more e nested h) =
+    rw e (simp (append_assoc, at_open, body_found (suc outer) nested, at_close, body_found outer h, behind_behind))
+body_found {after = after} outer (Single c more e plain h) = rw e (at_other outer c (more ++ after) plain ∙ simp (body_found outer h, behind_behind))
+
+closed_found : (outer : ℕ) (p r : List ℕ) → Closed outer p r → find_ends (suc outer) (p ++ r) ≡ Some (p, r)
 unfolding find_ends
-at_open depth text = refl
+closed_found zero p r h = rw h refl
+closed_found (suc outer) p r h =
+    let rest = h.second in
+    let found = closed_found outer rest.back r rest.second in
+    let more : find_ends (suc outer) (h.back ++ r) ≡ Some (h.back, r) = rw (rest.whole, append_assoc, body_found outer rest.first, found) refl in
+    rw (h.whole, h.first) (ap (behind (codes "*/")) more)
 
-pub at_other : (depth c : ℕ) (text : List ℕ) → begins_any block_signs (c ∷ text) ≡ false
-    → find_ends (suc depth) (c ∷ text) ≡ behind (c ∷ []) (find_ends (suc depth) text)
+ends_found : (depth : ℕ) (p r : List ℕ) → Ends depth p r → find_ends depth (p ++ r) ≡ Some (p, r)
 unfolding find_ends
-at_other depth c [] h = refl
-at_other depth c (d ∷ text) h =
-    let whole = c ∷ (d ∷ text) in
-    let opens = or_parts (begins_with (codes "/*") whole) (begins_with (codes "*/") whole || false) h in
-    let closes = or_parts (begins_with (codes "*/") whole) false opens.1 in
-    let passed = behind (c ∷ []) (find_ends (suc depth) (d ∷ text)) in
-    let opened = behind (c ∷ d ∷ []) (find_ends (suc (suc depth)) text) in
-    cond-false (begins_with (codes "*/") whole) (behind (c ∷ d ∷ []) (find_ends depth text)) (cond (begins_with (codes "/*") whole) opened passed) closes.0
-    ∙ cond-false (begins_with (codes "/*") whole) opened passed opens.0
+ends_found zero p r h = rw h refl
+ends_found (suc outer) p r h = rw (h.whole, append_assoc, body_found outer h.first, closed_found outer h.back r h.second) refl
 
--- ---- a body is found
+-- ---- what is found ends so many
 
-body_found : {body after : List ℕ} (depth : ℕ) → BlockBody body after → find_ends (suc depth) (body ++ after) ≡ behind body (find_ends (suc depth) after)
-body_found depth (Empty e) = rw e (sym (behind_nothing _))
-body_found depth (Nested inner more e nested h) =
-    rw e (simp (append_assoc, at_open, body_found (suc depth) nested, at_close, body_found depth h, behind_behind))
-body_found {after = after} depth (Single c more e plain h) = rw e (at_other depth c (more ++ after) plain ∙ simp (body_found depth h, behind_behind))
+closed : (outer : ℕ) (p r : List ℕ) → Ends outer p r → Closed outer (codes "*/" ++ p) r
+closed zero p r h = ap (λ x. codes "*/" ++ x) h
+closed (suc outer) p r h = record { front = codes "*/"; back = p; whole = refl; first = refl; second = h }
 
--- ---- what is found
+close_step : (outer : ℕ) (p r : List ℕ) → Ends outer p r → Ends (suc outer) (codes "*/" ++ p) r
+close_step outer p r h = record { front = []; back = codes "*/" ++ p; whole = refl; first = Empty refl; second = closed outer p r h }
 
--- so many bodies, each with the sign that ends it
-abbrev pub Ends : ℕ → Form
-Ends zero p r = p ≡ []
-Ends (suc depth) p r = Then BlockBody (Then (Exactly (codes "*/")) (Ends depth)) p r
-
-close_step : (depth : ℕ) (p r : List ℕ) → Ends depth p r → Ends (suc depth) (codes "*/" ++ p) r
-close_step depth p r h = record {
-  front = [];
-  back = codes "*/" ++ p;
-  whole = refl;
-  first = Empty refl;
-  second = record { front = codes "*/"; back = p; whole = refl; first = refl; second = h };
-}
-
-open_step : (depth : ℕ) (p r : List ℕ) → Ends (suc (suc depth)) p r → Ends (suc depth) (codes "/*" ++ p) r
-open_step depth p r h =
-    let outer = h.second.second in
+open_step : (outer : ℕ) (p r : List ℕ) → Ends (suc (suc outer)) p r → Ends (suc outer) (codes "/*" ++ p) r
+open_step outer p r h =
+    let rest = h.second.second in
     record {
-      front = codes "/*" ++ (h.front ++ (codes "*/" ++ outer.front));
-      back = outer.back;
-      whole = simp (h.whole, h.second.whole, h.second.first, outer.whole, append_assoc);
-      first = Nested h.front outer.front refl (simp (h.second.whole, h.second.first, outer.whole, append_assoc) at h.first) outer.first;
-      second = outer.second;
+      front = codes "/*" ++ (h.front ++ (codes "*/" ++ rest.front));
+      back = rest.back;
+      whole = simp (h.whole, h.second.whole, h.second.first, rest.whole, append_assoc);
+      first = Nested h.front rest.front refl (simp (h.second.whole, h.second.first, rest.whole, append_assoc) at h.first) rest.first;
+      second = rest.second;
     }
 
-other_step : (depth c : ℕ) (p r : List ℕ) → begins_any block_signs (c ∷ (p ++ r)) ≡ false → Ends (suc depth) p r → Ends (suc depth) (c ∷ p) r
-other_step depth c p r plain h = record {
+other_step : (outer c : ℕ) (p r : List ℕ) → begins_any block_signs (c ∷ (p ++ r)) ≡ false → Ends (suc outer) p r → Ends (suc outer) (c ∷ p) r
+other_step outer c p r plain h = record {
   front = c ∷ h.front;
   back = h.back;
   whole = ap (λ x. c ∷ x) h.whole;
@@ -91,69 +86,33 @@ other_step depth c p r plain h = record {
   second = h.second;
 }
 
-behind_sound : (A B : Form) (front text : List ℕ) (o : Answer)
-    → ((p r : List ℕ) → text ≡ p ++ r → A p r → B (front ++ p) r) → IfSome o (IsSplit A text)
-    → IfSome (behind front o) (IsSplit B (front ++ text))
-behind_sound A B front text None step is = tt
-behind_sound A B front text (Some x) step is = (ap (λ t. front ++ t) is.0 ∙ sym (append_assoc front x.0 x.1), step x.0 x.1 is.0 is.1)
+-- behind a front
+step_sound : (A B : Form) (front text : List ℕ) → ((p r : List ℕ) → text ≡ p ++ r → A p r → B (front ++ p) r)
+    → (o : Answer) → IfSome o (IsSplit A text) → IfSome (behind front o) (IsSplit B (front ++ text))
+step_sound A B front text step None is = tt
+step_sound A B front text step (Some x) is = (ap (λ t. front ++ t) is.0 ∙ sym (append_assoc front x.0 x.1), step x.0 x.1 is.0 is.1)
 
--- two characters that are a sign
-sign_pair : (a b c d : ℕ) (text : List ℕ) → begins_with (a ∷ b ∷ []) (c ∷ (d ∷ text)) ≡ true → a ∷ b ∷ [] ≡ c ∷ d ∷ []
-sign_pair a b c d text h =
-    let parts = and_parts (a == c) ((b == d) && true) h in
-    let more = and_parts (b == d) true parts.1 in
-    ap₂ (λ x y. x ∷ y ∷ []) (eqb-true a c parts.0) (eqb-true b d more.0)
-
-pair_sound : (depth c d : ℕ) (text : List ℕ) (closed opened passed : Answer)
-    → IfSome closed (IsSplit (Ends depth) text) → IfSome opened (IsSplit (Ends (suc (suc depth))) text)
-    → IfSome passed (IsSplit (Ends (suc depth)) (d ∷ text))
-    → IfSome (cond (begins_with (codes "*/") (c ∷ (d ∷ text))) (behind (c ∷ d ∷ []) closed)
-    (cond (begins_with (codes "/*") (c ∷ (d ∷ text))) (behind (c ∷ d ∷ []) opened) (behind (c ∷ []) passed)))
-    (IsSplit (Ends (suc depth)) (c ∷ (d ∷ text)))
-pair_sound depth c d text closed opened passed h j k =
-    cond_both (begins_with (codes "*/") (c ∷ (d ∷ text))) _ _ (λ o. IfSome o (IsSplit (Ends (suc depth)) (c ∷ (d ∷ text))))
-    (λ closes. behind_sound (Ends depth) (Ends (suc depth)) (c ∷ d ∷ []) text closed
-    (λ p r e is. subst (λ s. Ends (suc depth) (s ++ p) r) (sign_pair 42 47 c d text closes) (close_step depth p r is)) h)
-    (λ no. cond_both (begins_with (codes "/*") (c ∷ (d ∷ text))) _ _ (λ o. IfSome o (IsSplit (Ends (suc depth)) (c ∷ (d ∷ text))))
-    (λ opens. behind_sound (Ends (suc (suc depth))) (Ends (suc depth)) (c ∷ d ∷ []) text opened
-    (λ p r e is. subst (λ s. Ends (suc depth) (s ++ p) r) (sign_pair 47 42 c d text opens) (open_step depth p r is)) j)
-    (λ nor. behind_sound (Ends (suc depth)) (Ends (suc depth)) (c ∷ []) (d ∷ text) passed
-    (λ p r e is. other_step depth c p r (ap (λ t. begins_any block_signs (c ∷ t)) (sym e) ∙ or_from _ _ nor (or_from _ _ no refl)) is) k))
+-- behind two characters that are a sign
+sign_sound : (sign : List ℕ) (A B : Form) (c d : ℕ) (text : List ℕ) → ((p r : List ℕ) → A p r → B (sign ++ p) r)
+    → (o : Answer) → IfSome o (IsSplit A text) → sign ≡ c ∷ d ∷ [] → IfSome (behind (c ∷ d ∷ []) o) (IsSplit B (c ∷ (d ∷ text)))
+sign_sound sign A B c d text step o is e =
+    subst (λ s. IfSome (behind s o) (IsSplit B (s ++ text))) e (step_sound A B sign text (λ p r whole. step p r) o is)
 
 ends_sound : (depth : ℕ) (text : List ℕ) → IfSome (find_ends depth text) (IsSplit (Ends depth) text)
 unfolding find_ends
 ends_sound zero text = (refl, refl)
-ends_sound (suc depth) [] = tt
-ends_sound (suc depth) (c ∷ []) = tt
-ends_sound (suc depth) (c ∷ (d ∷ text)) =
-    pair_sound depth c d text (find_ends depth text) (find_ends (suc (suc depth)) text) (find_ends (suc depth) (d ∷ text))
-    (ends_sound depth text) (ends_sound (suc (suc depth)) text) (ends_sound (suc depth) (d ∷ text))
+ends_sound (suc outer) [] = tt
+ends_sound (suc outer) (c ∷ []) = tt
+ends_sound (suc outer) (c ∷ (d ∷ text)) =
+    cond_both (begins_with (codes "*/") (c ∷ (d ∷ text))) _ _ (λ o. IfSome o (IsSplit (Ends (suc outer)) (c ∷ (d ∷ text))))
+    (λ closes. let split = begins_splits (codes "*/") (c ∷ (d ∷ text)) closes in
+    sign_sound (codes "*/") (Ends outer) (Ends (suc outer)) c d text (close_step outer) _ (ends_sound outer text) cc)
+    (λ no. cond_both (begins_with (codes "/*") (c ∷ (d ∷ text))) _ _ (λ o. IfSome o (IsSplit (Ends (suc outer)) (c ∷ (d ∷ text))))
+    (λ opens. let split = begins_splits (codes "/*") (c ∷ (d ∷ text)) opens in
+    sign_sound (codes "/*") (Ends (suc (suc outer))) (Ends (suc outer)) c d text (open_step outer) _ (ends_sound (suc (suc outer)) text) cc)
+    (λ nor. step_sound (Ends (suc outer)) (Ends (suc outer)) (c ∷ []) (d ∷ text)
+    (λ p r e is. other_step outer c p r (ap (λ t. begins_any block_signs (c ∷ t)) (sym e) ∙ or_from _ _ nor (or_from _ _ no refl)) is)
+    _ (ends_sound (suc outer) (d ∷ text))))
 
--- ---- the finder is exact
-
--- one body and its end
-ends_to : (p r : List ℕ) → Ends 1 p r → Then BlockBody (Exactly (codes "*/")) p r
-ends_to p r h = record {
-  front = h.front;
-  back = h.back;
-  whole = h.whole;
-  first = h.first;
-  second = simp (h.second.whole, h.second.first, h.second.second);
-}
-
-body_complete : (p r : List ℕ) → Then BlockBody (Exactly (codes "*/")) p r → find_ends 1 (p ++ r) ≡ Some (p, r)
-body_complete p r h =
-    rw (h.whole, append_assoc, body_found 0 h.first, h.second) (ap (behind h.front) (at_close 0 r ∙ ap (behind (codes "*/")) (at_none r)))
-
-pub finds_body : Finds (find_ends 1) (Then BlockBody (Exactly (codes "*/")))
-finds_body = record {
-  sound = λ text. one_sound text (find_ends 1 text) (ends_sound 1 text);
-  complete = body_complete;
-}
-  where
-    one_sound : (text : List ℕ) (o : Answer) → IfSome o (IsSplit (Ends 1) text) → IfSome o (IsSplit (Then BlockBody (Exactly (codes "*/"))) text)
-    one_sound text None is = tt
-    one_sound text (Some x) is = (is.0, ends_to x.0 x.1 is.1)
-
-pub finds_block : Finds find_block BlockComment
-finds_block = finds_then _ _ _ _ (finds_text (codes "/*")) finds_body
+pub finds_ends : (depth : ℕ) → Finds (find_ends depth) (Ends depth)
+finds_ends depth = record { sound = ends_sound depth; complete = ends_found depth }

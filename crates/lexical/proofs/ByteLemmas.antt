@@ -12,12 +12,11 @@ use Rattle.lexical.specs.Step.{Passes}
 use Rattle.lexical.specs.declared.bytes.Class.{Class}
 use Rattle.lexical.specs.declared.cursor.Cursor.{Cursor}
 use Rattle.lexical.proofs.CountLemmas.{chars_cut}
-use Rattle.lexical.proofs.FinderLemmas.{while_passes}
-use Rattle.lexical.proofs.RuleLemmas.{found_is}
-use Rattle.lexical.proofs.RuleSteps.{run_passes}
+use Rattle.lexical.proofs.FinderLemmas.{while_passes, while_more}
+use Rattle.lexical.proofs.RuleSteps.{passed, run_goes_on}
 use Rattle.lexical.proofs.RunLemmas.{GoesOn, run_stop}
 use Rattle.lexical.proofs.Scan.{run_boundary, run_front, bytes_of, run_over}
-use Rattle.lexical.proofs.TextLemmas.{ascii_bytes}
+use Rattle.lexical.proofs.TextLemmas.{all_pass, ascii_bytes}
 
 -- kinds that are those of the class at each byte
 pub same_class : {given class : Class} (kinds : ℕ) → given ≡ class → agree_below (has_kind kinds) (ascii_in class) 256 ≡ true
@@ -31,8 +30,7 @@ pub ascii_past : (class : Class) (c : ℕ) → 128 ≤ c → ascii_in class c �
 ascii_past class c high = and_left _ _ (le-ltb c 128 high)
 
 all_low : (class : Class) (cs : List ℕ) → list_all (ascii_in class) cs ≡ true → all_ascii cs ≡ true
-all_low class [] h = refl
-all_low class (c ∷ cs) h = let parts = and_parts _ _ h in and_from _ _ (and_parts _ _ parts.0).0 (all_low class cs parts.1)
+all_low class = all_pass _ _ (λ c is. (and_parts _ _ is).0)
 
 -- so many bytes are of the run
 module _ (class : Class) (at : Cursor) (bytes : List ℕ) (same : bytes ≡ at.rest.now) (utf8 : IsUtf8 bytes)
@@ -63,34 +61,22 @@ module _ (class : Class) (at : Cursor) (bytes : List ℕ) (same : bytes ≡ at.r
 
 -- ---- a run that goes on
 
-run_goes : (test : ℕ → Bool) (p r : List ℕ) → list_all test p ≡ true
-    → (while_rest test (p ++ r) ≡ while_rest test r) × (while_front test (p ++ r) ≡ p ++ while_front test r)
-run_goes test [] r all = (refl, refl)
-run_goes test (c ∷ p) r all =
-    let parts = and_parts _ _ all in
-    let more = run_goes test p r parts.1 in
-    (cond-true _ _ _ parts.0 ∙ more.0, cond-true _ _ _ parts.0 ∙ ap (λ x. c ∷ x) more.1)
-
 goes_past : (test : ℕ → Bool) (at end to : Cursor) (p : List ℕ) → GoesOn test at end → chars end.rest.now ≡ p ++ chars to.rest.now
     → to.chars_before ≡ end.chars_before + length p → list_all test p ≡ true → GoesOn test at to
 goes_past test at end to p goes whole count all =
-    let more = run_goes test p (chars to.rest.now) all in (
-      sym more.0 ∙ (ap (while_rest test) (sym whole) ∙ goes.0),
-      omega (arith, goes.1, count, ap length (ap (while_front test) whole ∙ more.1), length-append p (while_front test (chars to.rest.now))),
+    let more = while_more test p (chars to.rest.now) all in (
+      sym more.1 ∙ (ap (while_rest test) (sym whole) ∙ goes.0),
+      omega (arith, goes.1, count, ap length (ap (while_front test) whole ∙ more.0), length-append p (while_front test (chars to.rest.now))),
     )
-
-of_class : (class : Class) (p : List ℕ) → list_all (ascii_in class) p ≡ true → list_all (is_in class) p ≡ true
-of_class class [] h = refl
-of_class class (c ∷ p) h = let parts = and_parts _ _ h in and_from _ _ (and_parts _ _ parts.0).1 (of_class class p parts.1)
 
 pub past_ascii : (class : Class) (at end to : Cursor) → GoesOn (is_in class) at end → Passes (Run (ascii_in class)) end to → GoesOn (is_in class) at to
 past_ascii class at end to goes h =
-    let is = found_is (Run (ascii_in class)) tt (chars end.rest.now) h.front (chars to.rest.now) h.found in
-    goes_past (is_in class) at end to h.front goes is.0 h.count (of_class class h.front is.1.each)
+    let is = passed (Run (ascii_in class)) tt end to h in
+    goes_past (is_in class) at end to h.front goes is.0 h.count (all_pass _ _ (λ c on. (and_parts _ _ on).1) h.front is.1.each)
 
 pub past_one : (class : Class) (at end to : Cursor) → GoesOn (is_in class) at end → Passes (One (is_in class)) end to → GoesOn (is_in class) at to
 past_one class at end to goes h =
-    let is = found_is (One (is_in class)) tt (chars end.rest.now) h.front (chars to.rest.now) h.found in
+    let is = passed (One (is_in class)) tt end to h in
     goes_past (is_in class) at end to h.front goes is.0 h.count (ap (list_all (is_in class)) is.1.1 ∙ and_from _ _ is.1.2 refl)
 
 -- where no character of the class stands, the run ends
@@ -103,18 +89,11 @@ none_stands test (c ∷ text) none = elim (cases_Bool (test c)) [
 ]
 
 pub past_all : (class : Class) (at end : Cursor) → GoesOn (is_in class) at end → find (One (is_in class)) (chars end.rest.now) ≡ None → Passes (Run (is_in class)) at end
-past_all class at end goes none =
-    run_passes (is_in class) at end (run_stop (is_in class) at end goes (none_stands (is_in class) (chars end.rest.now) none))
+past_all class at end goes none = run_stop (is_in class) at end goes (none_stands (is_in class) (chars end.rest.now) none)
 
 -- past a character, and then past others, less is left
 pub less_left : (class : Class) (end mid to : Cursor) → Passes (One (is_in class)) end mid → Passes (Run (ascii_in class)) mid to
     → length (chars to.rest.now) < length (chars end.rest.now)
 less_left class end mid to h j =
-    let one = found_is (One (is_in class)) tt (chars end.rest.now) h.front (chars mid.rest.now) h.found in
-    let run = found_is (Run (ascii_in class)) tt (chars mid.rest.now) j.front (chars to.rest.now) j.found in
-    omega (
-      arith,
-      ap length (one.0 ∙ ap (λ x. x ++ chars mid.rest.now) one.1.1),
-      ap length run.0,
-      length-append j.front (chars to.rest.now),
-    )
+    let one = passed (One (is_in class)) tt end mid h in
+    omega (arith, ap length (one.0 ∙ ap (λ x. x ++ chars mid.rest.now) one.1.1), run_goes_on (ascii_in class) mid to j)

@@ -1,8 +1,8 @@
 -- Classes of characters: on ASCII, and which are apart.
-use Rattle.std.proofs.Common.{◌≡◌, ℕ, ◌<◌, ◌≤◌, nat_le, ◌⊎◌, Bool, true, false, cond, ◌||◌, ◌&&◌, ◌==◌, List, [], ◌∷◌, codes, refl, sym, ap, arith, ◌∙◌, subst, inl, inr, eqb-true, eq-eqb}
+use Rattle.std.proofs.Common.{◌≡◌, ℕ, ◌<◌, ◌⊎◌, Bool, true, false, cond, ◌||◌, ◌&&◌, ◌==◌, List, [], ◌∷◌, codes, refl, sym, ap, arith, ◌∙◌, subst, inl, inr, eqb-true, eq-eqb}
 use Rattle.std.specs.List.{list_any, AllByRecursion}
 use Rattle.std.specs.Char.{is_ascii_alphabetic, is_ascii_alphanumeric, is_ascii_digit}
-use Rattle.std.proofs.lemmas.Bool.{both_ways, and_parts, or_cases, or_parts, or_from, and_left, leb-true, false_from_ne_true, not-true, agree_below_at, cond-true, cond-false, cond_both}
+use Rattle.std.proofs.lemmas.Bool.{both_ways, and_parts, or_cases, or_parts, or_from, and_left, false_from_ne_true, not-true, agree_below_at, cond-true, cond-false, cond_both}
 use Rattle.unicode_ident.proofs.Computing.{unicode_ident}
 use Rattle.unicode_ident.proofs.IdentLemmas.{is_xid_continue-ascii}
 use Rattle.lexical.specs.Class.{is_white, is_ident_start, is_ident_continue}
@@ -45,7 +45,7 @@ start_letter c letter = cond-false _ _ _ (letter_is_not_white c letter) ∙ cond
 
 -- a digit is ASCII
 pub digit_below : (c : ℕ) → is_ascii_digit c ≡ true → c < 128
-digit_below c h = let parts = and_parts (nat_le 48 c) (nat_le c 57) h in let top : c ≤ 57 = leb-true c 57 parts.1 in omega arith
+digit_below c h = grind arith
 
 digit_is_other : (c : ℕ) → is_ascii_digit c ≡ true → (is_white c || is_ident_start c) ≡ false
 unfolding unicode_ident
@@ -97,11 +97,6 @@ start_quote = refl
 pub start_double_quote : start 34 ≡ starts.DoubleQuote
 unfolding unicode_ident
 start_double_quote = refl
-
--- `r`, with which raw identifiers begin
-pub start_raw : start 114 ≡ starts.Letter
-unfolding unicode_ident
-start_raw = refl
 
 pub start_front_mark : start 0xFEFF ≡ starts.FrontMark
 unfolding unicode_ident

@@ -1,11 +1,10 @@
 -- The code of a character, digit by digit.
-use Rattle.std.proofs.Common.{◌≡◌, ℕ, suc, ◌+◌, ◌*◌, ◌<◌, ◌≤◌, ◌==◌, ◌&&◌, ◌||◌, Bool, true, false, cond, nat_lt, nat_le, List, [], ◌∷◌, length, refl, sym, ap, ◌∙◌, arith, inl, inr, eqb-true, ltb-true}
+use Rattle.std.proofs.Common.{◌≡◌, ℕ, suc, ◌+◌, ◌*◌, ◌<◌, ◌≤◌, ◌==◌, ◌&&◌, ◌||◌, Bool, true, false, cond, nat_lt, List, [], ◌∷◌, length, refl, sym, ap, ◌∙◌, arith, ltb-true}
 use Rattle.std.specs.Prelude.{filter}
 use Rattle.std.specs.Char.{is_ascii_hexdigit, digit_value}
-use Rattle.std.specs.Int.{is_in_range}
 use Rattle.std.specs.List.{fold, list_all}
-use Rattle.std.proofs.lemmas.Bool.{both_ways, and_parts, or_cases, cond-true, cond-false, cond_both, leb-true, agree_below_at, false_from_ne_true, lt-ltb}
-use Rattle.lexical.specs.Quoted.{hex_value, is_scalar, is_code, is_code_digit}
+use Rattle.std.proofs.lemmas.Bool.{and_parts, cond-true, cond-false, agree_below_at, false_from_ne_true, lt-ltb}
+use Rattle.lexical.specs.Quoted.{hex_value, is_code, is_code_digit}
 
 -- the value with one digit more
 abbrev pub value_step : ℕ → ℕ → ℕ
@@ -20,20 +19,7 @@ abbrev pub CountsTo : ℕ → ℕ → List ℕ → List ℕ → Type 0
 CountsTo value count rest text = (fold value_step value rest ≡ hex_value text) × (count + hexes rest ≡ hexes text)
 
 digit_low : (c : ℕ) → is_code_digit c ≡ true → c < 128
-digit_low c h = elim (or_cases (is_ascii_hexdigit c) (c == 95) h) [
-  | inl hex ↦ hex_low c hex
-  | inr low ↦ let e = eqb-true c 95 low in omega arith
-]
-  where
-    hex_low : (c : ℕ) → is_ascii_hexdigit c ≡ true → c < 128
-    hex_low c h = elim (or_cases (is_in_range 48 57 c || is_in_range 65 70 c) (is_in_range 97 102 c) h) [
-      | inl small ↦ elim (or_cases (is_in_range 48 57 c) (is_in_range 65 70 c) small)
-          [ inl digit ↦ up_to 48 57 c digit (omega arith) | inr letter ↦ up_to 65 70 c letter (omega arith) ]
-      | inr letter ↦ up_to 97 102 c letter (omega arith)
-    ]
-      where
-        up_to : (a b c : ℕ) → is_in_range a b c ≡ true → b < 128 → c < 128
-        up_to a b c h top = let le = leb-true c b (and_parts (nat_le a c) (nat_le c b) h).1 in omega arith
+digit_low c h = grind arith
 
 -- a hex digit is one by its value
 hex_is : (c : ℕ) → is_code_digit c ≡ true → is_ascii_hexdigit c ≡ nat_lt (digit_value c) 16
@@ -43,48 +29,29 @@ hex_is c h =
     sym (ap (λ b. b && is_ascii_hexdigit c) h) ∙ (agree ∙ ap (λ b. b && nat_lt (digit_value c) 16) h)
 
 hex_no_line : (c : ℕ) → is_ascii_hexdigit c ≡ true → (c == 95) ≡ false
-hex_no_line c h = false_from_ne_true _ (λ e. both_ways (is_ascii_hexdigit 95) refl (ap is_ascii_hexdigit (sym (eqb-true c 95 e)) ∙ h))
+hex_no_line c h = grind arith
 
 -- past a hex digit
-pub counts_digit : (value count c : ℕ) (after rest text : List ℕ) → rest ≡ c ∷ after → is_code_digit c ≡ true → digit_value c < 16
-    → CountsTo value count rest text → CountsTo (16 * value + digit_value c) (count + 1) after text
-counts_digit value count c after rest text e is low counts =
-    let hex : is_ascii_hexdigit c ≡ true = hex_is c is ∙ lt-ltb (digit_value c) 16 low in
-    let one : hexes (c ∷ after) ≡ suc (hexes after) =
-    ap length (cond-true (is_ascii_hexdigit c) (c ∷ filter is_ascii_hexdigit after)
-    (filter is_ascii_hexdigit after) hex) in (
-      ap (λ n. fold value_step n after) (sym
-          (cond-false (c == 95) value (16 * value + digit_value c) (hex_no_line c hex)))
-          ∙ (ap (fold value_step value) (sym e) ∙ counts.0),
-      omega (arith, counts.1, ap hexes e, one),
-    )
-
--- past another
-pub counts_line : (value count c : ℕ) (after rest text : List ℕ) → rest ≡ c ∷ after → is_code_digit c ≡ true → (digit_value c < 16 → ⊥)
-    → CountsTo value count rest text → CountsTo value count after text
-counts_line value count c after rest text e is high counts =
-    let other : is_ascii_hexdigit c ≡ false = hex_is c is ∙ false_from_ne_true _ (λ low. high (ltb-true (digit_value c) 16 low)) in
-    let line : (c == 95) ≡ true = sym (ap (λ b. b || (c == 95)) other) ∙ is in
-    let none : hexes (c ∷ after) ≡ hexes after =
-    ap length (cond-false (is_ascii_hexdigit c) (c ∷ filter is_ascii_hexdigit after)
-    (filter is_ascii_hexdigit after) other) in (
-      ap (λ n. fold value_step n after) (sym (cond-true (c == 95) value (16 * value + digit_value c) line))
-          ∙ (ap (fold value_step value) (sym e) ∙ counts.0),
-      omega (arith, counts.1, ap hexes e, none),
-    )
-
--- and the same of what a step leaves
 pub reads_digit : (value count new many d c : ℕ) (after rest text : List ℕ) → rest ≡ c ∷ after → is_code_digit c ≡ true → CountsTo value count rest text
     → (digit_value c < 16) × (d ≡ digit_value c) → new ≡ 16 * value + d → many ≡ count + 1 → CountsTo new many after text
 reads_digit value count new many d c after rest text e is counts low value_is count_is =
-    let read = counts_digit value count c after rest text e is low.0 counts in
-    (ap (λ n. fold value_step n after) (value_is ∙ ap (λ n. 16 * value + n) low.1) ∙ read.0, ap (λ n. n + hexes after) count_is ∙ read.1)
+    let hex : is_ascii_hexdigit c ≡ true = hex_is c is ∙ lt-ltb (digit_value c) 16 low.0 in
+    let one : hexes (c ∷ after) ≡ suc (hexes after) =
+    ap length (cond-true (is_ascii_hexdigit c) (c ∷ filter is_ascii_hexdigit after) (filter is_ascii_hexdigit after) hex) in
+    let step : new ≡ value_step value c =
+    value_is ∙ (ap (λ n. 16 * value + n) low.1 ∙ sym (cond-false (c == 95) value (16 * value + digit_value c) (hex_no_line c hex))) in
+    (ap (λ n. fold value_step n after) step ∙ (ap (fold value_step value) (sym e) ∙ counts.0), omega (arith, counts.1, ap hexes e, one, count_is))
 
+-- past another
 pub reads_line : (value count new many c : ℕ) (after rest text : List ℕ) → rest ≡ c ∷ after → is_code_digit c ≡ true → CountsTo value count rest text
     → (digit_value c < 16 → ⊥) → new ≡ value → many ≡ count → CountsTo new many after text
 reads_line value count new many c after rest text e is counts high value_is count_is =
-    let read = counts_line value count c after rest text e is high counts in
-    (ap (λ n. fold value_step n after) value_is ∙ read.0, ap (λ n. n + hexes after) count_is ∙ read.1)
+    let other : is_ascii_hexdigit c ≡ false = hex_is c is ∙ false_from_ne_true _ (λ low. high (ltb-true (digit_value c) 16 low)) in
+    let none : hexes (c ∷ after) ≡ hexes after =
+    ap length (cond-false (is_ascii_hexdigit c) (c ∷ filter is_ascii_hexdigit after) (filter is_ascii_hexdigit after) other) in
+    let line : (c == 95) ≡ true = sym (ap (λ b. b || (c == 95)) other) ∙ is in
+    let step : new ≡ value_step value c = value_is ∙ sym (cond-true (c == 95) value (16 * value + digit_value c) line) in
+    (ap (λ n. fold value_step n after) step ∙ (ap (fold value_step value) (sym e) ∙ counts.0), omega (arith, counts.1, ap hexes e, none, count_is))
 
 pub digits_tail : (c : ℕ) (after rest : List ℕ) → rest ≡ c ∷ after → list_all is_code_digit rest ≡ true
     → (is_code_digit c ≡ true) × (list_all is_code_digit after ≡ true)
@@ -93,7 +60,7 @@ digits_tail c after rest e all = and_parts (is_code_digit c) (list_all is_code_d
 -- ---- no code
 
 step_grows : (n c : ℕ) → n ≤ value_step n c
-step_grows n c = cond_both (c == 95) n (16 * n + digit_value c) (λ m. n ≤ m) (λ e. omega arith) (λ e. omega arith)
+step_grows n c = grind arith
 
 fold_grows : (n : ℕ) (text : List ℕ) → n ≤ fold value_step n text
 fold_grows n [] = omega arith
@@ -101,23 +68,9 @@ fold_grows n (c ∷ text) = let one = step_grows n c in let more = fold_grows (v
 
 -- too many digits
 pub no_code_long : (allowed : ℕ → Bool) (value count : ℕ) (rest text : List ℕ) → CountsTo value count rest text → 6 < count → is_code allowed text ≡ false
-no_code_long allowed value count rest text counts long =
-    let few : nat_le (hexes text) 6 ≡ false = false_from_ne_true _ (λ e. let le = leb-true (hexes text) 6 e in absurd (omega (arith, counts.1))) in
-    ap (λ b. b && (is_scalar (hex_value text) && allowed (hex_value text))) few
+no_code_long allowed value count rest text counts long = grind (arith, counts.1)
 
 -- too great a value
 pub no_code_great : (allowed : ℕ → Bool) (value count : ℕ) (rest text : List ℕ) → CountsTo value count rest text
     → 0x10_FFFF < value → is_code allowed text ≡ false
-no_code_great allowed value count rest text counts great =
-    let grown = fold_grows value rest in
-    false_from_ne_true _ (λ e.
-    let scalar =
-    (and_parts (is_scalar (hex_value text)) (allowed (hex_value text))
-    (and_parts (nat_le (hexes text) 6) (is_scalar (hex_value text) && allowed (hex_value text)) e).1).0 in
-    elim (or_cases (nat_lt (hex_value text) 0xD800) (nat_le 0xE000 (hex_value text) && nat_lt (hex_value text) 0x11_0000) scalar) [
-      | inl low ↦ let lt = ltb-true (hex_value text) 0xD800 low in absurd (omega (arith, counts.0))
-      | inr high ↦
-          let below = (and_parts (nat_le 0xE000 (hex_value text)) (nat_lt (hex_value text) 0x11_0000) high).1 in
-          let lt = ltb-true (hex_value text) 0x11_0000 below in
-          absurd (omega (arith, counts.0))
-    ])
+no_code_great allowed value count rest text counts great = let grown = fold_grows value rest in grind (arith, counts.0, grown)

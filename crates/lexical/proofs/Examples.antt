@@ -5,7 +5,7 @@ use Rattle.unicode_ident.proofs.Computing.{unicode_ident}
 use Rattle.lexical.specs.Class.{is_ident_continue}
 use Rattle.lexical.specs.Token.{Name, Mark, Literal}
 use Rattle.lexical.specs.Piece.{FrontMark, Gap, Doc, Open, Close, Leaf, IsPiece, HasNoPiece}
-use Rattle.lexical.specs.CommentFinder.{find_ends}
+use Rattle.lexical.specs.Block.{find_ends}
 use Rattle.lexical.specs.Finder.{find_many}
 use Rattle.lexical.specs.Rule.{find}
 use Rattle.lexical.specs.PieceFinder.{found}

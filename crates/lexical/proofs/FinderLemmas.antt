@@ -1,10 +1,10 @@
 -- Each word on forms has a finder.
-use Rattle.std.proofs.Common.{◌≡◌, ℕ, Bool, true, false, cond, ◌==◌, List, [], ◌∷◌, ◌++◌, Some, None, IfSome, IsTrue, inl, inr, refl, sym, ap, ap₂, ◌∙◌, subst, append_assoc, eqb-true, eq-eqb}
+use Rattle.std.proofs.Common.{◌≡◌, ℕ, Bool, true, false, cond, not, ◌==◌, List, [], ◌∷◌, ◌++◌, Some, None, IfSome, IsTrue, refl, sym, ap, ap₂, ◌∙◌, subst, append_assoc, append-nil, eqb-true, eq-eqb}
 use Rattle.std.specs.List.{list_all}
-use Rattle.std.proofs.lemmas.Bool.{cond-true, cond-false, cond_both, and_parts, and_from}
+use Rattle.std.proofs.lemmas.Bool.{both_ways, cond-true, cond-false, cond_both, and_parts, and_from, not-true, not_from_false}
 use Rattle.lexical.specs.Text.{begins_any, first_passes}
-use Rattle.lexical.specs.Form.{Form, HasNone, Then, Either, NotAt, NotBefore, Exactly, One, Run}
-use Rattle.lexical.specs.Finder.{Answer, Finder, Finds, while_front, while_rest, behind, and_find, or_find, unless_next, if_passes, find_then, find_else, find_if, find_not_at, find_not_before, find_where, find_one, find_run, find_text}
+use Rattle.lexical.specs.Form.{Form, HasNone, Then, Next, NotAt, NotBefore, Exactly, One, Run}
+use Rattle.lexical.specs.Finder.{Answer, Finder, Finds, while_front, while_rest, behind, and_next, if_passes, find_next, find_then, find_if, find_not_at, find_not_before, find_where, find_one, find_run, find_text}
 
 -- what was found is of the form
 abbrev pub IsSplit : Form → List ℕ → List ℕ × List ℕ → Type 0
@@ -45,65 +45,46 @@ finds_same f A B h to from = record {
     by_cases text None is = tt
     by_cases text (Some x) is = (is.0, to x.0 x.1 is.1)
 
--- ---- `Then`
+-- ---- `Next`, `Then`
 
-then_back : (A B : Form) (text : List ℕ) (x : List ℕ × List ℕ) → IsSplit A text x → (o : Answer)
-    → IfSome o (IsSplit B x.1) → IfSome (behind x.0 o) (IsSplit (Then A B) text)
-then_back A B text x is None more = tt
-then_back A B text x is (Some y) more = (
+next_back : (A : Form) (B : List ℕ → Form) (text : List ℕ) (x : List ℕ × List ℕ) → IsSplit A text x → (o : Answer)
+    → IfSome o (IsSplit (B x.0) x.1) → IfSome (behind x.0 o) (IsSplit (Next A B) text)
+next_back A B text x is None more = tt
+next_back A B text x is (Some y) more = (
   is.0 ∙ (ap (λ xs. x.0 ++ xs) more.0 ∙ sym (append_assoc x.0 y.0 y.1)),
   record { front = x.0; back = y.0; whole = refl; first = subst (λ xs. A x.0 xs) more.0 is.1; second = more.1 },
 )
 
-then_front : (g : Finder) (A B : Form) → Finds g B → (text : List ℕ) (o : Answer) → IfSome o (IsSplit A text)
-    → IfSome (and_find g o) (IsSplit (Then A B) text)
-then_front g A B h text None is = tt
-then_front g A B h text (Some x) is = then_back A B text x is (g x.1) (h.sound x.1)
+next_front : (g : List ℕ → Finder) (A : Form) (B : List ℕ → Form) → ((front : List ℕ) → Finds (g front) (B front))
+    → (text : List ℕ) (o : Answer) → IfSome o (IsSplit A text) → IfSome (and_next g o) (IsSplit (Next A B) text)
+next_front g A B h text None is = tt
+next_front g A B h text (Some x) is = next_back A B text x is (g x.0 x.1) ((h x.0).sound x.1)
+
+pub next_whole : (A : Form) (B : List ℕ → Form) (p r : List ℕ) (h : Next A B p r) → p ++ r ≡ h.front ++ (h.back ++ r)
+next_whole A B p r h = ap (λ q. q ++ r) h.whole ∙ append_assoc h.front h.back r
+
+pub finds_next : (f : Finder) (g : List ℕ → Finder) (A : Form) (B : List ℕ → Form) → Finds f A
+    → ((front : List ℕ) → Finds (g front) (B front)) → Finds (find_next f g) (Next A B)
+finds_next f g A B h j = record {
+  sound = λ text. next_front g A B j text (f text) (h.sound text);
+  complete = λ p r is.
+      ap (λ t. and_next g (f t)) (next_whole A B p r is)
+      ∙ (ap (and_next g) (h.complete is.front (is.back ++ r) is.first)
+      ∙ (ap (behind is.front) ((j is.front).complete is.back r is.second) ∙ ap (λ q. Some (q, r)) (sym is.whole)));
+}
 
 -- a text that begins with a piece of the first form and then one of the second
 pub then_whole : (A B : Form) (p r : List ℕ) (h : Then A B p r) → p ++ r ≡ h.front ++ (h.back ++ r)
-then_whole A B p r h = ap (λ q. q ++ r) h.whole ∙ append_assoc h.front h.back r
+then_whole A B = next_whole A (λ front. B)
 
 pub finds_then : (f g : Finder) (A B : Form) → Finds f A → Finds g B → Finds (find_then f g) (Then A B)
-finds_then f g A B h j = record {
-  sound = λ text. then_front g A B j text (f text) (h.sound text);
-  complete = λ p r is.
-      ap (λ t. and_find g (f t)) (then_whole A B p r is)
-      ∙ (ap (and_find g) (h.complete is.front (is.back ++ r) is.first)
-      ∙ (ap (behind is.front) (j.complete is.back r is.second) ∙ ap (λ q. Some (q, r)) (sym is.whole)));
-}
+finds_then f g A B h j = finds_next f (λ front. g) A (λ front. B) h (λ front. j)
 
 -- ---- a form where this holds
 
-if_sound : (holds : Bool) (A : Form) (text : List ℕ) (o : Answer) → holds ≡ true → IfSome o (IsSplit A text)
-    → IfSome o (IsSplit (λ p r. IsTrue holds × A p r) text)
-if_sound holds A text None e is = tt
-if_sound holds A text (Some x) e is = (is.0, (e, is.1))
-
 pub finds_if : (holds : Bool) (f : Finder) (A : Form) → Finds f A → Finds (find_if holds f) (λ p r. IsTrue holds × A p r)
-finds_if holds f A h = record {
-  sound =
-      λ text. cond_both holds (f text) None (λ o. IfSome o (IsSplit (λ p r. IsTrue holds × A p r) text))
-      (λ e. if_sound holds A text (f text) e (h.sound text)) (λ e. tt);
-  complete = λ p r is. cond-true _ _ _ is.0 ∙ h.complete p r is.1;
-}
-
--- ---- `Either`, where the first finder finds nothing that the second does
-
-either_sound : (A B : Form) (text : List ℕ) (o other : Answer) → IfSome o (IsSplit A text)
-    → IfSome other (IsSplit B text) → IfSome (or_find o other) (IsSplit (Either A B) text)
-either_sound A B text None None h j = tt
-either_sound A B text None (Some x) h j = (j.0, inr j.1)
-either_sound A B text (Some x) other h j = (h.0, inl h.1)
-
-pub finds_either : (f g : Finder) (A B : Form) → Finds f A → Finds g B → ((p r : List ℕ) → B p r → f (p ++ r) ≡ None) → Finds (find_else f g) (Either A B)
-finds_either f g A B h j none = record {
-  sound = λ text. either_sound A B text (f text) (g text) (h.sound text) (j.sound text);
-  complete = λ p r is. elim is [
-    | inl a ↦ ap (λ o. or_find o (g (p ++ r))) (h.complete p r a)
-    | inr b ↦ ap (λ o. or_find o (g (p ++ r))) (none p r b) ∙ j.complete p r b
-  ];
-}
+finds_if true f A h = finds_same f A _ h (λ p r is. (refl, is)) (λ p r is. is.1)
+finds_if false f A h = record { sound = λ text. tt; complete = λ p r is. absurd (both_ways _ refl is.0) }
 
 -- ---- `NotAt`
 
@@ -120,21 +101,6 @@ finds_not_at fronts f A h = record {
   complete = λ p r is. cond-false _ _ _ is.1 ∙ h.complete p r is.0;
 }
 
--- ---- `NotBefore`
-
-not_before_sound : (passes : ℕ → Bool) (A : Form) (text : List ℕ) (o : Answer) → IfSome o (IsSplit A text)
-    → IfSome (unless_next passes o) (IsSplit (NotBefore passes A) text)
-not_before_sound passes A text None is = tt
-not_before_sound passes A text (Some x) is =
-    cond_both (first_passes passes x.1) None (Some x) (λ o. IfSome o (IsSplit (NotBefore passes A) text))
-    (λ e. tt) (λ e. (is.0, (is.1, e)))
-
-pub finds_not_before : (passes : ℕ → Bool) (f : Finder) (A : Form) → Finds f A → Finds (find_not_before passes f) (NotBefore passes A)
-finds_not_before passes f A h = record {
-  sound = λ text. not_before_sound passes A text (f text) (h.sound text);
-  complete = λ p r is. ap (unless_next passes) (h.complete p r is.0) ∙ cond-false _ _ _ is.1;
-}
-
 -- ---- a form whose pieces pass
 
 where_sound : (test : List ℕ → List ℕ → Bool) (A : Form) (text : List ℕ) (o : Answer) → IfSome o (IsSplit A text)
@@ -149,6 +115,10 @@ finds_where test f A h = record {
   sound = λ text. where_sound test A text (f text) (h.sound text);
   complete = λ p r is. ap (if_passes test) (h.complete p r is.0) ∙ cond-true _ _ _ is.1;
 }
+
+pub finds_not_before : (passes : ℕ → Bool) (f : Finder) (A : Form) → Finds f A → Finds (find_not_before passes f) (NotBefore passes A)
+finds_not_before passes f A h = finds_same _ _ _ (finds_where (λ p r. not (first_passes passes r)) f A h)
+    (λ p r is. (is.0, not-true _ is.1)) (λ p r is. (is.0, not_from_false _ is.1))
 
 -- ---- `Run`
 
@@ -176,14 +146,22 @@ pub while_rest_none : (passes : ℕ → Bool) (r : List ℕ) → first_passes pa
 while_rest_none passes [] stops = (refl, refl)
 while_rest_none passes (c ∷ r) stops = (cond-false _ _ _ stops, cond-false _ _ _ stops)
 
+-- past characters that pass the run goes on
+pub while_more : (passes : ℕ → Bool) (q r : List ℕ) → list_all passes q ≡ true
+    → (while_front passes (q ++ r) ≡ q ++ while_front passes r) × (while_rest passes (q ++ r) ≡ while_rest passes r)
+while_more passes [] r all = (refl, refl)
+while_more passes (c ∷ q) r all =
+    let parts = and_parts _ _ all in
+    let more = while_more passes q r parts.1 in
+    (cond-true _ _ _ parts.0 ∙ ap (λ xs. c ∷ xs) more.0, cond-true _ _ _ parts.0 ∙ more.1)
+
 -- the front and the rest are the only such split
 while_split : (passes : ℕ → Bool) (q r : List ℕ) → list_all passes q ≡ true → first_passes passes r ≡ false
     → (while_front passes (q ++ r) ≡ q) × (while_rest passes (q ++ r) ≡ r)
-while_split passes [] r all stops = while_rest_none passes r stops
-while_split passes (c ∷ q) r all stops =
-    let parts = and_parts _ _ all in
-    let more = while_split passes q r parts.1 stops in
-    (cond-true _ _ _ parts.0 ∙ ap (λ xs. c ∷ xs) more.0, cond-true _ _ _ parts.0 ∙ more.1)
+while_split passes q r all stops =
+    let more = while_more passes q r all in
+    let none = while_rest_none passes r stops in
+    (more.0 ∙ (ap (λ x. q ++ x) none.0 ∙ append-nil q), more.1 ∙ none.1)
 
 pub finds_run : (passes : ℕ → Bool) → Finds (find_run passes) (Run passes)
 finds_run passes = record {

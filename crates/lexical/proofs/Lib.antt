@@ -10,10 +10,8 @@ pub mod ReturnLemmas
 pub mod RunLemmas
 pub mod QuotedLemmas
 pub mod BlockLemmas
-pub mod CommentFinderLemmas
+pub mod CommentKindLemmas
 pub mod CommentLemmas
-pub mod SkipLemmas
-pub mod StepLemmas
 pub mod NameFinderLemmas
 pub mod WhiteRunLemmas
 pub mod WordLemmas
@@ -24,6 +22,7 @@ pub mod QuotedFinderLemmas
 pub mod RuleLemmas
 pub mod RuleSteps
 pub mod UnitSteps
+pub mod BlockSteps
 pub mod NumberFinderLemmas
 pub mod LiteralFinderLemmas
 pub mod PieceLemmas
@@ -36,7 +35,6 @@ pub mod LiteralLemmas
 pub mod NameLemmas
 pub mod LiteralFrontLemmas
 pub mod QuotableLemmas
-pub mod NumberCutLemmas
 pub mod QuietLemmas
 pub mod DigitLemmas
 pub mod LiteralCutLemmas

@@ -1,43 +1,14 @@
--- How literals begin, and that where one stands nothing else does.
-use Rattle.std.proofs.Common.{◌≡◌, ℕ, Bool, true, false, not, ◌==◌, List, [], ◌∷◌, ◌++◌, codes, refl, sym, ap, ◌∙◌, inl, inr}
+-- How literals begin.
+use Rattle.std.proofs.Common.{◌≡◌, ℕ, Bool, true, false, not, ◌==◌, List, [], ◌∷◌, ◌++◌, codes, refl, ap, ◌∙◌, inl, inr}
 use Rattle.std.specs.List.{list_any, list_all, AllByRecursion}
 use Rattle.std.proofs.lemmas.Bool.{both_ways, and_left, or_from, not-true, and_parts}
 use Rattle.lexical.specs.Class.{is_white}
 use Rattle.lexical.specs.Text.{begins_any}
-use Rattle.lexical.specs.Token as tokens
-use Rattle.lexical.specs.Mark.{is_mark, comment_fronts, FollowsQuote}
+use Rattle.lexical.specs.Mark.{is_mark, comment_fronts}
 use Rattle.lexical.specs.Delimiter.{is_opener, is_closer, error_literal}
-use Rattle.lexical.specs.Literal.{Literal, AnyLiteral}
-use Rattle.lexical.specs.Piece.{Kind, Leaf, IsPiece}
-use Rattle.lexical.specs.PieceFinder.{find_literal}
-use Rattle.lexical.proofs.FinderLemmas.{one_split}
+use Rattle.lexical.specs.Literal.{AnyLiteral}
 use Rattle.lexical.proofs.ClassLemmas.{any_of}
-use Rattle.lexical.proofs.LiteralFinderLemmas.{finds_literal, literal_fronts, literal_front}
-use Rattle.lexical.proofs.PieceLemmas.{one_piece}
-
--- ---- at most one literal
-
--- of two literals at the front of one text, both are one
-pub one_literal : (p q r s : List ℕ) → Literal p r → Literal q s → p ++ r ≡ q ++ s → (p ≡ q) × (r ≡ s)
-one_literal p q r s h j e = one_split find_literal Literal finds_literal p q r s h j e
-
--- where a literal or the error literal stands, no piece but it does
-pub literal_unread : (first : Bool) (k : Kind) (p q r s : List ℕ) → AnyLiteral p r → IsPiece first k q s → p ++ r ≡ q ++ s
-    → (k ≡ Leaf (tokens.Literal p)) × (p ≡ q) × (r ≡ s)
-literal_unread first k p q r s h j e =
-    let one = one_piece first (Leaf (tokens.Literal p)) k p q r s (refl, h) j e in
-    (sym one.0, one.1, one.2)
-
--- the same as `one_literal`, the error literal among them
-pub one_any_literal : (p q r s : List ℕ) → AnyLiteral p r → AnyLiteral q s → p ++ r ≡ q ++ s → (p ≡ q) × (r ≡ s)
-one_any_literal p q r s h j e = let one = literal_unread false (Leaf (tokens.Literal q)) p q r s h (refl, j) e in (one.1, one.2)
-
--- where one stands that begins with `'`, that is no lone quote
-pub literal_no_quote : (q r : List ℕ) → AnyLiteral (39 ∷ q) r → FollowsQuote (q ++ r) → ⊥
-literal_no_quote q r h follows =
-    let one = literal_unread false (Leaf (tokens.Mark 39 true)) (39 ∷ q) (39 ∷ []) r (q ++ r) h (refl, inr ((refl, follows), refl)) refl in
-    let clash : Leaf (tokens.Mark 39 true) ≡ Leaf (tokens.Literal (39 ∷ q)) = one.0 in
-    cc
+use Rattle.lexical.proofs.LiteralFinderLemmas.{literal_fronts, literal_front}
 
 -- ---- how a literal begins
 

@@ -3,6 +3,7 @@ use Rattle.std.proofs.Common.{◌≡◌, ℕ, ◌<◌, inl, inr, Bool, true, fal
 use Rattle.std.specs.List.{list_all}
 use Rattle.std.specs.Str.{chars, IsUtf8, IsCharBoundary}
 use Rattle.std.proofs.lemmas.Bool.{both_ways, and_parts, and_from, or_cases, not-true, false_from_ne_true}
+use Rattle.std.proofs.lemmas.List.Folds.{list_all-append}
 use Rattle.unicode_ident.proofs.Computing.{unicode_ident}
 use Rattle.unicode_ident.proofs.IdentLemmas.{is_xid_start-is_xid_continue}
 use Rattle.lexical.specs.Class.{is_ident_start, is_ident_continue}
@@ -14,8 +15,8 @@ use Rattle.lexical.specs.Delimiter.{is_opener, is_closer}
 use Rattle.lexical.specs.Piece.{Kind, FrontMark, Gap, Doc, Open, Close, Leaf, Stands, IsPiece}
 use Rattle.lexical.specs.Found.{IsPieceAt}
 use Rattle.lexical.specs.declared.piece.Piece.{Piece}
-use Rattle.lexical.proofs.TextLemmas.{seam_boundary, seam_take, seam_drop}
-use Rattle.lexical.proofs.CommentFinderLemmas.{comment_first}
+use Rattle.lexical.proofs.TextLemmas.{begins_splits, seam_boundary, seam_take, seam_drop}
+use Rattle.lexical.proofs.CommentKindLemmas.{comment_first}
 use Rattle.lexical.proofs.PieceLemmas.{passes_of}
 use Rattle.lexical.proofs.LiteralFinderLemmas.{literal_front}
 
@@ -97,12 +98,9 @@ name_continues p r h =
 
 -- a text that begins another passes where it does
 all_front : (passes : ℕ → Bool) (front text : List ℕ) → begins_with front text ≡ true → list_all passes text ≡ true → list_all passes front ≡ true
-all_front passes [] text is all = refl
-all_front passes (c ∷ front) [] is all = absurd (both_ways _ refl is)
-all_front passes (c ∷ front) (d ∷ text) is all =
-    let same = and_parts _ _ is in
-    let parts = and_parts _ _ all in
-    and_from _ _ (ap passes (eqb-true c d same.0) ∙ parts.0) (all_front passes front text same.1 parts.1)
+all_front passes front text is all =
+    let split = begins_splits front text is in
+    (and_parts _ _ (sym (list_all-append passes front split.0) ∙ (ap (list_all passes) (sym split.1) ∙ all))).0
 
 -- a text that passes begins with none that doesn't
 pub none_begins : (passes : ℕ → Bool) (fronts : List (List ℕ)) (text : List ℕ)

@@ -1,57 +1,45 @@
 -- What the lexer finds is the piece that stands there, and no other.
 use Rattle.std.proofs.Common.{◌≡◌, ℕ, Bool, true, false, ◌&&◌, ◌==◌, List, [], ◌∷◌, ◌++◌, Some, None, IfSome, inl, inr, codes, refl, sym, ap, ◌∙◌, subst, eqb-true, eq-eqb, append_assoc}
-use Rattle.std.proofs.lemmas.Bool.{and_parts, and_from, or_parts, cond-true, cond-false, cond_both, not-true, not_from_false}
-use Rattle.lexical.specs.Text.{begins_with, begins_any, first_of}
-use Rattle.lexical.specs.Class.{is_white}
-use Rattle.lexical.specs.Form.{Form, Then, NotAt, Exactly, One}
-use Rattle.lexical.specs.Token.{Name, Mark, Literal}
+use Rattle.std.proofs.lemmas.Bool.{both_ways, and_parts, and_from, cond-true, cond-false, cond_both, not-true, not_from_false}
+use Rattle.lexical.specs.Text.{begins_with, begins_any, first_of, first_passes}
+use Rattle.lexical.specs.Class.{is_white, is_ident_start}
+use Rattle.lexical.specs.Form.{Form, NotAt, One}
+use Rattle.lexical.specs.Rule as rules
+use Rattle.lexical.specs.Rule.{Rule, Stands, find}
+use Rattle.lexical.specs.Token.{Name, Mark, Literal, raw_front}
 use Rattle.lexical.specs.Identifier as identifiers
+use Rattle.lexical.specs.Identifier.{identifier}
 use Rattle.lexical.specs.Literal as literals
-use Rattle.lexical.specs.Number.{Number}
+use Rattle.lexical.specs.Literal.{quoted_literal}
+use Rattle.lexical.specs.Number.{Number, number}
 use Rattle.lexical.specs.Mark as marks
-use Rattle.lexical.specs.Delimiter.{is_opener, is_closer, error_literal}
+use Rattle.lexical.specs.Delimiter.{is_opener, is_closer, error_literal, opener, closer}
 use Rattle.lexical.specs.FrontMark as fronts
-use Rattle.lexical.specs.Comment.{Comment, is_doc, has_bare_return}
+use Rattle.lexical.specs.Comment.{comment, Comment, is_doc, has_bare_return}
 use Rattle.lexical.specs.Piece.{Kind, FrontMark, Gap, Doc, Open, Close, Leaf, IsPiece, HasNoPiece}
 use Rattle.lexical.specs.Finder.{Answer, Finds}
-use Rattle.lexical.specs.IdentifierFinder.{name_kind, raw_kind}
-use Rattle.lexical.specs.MarkFinder.{find_mark, mark_kind, quote_kind}
-use Rattle.lexical.specs.DelimiterFinder.{find_opener, find_closer, opener_kind, closer_kind}
-use Rattle.lexical.specs.PieceFinder.{Found, find_front_mark, find_white, front_mark_kind, gap_kind, literal_kind, tagged, or_found, with_kind, comment_found, start, found_identifier, found_quoted, found_number, found_error, found_from, found}
-use Rattle.lexical.specs.CommentFinder.{find_comment, comment_kind, doc_text}
+use Rattle.lexical.specs.PieceFinder.{Found, find_front_mark, front_mark_kind, gap_kind, literal_kind, tagged, or_found, with_kind, comment_found, start, found_identifier, found_from, found, opener_kind, closer_kind, name_kind, mark_kind, quote_kind, found_literal}
+use Rattle.lexical.specs.CommentKind.{comment_kind, doc_text}
 use Rattle.lexical.specs.declared.class.Start.{Start}
 use Rattle.lexical.specs.declared.class.Start.TheVariants as starts
-use Rattle.lexical.proofs.FinderLemmas.{IsSplit, finds_if, finds_not_at, finds_one, finds_text}
-use Rattle.lexical.proofs.NameFinderLemmas.{finds_plain, finds_raw, finds_lone_quote}
+use Rattle.lexical.proofs.FinderLemmas.{IsSplit, finds_if}
+use Rattle.lexical.proofs.RuleLemmas.{Clear, exact}
+use Rattle.lexical.proofs.NameFinderLemmas.{clear_written, written_named, named_written, named_begins, named_start, finds_lone_quote}
 use Rattle.lexical.proofs.WordLemmas.{none_apart, front_whole}
 use Rattle.lexical.proofs.LiteralFinderLemmas.{quoted_starts, quote_apart}
 use Rattle.lexical.proofs.QuotedFinderLemmas.{finds_quoted}
 use Rattle.lexical.proofs.NumberFinderLemmas.{finds_number, number_first}
-use Rattle.lexical.proofs.CommentFinderLemmas.{finds_comment, comment_first, plain_kind, doc_kind, doc_from}
-use Rattle.lexical.proofs.ClassLemmas.{start_white, start_letter, start_digit, start_opener, start_closer, start_mark, start_slash, start_quote, start_double_quote, start_raw, start_front_mark}
-
--- ---- each rule has its finder
-
-pub finds_front_mark : (first : Bool) → Finds (find_front_mark first) (fronts.FrontMark first)
-finds_front_mark first = finds_if first _ _ (finds_text (0xFEFF ∷ []))
-
-pub finds_white : Finds find_white (One is_white)
-finds_white = finds_one is_white
-
-pub finds_mark : Finds find_mark marks.Mark
-finds_mark = finds_not_at marks.comment_fronts _ _ (finds_one _)
-
-pub finds_opener : Finds find_opener (NotAt (error_literal ∷ []) (One is_opener))
-finds_opener = finds_not_at (error_literal ∷ []) _ _ (finds_one is_opener)
-
-pub finds_closer : Finds find_closer (One is_closer)
-finds_closer = finds_one is_closer
+use Rattle.lexical.proofs.CommentKindLemmas.{finds_comment, comment_first, plain_kind, doc_kind, doc_from}
+use Rattle.lexical.proofs.ClassLemmas.{start_white, start_letter, start_digit, start_opener, start_closer, start_mark, start_slash, start_quote, start_double_quote, start_front_mark}
 
 -- ---- what is found is a piece
 
 -- a piece with its kind is at the front of the text
 abbrev pub IsTagged : Bool → List ℕ → (Kind × List ℕ × List ℕ) → Type 0
 IsTagged first text x = (text ≡ x.1 ++ x.2) × IsPiece first x.0 x.1 x.2
+
+finds_front_mark : (first : Bool) → Finds (find_front_mark first) (fronts.FrontMark first)
+finds_front_mark first = finds_if first _ _ (exact (rules.Exactly (0xFEFF ∷ [])) tt)
 
 tagged_sound : (first : Bool) (A : Form) (kind : List ℕ → List ℕ → Kind)
     → ((p r : List ℕ) → A p r → IsPiece first (kind p r) p r) → (text : List ℕ) (o : Answer)
@@ -68,12 +56,11 @@ one_of_kind passes p r (c, e, h) =
 mark_piece : (first : Bool) (p r : List ℕ) → marks.Mark p r → IsPiece first (mark_kind p r) p r
 mark_piece first p r h = let one = one_of_kind _ p r h.0 in (one.0, inl (subst (λ q. marks.Mark q r) one.0 h, refl))
 
-raw_piece : (first : Bool) (p r : List ℕ)
-    → NotAt identifiers.literal_prefixes (Then (Exactly (codes "r#")) identifiers.RawIdentifier) p r
-    → IsPiece first (raw_kind p r) p r
-raw_piece first p r h =
-    let whole : p ≡ codes "r#" ++ h.0.back = h.0.whole ∙ ap (λ x. x ++ h.0.back) h.0.first in
-    rw whole (refl, (h.0.second, rw whole at h.1))
+name_piece : (first raw : Bool) (p r : List ℕ) → Stands (identifier raw) p r → IsPiece first (name_kind raw p r) p r
+name_piece first true p r h =
+    let is = written_named true p r h.0 in
+    rw is.1 (refl, (is.2, rw is.1 at h.1))
+name_piece first false p r h = (refl, h)
 
 quote_piece : (first : Bool) (p r : List ℕ) → marks.LoneQuote p r → IsPiece first (quote_kind p r) p r
 quote_piece first p r h = (h.0, inr ((refl, h.1), refl))
@@ -92,13 +79,14 @@ comment_found_sound : (first : Bool) (text : List ℕ) (o : Answer) → IfSome o
 comment_found_sound first text None is = tt
 comment_found_sound first text (Some x) is = kind_sound first text x is
 
-mark_sound : (first : Bool) (text : List ℕ) → IfSome (tagged mark_kind (find_mark text)) (IsTagged first text)
-mark_sound first text = tagged_sound first _ mark_kind (mark_piece first) text _ (finds_mark.sound text)
+-- what a rule finds, with its kind
+rule_sound : (first : Bool) (rule : Rule) → Clear rule → (kind : List ℕ → List ℕ → Kind)
+    → ((p r : List ℕ) → Stands rule p r → IsPiece first (kind p r) p r) → (text : List ℕ)
+    → IfSome (tagged kind (find rule text)) (IsTagged first text)
+rule_sound first rule clear kind to text = tagged_sound first (Stands rule) kind to text (find rule text) ((exact rule clear).sound text)
 
-identifier_sound : (first : Bool) (text : List ℕ) → IfSome (found_identifier text) (IsTagged first text)
-identifier_sound first text = cond_both (begins_with (codes "r#") text) _ _ (λ o. IfSome o (IsTagged first text))
-    (λ e. tagged_sound first _ raw_kind (raw_piece first) text _ (finds_raw.sound text))
-    (λ e. tagged_sound first _ name_kind (λ p r h. (refl, h)) text _ (finds_plain.sound text))
+mark_sound : (first : Bool) (text : List ℕ) → IfSome (tagged mark_kind (find marks.mark text)) (IsTagged first text)
+mark_sound first = rule_sound first marks.mark tt mark_kind (mark_piece first)
 
 -- one thing, or else another
 or_sound : (first : Bool) (text : List ℕ) (o u : Found) → IfSome o (IsTagged first text)
@@ -106,27 +94,26 @@ or_sound : (first : Bool) (text : List ℕ) (o u : Found) → IfSome o (IsTagged
 or_sound first text None u one other = other
 or_sound first text (Some x) u one other = one
 
-quoted_sound : (first : Bool) (text : List ℕ) → IfSome (found_quoted text) (IsTagged first text)
+quoted_sound : (first : Bool) (text : List ℕ) → IfSome (found_literal quoted_literal text) (IsTagged first text)
 unfolding literals.Literal
 quoted_sound first text = tagged_sound first literals.QuotedLiteral literal_kind (λ p r h. (refl, inl (inl h))) text _ (finds_quoted.sound text)
 
-number_sound : (first : Bool) (text : List ℕ) → IfSome (found_number text) (IsTagged first text)
+number_sound : (first : Bool) (text : List ℕ) → IfSome (found_literal number text) (IsTagged first text)
 unfolding literals.Literal
 number_sound first text = tagged_sound first Number literal_kind (λ p r h. (refl, inl (inr h))) text _ (finds_number.sound text)
 
-error_sound : (first : Bool) (text : List ℕ) → IfSome (found_error text) (IsTagged first text)
-error_sound first text = tagged_sound first literals.ErrorLiteral literal_kind (λ p r h. (refl, inr h)) text _ ((finds_text error_literal).sound text)
-
 start_sound : (first : Bool) (s : Start) (text : List ℕ) → IfSome (found_from first s text) (IsTagged first text)
-start_sound first starts.White text = tagged_sound first _ gap_kind (λ p r h. inl h) text _ (finds_white.sound text)
-start_sound first starts.Letter text = or_sound first text _ _ (identifier_sound first text) (quoted_sound first text)
+start_sound first starts.White text = rule_sound first (rules.One is_white) tt gap_kind (λ p r h. inl h) text
+start_sound first starts.Letter text =
+    let raw = begins_with (codes "r#") text in
+    or_sound first text _ _ (rule_sound first (identifier raw) (clear_written raw) (name_kind raw) (name_piece first raw) text) (quoted_sound first text)
 start_sound first starts.Digit text = number_sound first text
 start_sound first starts.Opener text =
-    or_sound first text _ _ (tagged_sound first _ opener_kind
-    (λ p r h. ((one_of_kind is_opener p r h.0).1, h.1)) text _ (finds_opener.sound text)) (error_sound first text)
-start_sound first starts.Closer text = tagged_sound first _ closer_kind (λ p r h. (one_of_kind is_closer p r h).1) text _ (finds_closer.sound text)
+    or_sound first text _ _ (rule_sound first opener tt opener_kind (λ p r h. ((one_of_kind is_opener p r h.0).1, h.1)) text)
+    (rule_sound first (rules.Exactly error_literal) tt literal_kind (λ p r h. (refl, inr h)) text)
+start_sound first starts.Closer text = rule_sound first closer tt closer_kind (λ p r h. (one_of_kind is_closer p r h).1) text
 start_sound first starts.Slash text = cond_both (begins_any marks.comment_fronts text) _ _ (λ o. IfSome o (IsTagged first text))
-    (λ e. comment_found_sound first text (find_comment text) (finds_comment.sound text)) (λ e. mark_sound first text)
+    (λ e. comment_found_sound first text (find comment text) (finds_comment.sound text)) (λ e. mark_sound first text)
 start_sound first starts.Quote text =
     or_sound first text _ _ (tagged_sound first _ quote_kind (quote_piece first) text _ (finds_lone_quote.sound text))
     (quoted_sound first text)
@@ -153,6 +140,10 @@ pub from_start : (first : Bool) (text : List ℕ) (c : ℕ) (rest : List ℕ) (s
 unfolding found
 from_start first text c rest s e is = ap (found first) e ∙ (ap (λ t. found_from first t (c ∷ rest)) is ∙ ap (found_from first s) (sym e))
 
+pub letter_start : (first : Bool) (text : List ℕ) → first_passes is_ident_start text ≡ true → found first text ≡ found_from first starts.Letter text
+letter_start first [] begins = absurd (both_ways _ refl begins)
+letter_start first (c ∷ text) begins = from_start first (c ∷ text) c text starts.Letter refl (start_letter c begins)
+
 -- a comment is found, with its kind
 found_comment : (first : Bool) (k : Kind) (p r : List ℕ) → Comment p r → comment_kind p r ≡ Some k → found first (p ++ r) ≡ Some (k, p, r)
 found_comment first k p r h kind =
@@ -163,7 +154,7 @@ found_comment first k p r h kind =
 -- a mark is found where no comment begins
 found_mark : (first : Bool) (text : List ℕ) (c : ℕ) (rest : List ℕ) → text ≡ c ∷ rest → marks.is_mark c ≡ true
     → (c == 39) ≡ false → begins_any marks.comment_fronts text ≡ false
-    → found first text ≡ tagged mark_kind (find_mark text)
+    → found first text ≡ tagged mark_kind (find marks.mark text)
 found_mark first text c rest e is other plain = elim (start_mark c is other) [
   | inl mark ↦ from_start first text c rest starts.Mark e mark
   | inr slash ↦ from_start first text c rest starts.Slash e slash ∙ cond-false _ _ _ plain
@@ -182,12 +173,20 @@ passes_of passes c p r (d, e, h) =
 
 -- where a literal begins with a letter no identifier is found
 no_identifier : (text : List ℕ) → begins_any identifiers.literal_prefixes text ≡ true → found_identifier text ≡ None
-no_identifier text h =
-    cond_both (begins_with (codes "r#") text) _ _ (λ o. o ≡ None) (λ e. ap (tagged raw_kind) (cond-true _ _ _ h))
-    (λ e. ap (tagged name_kind) (cond-true _ _ _ h))
+unfolding find
+no_identifier text h = ap (tagged (name_kind (begins_with (codes "r#") text))) (cond-true _ _ _ h)
+
+-- and else it is
+identifier_found : (raw : Bool) (name r : List ℕ) → identifiers.Identifier raw name r
+    → found_identifier (raw_front raw ++ (name ++ r)) ≡ Some (Leaf (Name raw name), raw_front raw ++ name, r)
+identifier_found true name r h =
+    ap (tagged (name_kind true)) ((exact (identifier true) (clear_written true)).complete (codes "r#" ++ name) r (named_written true name r h.0, h.1))
+identifier_found false name r h =
+    ap (λ b. tagged (name_kind b) (find (identifier b) (name ++ r))) (named_begins false name r h.0)
+    ∙ ap (tagged (name_kind false)) ((exact (identifier false) (clear_written false)).complete name r h)
 
 -- a literal is found
-found_quoted_at : (p r : List ℕ) → literals.QuotedLiteral p r → found_quoted (p ++ r) ≡ Some (Leaf (Literal p), p, r)
+found_quoted_at : (p r : List ℕ) → literals.QuotedLiteral p r → found_literal quoted_literal (p ++ r) ≡ Some (Leaf (Literal p), p, r)
 found_quoted_at p r h = ap (tagged literal_kind) (finds_quoted.complete p r h)
 
 quoted_complete : (first : Bool) (p r : List ℕ) → literals.QuotedLiteral p r → found first (p ++ r) ≡ Some (Leaf (Literal p), p, r)
@@ -196,11 +195,11 @@ quoted_complete first p r h = elim (quoted_starts p r h) [
   | inr more ↦ elim more [
     | inl character ↦
         from_start first (p ++ r) 39 (character.back ++ r) starts.Quote (front_whole (codes "'") _ p r character) start_quote
-        ∙ (ap (λ o. or_found (tagged quote_kind o) (found_quoted (p ++ r)))
+        ∙ (ap (λ o. or_found (tagged quote_kind o) (found_literal quoted_literal (p ++ r)))
         (none_apart _ _ _ finds_lone_quote quote_apart p r character) ∙ found_quoted_at p r h)
     | inr letter ↦
         from_start first (p ++ r) letter.first letter.rest starts.Letter letter.whole letter.starts
-        ∙ (ap (λ o. or_found o (found_quoted (p ++ r))) (no_identifier (p ++ r) letter.prefixed) ∙ found_quoted_at p r h)
+        ∙ (ap (λ o. or_found o (found_literal quoted_literal (p ++ r))) (no_identifier (p ++ r) letter.prefixed) ∙ found_quoted_at p r h)
   ]
 ]
 
@@ -215,51 +214,44 @@ unfolding literals.Literal
 literal_complete first p r h = elim h [ inl quoted ↦ quoted_complete first p r quoted | inr number ↦ number_complete first p r number ]
 
 error_complete : (first : Bool) (p r : List ℕ) → literals.ErrorLiteral p r → found first (p ++ r) ≡ Some (Leaf (Literal p), p, r)
+unfolding find
 error_complete first p r h =
     let text = error_literal ++ r in
     rw h (from_start first text 40 (codes "/*ERROR*/)" ++ r) starts.Opener refl (start_opener 40 refl)
-    ∙ ap (tagged literal_kind) ((finds_text error_literal).complete error_literal r refl))
+    ∙ ap (tagged literal_kind) ((exact (rules.Exactly error_literal) tt).complete error_literal r refl))
 
 pub found_complete : (first : Bool) (k : Kind) (p r : List ℕ) → IsPiece first k p r → found first (p ++ r) ≡ Some (k, p, r)
 found_complete first FrontMark p r h =
     from_start first (p ++ r) 0xFEFF r starts.FrontMark (one_front 0xFEFF p r h.1) start_front_mark
     ∙ ap (tagged front_mark_kind) ((finds_front_mark first).complete p r h)
 found_complete first Gap p r (inl h) =
-    from_start first (p ++ r) h.0 r starts.White (one_front h.0 p r h.1) (start_white h.0 h.2) ∙ ap (tagged gap_kind) (finds_white.complete p r h)
+    from_start first (p ++ r) h.0 r starts.White (one_front h.0 p r h.1) (start_white h.0 h.2) ∙ ap (tagged gap_kind) ((exact (rules.One is_white) tt).complete p r h)
 found_complete first Gap p r (inr h) = found_comment first Gap p r h.0 (plain_kind p r h)
 found_complete first (Doc inner text) p r h = found_comment first (Doc inner text) p r h.comment.0 (doc_kind inner text p r h)
 found_complete first (Open c) p r h =
     let one = passes_of is_opener c p r h.0 in
     let opens : NotAt (error_literal ∷ []) (One is_opener) p r = ((c, one.0, one.1), h.1) in
     from_start first (p ++ r) c r starts.Opener (one_front c p r one.0) (start_opener c one.1)
-    ∙ (ap (λ o. or_found (tagged opener_kind o) (found_error (p ++ r))) (finds_opener.complete p r opens)
+    ∙ (ap (λ o. or_found (tagged opener_kind o) (found_literal (rules.Exactly error_literal) (p ++ r))) ((exact opener tt).complete p r opens)
     ∙ ap (λ d. Some (Open d, p, r)) (ap first_of one.0))
 found_complete first (Close c) p r h =
     let one = passes_of is_closer c p r h in
     from_start first (p ++ r) c r starts.Closer (one_front c p r one.0) (start_closer c one.1)
-    ∙ (ap (tagged closer_kind) (finds_closer.complete p r (c, one.0, one.1)) ∙ ap (λ d. Some (Close d, p, r)) (ap first_of one.0))
-found_complete first (Leaf (Name true name)) p r h =
-    let text = codes "r#" ++ (name ++ r) in
-    let raw : Then (Exactly (codes "r#")) identifiers.RawIdentifier (codes "r#" ++ name) r =
-    record { front = codes "r#"; back = name; whole = refl; first = refl; second = h.1.0 } in
-    rw h.0 (from_start first text 114 (35 ∷ (name ++ r)) starts.Letter refl start_raw
-    ∙ ap (λ o. or_found (tagged raw_kind o) (found_quoted text)) (finds_raw.complete (codes "r#" ++ name) r (raw, h.1.1)))
-found_complete first (Leaf (Name false name)) p r h =
-    let plain = h.1.0.0 in
-    rw h.0 (from_start first (name ++ r) plain.first.0 (plain.back ++ r) starts.Letter (simp (plain.whole, plain.first.1, append_assoc))
-    (start_letter plain.first.0 plain.first.2)
-    ∙ ap (λ o. or_found o (found_quoted (name ++ r))) (cond-false (begins_with (codes "r#") (name ++ r)) _ _ (or_parts _ _ h.1.0.1).0
-    ∙ ap (tagged name_kind) (finds_plain.complete name r h.1)))
+    ∙ (ap (tagged closer_kind) ((exact closer tt).complete p r (c, one.0, one.1)) ∙ ap (λ d. Some (Close d, p, r)) (ap first_of one.0))
+found_complete first (Leaf (Name raw name)) p r h =
+    let text = raw_front raw ++ (name ++ r) in
+    rw (h.0, append_assoc) (letter_start first text (named_start raw name r h.1.0)
+    ∙ ap (λ o. or_found o (found_literal quoted_literal text)) (identifier_found raw name r h.1))
 found_complete first (Leaf (Mark c joint)) p r h = rw h.0 (elim h.1 [
   | inl mark ↦
       let is : c ≡ mark.0.0.0 = cc in
       let passes = and_parts _ _ mark.0.0.2 in
       found_mark first (c ∷ r) c r refl (ap marks.is_mark is ∙ passes.0) (ap (λ d. d == 39) is ∙ not-true _ passes.1) mark.0.1
-      ∙ (ap (tagged mark_kind) (finds_mark.complete (c ∷ []) r mark.0) ∙ ap (λ b. Some (Leaf (Mark c b), c ∷ [], r)) (sym mark.1))
+      ∙ (ap (tagged mark_kind) ((exact marks.mark tt).complete (c ∷ []) r mark.0) ∙ ap (λ b. Some (Leaf (Mark c b), c ∷ [], r)) (sym mark.1))
   | inr quote ↦
       let is : c ≡ 39 = cc in
       rw (is, quote.1) (from_start first (39 ∷ r) 39 r starts.Quote refl start_quote
-      ∙ ap (λ o. or_found (tagged quote_kind o) (found_quoted (39 ∷ r))) (finds_lone_quote.complete (39 ∷ []) r (refl, quote.0.1)))
+      ∙ ap (λ o. or_found (tagged quote_kind o) (found_literal quoted_literal (39 ∷ r))) (finds_lone_quote.complete (39 ∷ []) r (refl, quote.0.1)))
 ])
 found_complete first (Leaf (Literal text)) p r h = rw h.0 (elim h.1 [
   | inl literal ↦ literal_complete first text r literal

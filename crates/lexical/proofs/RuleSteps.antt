@@ -1,55 +1,73 @@
 -- Steps that follow one another, one lemma for each word that rules are made of.
-use Rattle.std.proofs.Common.{◌≡◌, ℕ, Bool, true, false, cond, List, [], ◌++◌, length, Option, Some, None, refl, sym, ap, ◌∙◌, subst, arith, length-append}
+use Rattle.std.proofs.Common.{◌≡◌, ℕ, ◌+◌, ◌≤◌, Bool, true, false, not, cond, List, [], ◌∷◌, ◌++◌, length, Option, Some, None, refl, sym, ap, ◌∙◌, subst, arith, length-append}
 use Rattle.std.specs.Str.{chars}
-use Rattle.std.proofs.lemmas.Bool.{cond-true, cond-false}
-use Rattle.lexical.specs.Text.{begins_any, first_passes}
-use Rattle.lexical.specs.Finder.{and_find, behind, or_find, unless_next, if_passes, find_one, find_run, find_text}
-use Rattle.lexical.specs.Rule.{Rule, One, Run, Exactly, Then, Either, Else, NotAt, NotBefore, Where, find, nothing, perhaps}
-use Rattle.lexical.specs.Reading as answers
+use Rattle.std.proofs.lemmas.Bool.{both_ways, false_from_ne_true, cond-true, cond-false, cond_both, not_from_true, not_from_false, or_from}
+use Rattle.lexical.specs.Text.{begins_with, begins_any, first_passes}
+use Rattle.lexical.specs.Form as forms
+use Rattle.lexical.specs.Finder.{and_find, behind, or_find, if_passes, find_one}
+use Rattle.lexical.specs.Rule.{Rule, One, Run, Exactly, Then, Either, Else, NotAt, NotBefore, Where, Stands, find, nothing, perhaps}
 use Rattle.lexical.specs.Step.{Passes, Reads}
 use Rattle.lexical.specs.declared.cursor.Cursor.{Cursor}
-use Rattle.lexical.proofs.RuleLemmas.{Clear, found_is}
+use Rattle.lexical.proofs.TextLemmas.{begins_splits, begins_front}
+use Rattle.lexical.proofs.FinderLemmas.{none_is}
+use Rattle.lexical.proofs.RuleLemmas.{Clear, exact, found_is, none_found}
 
--- ---- steps that say what a finder finds
+-- what was passed stands at the place
+pub passed : (rule : Rule) → Clear rule → (at to : Cursor) (h : Passes rule at to)
+    → (chars at.rest.now ≡ h.front ++ chars to.rest.now) × Stands rule h.front (chars to.rest.now)
+passed rule clear at to h = found_is rule clear (chars at.rest.now) h.front (chars to.rest.now) h.found
 
-pub one_reads : (passes : ℕ → Bool) (at : Cursor) (result : Option Cursor) → answers.Reads (find_one passes (chars at.rest.now)) at result → Reads (One passes) at result
+-- a run leads no way back
+pub run_goes_on : (plain : ℕ → Bool) (at to : Cursor) → Passes (Run plain) at to → length (chars to.rest.now) ≤ length (chars at.rest.now)
+run_goes_on plain at to h = omega (arith, length-append h.front (chars to.rest.now), ap length (passed (Run plain) tt at to h).0)
+
+pub passes_whole : (rule : Rule) → Clear rule → (at to : Cursor) → Passes rule at to → (front : List ℕ) × (chars at.rest.now ≡ front ++ chars to.rest.now)
+passes_whole rule clear at to h = (h.front, (passed rule clear at to h).0)
+
+-- ---- `One`
+
+pub one_found : (passes : ℕ → Bool) (c : ℕ) (text rest : List ℕ) → text ≡ c ∷ rest → passes c ≡ true → find (One passes) text ≡ Some (c ∷ [], rest)
 unfolding find
-one_reads passes at None none = none
-one_reads passes at (Some to) h = record { front = h.front; found = h.found; count = h.count }
+one_found passes c text rest split e = ap (find_one passes) split ∙ cond-true _ _ _ e
 
-pub run_passes : (passes : ℕ → Bool) (at to : Cursor) → answers.Passes (find_run passes (chars at.rest.now)) at to → Passes (Run passes) at to
+pub one_passes : (passes : ℕ → Bool) (c : ℕ) (at to : Cursor) → chars at.rest.now ≡ c ∷ chars to.rest.now
+    → to.chars_before ≡ at.chars_before + 1 → passes c ≡ true → Passes (One passes) at to
+one_passes passes c at to split count e = record { front = c ∷ []; found = one_found passes c _ _ split e; count = count }
+
+pub one_lacks : (passes : ℕ → Bool) (c : ℕ) (text rest : List ℕ) → text ≡ c ∷ rest → passes c ≡ false → find (One passes) text ≡ None
 unfolding find
-run_passes passes at to h = record { front = h.front; found = h.found; count = h.count }
+one_lacks passes c text rest split e = ap (find_one passes) split ∙ cond-false _ _ _ e
+
+pub one_ends : (passes : ℕ → Bool) (text : List ℕ) → text ≡ [] → find (One passes) text ≡ None
+unfolding find
+one_ends passes text e = ap (find_one passes) e
+
+-- ---- `Exactly`
+
+pub text_found : (front text rest : List ℕ) → text ≡ front ++ rest → find (Exactly front) text ≡ Some (front, rest)
+text_found front text rest e = ap (find (Exactly front)) e ∙ (exact (Exactly front) tt).complete front rest refl
+
+pub text_passes : (front : List ℕ) (at to : Cursor) → chars at.rest.now ≡ front ++ chars to.rest.now
+    → to.chars_before ≡ at.chars_before + length front → Passes (Exactly front) at to
+text_passes front at to whole count = record { front = front; found = text_found front _ _ whole; count = count }
+
+pub text_lacks : (front text : List ℕ) → begins_with front text ≡ false → find (Exactly front) text ≡ None
+text_lacks front text h =
+    none_found (Exactly front) tt text
+    (λ p r e is. both_ways _ h (ap (begins_with front) (e ∙ ap (λ x. x ++ r) is) ∙ begins_front front r))
 
 -- and the other way
-pub one_answers : (passes : ℕ → Bool) (at to : Cursor) → Passes (One passes) at to → answers.Passes (find_one passes (chars at.rest.now)) at to
-unfolding find
-one_answers passes at to h = record {
-  front = h.front;
-  found = h.found;
-  whole = (found_is (One passes) tt (chars at.rest.now) h.front (chars to.rest.now) h.found).0;
-  count = h.count;
-}
+pub lacks_text : (front text : List ℕ) → find (Exactly front) text ≡ None → begins_with front text ≡ false
+lacks_text front text none =
+    false_from_ne_true _ (λ begins.
+    let split = begins_splits front text begins in
+    none_is (find (Exactly front)) (forms.Exactly front) (exact (Exactly front) tt) text none front split.0 split.1 refl)
 
-pub run_answers : (passes : ℕ → Bool) (at to : Cursor) → Passes (Run passes) at to → answers.Passes (find_run passes (chars at.rest.now)) at to
-unfolding find
-run_answers passes at to h = record {
-  front = h.front;
-  found = h.found;
-  whole = (found_is (Run passes) tt (chars at.rest.now) h.front (chars to.rest.now) h.found).0;
-  count = h.count;
-}
-
--- and so, where another rule finds the same
-pub answers_read : (a b : Rule) → Clear a → (at : Cursor) (result : Option Cursor) → find b (chars at.rest.now) ≡ find a (chars at.rest.now)
-    → Reads a at result → answers.Reads (find b (chars at.rest.now)) at result
-answers_read a b clear at None e none = e ∙ none
-answers_read a b clear at (Some to) e h = record {
-  front = h.front;
-  found = e ∙ h.found;
-  whole = (found_is a clear (chars at.rest.now) h.front (chars to.rest.now) h.found).0;
-  count = h.count;
-}
+pub past_text : (front : List ℕ) (at to : Cursor) → Passes (Exactly front) at to
+    → (chars at.rest.now ≡ front ++ chars to.rest.now) × (to.chars_before ≡ at.chars_before + length front)
+past_text front at to h =
+    let is = passed (Exactly front) tt at to h in
+    (is.0 ∙ ap (λ x. x ++ chars to.rest.now) is.1, h.count ∙ ap (λ x. at.chars_before + length x) is.1)
 
 -- ---- `Then`
 
@@ -76,10 +94,10 @@ then_fails a b at result e none = subst (Reads (Then a b) at) (sym e) (then_lack
 -- ---- `Either`, `Else`
 
 -- a rule that finds the same
-passes_same : (a b : Rule) (at to : Cursor) → find b (chars at.rest.now) ≡ find a (chars at.rest.now) → Passes a at to → Passes b at to
+pub passes_same : (a b : Rule) (at to : Cursor) → find b (chars at.rest.now) ≡ find a (chars at.rest.now) → Passes a at to → Passes b at to
 passes_same a b at to e h = record { front = h.front; found = e ∙ h.found; count = h.count }
 
-reads_same : (a b : Rule) (at : Cursor) (result : Option Cursor) → find b (chars at.rest.now) ≡ find a (chars at.rest.now)
+pub reads_same : (a b : Rule) (at : Cursor) (result : Option Cursor) → find b (chars at.rest.now) ≡ find a (chars at.rest.now)
     → Reads a at result → Reads b at result
 reads_same a b at None e h = e ∙ h
 reads_same a b at (Some to) e h = passes_same a b at to e h
@@ -87,6 +105,10 @@ reads_same a b at (Some to) e h = passes_same a b at to e h
 pub either_first : (a b : Rule) (at to : Cursor) → Passes a at to → Passes (Either a b) at to
 unfolding find
 either_first a b at to h = record { front = h.front; found = ap (λ o. or_find o (find b (chars at.rest.now))) h.found; count = h.count }
+
+pub either_second : (a b : Rule) (at to : Cursor) → find a (chars at.rest.now) ≡ None → Passes b at to → Passes (Either a b) at to
+unfolding find
+either_second a b at to none h = passes_same b (Either a b) at to (ap (λ o. or_find o (find b (chars at.rest.now))) none) h
 
 pub either_reads : (a b : Rule) (at : Cursor) (result : Option Cursor) → find a (chars at.rest.now) ≡ None → Reads b at result → Reads (Either a b) at result
 unfolding find
@@ -105,28 +127,58 @@ pub perhaps_stays : (a : Rule) (at : Cursor) → find a (chars at.rest.now) ≡ 
 unfolding find
 perhaps_stays a at none = record { front = []; found = ap (λ o. or_find o (find nothing (chars at.rest.now))) none; count = omega arith }
 
+-- ---- `NotAt`
+
+pub not_at_passes : (fronts : List (List ℕ)) (a : Rule) (at to : Cursor) → begins_any fronts (chars at.rest.now) ≡ false → Passes a at to
+    → Passes (NotAt fronts a) at to
+unfolding find
+not_at_passes fronts a at to e h = record { front = h.front; found = cond-false _ _ _ e ∙ h.found; count = h.count }
+
+pub not_at_stops : (fronts : List (List ℕ)) (a : Rule) (text : List ℕ) → begins_any fronts text ≡ true → find (NotAt fronts a) text ≡ None
+unfolding find
+not_at_stops fronts a text e = cond-true _ _ _ e
+
+pub not_at_lacks : (fronts : List (List ℕ)) (a : Rule) (text : List ℕ) → find a text ≡ None → find (NotAt fronts a) text ≡ None
+unfolding find
+not_at_lacks fronts a text none = cond_both (begins_any fronts text) None (find a text) (λ o. o ≡ None) (λ e. refl) (λ e. none)
+
+-- with one front
+pub apart_passes : (front : List ℕ) (a : Rule) (at to : Cursor) → begins_with front (chars at.rest.now) ≡ false → Passes a at to
+    → Passes (NotAt (front ∷ []) a) at to
+apart_passes front a at to e h = not_at_passes (front ∷ []) a at to (or_from _ _ e refl) h
+
 -- ---- `NotBefore`
 
 pub before_passes : (passes : ℕ → Bool) (a : Rule) (at to : Cursor) → Passes a at to → first_passes passes (chars to.rest.now) ≡ false
     → Passes (NotBefore passes a) at to
 unfolding find
-before_passes passes a at to h e = record { front = h.front; found = ap (unless_next passes) h.found ∙ cond-false _ _ _ e; count = h.count }
+before_passes passes a at to h e = record { front = h.front; found = ap (if_passes (λ p r. not (first_passes passes r))) h.found ∙ cond-true _ _ _ (not_from_false _ e); count = h.count }
 
 pub before_lacks : (passes : ℕ → Bool) (a : Rule) (at to : Cursor) → Passes a at to → first_passes passes (chars to.rest.now) ≡ true
     → find (NotBefore passes a) (chars at.rest.now) ≡ None
 unfolding find
-before_lacks passes a at to h e = ap (unless_next passes) h.found ∙ cond-true _ _ _ e
+before_lacks passes a at to h e = ap (if_passes (λ p r. not (first_passes passes r))) h.found ∙ cond-false _ _ _ (not_from_true _ e)
 
 -- ---- `Where`
 
-pub where_passes : (test : List ℕ → Bool) (a : Rule) (at to : Cursor) (h : Passes a at to) → test h.front ≡ true → Passes (Where test a) at to
-unfolding find
-where_passes test a at to h e = record { front = h.front; found = ap (if_passes (λ p r. test p)) h.found ∙ cond-true _ _ _ e; count = h.count }
+-- the text is what stands between the places
+abbrev pub IsBetween : List ℕ → Cursor → Cursor → Type 0
+IsBetween text at to = (front : List ℕ) → chars at.rest.now ≡ front ++ chars to.rest.now → text ≡ front
 
-pub where_lacks : (test : List ℕ → Bool) (a : Rule) (at to : Cursor) (h : Passes a at to) → test h.front ≡ false
-    → find (Where test a) (chars at.rest.now) ≡ None
+pub where_passes : (test : List ℕ → Bool) (a : Rule) → Clear a → (at to : Cursor) (text : List ℕ) → Passes a at to
+    → IsBetween text at to → test text ≡ true → Passes (Where test a) at to
 unfolding find
-where_lacks test a at to h e = ap (if_passes (λ p r. test p)) h.found ∙ cond-false _ _ _ e
+where_passes test a clear at to text h same e = record {
+  front = h.front;
+  found = ap (if_passes (λ p r. test p)) h.found ∙ cond-true _ _ _ (ap test (sym (same h.front (passed a clear at to h).0)) ∙ e);
+  count = h.count;
+}
+
+pub where_lacks : (test : List ℕ → Bool) (a : Rule) → Clear a → (at to : Cursor) (text : List ℕ) → Passes a at to
+    → IsBetween text at to → test text ≡ false → find (Where test a) (chars at.rest.now) ≡ None
+unfolding find
+where_lacks test a clear at to text h same e =
+    ap (if_passes (λ p r. test p)) h.found ∙ cond-false _ _ _ (ap test (sym (same h.front (passed a clear at to h).0)) ∙ e)
 
 -- ---- what is found, word by word
 
@@ -142,25 +194,13 @@ pub find_other : (a b : Rule) (text : List ℕ) → find (Else a b) text ≡ or_
 unfolding find
 find_other a b text = refl
 
-pub find_not_before : (passes : ℕ → Bool) (a : Rule) (text : List ℕ) → find (NotBefore passes a) text ≡ unless_next passes (find a text)
+pub find_not_before : (passes : ℕ → Bool) (a : Rule) (text : List ℕ) → find (NotBefore passes a) text ≡ if_passes (λ p r. not (first_passes passes r)) (find a text)
 unfolding find
 find_not_before passes a text = refl
-
-pub find_not_at : (fronts : List (List ℕ)) (a : Rule) (text : List ℕ) → find (NotAt fronts a) text ≡ cond (begins_any fronts text) None (find a text)
-unfolding find
-find_not_at fronts a text = refl
 
 pub find_where : (test : List ℕ → Bool) (a : Rule) (text : List ℕ) → find (Where test a) text ≡ if_passes (λ p r. test p) (find a text)
 unfolding find
 find_where test a text = refl
-
-pub find_class : (passes : ℕ → Bool) (text : List ℕ) → find (One passes) text ≡ find_one passes text
-unfolding find
-find_class passes text = refl
-
-pub find_exactly : (front text : List ℕ) → find (Exactly front) text ≡ find_text front text
-unfolding find
-find_exactly front text = refl
 
 pub find_nothing : (text : List ℕ) → find nothing text ≡ Some ([], text)
 unfolding find
@@ -168,4 +208,4 @@ find_nothing text = refl
 
 -- ---- all of them
 
-pub ruleset steps = (find_then, find_either, find_other, find_not_at, find_not_before, find_where, find_exactly, find_nothing, length-append, one_reads, run_passes, then_passes, then_reads, then_lacks, then_fails, either_first, either_reads, else_first, else_reads, perhaps_stays, before_passes, before_lacks)
+pub ruleset steps = (find_then, find_either, find_other, find_not_before, find_where, find_nothing, length-append, one_passes, one_lacks, one_ends, then_passes, then_reads, then_lacks, then_fails, either_first, either_second, either_reads, else_first, else_reads, perhaps_stays, apart_passes, not_at_passes, not_at_stops, not_at_lacks, before_passes, before_lacks)

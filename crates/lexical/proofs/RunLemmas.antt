@@ -1,11 +1,12 @@
 -- Lemmas on runs of characters.
-use Rattle.std.proofs.Common.{◌≡◌, ℕ, ◌+◌, Bool, false, List, [], ◌∷◌, ◌++◌, length, Some, sym, ap, ◌∙◌, arith}
+use Rattle.std.proofs.Common.{◌≡◌, ℕ, ◌+◌, Bool, false, List, [], ◌∷◌, length, Some, sym, ap, ◌∙◌, arith}
 use Rattle.std.specs.Str.{chars}
 use Rattle.lexical.specs.Text.{first_passes}
-use Rattle.lexical.specs.Finder.{find_run, while_front, while_rest}
-use Rattle.lexical.specs.Reading.{Passes}
+use Rattle.lexical.specs.Finder.{while_front, while_rest}
+use Rattle.lexical.specs.Rule.{Run, find}
+use Rattle.lexical.specs.Step.{Passes}
 use Rattle.lexical.specs.declared.cursor.Cursor.{Cursor}
-use Rattle.lexical.proofs.FinderLemmas.{while_whole, while_rest_none}
+use Rattle.lexical.proofs.FinderLemmas.{while_rest_none}
 
 -- the run from one place goes on at the other
 abbrev pub GoesOn : (ℕ → Bool) → Cursor → Cursor → Type 0
@@ -14,14 +15,14 @@ GoesOn test at end = (while_rest test (chars end.rest.now) ≡ while_rest test (
 
 -- at a character that doesn't, or the end
 pub run_stop : (test : ℕ → Bool) (at end : Cursor) → GoesOn test at end
-    → first_passes test (chars end.rest.now) ≡ false → Passes (find_run test (chars at.rest.now)) at end
+    → first_passes test (chars end.rest.now) ≡ false → Passes (Run test) at end
+unfolding find
 run_stop test at end goes stops =
     let none = while_rest_none test (chars end.rest.now) stops in
     let rest : while_rest test (chars at.rest.now) ≡ chars end.rest.now = sym goes.0 ∙ none.1 in
     record {
       front = while_front test (chars at.rest.now);
       found = ap (λ r. Some (while_front test (chars at.rest.now), r)) rest;
-      whole = sym (while_whole test (chars at.rest.now)) ∙ ap (λ r. while_front test (chars at.rest.now) ++ r) rest;
       count = omega (arith, goes.1, ap length none.0);
     }
 

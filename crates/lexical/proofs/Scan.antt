@@ -3,14 +3,14 @@ use Rattle.std.proofs.Common.{◌≡◌, ℕ, suc, ◌+◌, ◌<◌, ◌≤◌, 
 use Rattle.std.specs.Prelude.{encode_utf8}
 use Rattle.std.specs.List.{list_all}
 use Rattle.std.specs.Str.{chars, IsUtf8, IsCharBoundary, encode_utf8_all}
-use Rattle.std.proofs.lemmas.Bool.{cases_lt, cases_Bool, and_from, and_parts, cond-true, cond-false}
+use Rattle.std.proofs.lemmas.Bool.{cases_lt, cases_Bool, and_from, cond-true, cond-false}
 use Rattle.std.proofs.lemmas.Str.{encode_ascii, inside_one, encodes-chars}
 use Rattle.lexical.specs.Text.{first_passes}
 use Rattle.lexical.specs.Finder.{while_front, while_rest}
 use Rattle.lexical.specs.Rule.{Run, find}
 use Rattle.lexical.specs.Step.{Passes}
 use Rattle.lexical.specs.declared.cursor.Cursor.{Cursor}
-use Rattle.lexical.proofs.FinderLemmas.{while_rest_none, while_whole}
+use Rattle.lexical.proofs.FinderLemmas.{while_rest_none, while_whole, while_more}
 use Rattle.lexical.proofs.TextLemmas.{first_byte, seam_boundary, seam_take, seam_drop}
 
 -- each byte of a character past ASCII is past ASCII
@@ -38,18 +38,12 @@ module _ (test : ℕ → Bool) (beyond : Bool) (high : (c : ℕ) → 128 ≤ c �
     | inr past ↦ let cell = first_byte c past in rw cell.2 (high cell.0 cell.3 ∙ (sym (high c past) ∙ is))
   ]
 
-  run_on : (bs t : List ℕ) → list_all test bs ≡ true → while_front test (bs ++ t) ≡ bs ++ while_front test t
-  run_on [] t all = refl
-  run_on (b ∷ bs) t all =
-      let parts = and_parts _ _ all in
-      cond-true _ _ _ parts.0 ∙ ap (λ x. b ∷ x) (run_on bs t parts.1)
-
   -- the run over the bytes is that over the characters
   scan : (cs : List ℕ) → while_front test (encode_utf8_all cs) ≡ encode_utf8_all (while_front test cs)
   scan [] = refl
   scan (c ∷ cs) = elim (cases_Bool (test c)) [
     | inl on ↦
-        run_on (encode_utf8 c) (encode_utf8_all cs) (char_on c on)
+        (while_more test (encode_utf8 c) (encode_utf8_all cs) (char_on c on)).0
         ∙ (ap (λ x. encode_utf8 c ++ x) (scan cs) ∙ sym (ap encode_utf8_all (cond-true _ _ _ on)))
     | inr off ↦
         (while_rest_none test (encode_utf8 c ++ encode_utf8_all cs) (char_off c (encode_utf8_all cs) off)).0

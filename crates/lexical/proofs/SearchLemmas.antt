@@ -1,7 +1,7 @@
 -- A search for a byte finds where a run ends.
-use Rattle.std.proofs.Common.{◌≡◌, ℕ, zero, suc, ◌+◌, ◌<◌, ◌≤◌, Bool, true, false, not, ◌==◌, ◌||◌, inl, inr, List, [], ◌∷◌, length, Some, None, Option, unwrap_or, take, drop, subst, refl, sym, ap, ◌∙◌, arith, ne_eqb}
+use Rattle.std.proofs.Common.{◌≡◌, ℕ, zero, suc, ◌+◌, ◌<◌, ◌≤◌, Bool, true, false, not, inl, inr, List, [], ◌∷◌, length, Some, None, Option, unwrap_or, take, drop, subst, refl, sym, ap, ◌∙◌, arith}
 use Rattle.std.specs.Str.{chars, IsUtf8}
-use Rattle.std.proofs.lemmas.Bool.{cases_Bool, cond-true, cond-false, or_from, not_from_true, not_from_false}
+use Rattle.std.proofs.lemmas.Bool.{cases_Bool, cond-true, cond-false, not_from_true, not_from_false}
 use Rattle.memchr.specs.Find.{IsFirstByte, IsFirst, Nowhere, NoneBefore, is_byte, is_byte2, is_byte3}
 use Rattle.memchr.specs.Find as bytes
 use Rattle.lexical.specs.Finder.{while_front}
@@ -41,13 +41,3 @@ module _ (test : ℕ → Bool) where
   found_run past at to bs r n utf8 same found e rest count =
       run_over (λ c. not (test c)) true (λ c high. not_from_false _ (past c high)) at to (subst IsUtf8 same utf8) n
       (e ∙ (sym (found_end bs r found) ∙ ap (λ x. length (while_front (λ c. not (test c)) x)) same)) rest count
-
--- no character past ASCII is one of ASCII
-pub past_byte : (a c : ℕ) → a < 128 → 128 ≤ c → (c == a) ≡ false
-past_byte a c low high = ne_eqb c a (λ e. omega arith)
-
-pub past_byte2 : (a b c : ℕ) → a < 128 → b < 128 → 128 ≤ c → (c == a || c == b) ≡ false
-past_byte2 a b c low_a low_b high = or_from _ _ (past_byte a c low_a high) (past_byte b c low_b high)
-
-pub past_byte3 : (a b d c : ℕ) → a < 128 → b < 128 → d < 128 → 128 ≤ c → (c == a || c == b || c == d) ≡ false
-past_byte3 a b d c low_a low_b low_d high = or_from _ _ (past_byte2 a b c low_a low_b high) (past_byte d c low_d high)

@@ -1,11 +1,11 @@
 -- What is left of a text without its front or its end.
-use Rattle.std.proofs.Common.{◌≡◌, ◌≢◌, ℕ, ◌<◌, true, false, List, [], ◌∷◌, ◌++◌, length, take, get_or, Option, Some, None, MatchOption, Bor, refl, sym, ap, ◌∙◌, subst, arith, append-nil, length-append, ltb-true}
+use Rattle.std.proofs.Common.{◌≡◌, ◌≢◌, ℕ, true, false, List, [], ◌∷◌, ◌++◌, length, take, Option, Some, None, MatchOption, Bor, refl, sym, ap, ◌∙◌, subst, arith, append-nil, ltb-true}
 use Rattle.std.specs.Str.{chars, IsUtf8, IsAscii, encode_utf8_all}
 use Rattle.std.specs.Str.Pattern.{FindsTextPrefix, StripsPrefix}
 use Rattle.std.specs.Prelude.{if◌then◌else◌}
 use Rattle.std.proofs.lemmas.Bool.{and_parts, false_from_ne_true, cond-true, cond-false}
-use Rattle.std.proofs.lemmas.List.{take_at, get_or_at}
-use Rattle.std.proofs.lemmas.Str.{IsUtf8-from_ascii, IsUtf8-take, IsCharBoundary-before_ascii, chars-append, chars-IsAscii, encode_ascii}
+use Rattle.std.proofs.lemmas.List.{take_at}
+use Rattle.std.proofs.lemmas.Str.{IsUtf8-from_ascii, IsUtf8-take, IsCharBoundary-at_seam, chars-append, chars-IsAscii, encode_ascii}
 use Rattle.std.proofs.lemmas.Str.Ascii.{IsAscii-nil, IsAscii-cons}
 use Rattle.lexical.specs.Ascii.{all_ascii}
 use Rattle.lexical.specs.Text.{begins_with, ends_with}
@@ -35,18 +35,14 @@ strips_chars front text (Some x) utf8 ascii h =
 abbrev pub last_return : List ℕ → List ℕ
 last_return text = if ends_with 13 text then 13 ∷ [] else []
 
-utf8_before : (text front : List ℕ) (c : ℕ) → IsUtf8 text → text ≡ front ++ (c ∷ []) → c < 128 → IsUtf8 front
-utf8_before text front c utf8 whole low =
-    let byte : get_or text (length front) 0 ≡ c = ap (λ xs. get_or xs (length front) 0) whole ∙ get_or_at front c [] 0 (length front) refl in
-    let within : length front < length text = omega (arith, ap length whole, length-append front (c ∷ [])) in
-    let cut : take (length front) text ≡ front = ap (take (length front)) whole ∙ take_at front (c ∷ []) (length front) refl in
-    subst IsUtf8 cut (IsUtf8-take text (length front) utf8 (IsCharBoundary-before_ascii text (length front) within (subst (λ b. b < 128) (sym byte) low)))
-
 pub return_stripped : (text front : List ℕ) → IsUtf8 text → text ≡ front ++ (13 ∷ []) → chars text ≡ chars front ++ last_return (chars text)
 return_stripped text front utf8 whole =
+    let return = is_ascii (13 ∷ []) refl in
+    let boundary = IsCharBoundary-at_seam text front (13 ∷ []) whole (IsUtf8-from_ascii (13 ∷ []) return) in
+    let cut : take (length front) text ≡ front = ap (take (length front)) whole ∙ take_at front (13 ∷ []) (length front) refl in
     let split : chars text ≡ chars front ++ (13 ∷ []) =
-    ap chars whole ∙ (chars-append front (13 ∷ []) (utf8_before text front 13 utf8 whole (omega arith))
-    ∙ ap (λ xs. chars front ++ xs) (chars-IsAscii (13 ∷ []) (IsAscii-cons 13 [] (omega arith) IsAscii-nil))) in
+    ap chars whole ∙ (chars-append front (13 ∷ []) (subst IsUtf8 cut (IsUtf8-take text (length front) utf8 boundary))
+    ∙ ap (λ xs. chars front ++ xs) (chars-IsAscii (13 ∷ []) return)) in
     split ∙ ap (λ xs. chars front ++ xs) (sym (cond-true _ _ _ (ap (ends_with 13) split ∙ ends_back 13 (chars front))))
 
 pub no_return : (text : List ℕ) → IsUtf8 text → ((front : List ℕ) → text ≢ front ++ (13 ∷ [])) → chars text ≡ chars text ++ last_return (chars text)

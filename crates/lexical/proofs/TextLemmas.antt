@@ -1,12 +1,12 @@
 -- Lemmas on the characters of a text.
-use Rattle.std.proofs.Common.{◌≡◌, ℕ, suc, ◌+◌, ◌<◌, ◌≤◌, ◌-◌, inl, inr, Bool, true, false, ◌&&◌, eqb, List, [], ◌∷◌, ◌++◌, length, take, length-append, drop, refl, sym, ap, ap₂, ◌∙◌, subst, arith, ltb-true, ne_eqb, eqb-true, eq-eqb, append-nil, ◌==◌}
-use Rattle.std.specs.List.{starts_with, list_all}
+use Rattle.std.proofs.Common.{◌≡◌, ℕ, ◌+◌, ◌<◌, ◌≤◌, ◌-◌, inl, inr, Bool, true, false, ◌&&◌, eqb, List, [], ◌∷◌, ◌++◌, length, take, length-append, drop, refl, sym, ap, ap₂, ◌∙◌, subst, arith, ltb-true, ne_eqb, eqb-true, eq-eqb, append_assoc, append-nil, ◌==◌, zero, suc}
+use Rattle.std.specs.List.{starts_with, list_all, AllByRecursion}
 use Rattle.std.specs.Str.{chars, IsUtf8, encode_utf8_all, IsCharBoundary}
 use Rattle.std.specs.Bool.{one_answer}
 use Rattle.std.specs.Cmp.Lexicographic.{pointwise}
 use Rattle.std.specs.Prelude.{nat_eq, nat_lt, encode_utf8}
 use Rattle.std.specs.Str.{all_scalars as scalars}
-use Rattle.std.proofs.lemmas.Bool.{both_ways, cases_lt, and_parts, and_from, and_cases, and_left, and_right, or_parts, or_from, false_from_ne_true}
+use Rattle.std.proofs.lemmas.Bool.{both_ways, cases_lt, and_parts, and_from, and_cases, and_left, and_right, or_cases, or_parts, or_from, or_left, or_right, false_from_ne_true}
 use Rattle.std.proofs.lemmas.List.{append_cancel_right, take_at, drop_at}
 use Rattle.std.proofs.lemmas.Str.{chars-encodes, encodes-append, encodes_same, IsCharBoundary-at_seam, chars-append, scalars-chars, IsUtf8-take, encode_ascii, encodes-chars, char_from_byte, length-encode, len_utf8_bounds, length-le-encodes}
 use Rattle.std.proofs.lemmas.Slice.Eq.{bytes_eq-Decides}
@@ -18,6 +18,11 @@ pub starts_with_is : (bytes front : List ℕ) → starts_with eqb bytes front �
 starts_with_is bytes [] = refl
 starts_with_is [] (c ∷ front) = refl
 starts_with_is (d ∷ bytes) (c ∷ front) = ap (λ b. (c == d) && b) (starts_with_is bytes front)
+
+-- where one test passes what another does
+pub all_pass : (test other : ℕ → Bool) → ((c : ℕ) → test c ≡ true → other c ≡ true) → (text : List ℕ) → list_all test text ≡ true → list_all other text ≡ true
+all_pass test other part [] h = refl
+all_pass test other part (c ∷ text) h = let parts = and_parts _ _ h in and_from _ _ (part c parts.0) (all_pass test other part text parts.1)
 
 cons_of : (xs : List ℕ) → 1 ≤ length xs → (b : ℕ) × (more : List ℕ) × (xs ≡ b ∷ more)
 cons_of [] h = absurd (omega arith)
@@ -62,12 +67,15 @@ begins_encodes (c ∷ front) (d ∷ cs) h =
 pub begins_chars : (front bytes : List ℕ) → IsUtf8 bytes → all_ascii front ≡ true → begins_with front bytes ≡ begins_with front (chars bytes)
 begins_chars front bytes utf8 h = ap (begins_with front) (sym (encodes-chars bytes utf8)) ∙ begins_encodes front (chars bytes) h
 
--- an ASCII text has as many bytes as characters
+-- an ASCII text is its own encoding
+pub encode_all_ascii : (text : List ℕ) → all_ascii text ≡ true → encode_utf8_all text ≡ text
+encode_all_ascii [] h = refl
+encode_all_ascii (c ∷ text) h =
+    let parts = and_parts _ _ h in
+    rw (encode_ascii c (ltb-true c 128 parts.0)) (ap (λ x. c ∷ x) (encode_all_ascii text parts.1))
+
 pub ascii_bytes : (front : List ℕ) → all_ascii front ≡ true → length (encode_utf8_all front) ≡ length front
-ascii_bytes [] h = refl
-ascii_bytes (c ∷ front) h =
-    let parts = and_parts (nat_lt c 128) (all_ascii front) h in
-    ap (λ bytes. length (bytes ++ encode_utf8_all front)) (encode_ascii c (ltb-true c 128 parts.0)) ∙ ap (λ n. suc n) (ascii_bytes front parts.1)
+ascii_bytes front h = ap length (encode_all_ascii front h)
 
 -- the bytes of a text and of an end of it
 pub front_bytes : (text rest front : List ℕ) → IsUtf8 text → IsUtf8 rest → chars text ≡ front ++ chars rest → text ≡ encode_utf8_all front ++ rest
@@ -95,13 +103,6 @@ front_chars text rest front t r e =
     let utf8 : IsUtf8 (take (length text - length rest) text) = IsUtf8-take text _ t (front_boundary text rest front t r e) in
     let whole : text ≡ take (length text - length rest) text ++ rest = bytes ∙ ap (λ xs. xs ++ rest) (sym cut) in
     append_cancel_right _ _ (chars rest) (sym (ap chars whole ∙ chars-append _ rest utf8) ∙ e)
-
--- an ASCII text is its own encoding
-pub encode_all_ascii : (text : List ℕ) → all_ascii text ≡ true → encode_utf8_all text ≡ text
-encode_all_ascii [] h = refl
-encode_all_ascii (c ∷ text) h =
-    let parts = and_parts _ _ h in
-    rw (encode_ascii c (ltb-true c 128 parts.0)) (ap (λ x. c ∷ x) (encode_all_ascii text parts.1))
 
 -- a text is an ASCII one in bytes where it is in characters
 pub ascii_same : (text ascii : List ℕ) → IsUtf8 text → all_ascii ascii ≡ true → pointwise nat_eq text ascii ≡ pointwise nat_eq (chars text) ascii
@@ -173,6 +174,51 @@ pub begins_front : (front rest : List ℕ) → begins_with front (front ++ rest)
 begins_front [] rest = refl
 begins_front (c ∷ front) rest = and_from _ _ (eq-eqb c c refl) (begins_front front rest)
 
+pub begins_self : (text : List ℕ) → begins_with text text ≡ true
+begins_self text = ap (begins_with text) (sym (append-nil text)) ∙ begins_front text []
+
+-- a text that begins so goes on
+pub first_more : (passes : ℕ → Bool) (text rest : List ℕ) → first_passes passes text ≡ true → first_passes passes (text ++ rest) ≡ true
+first_more passes [] rest h = absurd (both_ways _ refl h)
+first_more passes (c ∷ text) rest h = h
+
+pub first_cons : (passes : ℕ → Bool) (text : List ℕ) → first_passes passes text ≡ true → (c : ℕ) × (rest : List ℕ) × (text ≡ c ∷ rest) × (passes c ≡ true)
+first_cons passes [] h = absurd (both_ways _ refl h)
+first_cons passes (c ∷ text) h = (c, text, refl, h)
+
+-- where a text begins with one of these, what holds of each of them and any rest holds of it
+pub begins_each : (P : List ℕ → Type 0) (fronts : List (List ℕ)) (text : List ℕ) → begins_any fronts text ≡ true
+    → AllByRecursion (λ front. (rest : List ℕ) → P (front ++ rest)) fronts → P text
+begins_each P [] text h each = absurd (both_ways _ refl h)
+begins_each P (front ∷ fronts) text h each = elim (or_cases _ _ h) [
+  | inl here ↦ let split = begins_splits front text here in subst P (sym split.1) (each.0 split.0)
+  | inr there ↦ begins_each P fronts text there each.1
+]
+
+-- a text that goes on begins as before
+pub begins_more : (front text rest : List ℕ) → begins_with front text ≡ true → begins_with front (text ++ rest) ≡ true
+begins_more front text rest h =
+    let split = begins_splits front text h in
+    ap (begins_with front) (ap (λ x. x ++ rest) split.1 ∙ append_assoc front split.0 rest) ∙ begins_front front (split.0 ++ rest)
+
+pub any_begins_more : (fronts : List (List ℕ)) (text rest : List ℕ) → begins_any fronts text ≡ true → begins_any fronts (text ++ rest) ≡ true
+any_begins_more [] text rest h = h
+any_begins_more (front ∷ fronts) text rest h = elim (or_cases _ _ h) [
+  | inl here ↦ or_left _ _ (begins_more front text rest here)
+  | inr there ↦ or_right (begins_with front (text ++ rest)) _ (any_begins_more fronts text rest there)
+]
+
+-- where each of these begins with a character that passes, so does a text that begins with one
+pub any_first : (passes : ℕ → Bool) (fronts : List (List ℕ)) (text : List ℕ) → list_all (first_passes passes) fronts ≡ true
+    → begins_any fronts text ≡ true → first_passes passes text ≡ true
+any_first passes [] text all h = absurd (both_ways _ refl h)
+any_first passes (front ∷ fronts) text all h =
+    let parts = and_parts _ _ all in
+    elim (or_cases _ _ h) [
+      | inl here ↦ let split = begins_splits front text here in ap (first_passes passes) split.1 ∙ first_more passes front split.0 parts.0
+      | inr there ↦ any_first passes fronts text parts.1 there
+    ]
+
 -- a text that ends so is a front and that
 pub ends_splits : (c : ℕ) (text : List ℕ) → ends_with c text ≡ true → (front : List ℕ) × (text ≡ front ++ (c ∷ []))
 ends_splits c [] h = absurd (both_ways _ refl h)
@@ -187,14 +233,16 @@ ends_back c [] = eq-eqb c c refl
 ends_back c (d ∷ []) = eq-eqb c c refl
 ends_back c (d ∷ (e ∷ front)) = ends_back c (e ∷ front)
 
--- past a character that is another
-pub ends_past : (c d : ℕ) (text : List ℕ) → (d == c) ≡ false → ends_with c (d ∷ text) ≡ ends_with c text
-ends_past c d [] other = other
-ends_past c d (e ∷ text) other = refl
+-- past a front that ends otherwise
+pub ends_over : (c : ℕ) (front text : List ℕ) → ends_with c front ≡ false → ends_with c (front ++ text) ≡ ends_with c text
+ends_over c [] text h = refl
+ends_over c (d ∷ []) [] h = h
+ends_over c (d ∷ []) (e ∷ text) h = refl
+ends_over c (d ∷ (e ∷ front)) text h = ends_over c (e ∷ front) text h
 
 -- ---- a text before another
 
-begins_cut : (passes : ℕ → Bool) (front w v s : List ℕ) → list_all passes front ≡ true → first_passes passes s ≡ false
+begins_cut : (passes : ℕ → Bool) (front w v s : List ℕ) → list_all passes (drop (length w) front) ≡ true → first_passes passes s ≡ false
     → begins_with front (w ++ v) ≡ false → begins_with front (w ++ s) ≡ false
 begins_cut passes [] w v s all ends h = h
 begins_cut passes (c ∷ front) [] v [] all ends h = refl
@@ -204,15 +252,30 @@ begins_cut passes (c ∷ front) [] v (d ∷ s) all ends h =
     (subst (λ x. passes x ≡ true) (eqb-true c d e) (and_parts _ _ all).0)))
 begins_cut passes (c ∷ front) (d ∷ w) v s all ends h = elim (and_cases (c == d) (begins_with front (w ++ v)) h) [
   | inl here ↦ and_left (c == d) (begins_with front (w ++ s)) here
-  | inr there ↦ and_right (c == d) (begins_with front (w ++ s)) (begins_cut passes front w v s (and_parts _ _ all).1 ends there)
+  | inr there ↦ and_right (c == d) (begins_with front (w ++ s)) (begins_cut passes front w v s all ends there)
 ]
 
--- where w begins none of these before one text, it begins none before another whose first character is in none
-pub any_cut : (passes : ℕ → Bool) (fronts : List (List ℕ)) (w v s : List ℕ) → list_all (list_all passes) fronts ≡ true
+all_drop : (passes : ℕ → Bool) (n m : ℕ) (xs : List ℕ) → n ≤ m → list_all passes (drop n xs) ≡ true → list_all passes (drop m xs) ≡ true
+all_drop passes zero zero xs few all = all
+all_drop passes (suc n) zero xs few all = absurd (omega (arith, few))
+all_drop passes n (suc m) [] few all = refl
+all_drop passes zero (suc m) (c ∷ xs) few all = all_drop passes zero m xs (omega arith) (and_parts _ _ all).1
+all_drop passes (suc n) (suc m) (c ∷ xs) few all = all_drop passes n m xs (omega (arith, few)) all
+
+-- where w begins none of these before one text, it begins none before another whose first character stands in none
+-- past the first n characters, and w has so many
+pub any_after : (passes : ℕ → Bool) (n : ℕ) (fronts : List (List ℕ)) (w v s : List ℕ)
+    → list_all (λ front. list_all passes (drop n front)) fronts ≡ true → n ≤ length w
     → first_passes passes s ≡ false → begins_any fronts (w ++ v) ≡ false → begins_any fronts (w ++ s) ≡ false
-any_cut passes [] w v s all ends h = refl
-any_cut passes (front ∷ fronts) w v s all ends h =
+any_after passes n [] w v s all long ends h = refl
+any_after passes n (front ∷ fronts) w v s all long ends h =
     let both = and_parts _ _ all in
     let parts = or_parts (begins_with front (w ++ v)) (begins_any fronts (w ++ v)) h in
     or_from (begins_with front (w ++ s)) (begins_any fronts (w ++ s))
-    (begins_cut passes front w v s both.0 ends parts.0) (any_cut passes fronts w v s both.1 ends parts.1)
+    (begins_cut passes front w v s (all_drop passes n (length w) front long both.0) ends parts.0)
+    (any_after passes n fronts w v s both.1 long ends parts.1)
+
+-- so where its first character is in none
+pub any_cut : (passes : ℕ → Bool) (fronts : List (List ℕ)) (w v s : List ℕ) → list_all (list_all passes) fronts ≡ true
+    → first_passes passes s ≡ false → begins_any fronts (w ++ v) ≡ false → begins_any fronts (w ++ s) ≡ false
+any_cut passes fronts w v s all = any_after passes 0 fronts w v s all (omega arith)

@@ -3,22 +3,21 @@ use Rattle.std.proofs.Common.{◌≡◌, ℕ, ◌≤◌, ◌<◌, true, false, L
 use Rattle.std.specs.Prelude.{encode_utf8}
 use Rattle.std.specs.List.{list_all}
 use Rattle.std.specs.Str.{chars, IsUtf8, IsCharBoundary, encode_utf8_all}
-use Rattle.std.proofs.lemmas.Bool.{and_parts, and_from, both_ways, cases_Bool}
+use Rattle.std.proofs.lemmas.Bool.{and_parts, both_ways, cases_Bool}
 use Rattle.std.proofs.lemmas.List.{length-take-le, take-append-drop, get_or-drop}
 use Rattle.std.proofs.lemmas.Str.{chars_from_encodes, chars-append, chars-IsAscii, IsUtf8-from_ascii, IsUtf8-drop, IsCharBoundary-from_take, byte_from_char, length-encode, len_utf8_bounds}
 use Rattle.lexical.specs.Ascii.{all_ascii}
 use Rattle.lexical.specs.Class.{is_white}
 use Rattle.lexical.specs.Text.{first_passes}
 use Rattle.lexical.specs.WhiteRun.{ascii_white, IsPastWhite}
+use Rattle.lexical.proofs.TextLemmas.{all_pass}
 use Rattle.lexical.proofs.StripLemmas.{is_ascii}
 
 pub all_white : (cs : List ℕ) → list_all ascii_white cs ≡ true → list_all is_white cs ≡ true
-all_white [] h = refl
-all_white (c ∷ cs) h = let parts = and_parts _ _ h in and_from _ _ (and_parts _ _ parts.0).1 (all_white cs parts.1)
+all_white = all_pass _ _ (λ c is. (and_parts _ _ is).1)
 
 white_ascii : (cs : List ℕ) → list_all ascii_white cs ≡ true → all_ascii cs ≡ true
-white_ascii [] h = refl
-white_ascii (c ∷ cs) h = let parts = and_parts _ _ h in and_from _ _ (and_parts _ _ parts.0).0 (white_ascii cs parts.1)
+white_ascii = all_pass _ _ (λ c is. (and_parts _ _ is).0)
 
 -- the text may be cut after its first n bytes, which are white
 pub white_boundary : (bytes : List ℕ) (n : ℕ) → IsUtf8 bytes → n ≤ length bytes → list_all ascii_white (take n bytes) ≡ true → IsCharBoundary bytes n

@@ -3,34 +3,32 @@ use Rattle.std.specs.Prelude.{ℕ, Bool, false, not, ◌&&◌, ◌||◌, ◌==�
 use Rattle.std.specs.Prelude.{List, [], ◌∷◌, ◌++◌, IsFalse, codes, length, if◌then◌else◌}
 use Rattle.lexical.specs.Character.{carriage_return, line_feed}
 use Rattle.lexical.specs.Text.{begins_with, begins_any, ends_with}
-use Rattle.lexical.specs.Form.{Form, Then, Where, Either, Exactly, Run}
+use Rattle.lexical.specs.Form.{Form, Where}
+use Rattle.lexical.specs.Rule.{Rule, Run, Exactly, Then, Either, Ends, Stands}
 
 -- ---- comments
 
 -- `line-comment`: `//` and all characters up to the next LF or the end, a CR before that LF among them
-abbrev pub LineComment : Form
-LineComment = Then (Exactly (codes "//")) (Run (λ c. not (c == line_feed)))
+abbrev pub line_comment : Rule
+line_comment = Then (Exactly (codes "//")) (Run (λ c. not (c == line_feed)))
 
--- how a block comment begins and ends
-abbrev pub block_signs : List (List ℕ)
-block_signs = codes "/*" ∷ codes "*/" ∷ []
-
--- what stands in a block comment: nothing, or a block comment and more, or one character and more.
--- At that character neither sign begins, in the whole text from it on: `after` is all that follows the body
-pub data BlockBody : List ℕ → List ℕ → Type 0 where
-  Empty : {body after : List ℕ} → body ≡ [] → BlockBody body after
-  Nested : {body after : List ℕ} (inner more : List ℕ) → body ≡ codes "/*" ++ (inner ++ (codes "*/" ++ more))
-      → BlockBody inner (codes "*/" ++ (more ++ after)) → BlockBody more after → BlockBody body after
-  Single : {body after : List ℕ} (c : ℕ) (more : List ℕ) → body ≡ c ∷ more
-      → IsFalse (begins_any block_signs (c ∷ (more ++ after))) → BlockBody more after → BlockBody body after
-
--- `block-comment`
-abbrev pub BlockComment : Form
-BlockComment = Then (Exactly (codes "/*")) (Then BlockBody (Exactly (codes "*/")))
+-- `block-comment`: `/*`, a body, and the `*/` that ends it
+abbrev pub block_comment : Rule
+block_comment = Then (Exactly (codes "/*")) (Ends 1)
 
 -- a comment
+abbrev pub comment : Rule
+comment = Either line_comment block_comment
+
+-- what they say
+abbrev pub LineComment : Form
+LineComment = Stands line_comment
+
+abbrev pub BlockComment : Form
+BlockComment = Stands block_comment
+
 abbrev pub Comment : Form
-Comment = Either LineComment BlockComment
+Comment = Stands comment
 
 -- ---- doc comments
 

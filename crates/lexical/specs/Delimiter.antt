@@ -2,6 +2,8 @@
 use Rattle.std.specs.Prelude.{ℕ, Bool, ◌&&◌, ◌==◌, List, [], ◌∷◌, codes}
 use Rattle.std.specs.List.{list_any}
 use Rattle.lexical.specs.Form.{Form, NotAt, One}
+use Rattle.lexical.specs.Rule as rules
+use Rattle.lexical.specs.Rule.{Rule}
 
 -- one of the three openers
 abbrev pub is_opener : ℕ → Bool
@@ -15,10 +17,17 @@ is_closer c = list_any (λ d. d == c) (codes ")]}")
 abbrev pub error_literal : List ℕ
 error_literal = codes "(/*ERROR*/)"
 
--- `opener`: where that literal doesn't begin
+-- an opener, where that literal doesn't begin, and a closer
+abbrev pub opener : Rule
+opener = rules.NotAt (error_literal ∷ []) (rules.One is_opener)
+
+abbrev pub closer : Rule
+closer = rules.One is_closer
+
+-- `opener`, by its character
 abbrev pub Opener : ℕ → Form
 Opener c = NotAt (error_literal ∷ []) (One (λ d. is_opener d && (d == c)))
 
--- `closer`
+-- `closer`, by its character
 abbrev pub Closer : ℕ → Form
 Closer c = One (λ d. is_closer d && (d == c))

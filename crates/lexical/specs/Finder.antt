@@ -1,6 +1,6 @@
 -- Functions that find the piece of a form at the front of a text, one for each word that forms are made of.
 use Rattle.std.specs.Prelude.{ℕ, Bool, ◌≡◌, zero, suc, List, [], ◌∷◌}
-use Rattle.std.specs.Prelude.{◌++◌, length, Option, Some, None, IfSome, cond, ◌==◌}
+use Rattle.std.specs.Prelude.{◌++◌, length, Option, Some, None, IfSome, cond, not, ◌==◌}
 use Rattle.lexical.specs.Text.{begins_any, first_passes}
 use Rattle.lexical.specs.Form.{Form}
 
@@ -32,15 +32,6 @@ abbrev pub behind : List ℕ → Answer → Answer
 behind front None = None
 behind front (Some x) = Some (front ++ x.0, x.1)
 
--- what a finder finds after what was found
-abbrev pub and_find : Finder → Answer → Answer
-and_find find None = None
-and_find find (Some x) = behind x.0 (find x.1)
-
--- `Then`
-abbrev pub find_then : Finder → Finder → Finder
-find_then f g text = and_find g (f text)
-
 -- what a finder finds after what was found, which it depends on
 abbrev pub and_next : (List ℕ → Finder) → Answer → Answer
 and_next find None = None
@@ -49,6 +40,14 @@ and_next find (Some x) = behind x.0 (find x.0 x.1)
 -- `Next`
 abbrev pub find_next : Finder → (List ℕ → Finder) → Finder
 find_next f g text = and_next g (f text)
+
+-- where it doesn't depend on it
+abbrev pub and_find : Finder → Answer → Answer
+and_find find = and_next (λ front. find)
+
+-- `Then`
+abbrev pub find_then : Finder → Finder → Finder
+find_then f g = find_next f (λ front. g)
 
 -- what was found, or else the other
 abbrev pub or_find : Answer → Answer → Answer
@@ -67,15 +66,6 @@ find_if holds f text = cond holds (f text) None
 abbrev pub find_not_at : List (List ℕ) → Finder → Finder
 find_not_at fronts f text = cond (begins_any fronts text) None (f text)
 
--- what was found, if no character that passes follows
-abbrev pub unless_next : (ℕ → Bool) → Answer → Answer
-unless_next passes None = None
-unless_next passes (Some x) = cond (first_passes passes x.1) None (Some x)
-
--- `NotBefore`
-abbrev pub find_not_before : (ℕ → Bool) → Finder → Finder
-find_not_before passes f text = unless_next passes (f text)
-
 -- what was found, if its text and what follows it pass
 abbrev pub if_passes : (List ℕ → List ℕ → Bool) → Answer → Answer
 if_passes test None = None
@@ -84,6 +74,10 @@ if_passes test (Some x) = cond (test x.0 x.1) (Some x) None
 -- what a finder finds whose text and what follows it pass
 abbrev pub find_where : (List ℕ → List ℕ → Bool) → Finder → Finder
 find_where test f text = if_passes test (f text)
+
+-- `NotBefore`
+abbrev pub find_not_before : (ℕ → Bool) → Finder → Finder
+find_not_before passes = find_where (λ p r. not (first_passes passes r))
 
 -- `One`
 abbrev pub find_one : (ℕ → Bool) → Finder
@@ -100,15 +94,15 @@ find_text [] text = Some ([], text)
 find_text (c ∷ front) text = find_then (find_one (λ d. d == c)) (find_text front) text
 
 -- what was found and what is found after it, or nothing
-abbrev pub or_stop : List ℕ → (List ℕ × List ℕ → Answer) → Answer → Answer
-or_stop text go None = Some ([], text)
-or_stop text go (Some x) = behind x.0 (go x)
+abbrev pub or_stop : List ℕ → (List ℕ × List ℕ → List ℕ × List ℕ) → Answer → List ℕ × List ℕ
+or_stop text go None = ([], text)
+or_stop text go (Some x) = let more = go x in (x.0 ++ more.0, more.1)
 
--- pieces of a form, at most so many, as long as one stands
-abbrev pub find_some_of : Finder → ℕ → Finder
-find_some_of f zero text = Some ([], text)
-find_some_of f (suc n) text = or_stop text (λ x. find_some_of f n x.1) (f text)
+-- pieces of a form, at most so many, as long as one stands, and what follows them
+abbrev pub some_of : Finder → ℕ → List ℕ → List ℕ × List ℕ
+some_of f zero text = ([], text)
+some_of f (suc n) text = or_stop text (λ x. some_of f n x.1) (f text)
 
 -- pieces of a form, as long as one stands
 unfoldable pub find_many : Finder → Finder
-find_many f text = find_some_of f (length text) text
+find_many f text = Some (some_of f (length text) text)

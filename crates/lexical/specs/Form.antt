@@ -12,14 +12,6 @@ Form = List ℕ → List ℕ → Type 0
 abbrev pub HasNone : Form → List ℕ → Type 0
 HasNone A text = (p r : List ℕ) → text ≡ p ++ r → A p r → ⊥
 
--- a piece of the first form, and then one of the second
-pub record Then (A B : Form) (p r : List ℕ) : Type 0 where
-  pub front : List ℕ
-  pub back : List ℕ
-  pub whole : p ≡ front ++ back
-  pub first : A front (back ++ r)
-  pub second : B back r
-
 -- a piece of the first form, and then one of the second, which depends on the first
 pub record Next (A : Form) (B : List ℕ → Form) (p r : List ℕ) : Type 0 where
   pub front : List ℕ
@@ -27,6 +19,10 @@ pub record Next (A : Form) (B : List ℕ → Form) (p r : List ℕ) : Type 0 whe
   pub whole : p ≡ front ++ back
   pub first : A front (back ++ r)
   pub second : B front back r
+
+-- a piece of the first form, and then one of the second
+abbrev pub Then : Form → Form → Form
+Then A B = Next A (λ front. B)
 
 -- a piece of the form, where the text begins with none of these
 abbrev pub NotAt : List (List ℕ) → Form → Form

@@ -22,12 +22,9 @@ pub mod Found
 pub mod Ascii
 pub mod Bytes
 pub mod Finder
+pub mod Block
 pub mod Rule
-pub mod CommentFinder
-pub mod QuotedFinder
-pub mod IdentifierFinder
-pub mod MarkFinder
-pub mod DelimiterFinder
+pub mod CommentKind
 pub mod PieceFinder
 pub mod Reading
 pub mod Step

@@ -9,7 +9,7 @@ use Rattle.lexical.specs.Rule.{Rule}
 use Rattle.lexical.specs.SingleQuoted.{Character, Byte, character, byte}
 use Rattle.lexical.specs.declared.quoted.StringKind.{StringKind}
 use Rattle.lexical.specs.declared.quoted.StringKind.TheVariants as kinds
-use Rattle.lexical.specs.Number.{Number}
+use Rattle.lexical.specs.Number.{Number, number}
 
 -- a string of the kind, with escapes or raw
 abbrev pub string : StringKind → Rule
@@ -32,6 +32,10 @@ QuotedLiteral =
     (Either Byte (Either CStr RawCStr))))
 
 -- `literal`: one between quotes, or a number
+abbrev pub literal : Rule
+literal = rules.Either quoted_literal number
+
+-- what it says
 unfoldable pub Literal : Form
 Literal = Either QuotedLiteral Number
 

@@ -1,11 +1,13 @@
 -- Marks.
 use Rattle.std.specs.Prelude.{ℕ, Bool, not, ◌&&◌, ◌||◌, ◌==◌, ◌≡◌, List, [], ◌∷◌, ◌++◌, IsFalse, codes}
 use Rattle.std.specs.List.{list_any}
+use Rattle.std.specs.Option.{is_some}
 use Rattle.lexical.specs.Character.{hash_sign, single_quote}
-use Rattle.lexical.specs.Text.{begins_any, first_passes}
-use Rattle.lexical.specs.Form.{Form, NotAt, Exactly, One}
+use Rattle.lexical.specs.Text.{begins_with, begins_any, first_passes}
+use Rattle.lexical.specs.Form.{Form, Exactly}
+use Rattle.lexical.specs.Rule.{Rule, One, NotAt, NotBefore, Stands, find}
 use Rattle.lexical.specs.Token.{raw_front}
-use Rattle.lexical.specs.Identifier.{Named}
+use Rattle.lexical.specs.Identifier.{Named, written}
 
 -- `marks`: the 22 marks
 abbrev pub marks : List ℕ
@@ -20,8 +22,12 @@ abbrev pub comment_fronts : List (List ℕ)
 comment_fronts = codes "//" ∷ codes "/*" ∷ []
 
 -- `mark`: one of the marks but `'`, where no comment begins
+abbrev pub mark : Rule
+mark = NotAt comment_fronts (One (λ c. is_mark c && not (c == single_quote)))
+
+-- what it says
 abbrev pub Mark : Form
-Mark = NotAt comment_fronts (One (λ c. is_mark c && not (c == single_quote)))
+Mark = Stands mark
 
 -- `joint`: whether a mark before r is Joint, as a mark follows that begins no comment
 abbrev pub joint_before : List ℕ → Bool
@@ -39,6 +45,14 @@ pub record FollowsQuote (r : List ℕ) : Type 0 where
   pub whole : r ≡ raw_front raw ++ (name ++ rest)
   pub named : Named raw name rest
   pub unbarred : IsFalse (first_passes (bars_quote raw) rest)
+
+-- an identifier, whatever literal begins there, and no character that bars a `'` after it
+abbrev pub unbarred : Bool → Rule
+unbarred raw = NotBefore (bars_quote raw) (written raw)
+
+-- whether the text begins so
+abbrev pub follows_quote : List ℕ → Bool
+follows_quote text = is_some (find (unbarred (begins_with (codes "r#") text)) text)
 
 -- `lone-quote`: the mark `'` before such a text. It takes none of it
 abbrev pub LoneQuote : Form

@@ -1,39 +1,38 @@
 -- Which piece is found at the front of a text, and its kind.
-use Rattle.std.specs.Prelude.{ℕ, Bool, ◌==◌, cond, List, [], ◌∷◌, codes, Option, Some, None, if◌then◌else◌}
+use Rattle.std.specs.Prelude.{ℕ, Bool, true, ◌==◌, cond, List, [], ◌∷◌, codes, drop, Option, Some, None, if◌then◌else◌}
 use Rattle.std.specs.Char.{is_ascii_digit}
 use Rattle.lexical.specs.Character.{double_quote, single_quote, slash}
-use Rattle.lexical.specs.Text.{begins_with, begins_any}
+use Rattle.lexical.specs.Text.{begins_with, begins_any, first_of}
 use Rattle.lexical.specs.Class.{is_white, is_ident_start}
-use Rattle.lexical.specs.Token.{Literal}
-use Rattle.lexical.specs.Mark.{is_mark, comment_fronts}
-use Rattle.lexical.specs.Delimiter.{is_opener, is_closer, error_literal}
-use Rattle.lexical.specs.Piece.{Kind, FrontMark, Gap, Leaf}
-use Rattle.lexical.specs.Finder.{Answer, Finder, find_if, find_else, find_one, find_text}
-use Rattle.lexical.specs.IdentifierFinder.{find_plain, find_raw, name_kind, raw_kind}
-use Rattle.lexical.specs.MarkFinder.{find_mark, find_lone_quote, mark_kind, quote_kind}
-use Rattle.lexical.specs.DelimiterFinder.{find_opener, find_closer, opener_kind, closer_kind}
-use Rattle.lexical.specs.QuotedFinder.{find_quoted}
+use Rattle.lexical.specs.Token.{Name, Mark, Literal}
+use Rattle.lexical.specs.Identifier.{identifier}
+use Rattle.lexical.specs.Mark.{is_mark, comment_fronts, mark, joint_before, follows_quote}
+use Rattle.lexical.specs.Delimiter.{is_opener, is_closer, error_literal, opener, closer}
 use Rattle.lexical.specs.Number.{number}
-use Rattle.lexical.specs.Rule.{find}
-use Rattle.lexical.specs.CommentFinder.{find_comment, comment_kind}
+use Rattle.lexical.specs.Rule.{Rule, One, Exactly, find}
+use Rattle.lexical.specs.Comment.{comment}
+use Rattle.lexical.specs.CommentKind.{comment_kind}
+use Rattle.lexical.specs.Literal.{quoted_literal, literal}
+use Rattle.lexical.specs.Piece.{Kind, FrontMark, Gap, Open, Close, Leaf}
+use Rattle.lexical.specs.Finder.{Answer, Finder, find_if, find_where}
 use Rattle.lexical.specs.declared.class.Start.{Start}
 use Rattle.lexical.specs.declared.class.Start.TheVariants as starts
 
--- ---- the finders of other pieces
-
--- `front-mark`
-abbrev pub find_front_mark : Bool → Finder
-find_front_mark first = find_if first (find_text (0xFEFF ∷ []))
-
--- a white character
-abbrev pub find_white : Finder
-find_white = find_one is_white
+-- ---- the finders that are more than a rule
 
 -- `literal`
 abbrev pub find_literal : Finder
-find_literal = find_else find_quoted (find number)
+find_literal = find literal
 
--- ---- their kinds, by the piece p and what follows it
+-- `front-mark`
+abbrev pub find_front_mark : Bool → Finder
+find_front_mark first = find_if first (find (Exactly (0xFEFF ∷ [])))
+
+-- `lone-quote`
+abbrev pub find_lone_quote : Finder
+find_lone_quote = find_where (λ p r. follows_quote r) (find (Exactly (codes "'")))
+
+-- ---- the kinds of pieces, by the piece p and what follows it
 
 -- of a front mark
 abbrev pub front_mark_kind : List ℕ → List ℕ → Kind
@@ -42,6 +41,24 @@ front_mark_kind p r = FrontMark
 -- of a gap
 abbrev pub gap_kind : List ℕ → List ℕ → Kind
 gap_kind p r = Gap
+
+-- of a delimiter
+abbrev pub opener_kind : List ℕ → List ℕ → Kind
+opener_kind p r = Open (first_of p)
+
+abbrev pub closer_kind : List ℕ → List ℕ → Kind
+closer_kind p r = Close (first_of p)
+
+-- of an identifier, raw or plain: the name of a raw one is what stands after `r#`
+abbrev pub name_kind : Bool → List ℕ → List ℕ → Kind
+name_kind raw p r = Leaf (Name raw (if raw then drop 2 p else p))
+
+-- of a mark, and of a lone quote
+abbrev pub mark_kind : List ℕ → List ℕ → Kind
+mark_kind p r = Leaf (Mark (first_of p) (joint_before r))
+
+abbrev pub quote_kind : List ℕ → List ℕ → Kind
+quote_kind p r = Leaf (Mark single_quote true)
 
 -- of a literal
 abbrev pub literal_kind : List ℕ → List ℕ → Kind
@@ -88,38 +105,27 @@ start c =
     else if is_mark c then starts.Mark
     else starts.Other
 
--- the identifier at the front of a text that begins with a letter
+-- the identifier at the front of a text that begins with a letter: a raw one where `r#` begins
 abbrev pub found_identifier : List ℕ → Found
-found_identifier text =
-    cond (begins_with (codes "r#") text)
-    (tagged raw_kind (find_raw text))
-    (tagged name_kind (find_plain text))
+found_identifier text = let raw = begins_with (codes "r#") text in tagged (name_kind raw) (find (identifier raw) text)
 
--- the literal between quotes at the front of a text
-abbrev pub found_quoted : List ℕ → Found
-found_quoted text = tagged literal_kind (find_quoted text)
-
--- the number at the front of a text
-abbrev pub found_number : List ℕ → Found
-found_number text = tagged literal_kind (find number text)
-
--- the error literal at the front of a text
-abbrev pub found_error : List ℕ → Found
-found_error text = tagged literal_kind (find_text error_literal text)
+-- the literal of the rule at the front of a text
+abbrev pub found_literal : Rule → List ℕ → Found
+found_literal rule text = tagged literal_kind (find rule text)
 
 -- the piece at the front of a text that starts so
 abbrev pub found_from : Bool → Start → List ℕ → Found
-found_from first starts.White text = tagged gap_kind (find_white text)
-found_from first starts.Letter text = or_found (found_identifier text) (found_quoted text)
-found_from first starts.Digit text = found_number text
-found_from first starts.Opener text = or_found (tagged opener_kind (find_opener text)) (found_error text)
-found_from first starts.Closer text = tagged closer_kind (find_closer text)
+found_from first starts.White text = tagged gap_kind (find (One is_white) text)
+found_from first starts.Letter text = or_found (found_identifier text) (found_literal quoted_literal text)
+found_from first starts.Digit text = found_literal number text
+found_from first starts.Opener text = or_found (tagged opener_kind (find opener text)) (found_literal (Exactly error_literal) text)
+found_from first starts.Closer text = tagged closer_kind (find closer text)
 found_from first starts.Slash text =
-    cond (begins_any comment_fronts text) (comment_found (find_comment text)) (tagged mark_kind (find_mark text))
-found_from first starts.Quote text = or_found (tagged quote_kind (find_lone_quote text)) (found_quoted text)
-found_from first starts.DoubleQuote text = found_quoted text
+    cond (begins_any comment_fronts text) (comment_found (find comment text)) (tagged mark_kind (find mark text))
+found_from first starts.Quote text = or_found (tagged quote_kind (find_lone_quote text)) (found_literal quoted_literal text)
+found_from first starts.DoubleQuote text = found_literal quoted_literal text
 found_from first starts.FrontMark text = tagged front_mark_kind (find_front_mark first text)
-found_from first starts.Mark text = tagged mark_kind (find_mark text)
+found_from first starts.Mark text = tagged mark_kind (find mark text)
 found_from first starts.Other text = None
 
 -- the piece at the front of a text; `first` says that this is place 0

@@ -50,9 +50,6 @@ raw_string kind = raw (raw_front kind) (is_raw kind)
 abbrev pub Hashes : Form
 Hashes = Stands hashes
 
-abbrev pub RawUnit : (ℕ → Bool) → List ℕ → Form
-RawUnit allowed close = Stands (raw_unit allowed close)
-
 abbrev pub RawQuotes : (ℕ → Bool) → List ℕ → Form
 RawQuotes allowed hashes = Stands (raw_quotes allowed hashes)
 

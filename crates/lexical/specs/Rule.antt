@@ -1,5 +1,7 @@
 -- Rules of the grammar, as data: what they say, and how their pieces are found.
 use Rattle.std.specs.Prelude.{ℕ, Bool, List, []}
+use Rattle.lexical.specs.Block as blocks
+use Rattle.lexical.specs.Block.{find_ends}
 use Rattle.lexical.specs.Form as forms
 use Rattle.lexical.specs.Form.{Form}
 use Rattle.lexical.specs.Finder.{Finder, find_then, find_next, find_else, find_not_at, find_not_before}
@@ -29,6 +31,8 @@ pub data Rule : Type 0 where
   NotBefore : (ℕ → Bool) → Rule → Rule
   -- a piece of the rule whose text passes
   Where : (List ℕ → Bool) → Rule → Rule
+  -- all up to where so many block comments end that are open
+  Ends : ℕ → Rule
 
 -- what the rule says: the text p is a piece of it, before r
 abbrev pub Stands : Rule → Form
@@ -43,6 +47,7 @@ Stands (Else a b) = forms.Else (Stands a) (Stands b)
 Stands (NotAt fronts a) = forms.NotAt fronts (Stands a)
 Stands (NotBefore passes a) = forms.NotBefore passes (Stands a)
 Stands (Where test a) = forms.Where test (Stands a)
+Stands (Ends depth) = blocks.Ends depth
 
 -- the piece of the rule at the front of a text, and what follows it
 unfoldable pub find : Rule → Finder
@@ -57,6 +62,7 @@ find (Else a b) text = find_else (find a) (find b) text
 find (NotAt fronts a) text = find_not_at fronts (find a) text
 find (NotBefore passes a) text = find_not_before passes (find a) text
 find (Where test a) text = find_where (λ p r. test p) (find a) text
+find (Ends depth) text = find_ends depth text
 
 -- the empty text
 abbrev pub nothing : Rule

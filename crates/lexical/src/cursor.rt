@@ -21,8 +21,8 @@ impl<'a> Cursor<'a> {
     ghost use Rattle.std.specs.Prelude.{◌∷◌, ◌++◌, [], IsTrue, List, ℕ, MatchOption, drop, take};
     ghost use Rattle.std.specs.Str.{IsCharBoundary, encode_utf8_all};
     ghost use Rattle.lexical.specs.Ascii.{all_ascii};
-    ghost use Rattle.lexical.specs.Finder.{find_text};
-    ghost use Rattle.lexical.specs.Reading.{Reads};
+    ghost use Rattle.lexical.specs.Rule.{Exactly};
+    ghost use Rattle.lexical.specs.Step.{Reads};
 
     /// The front of a text.
     pub fn new(text: &'a str) -> Self
@@ -54,7 +54,7 @@ impl<'a> Cursor<'a> {
     /// The place after the ASCII text `front`, where that stands at the place.
     pub fn past(self, front: &str) -> Option<Self>
         requires { IsTrue (all_ascii front.now) }
-        ensures { Reads (find_text front.now (chars self.entry.rest.now)) self.entry result }
+        ensures { Reads (Exactly front.now) self.entry result }
     {
         let rest = strip(self.rest, front)?;
         let after = Cursor {

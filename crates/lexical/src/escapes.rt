@@ -6,8 +6,7 @@ ghost use Rattle.std.specs.List.{list_all};
 ghost use Rattle.std.specs.Str.{chars};
 ghost use Rattle.lexical.specs.Quoted as rule;
 ghost use Rattle.lexical.specs.Quoted.{is_code, is_code_digit, is_one_of};
-ghost use Rattle.lexical.specs.Reading as answers;
-ghost use Rattle.lexical.specs.Rule.{One, find};
+ghost use Rattle.lexical.specs.Rule.{One};
 ghost use Rattle.lexical.specs.Step.{Reads};
 
 use crate::bytes::{Base, Class, one, skip};
@@ -119,9 +118,8 @@ fn unicode(at: Cursor<'_>, kind: StringKind) -> Option<Cursor<'_>>
 }
 
 /// The place after an escape: a letter, `x` and two digits, or the code of a character.
-#[tactic(auto, using(crate::proofs::QuotedFinderLemmas::passes_escape, crate::proofs::QuotedFinderLemmas::reads_escape, crate::proofs::RuleSteps::steps))]
 pub fn escape(at: Cursor<'_>, kind: StringKind) -> Option<Cursor<'_>>
-    ensures { answers.Reads (find (rule.escape kind) (chars at.entry.rest.now)) at.entry result }
+    ensures { Reads (rule.escape kind) at.entry result }
 {
     if let Some(end) = simple(at, kind) {
         return Some(end);

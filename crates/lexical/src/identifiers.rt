@@ -1,13 +1,15 @@
 //! Identifiers.
+#![tactic(auto, using(crate::proofs::RuleSteps::steps))]
 
-ghost use Rattle.std.specs.Prelude.{◌≡◌, ◌+◌, ◌∷◌, IsTrue, List, ℕ};
+ghost use Rattle.std.specs.Prelude.{◌≡◌, ◌+◌, ◌∷◌, IsTrue, List, ℕ, codes};
 ghost use Rattle.std.specs.Str.{chars};
 ghost use Rattle.lexical.specs.Class.{is_ident_start};
+ghost use Rattle.lexical.specs.Identifier as rule;
 ghost use Rattle.lexical.specs.Identifier.{is_reserved as reserved, literal_prefixes};
-ghost use Rattle.lexical.specs.IdentifierFinder.{find_name, find_raw_name};
 ghost use Rattle.lexical.specs.PieceFinder.{found_identifier};
-ghost use Rattle.lexical.specs.Reading.{Answers, Reads};
-ghost use Rattle.lexical.specs.Text.{begins_any};
+ghost use Rattle.lexical.specs.Reading.{Answers};
+ghost use Rattle.lexical.specs.Step.{Reads};
+ghost use Rattle.lexical.specs.Text.{begins_any, begins_with};
 
 use crate::bytes::{Class, one, skip};
 use crate::cursor::Cursor;
@@ -16,7 +18,7 @@ use crate::text::{before, begins, is_text};
 
 /// The place after the name that stands at the place, by the rule `name`.
 pub fn name(at: Cursor<'_>) -> Option<Cursor<'_>>
-    ensures { Reads (find_name (chars at.entry.rest.now)) at.entry result }
+    ensures { Reads rule.name at.entry result }
 {
     let after = one(at, Class::IdentifierStart)?;
     Some(skip(after, Class::IdentifierContinue))
@@ -53,13 +55,26 @@ pub fn is_reserved(name: &str) -> bool
 
 /// The place after the name of a raw identifier that stands at the place, after `r#`.
 pub fn raw_name(at: Cursor<'_>) -> Option<Cursor<'_>>
-    ensures { Reads (find_raw_name (chars at.entry.rest.now)) at.entry result }
+    ensures { Reads rule.raw_name at.entry result }
 {
     let end = name(at)?;
     if is_reserved(before(at.rest, end.rest)) {
         return None;
     }
     Some(end)
+}
+
+/// The place after the identifier that stands at the place, whatever literal begins there, where
+/// `raw` says whether `r#` does.
+pub fn written(at: Cursor<'_>, raw: bool) -> Option<Cursor<'_>>
+    requires { begins_with (codes "r#") (chars at.rest.now) ≡ raw }
+    ensures { Reads (rule.written raw) at.entry result }
+{
+    if raw {
+        raw_name(at.past("r#")?)
+    } else {
+        name(at)
+    }
 }
 
 /// The identifier that stands at the place, by the rule `identifier`: its kind, and the place after

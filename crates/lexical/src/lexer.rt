@@ -7,8 +7,11 @@ ghost use Rattle.lexical.specs.Found.{IsAt, IsPieceAt};
 ghost use Rattle.lexical.specs.Identifier.{Name};
 ghost use Rattle.lexical.specs.Literal.{Literal};
 ghost use Rattle.lexical.specs.Piece.{HasNoPiece};
-ghost use Rattle.lexical.specs.PieceFinder.{found};
+ghost use Rattle.lexical.specs.PieceFinder.{found, found_literal};
 ghost use Rattle.lexical.specs.Reading.{Answers};
+ghost use Rattle.lexical.specs.Rule.{Rule};
+ghost use Rattle.lexical.specs.Step.{Reads};
+ghost use Rattle.lexical.specs.declared.cursor.Cursor.{Cursor};
 
 use crate::class::{Start, start_of};
 use crate::comments::comment;
@@ -18,6 +21,13 @@ use crate::literals::{literal, quoted};
 use crate::marks::{begins_comment, follows_quote, mark};
 use crate::numbers::number;
 use crate::piece::{Piece, PieceKind};
+
+/// A literal that was read, if one was, as a piece: its kind, and the place after it.
+fn as_literal(end: Option<Cursor<'_>>) -> Option<(PieceKind<'_>, Cursor<'_>)>
+    ensures { (rule : Rule) (at : Cursor) → Reads rule at end.entry → Answers (found_literal rule (chars at.rest.now)) at result }
+{
+    Some((PieceKind::Literal, end?))
+}
 
 /// The piece that stands at the place, by its first character: its kind, and the place after it.
 /// `at_front` says whether that is place 0 of a source.
@@ -29,9 +39,9 @@ fn read_piece(at: Cursor<'_>, at_front: bool) -> Option<(PieceKind<'_>, Cursor<'
         Start::White => Some((PieceKind::Gap, after)),
         Start::Letter => match identifier(at, first, after) {
             Some(name) => Some(name),
-            None => Some((PieceKind::Literal, quoted(at)?)),
+            None => as_literal(quoted(at)),
         },
-        Start::Digit => Some((PieceKind::Literal, number(at)?)),
+        Start::Digit => as_literal(number(at)),
         Start::Opener => match at.past("(/*ERROR*/)") {
             Some(end) => Some((PieceKind::Literal, end)),
             None => Some((PieceKind::Opener(first), after)),
@@ -45,7 +55,7 @@ fn read_piece(at: Cursor<'_>, at_front: bool) -> Option<(PieceKind<'_>, Cursor<'
         }
         Start::Quote => {
             if !follows_quote(after) {
-                return Some((PieceKind::Literal, quoted(at)?));
+                return as_literal(quoted(at));
             }
             let kind = PieceKind::Mark {
                 mark: '\'',
@@ -53,7 +63,7 @@ fn read_piece(at: Cursor<'_>, at_front: bool) -> Option<(PieceKind<'_>, Cursor<'
             };
             Some((kind, after))
         }
-        Start::DoubleQuote => Some((PieceKind::Literal, quoted(at)?)),
+        Start::DoubleQuote => as_literal(quoted(at)),
         Start::FrontMark => {
             if !at_front {
                 return None;

@@ -1,15 +1,13 @@
 //! Literals.
+#![tactic(auto, using(crate::proofs::RuleSteps::steps))]
 
-ghost use Rattle.std.specs.Str.{chars};
 ghost use Rattle.std.specs.Prelude.{◌&&◌, IsTrue, codes};
 ghost use Rattle.lexical.specs.Ascii.{all_ascii};
-ghost use Rattle.lexical.specs.PieceFinder.{find_literal};
+ghost use Rattle.lexical.specs.Literal as rule;
 ghost use Rattle.lexical.specs.Quoted.{body, unit};
-ghost use Rattle.lexical.specs.QuotedFinder.{find_quoted};
 ghost use Rattle.lexical.specs.RawString.{is_raw, raw};
-ghost use Rattle.lexical.specs.Reading.{Reads};
 ghost use Rattle.lexical.specs.Rule.{Either, Exactly, Then};
-ghost use Rattle.lexical.specs.Step as rules;
+ghost use Rattle.lexical.specs.Step.{Reads};
 
 use crate::cursor::Cursor;
 use crate::numbers::number;
@@ -19,9 +17,8 @@ use crate::single_quotes::single;
 
 /// The place after the literal between quotes that stands at the place, by the rule
 /// `quoted-literal`.
-#[tactic(auto, using(crate::proofs::QuotedFinderLemmas::passes_quoted, crate::proofs::QuotedFinderLemmas::reads_quoted, crate::proofs::UnitSteps::unit_steps))]
 pub fn quoted(at: Cursor<'_>) -> Option<Cursor<'_>>
-    ensures { Reads (find_quoted (chars at.entry.rest.now)) at.entry result }
+    ensures { Reads rule.quoted_literal at.entry result }
 {
     if let Some(end) = any_string(at, "\"", "r", StringKind::Plain) {
         return Some(end);
@@ -40,7 +37,6 @@ pub fn quoted(at: Cursor<'_>) -> Option<Cursor<'_>>
 
 /// The place after the string that stands at the place: with escapes, which the text `front` opens,
 /// or raw, which `raw_front` opens.
-#[tactic(auto, using(crate::proofs::UnitSteps::unit_steps))]
 fn any_string<'a>(
     at: Cursor<'a>,
     front: &str,
@@ -48,7 +44,7 @@ fn any_string<'a>(
     kind: StringKind,
 ) -> Option<Cursor<'a>>
     requires ascii { IsTrue (all_ascii front.now && all_ascii raw_front.now) }
-    ensures { rules.Reads
+    ensures { Reads
         (Either (Then (Exactly front.now) (body (unit kind) (codes "\""))) (raw raw_front.now (is_raw kind)))
         at.entry result }
 {
@@ -60,7 +56,7 @@ fn any_string<'a>(
 
 /// The place after the literal that stands at the place, by the rule `literal`.
 pub fn literal(at: Cursor<'_>) -> Option<Cursor<'_>>
-    ensures { Reads (find_literal (chars at.entry.rest.now)) at.entry result }
+    ensures { Reads rule.literal at.entry result }
 {
     match quoted(at) {
         Some(end) => Some(end),

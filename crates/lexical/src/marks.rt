@@ -3,13 +3,13 @@
 ghost use Rattle.std.specs.Prelude.{◌≡◌, not};
 ghost use Rattle.std.specs.Str.{chars};
 ghost use Rattle.lexical.specs.Mark.{is_mark as is_one_of_marks, bars_quote, comment_fronts, joint_before};
-ghost use Rattle.lexical.specs.MarkFinder.{follows_quote as follows};
+ghost use Rattle.lexical.specs.Mark.{follows_quote as follows};
 ghost use Rattle.lexical.specs.Text.{begins_any, first_passes};
 ghost use Rattle.lexical.specs.declared.piece.PieceKind.TheVariants as kinds;
 
 use crate::bytes::{Class, holds};
 use crate::cursor::Cursor;
-use crate::identifiers::{name, raw_name};
+use crate::identifiers::written;
 use crate::piece::PieceKind;
 use crate::text::{begins, split_first};
 
@@ -52,14 +52,9 @@ fn is_unbarred(end: Cursor<'_>, raw: bool) -> bool
 pub fn follows_quote(at: Cursor<'_>) -> bool
     ensures { result ≡ follows (chars at.entry.rest.now) }
 {
-    if let Some(inside) = at.past("r#") {
-        return match raw_name(inside) {
-            Some(end) => is_unbarred(end, true),
-            None => false,
-        };
-    }
-    match name(at) {
-        Some(end) => is_unbarred(end, false),
+    let raw = begins(at.rest, "r#");
+    match written(at, raw) {
+        Some(end) => is_unbarred(end, raw),
         None => false,
     }
 }

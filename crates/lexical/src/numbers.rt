@@ -7,8 +7,7 @@ ghost use Rattle.lexical.specs.Ascii.{all_ascii};
 ghost use Rattle.lexical.specs.Bytes.{radix};
 ghost use Rattle.lexical.specs.Number as rule;
 ghost use Rattle.lexical.specs.Number.{base_prefixes};
-ghost use Rattle.lexical.specs.Reading as answers;
-ghost use Rattle.lexical.specs.Rule.{Exactly, Then, find};
+ghost use Rattle.lexical.specs.Rule.{Exactly, Then};
 ghost use Rattle.lexical.specs.Step.{Reads};
 ghost use Rattle.lexical.specs.Text.{begins_any};
 
@@ -140,7 +139,7 @@ fn begins_based(text: &str) -> bool
 /// The place after the number that stands at the place, by the rule `number`.
 #[tactic(auto, using(crate::proofs::NumberFinderLemmas::reads_based, crate::proofs::NumberFinderLemmas::reads_decimal, crate::proofs::RuleSteps::steps))]
 pub fn number(at: Cursor<'_>) -> Option<Cursor<'_>>
-    ensures { answers.Reads (find rule.number (chars at.entry.rest.now)) at.entry result }
+    ensures { Reads rule.number at.entry result }
 {
     if begins_based(at.rest) {
         end(based(at)?)

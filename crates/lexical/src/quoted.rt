@@ -1,10 +1,10 @@
 //! Strings with escapes.
-#![tactic(auto, using(crate::proofs::UnitSteps::unit_steps))]
+#![tactic(auto, using(crate::proofs::RuleSteps::steps))]
 
 ghost use Rattle.std.specs.Prelude.{◌≡◌, codes, IsTrue};
 ghost use Rattle.lexical.specs.Ascii.{all_ascii};
 ghost use Rattle.lexical.specs.Quoted as rule;
-ghost use Rattle.lexical.specs.Rule.{Exactly, Run, Then};
+ghost use Rattle.lexical.specs.Rule.{Exactly, One, Run, Then};
 ghost use Rattle.lexical.specs.Step.{Passes, Reads};
 
 use crate::cursor::Cursor;
@@ -48,6 +48,13 @@ fn stands_for_itself(c: char, kind: StringKind) -> bool
     }
 }
 
+/// The place after a character that stands for itself.
+fn plain(at: Cursor<'_>, kind: StringKind) -> Option<Cursor<'_>>
+    ensures { Reads (One (rule.is_plain kind)) at.entry result }
+{
+    one(at, |c| stands_for_itself(c, kind))
+}
+
 /// The place after all the characters that stand for themselves.
 fn skip_plain(at: Cursor<'_>, kind: StringKind) -> Cursor<'_>
     ensures { Passes (Run (rule.is_plain kind)) at.entry result }
@@ -76,7 +83,7 @@ fn escaped(at: Cursor<'_>, kind: StringKind) -> Option<Cursor<'_>>
 fn unit(at: Cursor<'_>, kind: StringKind) -> Option<Cursor<'_>>
     ensures { Reads (rule.unit kind) at.entry result }
 {
-    if let Some(end) = one(at, |c| stands_for_itself(c, kind)) {
+    if let Some(end) = plain(at, kind) {
         return Some(end);
     }
     match at.past("\r\n") {

@@ -1,5 +1,5 @@
 //! Strings without escapes.
-#![tactic(auto, using(crate::proofs::UnitSteps::unit_steps))]
+#![tactic(auto, using(crate::proofs::RuleSteps::steps))]
 
 ghost use Rattle.std.specs.Prelude.{◌≡◌, ◌∷◌, IsTrue};
 ghost use Rattle.std.specs.Str.{chars};
@@ -7,9 +7,8 @@ ghost use Rattle.lexical.specs.Ascii.{all_ascii};
 ghost use Rattle.lexical.specs.Character.{double_quote};
 ghost use Rattle.lexical.specs.RawString as rule;
 ghost use Rattle.lexical.specs.RawString.{is_raw};
-ghost use Rattle.lexical.specs.Reading.{ReadsText};
-ghost use Rattle.lexical.specs.Rule.{Run, find};
-ghost use Rattle.lexical.specs.Step.{Passes, Reads};
+ghost use Rattle.lexical.specs.Rule.{Run};
+ghost use Rattle.lexical.specs.Step.{Passes, Reads, ReadsText};
 
 use crate::bytes::{Class, skip};
 use crate::cursor::Cursor;
@@ -24,7 +23,7 @@ const MOST_HASHES: usize = 255;
 /// The hash signs that stand at the place, 255 at most, and the place after them, by the rule
 /// `raw-hashes`.
 fn hashes(at: Cursor<'_>) -> Option<(&str, Cursor<'_>)>
-    ensures { ReadsText (find rule.hashes (chars at.entry.rest.now)) at.entry result }
+    ensures { ReadsText rule.hashes at.entry result }
 {
     let end = skip(at, Class::Hash);
     let hashes = before(at.rest, end.rest);

@@ -1,9 +1,10 @@
 //! Characters and bytes.
-#![tactic(auto, using(crate::proofs::UnitSteps::unit_steps))]
+#![tactic(auto, using(crate::proofs::RuleSteps::steps))]
 
 ghost use Rattle.std.specs.Prelude.{◌≡◌, IsTrue};
 ghost use Rattle.lexical.specs.Ascii.{all_ascii};
 ghost use Rattle.lexical.specs.Quoted.{escape};
+ghost use Rattle.lexical.specs.Rule.{One};
 ghost use Rattle.lexical.specs.SingleQuoted as rule;
 ghost use Rattle.lexical.specs.SingleQuoted.{is_plain};
 ghost use Rattle.lexical.specs.Step.{Reads};
@@ -23,11 +24,18 @@ fn stands_bare(c: char, kind: StringKind) -> bool
     }
 }
 
+/// The place after one character that may stand bare.
+fn bare(at: Cursor<'_>, kind: StringKind) -> Option<Cursor<'_>>
+    ensures { Reads (One (is_plain kind)) at.entry result }
+{
+    one(at, |c| stands_bare(c, kind))
+}
+
 /// The place after one character that may stand bare, or a backslash and an escape.
 fn unit(at: Cursor<'_>, kind: StringKind) -> Option<Cursor<'_>>
     ensures { Reads (rule.unit (is_plain kind) (escape kind)) at.entry result }
 {
-    match one(at, |c| stands_bare(c, kind)) {
+    match bare(at, kind) {
         Some(end) => Some(end),
         None => escape(at.past("\\")?, kind),
     }

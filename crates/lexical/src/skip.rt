@@ -1,9 +1,10 @@
 //! Runs of characters.
+#![tactic(auto, using(crate::proofs::RuleSteps::steps))]
 
 ghost use Rattle.std.specs.Prelude.{◌≡◌, Bool, ℕ};
 ghost use Rattle.std.specs.Str.{chars};
-ghost use Rattle.lexical.specs.Finder.{find_one, find_run};
-ghost use Rattle.lexical.specs.Reading.{Passes, Reads};
+ghost use Rattle.lexical.specs.Rule.{One, Run};
+ghost use Rattle.lexical.specs.Step.{Passes, Reads};
 ghost use Rattle.lexical.specs.Text.{first_passes};
 
 use crate::cursor::Cursor;
@@ -12,7 +13,7 @@ use crate::cursor::Cursor;
 pub fn skip_while<F: Fn(char) -> bool>(at: Cursor<'_>, passes: F) -> Cursor<'_>
     requires { F.IsAlwaysCallable passes }
     ensures { (test : ℕ → Bool) → ((c : ℕ) (b : Bool) → F.post passes c b → b ≡ test c)
-        → Passes (find_run test (chars at.entry.rest.now)) at.entry result }
+        → Passes (Run test) at.entry result }
 {
     let mut end = at;
     while let Some((c, after)) = end.advance() {
@@ -28,7 +29,7 @@ pub fn skip_while<F: Fn(char) -> bool>(at: Cursor<'_>, passes: F) -> Cursor<'_>
 pub fn one<F: Fn(char) -> bool>(at: Cursor<'_>, passes: F) -> Option<Cursor<'_>>
     requires { F.IsAlwaysCallable passes }
     ensures { (test : ℕ → Bool) → ((c : ℕ) (b : Bool) → F.post passes c b → b ≡ test c)
-        → Reads (find_one test (chars at.entry.rest.now)) at.entry result }
+        → Reads (One test) at.entry result }
 {
     let (c, after) = at.advance()?;
     if passes(c) { Some(after) } else { None }

@@ -1,6 +1,7 @@
 pub mod Laws
 pub mod GivesBack
 pub use Rattle.lexical.specs.Ascii
+pub use Rattle.lexical.specs.Block
 pub use Rattle.lexical.specs.Character
 pub use Rattle.lexical.specs.Comment
 pub use Rattle.lexical.specs.Cover

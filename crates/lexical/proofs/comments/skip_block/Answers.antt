@@ -1,36 +1,28 @@
-use Rattle.std.proofs.Common.{rules, chars, length, ap, arith, length-append}
-use Rattle.lexical.proofs.SkipLemmas.{leads_in, leads_on, leads_out, leads_run, leads_to_end}
+use Rattle.std.proofs.Common.{arith, codes}
+use Rattle.lexical.specs.Rule.{Exactly, Ends}
+use Rattle.lexical.proofs.BlockSteps.{runs, ends_at_end, ends_none}
+use Rattle.lexical.proofs.RuleSteps.{past_text, run_goes_on}
+use Rattle.lexical.proofs.UnitSteps.{leads_then, leads_far, leads_passes, leads_fails}
 use Rattle.lexical.proofs.comments.skip_block.Goals as goal
 
 pub loop-depth-init : goal.loop-depth-init
-loop-depth-init c = leads_in c.args.at c.in_ok-end.end c.in_ok-end.ensures
+loop-depth-init c = record {
+  leads = leads_then (Exactly (codes "/*")) (Ends 1) _ _ c.in_ok-end.ensures;
+  fits = omega (arith, (past_text (codes "/*") _ _ c.in_ok-end.ensures).1);
+}
 
 pub returns-in_err-after : goal.returns-in_err-after
 returns-in_err-after c =
-    let sign = leads_on _ c.args.at _ _ _ _ c.loop-depth.invariant
-    (leads_run _ _ _ c.skip_to_either-sign.ensures c.loop-depth-test.true c.loop-depth.invariant.fits) in
-    let nothing = leads_to_end _ c.args.at _ _ sign c.loop-depth-test.true c.in_err-after.ensures.leads in
-    search (rules, nothing)
+    let sign = leads_far _ _ _ c.args.at _ _ c.loop-depth.invariant.leads (runs c.loop-depth.depth _ _ c.loop-depth-test.true c.skip_to_either-sign.ensures) in
+    leads_fails _ _ _ _ _ c.from_residual-in_err-after.ensures sign (ends_at_end c.loop-depth.depth _ c.loop-depth-test.true c.in_err-after.ensures.leads)
 
 pub loop-depth-preserved : goal.loop-depth-preserved
 loop-depth-preserved c =
-    let sign = leads_on _ c.args.at _ _ _ _ c.loop-depth.invariant
-    (leads_run _ _ _ c.skip_to_either-sign.ensures c.loop-depth-test.true c.loop-depth.invariant.fits) in
-    leads_on _ c.args.at _ _ _ _ sign c.in_ok-after.ensures.leads
-
-pub returns : goal.returns
-returns c = leads_out _ c.args.at _ _ c.loop-depth.invariant c.loop-depth-test.false
+    let sign = leads_far _ _ _ c.args.at _ _ c.loop-depth.invariant.leads (runs c.loop-depth.depth _ _ c.loop-depth-test.true c.skip_to_either-sign.ensures) in
+    record { leads = leads_far _ _ _ _ _ _ sign c.in_ok-after.ensures.leads; fits = c.in_ok-after.ensures.fits }
 
 pub loop-depth-smaller : goal.loop-depth-smaller
-loop-depth-smaller c =
-    let run = leads_run _ _ _ c.skip_to_either-sign.ensures c.loop-depth-test.true c.loop-depth.invariant.fits in
-    let step = c.in_ok-after.ensures.leads in
-    omega (
-      arith,
-      ap length run.whole,
-      length-append run.front (chars c.skip_to_either-sign.result.rest.now),
-      ap length step.whole,
-      length-append step.front (chars c.in_ok-after.after.rest.now),
-      step.count,
-      c.in_ok-after.ensures.on,
-    )
+loop-depth-smaller c = omega (arith, run_goes_on _ _ _ c.skip_to_either-sign.ensures, c.in_ok-after.ensures.shorter)
+
+pub returns : goal.returns
+returns c = leads_passes _ _ _ _ _ c.loop-depth.invariant.leads (ends_none c.loop-depth.depth _ c.loop-depth-test.false)

@@ -1,12 +1,14 @@
 use Rattle.std.proofs.Common.{◌≡◌, List, ℕ, true, [], ◌∷◌, ◌++◌, codes, drop, refl, sym, ap, ◌∙◌, append-nil}
 use Rattle.std.specs.Str.{IsUtf8, chars}
-use Rattle.std.proofs.lemmas.List.{append_cancel_right, drop_at}
-use Rattle.lexical.specs.Text.{begins_with}
-use Rattle.lexical.specs.Comment.{Comment, is_doc}
-use Rattle.lexical.specs.CommentFinder.{doc_text}
+use Rattle.std.proofs.lemmas.Bool.{and_right}
+use Rattle.std.proofs.lemmas.List.{append_cancel_right}
+use Rattle.lexical.specs.Comment.{Comment, is_doc, closing}
+use Rattle.lexical.specs.CommentKind.{doc_text}
+use Rattle.lexical.specs.Form.{Where}
+use Rattle.lexical.specs.Text.{ends_with}
 use Rattle.lexical.proofs.StripLemmas.{last_return}
 use Rattle.lexical.proofs.TextLemmas.{seam_boundary, seam_drop}
-use Rattle.lexical.proofs.CommentFinderLemmas.{doc_back, doc_front, closing_block, closing_line, closing_none}
+use Rattle.lexical.proofs.CommentKindLemmas.{doc_back, doc_front, closing_block, closing_line, closing_none}
 use Rattle.lexical.proofs.docs.doc_text.Goals as goal
 
 sign : chars (42 ∷ 47 ∷ []) ≡ codes "*/"
@@ -18,42 +20,38 @@ after_front : (comment said : List ℕ) → IsUtf8 comment → is_doc (chars com
     → chars said ≡ drop 3 (chars comment)
 after_front comment said utf8 doc cut =
     let d = doc_front (chars comment) doc in
-    ap chars cut ∙ (seam_drop comment d.front d.rest 3 utf8 d.whole d.bytes ∙ sym (ap (drop 3) d.whole ∙ drop_at d.front d.rest 3 d.three))
+    ap chars cut ∙ seam_drop comment d.front (drop 3 (chars comment)) 3 utf8 d.whole d.bytes
 
-block_text : (p said r : List ℕ) → Comment p r → is_doc p ≡ true → said ≡ drop 3 p → begins_with (codes "/*") p ≡ true
-    → said ≡ doc_text p r ++ chars (42 ∷ 47 ∷ [])
-block_text p said r comment doc cut begins =
-    cut ∙ (doc_back p r comment doc ∙ ap (λ x. doc_text p r ++ x) (closing_block p r begins ∙ sym sign))
+-- is the text and what closes it
+said_is : (comment said r end : List ℕ) → IsUtf8 comment → Where is_doc Comment (chars comment) r → said ≡ drop 3 comment
+    → closing (chars comment) r ≡ end → chars said ≡ doc_text (chars comment) r ++ end
+said_is comment said r end utf8 h cut is =
+    after_front comment said utf8 h.1 cut ∙ (doc_back (chars comment) r h.0 h.1 ∙ ap (λ x. doc_text (chars comment) r ++ x) is)
 
 pub range_from-said-requires : goal.range_from-said-requires
 range_from-said-requires c = λ _.
     let d = doc_front (chars c.args.comment.now) c.requires.1 in
-    seam_boundary c.args.comment.now d.front d.rest 3 c.utf8.comment d.whole d.bytes
+    seam_boundary c.args.comment.now d.front (drop 3 (chars c.args.comment.now)) 3 c.utf8.comment d.whole d.bytes
 
 pub before-requires : goal.before-requires
 before-requires c =
-    let said = after_front c.args.comment.now _ c.utf8.comment c.requires.1 c.range_from-said.ensures.value in
-    (doc_text (chars c.args.comment.now) (chars c.args.rest.now), block_text _ _ _ c.requires.0 c.requires.1 said (sym c.if-begins.ensures))
+    let end = closing_block (chars c.args.comment.now) (chars c.args.rest.now) (sym c.if-begins.ensures) ∙ sym sign in
+    (_, said_is _ _ _ _ c.utf8.comment c.requires c.range_from-said.ensures.value end)
 
 pub returns-then-begins : goal.returns-then-begins
 returns-then-begins c =
-    let said = after_front c.args.comment.now _ c.utf8.comment c.requires.1 c.range_from-said.ensures.value in
-    c.before-then-begins.ensures _ (block_text _ _ _ c.requires.0 c.requires.1 said (sym c.if-begins.ensures))
+    let end = closing_block (chars c.args.comment.now) (chars c.args.rest.now) (sym c.if-begins.ensures) ∙ sym sign in
+    c.before-then-begins.ensures _ (said_is _ _ _ _ c.utf8.comment c.requires c.range_from-said.ensures.value end)
 
 pub returns-then-begins-2 : goal.returns-then-begins-2
 returns-then-begins-2 c =
-    let p = chars c.args.comment.now in
-    let r = chars c.args.rest.now in
-    let said = after_front c.args.comment.now _ c.utf8.comment c.requires.1 c.range_from-said.ensures.value in
-    append_cancel_right (chars c.without_return.result.now) (doc_text p r) (last_return (chars c.range_from-said.result.now))
-    (sym c.without_return.ensures ∙ (said ∙ (doc_back p r c.requires.0 c.requires.1
-    ∙ ap (λ x. doc_text p r ++ x) (closing_line p r c.requires.1 (sym c.if-begins.ensures) (sym c.if-begins-2.ensures)
-    ∙ ap last_return (sym said)))))
+    let same = after_front _ _ c.utf8.comment c.requires.1 c.range_from-said.ensures.value in
+    let end = closing_line (chars c.args.comment.now) (chars c.args.rest.now) c.requires.1 (sym c.if-begins.ensures) (sym c.if-begins-2.ensures) in
+    append_cancel_right _ _ (last_return (chars c.range_from-said.result.now)) (sym c.without_return.ensures
+    ∙ said_is _ _ _ _ c.utf8.comment c.requires c.range_from-said.ensures.value (end ∙ ap last_return (sym same)))
 
 pub returns-else-begins-2 : goal.returns-else-begins-2
 returns-else-begins-2 c =
     let p = chars c.args.comment.now in
-    let r = chars c.args.rest.now in
-    let said = after_front c.args.comment.now _ c.utf8.comment c.requires.1 c.range_from-said.ensures.value in
-    said ∙ (doc_back p r c.requires.0 c.requires.1
-    ∙ (ap (λ x. doc_text p r ++ x) (closing_none p r (sym c.if-begins.ensures) (sym c.if-begins-2.ensures)) ∙ append-nil (doc_text p r)))
+    let end = closing_none p (chars c.args.rest.now) (sym c.if-begins.ensures) (and_right (ends_with 13 p) _ (sym c.if-begins-2.ensures)) in
+    said_is _ _ _ _ c.utf8.comment c.requires c.range_from-said.ensures.value end ∙ append-nil _

@@ -1,7 +1,8 @@
 use Rattle.std.proofs.Common.{not, ◌||◌, arith, ap, sym, length, ◌∙◌}
 use Rattle.std.specs.Str.{chars}
 use Rattle.lexical.specs.Comment.{has_bare_return as bare}
-use Rattle.lexical.proofs.ReturnLemmas.{at_next, at_return, not_longer}
+use Rattle.lexical.proofs.ReturnLemmas.{at_next, at_return}
+use Rattle.lexical.proofs.RuleSteps.{run_goes_on}
 use Rattle.lexical.proofs.docs.has_bare_return.Goals as goal
 
 pub loop-after-init : goal.loop-after-init
@@ -10,7 +11,7 @@ loop-after-init c =
 
 pub loop-after-smaller : goal.loop-after-smaller
 loop-after-smaller c =
-    omega (arith, ap length c.in-Some.ensures.0, not_longer c.in-Some.after c.skip_to-at-in-Some.result c.skip_to-at-in-Some.ensures)
+    omega (arith, ap length c.in-Some.ensures.0, run_goes_on _ _ _ c.skip_to-at-in-Some.ensures)
 
 pub loop-after-preserved : goal.loop-after-preserved
 loop-after-preserved c =

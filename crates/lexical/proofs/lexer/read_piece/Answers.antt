@@ -1,18 +1,18 @@
-use Rattle.std.proofs.Common.{rules, [], ◌∷◌, ◌==◌, refl, sym, ap, ◌∙◌, subst, eqb-true}
+use Rattle.std.proofs.Common.{rules, Some, [], ◌∷◌, ◌==◌, refl, sym, ap, ◌∙◌, eqb-true}
 use Rattle.std.specs.Str.{chars}
 use Rattle.std.proofs.lemmas.Bool.{cond-true, cond-false, or_from}
 use Rattle.lexical.specs.Text.{begins_any}
-use Rattle.lexical.specs.Delimiter.{is_opener, error_literal}
+use Rattle.lexical.specs.Delimiter.{is_opener, error_literal, opener}
+use Rattle.lexical.specs.Literal.{quoted_literal}
 use Rattle.lexical.specs.Mark.{is_mark}
-use Rattle.lexical.specs.DelimiterFinder.{opener_kind, closer_kind, find_opener}
-use Rattle.lexical.specs.MarkFinder.{find_lone_quote, quote_kind}
-use Rattle.lexical.specs.PieceFinder.{front_mark_kind, gap_kind, literal_kind, tagged}
-use Rattle.lexical.specs.Reading.{Answers}
+use Rattle.lexical.specs.Number.{number}
+use Rattle.lexical.specs.PieceFinder.{front_mark_kind, gap_kind, opener_kind, closer_kind, quote_kind, find_lone_quote, tagged}
+use Rattle.lexical.specs.Rule.{One, Exactly, find}
 use Rattle.lexical.specs.declared.class.Start.TheVariants as starts
 use Rattle.lexical.proofs.ClassLemmas.{of_start, mark_not_quote, mark_plain}
-use Rattle.lexical.proofs.SkipLemmas.{text_found, not_found_text, past_text}
+use Rattle.lexical.proofs.RuleSteps.{text_found, lacks_text, past_text, not_at_stops}
 use Rattle.lexical.proofs.PieceLemmas.{found_end}
-use Rattle.lexical.proofs.AnswerLemmas.{at_start, first_found, quote_found, one_found_not_at, literal_read, mark_read, read_one, read_first, second}
+use Rattle.lexical.proofs.AnswerLemmas.{at_start, first_found, quote_found, one_found_not_at, literal_read, mark_read, read_one, read_first, same_answers, second}
 use Rattle.lexical.proofs.lexer.read_piece.Goals as goal
 
 pub returns-in_err-first : goal.returns-in_err-first
@@ -29,38 +29,29 @@ identifier-requires-clause-starts c = of_start starts.Letter c.in_ok-first.first
 pub returns-in-Some : goal.returns-in-Some
 returns-in-Some c = read_first _ _ _ _ _ (at_start _ starts.Letter c.in_ok-first.ensures.0 c.in-Letter.ensures) c.in-Some.ensures
 
-pub returns-in_ok-quoted-in-None : goal.returns-in_ok-quoted-in-None
-returns-in_ok-quoted-in-None c =
-    literal_read _ _ _ _ (second c.in-None.ensures (at_start _ starts.Letter c.in_ok-first.ensures.0 c.in-Letter.ensures)) c.in_ok-quoted-in-None.ensures
+pub returns-in-None : goal.returns-in-None
+returns-in-None c =
+    same_answers _ _ (second c.in-None.ensures (at_start _ starts.Letter c.in_ok-first.ensures.0 c.in-Letter.ensures))
+    (c.as_literal.ensures quoted_literal c.args.at c.quoted.ensures)
 
-pub returns-in_err-quoted-in-None : goal.returns-in_err-quoted-in-None
-returns-in_err-quoted-in-None c =
-    let nothing = second c.in-None.ensures (at_start c.args.at_front starts.Letter c.in_ok-first.ensures.0 c.in-Letter.ensures)
-    ∙ ap (tagged literal_kind) c.in_err-quoted-in-None.ensures in
-    search (rules, nothing)
-
-pub returns-in_ok-number-in-Digit : goal.returns-in_ok-number-in-Digit
-returns-in_ok-number-in-Digit c =
-    literal_read _ _ _ _ (at_start _ starts.Digit c.in_ok-first.ensures.0 c.in-Digit.ensures) c.in_ok-number-in-Digit.ensures
-
-pub returns-in_err-number-in-Digit : goal.returns-in_err-number-in-Digit
-returns-in_err-number-in-Digit c =
-    let nothing = at_start c.args.at_front starts.Digit c.in_ok-first.ensures.0 c.in-Digit.ensures
-    ∙ ap (tagged literal_kind) c.in_err-number-in-Digit.ensures in
-    search (rules, nothing)
+pub returns-in-Digit : goal.returns-in-Digit
+returns-in-Digit c =
+    same_answers _ _ (at_start _ starts.Digit c.in_ok-first.ensures.0 c.in-Digit.ensures)
+    (c.as_literal-in-Digit.ensures number c.args.at c.number.ensures)
 
 pub returns-in-Some-past : goal.returns-in-Some-past
 returns-in-Some-past c =
-    let apart = ap (begins_any (error_literal ∷ [])) (past_text error_literal _ _ c.in-Some-past.ensures) in
-    literal_read _ _ _ _ (second (ap (tagged opener_kind) (cond-true _ _ _ apart))
-    (at_start _ starts.Opener c.in_ok-first.ensures.0 c.in-Opener.ensures)) c.in-Some-past.ensures
+    let begins = ap (begins_any (error_literal ∷ [])) (past_text error_literal _ _ c.in-Some-past.ensures).0 in
+    same_answers c.args.at (Some (_, c.in-Some-past.end))
+    (second (ap (tagged opener_kind) (not_at_stops (error_literal ∷ []) (One is_opener) _ begins)) (at_start _ starts.Opener c.in_ok-first.ensures.0 c.in-Opener.ensures))
+    (literal_read (Exactly error_literal) _ _ c.in-Some-past.ensures)
 
 pub returns-in-None-past : goal.returns-in-None-past
 returns-in-None-past c =
     let split = c.in_ok-first.ensures in
-    let plain = or_from _ _ (not_found_text error_literal (chars c.args.at.rest.now) c.in-None-past.ensures) refl in
+    let plain = or_from _ _ (lacks_text error_literal (chars c.args.at.rest.now) c.in-None-past.ensures) refl in
     read_first _ _ _ _ _ (at_start _ starts.Opener split.0 c.in-Opener.ensures)
-    (read_one opener_kind (find_opener (chars c.args.at.rest.now)) _ _ _ _ _ refl
+    (read_one opener_kind (find opener (chars c.args.at.rest.now)) _ _ _ _ _ refl
     (one_found_not_at (error_literal ∷ []) is_opener _ _ _ split.0 plain (of_start starts.Opener c.in_ok-first.first c.in-Opener.ensures)) split.1 refl tt)
 
 pub returns-in-Closer : goal.returns-in-Closer
@@ -71,15 +62,8 @@ returns-in-Closer c =
 pub returns-then-not-follows_quote : goal.returns-then-not-follows_quote
 returns-then-not-follows_quote c =
     let none = quote_found c.in_ok-first.ensures.0 c.in-Quote.ensures ∙ cond-false _ _ _ (sym c.if-not-follows_quote.ensures) in
-    literal_read _ _ _ _ (second (ap (tagged quote_kind) none) (at_start _ starts.Quote c.in_ok-first.ensures.0 c.in-Quote.ensures))
-    c.in_ok-quoted-in-Quote.ensures
-
-pub returns-in_err-quoted-in-Quote : goal.returns-in_err-quoted-in-Quote
-returns-in_err-quoted-in-Quote c =
-    let none = quote_found c.in_ok-first.ensures.0 c.in-Quote.ensures ∙ cond-false _ _ _ (sym c.if-not-follows_quote.ensures) in
-    let nothing = second (ap (tagged quote_kind) none) (at_start c.args.at_front starts.Quote c.in_ok-first.ensures.0 c.in-Quote.ensures)
-    ∙ ap (tagged literal_kind) c.in_err-quoted-in-Quote.ensures in
-    search (rules, nothing)
+    same_answers _ _ (second (ap (tagged quote_kind) none) (at_start _ starts.Quote c.in_ok-first.ensures.0 c.in-Quote.ensures))
+    (c.as_literal-then-not-follows_quote.ensures quoted_literal c.args.at c.quoted-then-not-follows_quote.ensures)
 
 pub returns-else-not-follows_quote : goal.returns-else-not-follows_quote
 returns-else-not-follows_quote c =
@@ -88,15 +72,10 @@ returns-else-not-follows_quote c =
     (read_one quote_kind (find_lone_quote (chars c.args.at.rest.now)) _ _ _ _ 39 refl
     (quote_found split.0 c.in-Quote.ensures ∙ cond-true _ _ _ (sym c.if-not-follows_quote.ensures)) split.1 refl tt)
 
-pub returns-in_ok-quoted-in-DoubleQuote : goal.returns-in_ok-quoted-in-DoubleQuote
-returns-in_ok-quoted-in-DoubleQuote c =
-    literal_read _ _ _ _ (at_start _ starts.DoubleQuote c.in_ok-first.ensures.0 c.in-DoubleQuote.ensures) c.in_ok-quoted-in-DoubleQuote.ensures
-
-pub returns-in_err-quoted-in-DoubleQuote : goal.returns-in_err-quoted-in-DoubleQuote
-returns-in_err-quoted-in-DoubleQuote c =
-    let nothing = at_start c.args.at_front starts.DoubleQuote c.in_ok-first.ensures.0 c.in-DoubleQuote.ensures
-    ∙ ap (tagged literal_kind) c.in_err-quoted-in-DoubleQuote.ensures in
-    search (rules, nothing)
+pub returns-in-DoubleQuote : goal.returns-in-DoubleQuote
+returns-in-DoubleQuote c =
+    same_answers _ _ (at_start _ starts.DoubleQuote c.in_ok-first.ensures.0 c.in-DoubleQuote.ensures)
+    (c.as_literal-in-DoubleQuote.ensures quoted_literal c.args.at c.quoted-in-DoubleQuote.ensures)
 
 pub returns-then-not-at_front : goal.returns-then-not-at_front
 returns-then-not-at_front c =
@@ -111,8 +90,7 @@ returns-else-not-at_front c =
 
 pub returns-then-begins_comment : goal.returns-then-begins_comment
 returns-then-begins_comment c =
-    subst (λ o. Answers o c.args.at c.comment.result)
-    (sym (at_start _ starts.Slash c.in_ok-first.ensures.0 c.in-Slash.ensures ∙ cond-true _ _ _ (sym c.if-begins_comment.ensures))) c.comment.ensures
+    same_answers _ _ (at_start _ starts.Slash c.in_ok-first.ensures.0 c.in-Slash.ensures ∙ cond-true _ _ _ (sym c.if-begins_comment.ensures)) c.comment.ensures
 
 pub returns-else-begins_comment : goal.returns-else-begins_comment
 returns-else-begins_comment c =

@@ -1,10 +1,10 @@
-use Rattle.std.proofs.Common.{codes, true, ap, sym, ◌∙◌}
-use Rattle.lexical.specs.Finder.{behind}
-use Rattle.lexical.specs.MarkFinder.{follows_quote, is_unbarred}
-use Rattle.lexical.proofs.SkipLemmas.{past_text}
+use Rattle.std.proofs.Common.{sym, ◌∙◌}
+use Rattle.std.specs.Str.{chars}
+use Rattle.lexical.proofs.NameFinderLemmas.{unbarred_found, unbarred_lacks}
 use Rattle.lexical.proofs.marks.follows_quote.Goals as goal
 
-pub returns-in-Some-raw_name : goal.returns-in-Some-raw_name
-returns-in-Some-raw_name c =
-    let split = past_text (codes "r#") c.args.at c.in-Some.inside c.in-Some.ensures in
-    c.is_unbarred.ensures ∙ sym (ap follows_quote split ∙ ap (λ o. is_unbarred true (behind (codes "r#") o)) c.in-Some-raw_name.ensures.found)
+pub returns-in-Some : goal.returns-in-Some
+returns-in-Some c = c.is_unbarred.ensures ∙ sym (unbarred_found c.begins-raw.result (chars c.args.at.rest.now) _ _ (sym c.begins-raw.ensures) c.in-Some.ensures.found)
+
+pub returns-in-None : goal.returns-in-None
+returns-in-None c = sym (unbarred_lacks c.begins-raw.result (chars c.args.at.rest.now) (sym c.begins-raw.ensures) c.in-None.ensures)

@@ -2,14 +2,14 @@ use Rattle.std.proofs.Common.{codes, arith}
 use Rattle.lexical.specs.Quoted.{body, close, is_plain, unit, suffix}
 use Rattle.lexical.specs.Rule.{Exactly}
 use Rattle.lexical.proofs.QuotedFinderLemmas.{clear_body}
-use Rattle.lexical.proofs.RuleSteps.{then_passes, then_lacks}
-use Rattle.lexical.proofs.UnitSteps.{past_passes, past_lacks, leads_fails, leads_passes, leads_unit, leads_last, unit_shortens, leads_then, leads_run, run_goes_on, plain_unit}
+use Rattle.lexical.proofs.RuleSteps.{run_goes_on, then_passes, then_lacks}
+use Rattle.lexical.proofs.UnitSteps.{leads_fails, leads_passes, leads_unit, leads_last, unit_shortens, leads_then, leads_run, plain_unit}
 use Rattle.lexical.proofs.quoted.string.Goals as goal
 
 pub loop-after-init : goal.loop-after-init
 loop-after-init c =
     let rest = body (unit c.args.kind) (codes "\"") in
-    let opened = leads_then (Exactly c.args.front.now) rest c.args.at c.in_ok-inside.inside (past_passes c.args.front.now _ _ c.in_ok-inside.ensures) in
+    let opened = leads_then (Exactly c.args.front.now) rest c.args.at c.in_ok-inside.inside c.in_ok-inside.ensures in
     leads_run (unit c.args.kind) (close (codes "\"")) (clear_body c.args.kind) (is_plain c.args.kind) (plain_unit c.args.kind)
     _ _ _ _ opened c.skip_plain-end.ensures
 
@@ -28,10 +28,10 @@ pub returns-in_err-closed : goal.returns-in_err-closed
 returns-in_err-closed c =
     let last = leads_last (unit c.args.kind) (close (codes "\"")) (clear_body c.args.kind) _ _ _ c.loop-after.invariant c.in_default.ensures in
     leads_fails _ _ _ _ _ c.from_residual-in_err-closed.ensures last
-    (then_lacks (Exactly (codes "\"")) suffix _ (past_lacks (codes "\"") _ c.in_err-closed.ensures))
+    (then_lacks (Exactly (codes "\"")) suffix _ c.in_err-closed.ensures)
 
 pub returns : goal.returns
 returns c =
     let last = leads_last (unit c.args.kind) (close (codes "\"")) (clear_body c.args.kind) _ _ _ c.loop-after.invariant c.in_default.ensures in
     leads_passes _ _ _ _ _ last
-    (then_passes (Exactly (codes "\"")) suffix _ _ _ (past_passes (codes "\"") _ _ c.in_ok-closed.ensures) c.suffix.ensures)
+    (then_passes (Exactly (codes "\"")) suffix _ _ _ c.in_ok-closed.ensures c.suffix.ensures)

@@ -1,10 +1,11 @@
+use Rattle.std.proofs.Common.{arith}
 use Rattle.memchr.specs.Find.{is_byte3}
-use Rattle.lexical.proofs.SearchLemmas.{found_run, past_byte3}
+use Rattle.lexical.proofs.SearchLemmas.{found_run}
 use Rattle.lexical.proofs.search.skip_to_any.Goals as goal
 
 pub returns : goal.returns
 returns c =
-    found_run (is_byte3 c.args.a c.args.b c.args.c) (λ d high. past_byte3 c.args.a c.args.b c.args.c d c.requires.ascii_a c.requires.ascii_b c.requires.ascii_c high)
+    found_run (is_byte3 c.args.a c.args.b c.args.c) (λ d high. grind (arith, c.requires))
     c.args.at c.after_bytes.result c.as_bytes-bytes.result.now c.memchr3.result c.unwrap_or-size.result
     c.as_bytes-bytes.ensures.utf8 c.as_bytes-bytes.ensures.value c.memchr3.ensures c.unwrap_or-size.ensures
     c.after_bytes.ensures.rest c.after_bytes.ensures.count

@@ -1,10 +1,11 @@
+use Rattle.std.proofs.Common.{arith}
 use Rattle.memchr.specs.Find.{is_byte2}
-use Rattle.lexical.proofs.SearchLemmas.{found_run, past_byte2}
+use Rattle.lexical.proofs.SearchLemmas.{found_run}
 use Rattle.lexical.proofs.search.skip_to_either.Goals as goal
 
 pub returns : goal.returns
 returns c =
-    found_run (is_byte2 c.args.a c.args.b) (λ d high. past_byte2 c.args.a c.args.b d c.requires.ascii_a c.requires.ascii_b high)
+    found_run (is_byte2 c.args.a c.args.b) (λ d high. grind (arith, c.requires))
     c.args.at c.after_bytes.result c.as_bytes-bytes.result.now c.memchr2.result c.unwrap_or-size.result
     c.as_bytes-bytes.ensures.utf8 c.as_bytes-bytes.ensures.value c.memchr2.ensures c.unwrap_or-size.ensures
     c.after_bytes.ensures.rest c.after_bytes.ensures.count

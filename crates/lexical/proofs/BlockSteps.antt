@@ -1,0 +1,79 @@
+-- Steps within block comments.
+use Rattle.std.proofs.Common.{◌≡◌, ℕ, zero, suc, ◌+◌, ◌-◌, ◌<◌, ◌≤◌, Bool, true, false, not, ◌||◌, ◌==◌, List, [], ◌∷◌, ◌++◌, codes, None, refl, sym, ap, ◌∙◌, arith, add-one, eqb-true, eq-eqb}
+use Rattle.std.specs.Str.{chars}
+use Rattle.std.specs.List.{list_all}
+use Rattle.std.proofs.lemmas.Bool.{and_parts, or_parts, or_from, and_left, not-true, both_ways, false_from_ne_true}
+use Rattle.lexical.specs.Block.{find_ends}
+use Rattle.lexical.specs.Finder.{behind}
+use Rattle.lexical.specs.Rule.{Rule, Run, Exactly, Ends, Stands, find}
+use Rattle.lexical.specs.Step.{Leads, Passes}
+use Rattle.lexical.specs.declared.cursor.Cursor.{Cursor}
+use Rattle.lexical.proofs.BlockLemmas.{behind_nothing, behind_behind, at_close, at_open, at_other}
+use Rattle.lexical.proofs.RuleLemmas.{Clear}
+use Rattle.lexical.proofs.RuleSteps.{passed, lacks_text, past_text, steps}
+
+-- past a piece that stands in front of what ends them
+leads_past : (rule : Rule) → Clear rule → (a b : Rule) (at to : Cursor) → Passes rule at to
+    → ((p r : List ℕ) → Stands rule p r → find a (p ++ r) ≡ behind p (find b r)) → Leads a at b to
+leads_past rule clear a b at to h step =
+    let is = passed rule clear at to h in
+    record { front = h.front; found = ap (find a) is.0 ∙ step h.front (chars to.rest.now) is.1; count = h.count }
+
+-- past a sign
+pub closes : (depth : ℕ) (at to : Cursor) → 0 < depth → Passes (Exactly (codes "*/")) at to → Leads (Ends depth) at (Ends (depth - 1)) to
+unfolding find
+closes zero at to some h = absurd (omega arith)
+closes (suc outer) at to some h =
+    let one : suc outer - 1 ≡ outer = omega arith in
+    leads_past (Exactly (codes "*/")) tt (Ends (suc outer)) (Ends (suc outer - 1)) at to h (λ p r is. rw (is, one) (at_close outer r))
+
+pub opens : (depth : ℕ) (at to : Cursor) → 0 < depth → Passes (Exactly (codes "/*")) at to → Leads (Ends depth) at (Ends (depth + 1)) to
+unfolding find
+opens zero at to some h = absurd (omega arith)
+opens (suc outer) at to some h =
+    leads_past (Exactly (codes "/*")) tt (Ends (suc outer)) (Ends (suc outer + 1)) at to h (λ p r is. rw (is, add-one) (at_open outer r))
+
+-- past a character where none begins
+pub passes : (depth c : ℕ) (at to : Cursor) → 0 < depth → chars at.rest.now ≡ c ∷ chars to.rest.now → to.chars_before ≡ at.chars_before + 1
+    → find (Exactly (codes "*/")) (chars at.rest.now) ≡ None → find (Exactly (codes "/*")) (chars at.rest.now) ≡ None → Leads (Ends depth) at (Ends depth) to
+unfolding find
+passes zero c at to some e one closed opened = absurd (omega arith)
+passes (suc outer) c at to some e one closed opened =
+    let plain = or_from _ _ (lacks_text (codes "/*") (chars at.rest.now) opened) (or_from _ _ (lacks_text (codes "*/") (chars at.rest.now) closed) refl) in
+    record { front = c ∷ []; found = rw e (at_other outer c (chars to.rest.now) (rw e at plain)); count = one }
+
+-- past characters where none can
+abbrev other : ℕ → Bool
+other c = not (c == 42 || c == 47)
+
+turned : (c a : ℕ) → (c == a) ≡ false → (a == c) ≡ false
+turned c a h = false_from_ne_true _ (λ e. both_ways _ h (eq-eqb c a (sym (eqb-true a c e))))
+
+run_ends : (outer : ℕ) (front rest : List ℕ) → list_all other front ≡ true → find_ends (suc outer) (front ++ rest) ≡ behind front (find_ends (suc outer) rest)
+run_ends outer [] rest all = sym (behind_nothing _)
+run_ends outer (c ∷ front) rest all =
+    let parts = and_parts _ _ all in
+    let signs = or_parts (c == 42) (c == 47) (not-true _ parts.0) in
+    let plain = or_from _ _ (and_left _ _ (turned c 47 signs.1)) (or_from _ _ (and_left _ _ (turned c 42 signs.0)) refl) in
+    at_other outer c (front ++ rest) plain ∙ (ap (behind (c ∷ [])) (run_ends outer front rest parts.1) ∙ behind_behind (c ∷ []) front _)
+
+pub runs : (depth : ℕ) (at to : Cursor) → 0 < depth → Passes (Run (λ c. not (c == 42 || c == 47))) at to → Leads (Ends depth) at (Ends depth) to
+unfolding find
+runs zero at to some h = absurd (omega arith)
+runs (suc outer) at to some h = leads_past (Run other) tt (Ends (suc outer)) (Ends (suc outer)) at to h (λ p r is. run_ends outer p r is.each)
+
+-- where the text ends
+pub ends_at_end : (depth : ℕ) (text : List ℕ) → 0 < depth → text ≡ [] → find (Ends depth) text ≡ None
+unfolding find find_ends
+ends_at_end zero text some e = absurd (omega arith)
+ends_at_end (suc outer) text some e = rw e refl
+
+-- where none is open any more
+pub ends_none : (depth : ℕ) (at : Cursor) → depth ≤ 0 → Passes (Ends depth) at at
+unfolding find find_ends
+ends_none zero at none = record { front = []; found = refl; count = omega arith }
+ends_none (suc outer) at none = absurd (omega arith)
+
+-- ---- all of them
+
+pub ruleset block_steps = (steps, past_text, closes, opens, passes)
