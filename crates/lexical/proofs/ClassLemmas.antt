@@ -1,6 +1,6 @@
 -- Classes of characters: on ASCII, and which are apart.
 use Rattle.std.proofs.Common.{◌≡◌, ℕ, ◌<◌, ◌⊎◌, Bool, true, false, cond, ◌||◌, ◌&&◌, ◌==◌, List, [], ◌∷◌, codes, refl, sym, ap, arith, ◌∙◌, subst, inl, inr, eqb-true, eq-eqb}
-use Rattle.std.specs.List.{list_any, AllByRecursion}
+use Rattle.std.specs.List.{list_all, list_any, AllByRecursion}
 use Rattle.std.specs.Char.{is_ascii_alphabetic, is_ascii_alphanumeric, is_ascii_digit}
 use Rattle.std.proofs.lemmas.Bool.{both_ways, and_parts, or_cases, or_parts, or_from, and_left, false_from_ne_true, not-true, agree_below_at, cond-true, cond-false, cond_both}
 use Rattle.unicode_ident.proofs.Computing.{unicode_ident}
@@ -31,6 +31,17 @@ any_of P (d ∷ ds) c all any = elim (or_cases _ _ any) [
   | inl here ↦ subst P (eqb-true d c here) all.0
   | inr there ↦ any_of P ds c all.1 there
 ]
+
+-- one class of characters is in another
+abbrev pub Sub : (ℕ → Bool) → (ℕ → Bool) → Type 0
+Sub passes class = (c : ℕ) → passes c ≡ true → class c ≡ true
+
+-- the characters of a list
+pub sub_listed : (class : ℕ → Bool) (ds : List ℕ) → list_all class ds ≡ true → Sub (λ c. list_any (λ d. d == c) ds) class
+sub_listed class [] all c any = absurd (both_ways _ refl any)
+sub_listed class (d ∷ ds) all c any =
+    let parts = and_parts _ _ all in
+    elim (or_cases _ _ any) [ inl here ↦ ap class (sym (eqb-true d c here)) ∙ parts.0 | inr there ↦ sub_listed class ds parts.1 c there ]
 
 -- ---- how a piece starts
 

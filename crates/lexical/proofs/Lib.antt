@@ -11,7 +11,6 @@ pub mod RunLemmas
 pub mod QuotedLemmas
 pub mod BlockLemmas
 pub mod CommentKindLemmas
-pub mod CommentLemmas
 pub mod NameFinderLemmas
 pub mod WhiteRunLemmas
 pub mod WordLemmas
@@ -28,17 +27,6 @@ pub mod LiteralFinderLemmas
 pub mod PieceLemmas
 pub mod AnswerLemmas
 pub mod PieceFacts
-pub mod StableLemmas
-pub mod NumberLemmas
-pub mod IntegerLemmas
-pub mod LiteralLemmas
-pub mod NameLemmas
-pub mod LiteralFrontLemmas
-pub mod QuotableLemmas
-pub mod QuietLemmas
-pub mod DigitLemmas
-pub mod LiteralCutLemmas
-pub mod LeafLaws
 pub mod WalkLemmas
 mod Examples
 mod LiteralExamples

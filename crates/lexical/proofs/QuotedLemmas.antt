@@ -7,7 +7,7 @@ use Rattle.lexical.specs.Class.{is_ident_start, is_ident_continue}
 use Rattle.lexical.specs.Text.{first_passes}
 use Rattle.lexical.specs.Form.{HasNone}
 use Rattle.lexical.specs.Identifier.{Name}
-use Rattle.lexical.proofs.StableLemmas.{sub_listed}
+use Rattle.lexical.proofs.ClassLemmas.{sub_listed}
 
 -- ---- suffixes
 

@@ -10,8 +10,8 @@ use Rattle.lexical.specs.Found.{IsPieceAt, kind_of}
 use Rattle.lexical.specs.declared.piece.Piece.{Piece as Found}
 use Rattle.lexical.specs.declared.piece.PieceKind.TheVariants as kinds
 use Rattle.lexical.proofs.PieceFacts.{stands_mark, piece_front}
-use Rattle.lexical.proofs.NameLemmas.{identifier_alone}
-use Rattle.lexical.proofs.LiteralLemmas.{literal_whole}
+use Rattle.grammar_laws.proofs.NameLemmas.{identifier_alone}
+use Rattle.grammar_laws.proofs.LiteralLemmas.{literal_whole}
 use Rattle.pm_span.specs.Extent.{Extent}
 use Rattle.pm_token.specs.Built.{IsBuiltToken}
 use Rattle.pm_token.specs.Leaf as leaves

@@ -13,13 +13,13 @@ use Rattle.lexical.specs.Quiet.{ends_quiet}
 use Rattle.lexical.specs.Piece.{Kind, Piece, FrontMark, Gap, Doc, Open, Close, Leaf, Stands, IsPiece}
 use Rattle.lexical.specs.Cover.{onto, StandBefore}
 use Rattle.lexical.proofs.TextLemmas.{any_cut}
-use Rattle.lexical.proofs.LeafLaws.{plain_line, doc_line, comment_cut, doc_cut, identifier_before_stop}
-use Rattle.lexical.proofs.LeafLaws.{mark_before_stop, stop_alone, stop_unbarred, quote_unbarred, quote_next}
-use Rattle.lexical.proofs.LeafLaws.{follows_something, IsNameOrLiteral, literal_before_stop, onto_split, literal_cut}
-use Rattle.lexical.proofs.LeafLaws.{literal_quoted, prefixed_follows}
-use Rattle.lexical.proofs.CommentLemmas.{plain_stays}
+use Rattle.grammar_laws.proofs.LeafLaws.{plain_line, doc_line, comment_cut, doc_cut, identifier_before_stop}
+use Rattle.grammar_laws.proofs.LeafLaws.{mark_before_stop, stop_alone, stop_unbarred, quote_unbarred, quote_next}
+use Rattle.grammar_laws.proofs.LeafLaws.{follows_something, IsNameOrLiteral, literal_before_stop, onto_split, literal_cut}
+use Rattle.grammar_laws.proofs.LeafLaws.{literal_quoted, prefixed_follows}
+use Rattle.grammar_laws.proofs.CommentLemmas.{plain_stays}
 use Rattle.lexical.proofs.PieceFacts.{piece_not_empty}
-use Rattle.lexical.proofs.NameLemmas.{name_before}
+use Rattle.grammar_laws.proofs.NameLemmas.{name_before}
 use Rattle.proc_macro2.proofs.PieceStarts.{joint_by}
 
 -- nothing follows the pieces, or a line may be broken after them

@@ -4,7 +4,7 @@ use Rattle.std.proofs.Common.{arith, length-append, subst, append-nil}
 use Rattle.std.proofs.lemmas.List.Elements.{All-from_recursion}
 use Rattle.lexical.specs.Piece.{Piece}
 use Rattle.lexical.specs.Cover.{onto, width}
-use Rattle.lexical.proofs.LeafLaws.{onto_split}
+use Rattle.grammar_laws.proofs.LeafLaws.{onto_split}
 use Rattle.pm_span.specs.Files.{Files, all_texts, positions, next_lo, IsFile, with_file, Extends}
 use Rattle.pm_span.proofs.FileLemmas.{positions-cons, is_file_extends}
 use Rattle.pm_stream.specs.InOrder.{in_order}

@@ -5,7 +5,7 @@ use Rattle.lexical.specs.Text.{begins_with}
 use Rattle.lexical.specs.Quiet.{ends_quiet}
 use Rattle.lexical.specs.Piece.{Piece, FrontMark, Gap, Doc, Open, Close, Leaf, IsPiece}
 use Rattle.lexical.specs.Cover.{onto, StandBefore, IsCover}
-use Rattle.lexical.proofs.LeafLaws.{onto_split}
+use Rattle.grammar_laws.proofs.LeafLaws.{onto_split}
 use Rattle.pm_stream.specs.Forest.{Forest, joined, flattening}
 use Rattle.pm_stream.specs.Parsing.{ParsesTo}
 use Rattle.pm_stream.proofs.CoverLemmas.{onto-append}

@@ -18,8 +18,8 @@ use Rattle.lexical.specs.Literal as literals
 use Rattle.lexical.specs.Literal.{AnyLiteral}
 use Rattle.lexical.specs.Piece.{Kind, FrontMark, Gap, Doc, Open, Close, Leaf, Stands, IsPiece}
 use Rattle.lexical.proofs.ClassLemmas.{any_of, ident_start_ascii, ident_continue_ascii}
-use Rattle.lexical.proofs.LeafLaws.{comment_first, identifier_before_stop, mark_before_stop, stop_alone, quote_next}
-use Rattle.lexical.proofs.LeafLaws.{literal_before_stop, literal_first, literal_plain, literal_quoted, stops}
+use Rattle.grammar_laws.proofs.LeafLaws.{comment_first, identifier_before_stop, mark_before_stop, stop_alone, quote_next}
+use Rattle.grammar_laws.proofs.LeafLaws.{literal_before_stop, literal_first, literal_plain, literal_quoted, stops}
 use Rattle.lexical.proofs.PieceFacts.{open_is, close_is, stands_mark, start_continues, name_continues, none_begins}
 use Rattle.pm_token.specs.Built.{IsBuiltToken}
 

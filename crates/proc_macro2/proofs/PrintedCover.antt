@@ -8,7 +8,7 @@ use Rattle.lexical.specs.Token.{Token, Name, Mark, Literal, token_text}
 use Rattle.lexical.specs.Mark.{is_mark, comment_fronts, FollowsQuote}
 use Rattle.lexical.specs.Piece.{Piece, Gap, Open, Close, Leaf, Stands, IsPiece}
 use Rattle.lexical.specs.Cover.{onto, StandBefore}
-use Rattle.lexical.proofs.LeafLaws.{stops, stop_unbarred, prefixed_follows}
+use Rattle.grammar_laws.proofs.LeafLaws.{stops, stop_unbarred, prefixed_follows}
 use Rattle.pm_token.specs.declared.delimiters.Delimiter.{Delimiter}
 use Rattle.pm_token.specs.declared.delimiters.Delimiter.TheVariants.{Parenthesis, Brace, Bracket, None}
 use Rattle.pm_token.specs.Built.{IsBuiltToken}

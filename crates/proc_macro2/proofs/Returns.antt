@@ -10,7 +10,7 @@ use Rattle.lexical.specs.Mark.{comment_fronts}
 use Rattle.lexical.specs.Piece.{Kind, Piece, FrontMark, Gap, Doc, Open, Close, Leaf, Stands, IsPiece}
 use Rattle.lexical.specs.Cover.{onto, StandBefore, IsCover}
 use Rattle.lexical.proofs.PieceFacts.{mark_is}
-use Rattle.lexical.proofs.LeafLaws.{follows_something}
+use Rattle.grammar_laws.proofs.LeafLaws.{follows_something}
 use Rattle.pm_token.specs.declared.delimiters.Delimiter.TheVariants.{Parenthesis, Brace, Bracket}
 use Rattle.pm_stream.specs.Delimited.{opening, closing, is_brace, delimiter_of}
 use Rattle.pm_stream.specs.Events.{Event, One, Opens, Closes}

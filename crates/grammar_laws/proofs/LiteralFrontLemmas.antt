@@ -1,13 +1,13 @@
 -- How literals begin.
 use Rattle.std.proofs.Common.{◌≡◌, ℕ, Bool, true, false, not, ◌==◌, List, [], ◌∷◌, ◌++◌, codes, refl, ap, ◌∙◌, inl, inr}
-use Rattle.std.specs.List.{list_any, list_all, AllByRecursion}
-use Rattle.std.proofs.lemmas.Bool.{both_ways, and_left, or_from, not-true, and_parts}
+use Rattle.std.specs.List.{list_any, list_all}
+use Rattle.std.proofs.lemmas.Bool.{both_ways, and_left, or_from, not-true}
 use Rattle.lexical.specs.Class.{is_white}
 use Rattle.lexical.specs.Text.{begins_any}
 use Rattle.lexical.specs.Mark.{is_mark, comment_fronts}
 use Rattle.lexical.specs.Delimiter.{is_opener, is_closer, error_literal}
 use Rattle.lexical.specs.Literal.{AnyLiteral}
-use Rattle.lexical.proofs.ClassLemmas.{any_of}
+use Rattle.lexical.proofs.ClassLemmas.{any_of, sub_listed}
 use Rattle.lexical.proofs.LiteralFinderLemmas.{literal_fronts, literal_front}
 
 -- ---- how a literal begins
@@ -24,18 +24,10 @@ pub record BeginsLiteral (p : List ℕ) : Type 0 where
   pub front_mark : (first == 0xFEFF) ≡ false
   pub opener : is_opener first ≡ true → p ≡ error_literal
 
--- what holds of each in a list holds of what is in it
-one_passes : (passes : ℕ → Bool) (ds : List ℕ) (c : ℕ) → list_all passes ds ≡ true → list_any (λ d. d == c) ds ≡ true → passes c ≡ true
-one_passes passes ds c all any = any_of (λ d. passes d ≡ true) ds c (each ds all) any
-  where
-    each : (ds : List ℕ) → list_all passes ds ≡ true → AllByRecursion (λ d. passes d ≡ true) ds
-    each [] all = tt
-    each (d ∷ ds) all = let parts = and_parts _ _ all in (parts.0, each ds parts.1)
-
 -- no character passes with which literals begin
 none_passes : (passes : ℕ → Bool) (c : ℕ) → list_all (λ d. not (passes d)) literal_fronts ≡ true
     → list_any (λ d. d == c) literal_fronts ≡ true → passes c ≡ false
-none_passes passes c all any = not-true _ (one_passes (λ d. not (passes d)) literal_fronts c all any)
+none_passes passes c all any = not-true _ (sub_listed (λ d. not (passes d)) literal_fronts all c any)
 
 -- of the marks only `'` begins one, of the openers only that of the error literal, and nothing else that starts a piece
 pub literal_first : (p r : List ℕ) → AnyLiteral p r → BeginsLiteral p

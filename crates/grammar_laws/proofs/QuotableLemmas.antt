@@ -23,7 +23,7 @@ use Rattle.lexical.proofs.QuotedFinderLemmas.{each_kind, quoted_cases}
 use Rattle.lexical.proofs.NumberFinderLemmas.{number_first}
 use Rattle.lexical.proofs.LiteralFinderLemmas.{raw_text, raw_fronts, hashes_begin}
 use Rattle.lexical.proofs.ClassLemmas.{start_letter, start_digit}
-use Rattle.lexical.proofs.NameLemmas.{follows_start}
+use Rattle.grammar_laws.proofs.NameLemmas.{follows_start}
 
 -- ---- these may
 

@@ -9,9 +9,10 @@ use Rattle.lexical.specs.Form.{HasNone}
 use Rattle.lexical.specs.Rule.{Then, Stands}
 use Rattle.lexical.specs.Number as rule
 use Rattle.lexical.specs.Number.{is_underscore, base_prefixes, is_digit_or_underscore_in, Number, number}
+use Rattle.lexical.proofs.ClassLemmas.{Sub}
 use Rattle.lexical.proofs.QuotedLemmas.{stops, stop_out}
-use Rattle.lexical.proofs.StableLemmas.{Sub, sub_either, Stable, AllIn, Looks, Within, stops_within, stable, all_in}
-use Rattle.lexical.proofs.NumberLemmas.{goes_on, continue_goes_on, digit_continues, underscore_continues, digits_continue, looks_end, within_suffix, stable_float, none_moved, float_ends, no_new_float}
+use Rattle.grammar_laws.proofs.StableLemmas.{sub_either, Stable, AllIn, Looks, Within, stops_within, stable, all_in}
+use Rattle.grammar_laws.proofs.NumberLemmas.{goes_on, continue_goes_on, digit_continues, underscore_continues, digits_continue, looks_end, within_suffix, stable_float, none_moved, float_ends, no_new_float}
 
 -- ---- the digits of an integer
 

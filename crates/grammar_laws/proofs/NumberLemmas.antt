@@ -15,9 +15,9 @@ use Rattle.lexical.specs.Identifier.{name}
 use Rattle.lexical.specs.Quoted.{suffix}
 use Rattle.lexical.specs.Number as rule
 use Rattle.lexical.specs.Number.{is_underscore, is_digit_or_underscore, Digits, bars_dot, is_exponent_letter, is_sign}
-use Rattle.lexical.proofs.ClassLemmas.{digit_below}
+use Rattle.lexical.proofs.ClassLemmas.{Sub, digit_below}
 use Rattle.lexical.proofs.PieceFacts.{start_continues}
-use Rattle.lexical.proofs.StableLemmas.{Sub, sub_one, sub_either, none, Stable, KeepsNone, AllIn, anew, Looks, Within, stable, fronts_compared, passes_at, all_append, inside, none_extended, none_one, all_in}
+use Rattle.grammar_laws.proofs.StableLemmas.{sub_one, sub_either, none, Stable, KeepsNone, AllIn, anew, Looks, Within, stable, fronts_compared, passes_at, all_append, inside, none_extended, none_one, all_in}
 
 -- ---- classes
 

@@ -11,9 +11,9 @@ use Rattle.lexical.specs.Literal.{QuotedLiteral, Literal, AnyLiteral, IsLiteralT
 use Rattle.lexical.specs.declared.quoted.StringKind.{StringKind}
 use Rattle.lexical.specs.declared.quoted.StringKind.TheVariants.{Plain, Byte, C}
 use Rattle.lexical.proofs.QuotedLemmas.{stops, stop_ends}
-use Rattle.lexical.proofs.StableLemmas.{least, Stable, ends_after, Looks, stable}
-use Rattle.lexical.proofs.NumberLemmas.{looks_suffix}
-use Rattle.lexical.proofs.IntegerLemmas.{number_before_stop}
+use Rattle.grammar_laws.proofs.StableLemmas.{least, Stable, ends_after, Looks, stable}
+use Rattle.grammar_laws.proofs.NumberLemmas.{looks_suffix}
+use Rattle.grammar_laws.proofs.IntegerLemmas.{number_before_stop}
 
 -- ---- literals where a text that goes on with no identifier takes the place of what follows
 

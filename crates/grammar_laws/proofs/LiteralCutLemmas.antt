@@ -16,12 +16,12 @@ use Rattle.lexical.specs.Piece.{Piece}
 use Rattle.lexical.specs.Cover.{onto, StandBefore}
 use Rattle.lexical.specs.Quiet.{ends_quiet}
 use Rattle.lexical.proofs.QuotedLemmas.{stops, stop_ends}
-use Rattle.lexical.proofs.StableLemmas.{sub_one, sub_either, anew, Stable, stops_within, fronts_compared, all_append, all_in, stable}
-use Rattle.lexical.proofs.NumberLemmas.{goes_on, continue_goes_on, digits_continue, letter_continues, stable_end, on_digits, stable_digits, stable_exponent, Dotted, exponent_front, none_moved, float_moved}
-use Rattle.lexical.proofs.IntegerLemmas.{number_moved, number_cut, stop_is_calm}
-use Rattle.lexical.proofs.LiteralLemmas.{quoted_stable}
-use Rattle.lexical.proofs.QuietLemmas.{HasDead, onto_split, quiet_end}
-use Rattle.lexical.proofs.DigitLemmas.{quiet_longer, number_last, behind_dot}
+use Rattle.grammar_laws.proofs.StableLemmas.{sub_one, sub_either, anew, Stable, stops_within, fronts_compared, all_append, all_in, stable}
+use Rattle.grammar_laws.proofs.NumberLemmas.{goes_on, continue_goes_on, digits_continue, letter_continues, stable_end, on_digits, stable_digits, stable_exponent, Dotted, exponent_front, none_moved, float_moved}
+use Rattle.grammar_laws.proofs.IntegerLemmas.{number_moved, number_cut, stop_is_calm}
+use Rattle.grammar_laws.proofs.LiteralLemmas.{quoted_stable}
+use Rattle.grammar_laws.proofs.QuietLemmas.{HasDead, onto_split, quiet_end}
+use Rattle.grammar_laws.proofs.DigitLemmas.{quiet_longer, number_last, behind_dot}
 
 -- ---- no float stands newly
 

@@ -19,7 +19,7 @@ use Rattle.lexical.proofs.ClassLemmas.{any_of}
 use Rattle.lexical.proofs.QuotedLemmas.{stops, stop_ends, stop_out}
 use Rattle.lexical.proofs.NameFinderLemmas.{named_start, follows_at, follows_complete}
 use Rattle.lexical.proofs.PieceLemmas.{letter_start, found_complete}
-use Rattle.lexical.proofs.StableLemmas.{stable}
+use Rattle.grammar_laws.proofs.StableLemmas.{stable}
 
 -- ---- stops
 

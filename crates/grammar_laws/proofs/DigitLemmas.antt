@@ -23,9 +23,9 @@ use Rattle.lexical.proofs.ClassLemmas.{start_digit}
 use Rattle.lexical.proofs.NumberFinderLemmas.{finds_number}
 use Rattle.lexical.proofs.PieceLemmas.{from_start, found_complete, one_piece}
 use Rattle.lexical.proofs.PieceFacts.{piece_shortens}
-use Rattle.lexical.proofs.NameLemmas.{tagged_is}
-use Rattle.lexical.proofs.StableLemmas.{fronts_compared, passes_at}
-use Rattle.lexical.proofs.IntegerLemmas.{on_integer_end, number_ends}
+use Rattle.grammar_laws.proofs.NameLemmas.{tagged_is}
+use Rattle.grammar_laws.proofs.StableLemmas.{fronts_compared, passes_at}
+use Rattle.grammar_laws.proofs.IntegerLemmas.{on_integer_end, number_ends}
 
 -- ---- digits
 

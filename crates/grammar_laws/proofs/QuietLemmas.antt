@@ -13,11 +13,12 @@ use Rattle.lexical.specs.Literal as literals
 use Rattle.lexical.specs.Piece.{Kind, Piece, FrontMark, Gap, Doc, Open, Close, Leaf, IsPiece}
 use Rattle.lexical.specs.Cover.{onto, StandBefore}
 use Rattle.lexical.specs.Quiet.{is_quiet, ends_quiet}
+use Rattle.lexical.proofs.ClassLemmas.{Sub, sub_listed}
 use Rattle.lexical.proofs.CommentKindLemmas.{comment_first}
 use Rattle.lexical.proofs.NumberFinderLemmas.{number_first}
-use Rattle.lexical.proofs.NumberLemmas.{goes_on}
+use Rattle.grammar_laws.proofs.NumberLemmas.{goes_on}
 use Rattle.lexical.proofs.PieceFacts.{open_is, close_is}
-use Rattle.lexical.proofs.StableLemmas.{Sub, sub_one, sub_either, sub_listed, sub_between, misses}
+use Rattle.grammar_laws.proofs.StableLemmas.{sub_one, sub_either, sub_between, misses}
 
 -- ---- a character with which no number goes on
 

@@ -1,6 +1,6 @@
 -- Rules that keep their pieces where what follows them becomes something else.
 use Rattle.std.proofs.Common.{◌≡◌, ◌⊎◌, ℕ, ◌≤◌, ◌+◌, zero, suc, min, Bool, true, false, ◌||◌, ◌&&◌, ◌==◌, ◌<◌, ◌-◌, nat_lt, ltb-true, List, [], ◌∷◌, ◌++◌, length, drop, refl, sym, ap, ap₂, ◌∙◌, subst, arith, inl, inr, append_assoc, length-append, eqb-true}
-use Rattle.std.specs.List.{list_all, list_any, concat}
+use Rattle.std.specs.List.{list_all, concat}
 use Rattle.std.proofs.Math.Nat.{min-le_left, min-le_right}
 use Rattle.std.proofs.lemmas.Bool.{both_ways, and_parts, and_from, and_left, and_right, or_cases, false_from_ne_true, agree_below, agree_below_at}
 use Rattle.std.proofs.lemmas.List.Folds.{list_all-append}
@@ -10,26 +10,16 @@ use Rattle.lexical.specs.Rule as rules
 use Rattle.lexical.specs.Rule.{Rule, Stands}
 use Rattle.lexical.specs.Finder.{while_front, while_rest}
 use Rattle.lexical.proofs.TextLemmas.{any_after}
+use Rattle.lexical.proofs.ClassLemmas.{Sub}
 use Rattle.lexical.proofs.FinderLemmas.{finds_run}
 
 -- ---- classes
-
--- one class of characters is in another
-abbrev pub Sub : (ℕ → Bool) → (ℕ → Bool) → Type 0
-Sub passes class = (c : ℕ) → passes c ≡ true → class c ≡ true
 
 pub sub_one : (class : ℕ → Bool) (n : ℕ) → class n ≡ true → Sub (λ c. c == n) class
 sub_one class n is c e = ap class (eqb-true c n e) ∙ is
 
 pub sub_either : (passes others class : ℕ → Bool) → Sub passes class → Sub others class → Sub (λ c. passes c || others c) class
 sub_either passes others class one other c is = elim (or_cases (passes c) (others c) is) [ inl x ↦ one c x | inr y ↦ other c y ]
-
--- the characters of a list
-pub sub_listed : (class : ℕ → Bool) (ds : List ℕ) → list_all class ds ≡ true → Sub (λ c. list_any (λ d. d == c) ds) class
-sub_listed class [] all c any = absurd (both_ways _ refl any)
-sub_listed class (d ∷ ds) all c any =
-    let parts = and_parts _ _ all in
-    elim (or_cases _ _ any) [ inl here ↦ ap class (sym (eqb-true d c here)) ∙ parts.0 | inr there ↦ sub_listed class ds parts.1 c there ]
 
 -- a range of characters
 pub sub_between : (class : ℕ → Bool) (low high : ℕ) → agree_below (λ k. class (1 + low + k)) (λ k. true) (high - (1 + low)) ≡ true

@@ -1,0 +1,12 @@
+pub mod StableLemmas
+pub mod CommentLemmas
+pub mod NumberLemmas
+pub mod IntegerLemmas
+pub mod LiteralLemmas
+pub mod NameLemmas
+pub mod LiteralFrontLemmas
+pub mod QuotableLemmas
+pub mod QuietLemmas
+pub mod DigitLemmas
+pub mod LiteralCutLemmas
+pub mod LeafLaws
