@@ -1,49 +1,75 @@
 -- Examples of pieces, by computation.
-use Rattle.std.proofs.Common.{true, false, inl, inr, [], ◌∷◌, codes, refl}
+use Prim.Native.String.{String}
+use Rattle.std.proofs.Common.{◌≡◌, Bool, true, false, List, ℕ, [], ◌∷◌, ◌++◌, codes, Some, None, refl}
+use Rattle.std.specs.List.{AllByRecursion}
 use Rattle.std.proofs.lemmas.Bool.{both_ways}
 use Rattle.unicode_ident.proofs.Computing.{unicode_ident}
 use Rattle.lexical.specs.Class.{is_ident_continue}
 use Rattle.lexical.specs.Token.{Name, Mark, Literal}
-use Rattle.lexical.specs.Piece.{FrontMark, Gap, Doc, Open, Close, Leaf, IsPiece, HasNoPiece}
+use Rattle.lexical.specs.Piece.{Kind, FrontMark, Gap, Doc, Open, Close, Leaf, IsPiece, HasNoPiece}
 use Rattle.lexical.specs.Block.{find_ends}
 use Rattle.lexical.specs.Finder.{find_many}
 use Rattle.lexical.specs.Rule.{find}
 use Rattle.lexical.specs.PieceFinder.{found}
 use Rattle.lexical.proofs.PieceLemmas.{piece_from_found, none_from_found}
 
--- a space is a gap
-space : IsPiece false Gap (codes " ") (codes " a")
-space = inl (32, refl, refl)
+-- a text that is a piece of a kind before another, and a text that no piece begins
+pub data Example : Type 0 where
+  Piece : Kind → String → String → Example
+  NoPiece : String → Example
 
--- so is U+200E
-left_to_right_mark : IsPiece false Gap (0x200E ∷ []) []
-left_to_right_mark = inl (0x200E, refl, refl)
+abbrev pub Holds : Example → Type 0
+Holds (Piece kind p r) = IsPiece false kind (codes p) (codes r)
+Holds (NoPiece text) = HasNoPiece false (codes text)
 
--- `+` before `=` is Joint
-joint : IsPiece false (Leaf (Mark 43 true)) (codes "+") (codes "=")
-joint = (refl, inl (((43, refl, refl), refl), refl))
+-- what is found there computes to that
+abbrev pub Computes : Example → Type 0
+Computes (Piece kind p r) = found false (codes p ++ codes r) ≡ Some (kind, codes p, codes r)
+Computes (NoPiece text) = found false (codes text) ≡ None
 
--- `+` before a comment is not
-before_comment : IsPiece false (Leaf (Mark 43 false)) (codes "+") (codes "/**/-")
-before_comment = (refl, inl (((43, refl, refl), refl), refl))
+pub record AllHold (examples : List Example) : Type 0 where
+  pub each : AllByRecursion Holds examples
 
--- `~` before a space is not
-before_space : IsPiece false (Leaf (Mark 126 false)) (codes "~") (codes " // c")
-before_space = (refl, inl (((126, refl, refl), refl), refl))
+each_holds : (examples : List Example) → AllByRecursion Computes examples → AllByRecursion Holds examples
+each_holds [] each = tt
+each_holds (Piece kind p r ∷ more) each = ((piece_from_found false _ _ _ kind each.0).1, each_holds more each.1)
+each_holds (NoPiece text ∷ more) each = (none_from_found false _ each.0, each_holds more each.1)
 
--- `+` before `'` is Joint, whatever stands there
-before_quote : IsPiece false (Leaf (Mark 43 true)) (codes "+") (codes "'b'")
-before_quote = (refl, inl (((43, refl, refl), refl), refl))
+pub computed : (examples : List Example) → AllByRecursion Computes examples → AllHold examples
+computed examples each = record { each = each_holds examples each }
 
--- an identifier ends before a mark
-name_before_mark : IsPiece false (Leaf (Name false (codes "a"))) (codes "a") (codes "+")
+-- the examples of names, of marks with whether they are Joint, and of literals
+abbrev pub name : Bool → String → String → String → Example
+name raw text p r = Piece (Leaf (Name raw (codes text))) p r
+
+abbrev pub mark : ℕ → Bool → String → String → Example
+mark c joint p r = Piece (Leaf (Mark c joint)) p r
+
+abbrev pub literal : String → String → Example
+literal p r = Piece (Leaf (Literal (codes p))) p r
+
+-- a space, and U+200E
+gaps : AllHold (Piece Gap " " " a" ∷ Piece Gap "\u{200e}" "" ∷ [])
+unfolding unicode_ident found find
+gaps = computed _ assumption
+
+marks : AllHold (
+    mark 43 true "+" "="
+    -- none is Joint before a comment or a space
+    ∷ mark 43 false "+" "/**/-"
+    ∷ mark 126 false "~" " // c"
+    -- and each is before `'`, whatever stands there
+    ∷ mark 43 true "+" "'b'"
+    ∷ [])
+unfolding unicode_ident found find
+marks = computed _ assumption
+
+-- ---- identifiers
+
+-- one ends before a mark, and may begin with a letter past ASCII
+names : AllHold (name false "a" "a" "+" ∷ name false "é" "é" "(" ∷ [])
 unfolding unicode_ident found find find_many
-name_before_mark = (piece_from_found false (codes "a+") (codes "a") (codes "+") (Leaf (Name false (codes "a"))) refl).1
-
--- a letter past ASCII
-letter_past_ascii : IsPiece false (Leaf (Name false (0xE9 ∷ []))) (0xE9 ∷ []) (codes "(")
-unfolding unicode_ident found find find_many
-letter_past_ascii = (piece_from_found false (0xE9 ∷ codes "(") (0xE9 ∷ []) (codes "(") (Leaf (Name false (0xE9 ∷ []))) refl).1
+names = computed _ assumption
 
 -- a front of a name is none
 not_a_front : IsPiece false (Leaf (Name false (codes "a"))) (codes "a") (codes "b") → ⊥
@@ -51,185 +77,89 @@ unfolding unicode_ident
 not_a_front h = both_ways (is_ident_continue 98) h.1.0.0.second.stops refl
 
 -- nothing stands where a literal with letters only begins, nor at the end
-byte_string : HasNoPiece false (codes "b\"")
+no_names : AllHold (NoPiece "b\"" ∷ NoPiece "" ∷ [])
 unfolding unicode_ident found find find_many
-byte_string = none_from_found false (codes "b\"") refl
+no_names = computed _ assumption
 
-end : HasNoPiece false []
-unfolding found
-end = none_from_found false [] refl
-
--- ---- raw identifiers
-
-raw_name : IsPiece false (Leaf (Name true (codes "a"))) (codes "r#a") (codes "+")
+raw_names : AllHold (
+    name true "a" "r#a" "+"
+    ∷ name true "dyn" "r#dyn" ""
+    -- the prefixes are asked of the whole text, and not of the name after `r#`
+    ∷ name true "b" "r#b" "\"x\""
+    ∷ NoPiece "r#_"
+    ∷ NoPiece "r#1"
+    ∷ NoPiece "r#self"
+    ∷ NoPiece "br#"
+    ∷ NoPiece "r##"
+    ∷ [])
 unfolding unicode_ident found find find_many
-raw_name = (piece_from_found false (codes "r#a+") (codes "r#a") (codes "+") (Leaf (Name true (codes "a"))) refl).1
+raw_names = computed _ assumption
 
-raw_keyword : IsPiece false (Leaf (Name true (codes "dyn"))) (codes "r#dyn") []
+lone_quotes : AllHold (
+    mark 39 true "'" "a "
+    ∷ mark 39 true "'" "_"
+    ∷ mark 39 true "'" "r#prefix#lifetime"
+    -- the identifier after it is read without the prefixes
+    ∷ mark 39 true "'" "b\"x\""
+    -- and is none where `r#` begins and no raw one stands
+    ∷ NoPiece "'r#1"
+    ∷ NoPiece "' a"
+    ∷ NoPiece "'prefix#lifetime"
+    ∷ NoPiece "'br#\"x\"#"
+    ∷ NoPiece "'aa'bb"
+    ∷ NoPiece "'r#gen'a"
+    ∷ [])
 unfolding unicode_ident found find find_many
-raw_keyword = (piece_from_found false (codes "r#dyn") (codes "r#dyn") [] (Leaf (Name true (codes "dyn"))) refl).1
-
--- the prefixes are asked of the whole text, and not of the name after `r#`
-raw_before_string : IsPiece false (Leaf (Name true (codes "b"))) (codes "r#b") (codes "\"x\"")
-unfolding unicode_ident found find find_many
-raw_before_string = (piece_from_found false (codes "r#b\"x\"") (codes "r#b") (codes "\"x\"") (Leaf (Name true (codes "b"))) refl).1
-
-raw_underscore : HasNoPiece false (codes "r#_")
-unfolding unicode_ident found find find_many
-raw_underscore = none_from_found false (codes "r#_") refl
-
-raw_digit : HasNoPiece false (codes "r#1")
-unfolding unicode_ident found find find_many
-raw_digit = none_from_found false (codes "r#1") refl
-
-raw_self : HasNoPiece false (codes "r#self")
-unfolding unicode_ident found find find_many
-raw_self = none_from_found false (codes "r#self") refl
-
-raw_bytes : HasNoPiece false (codes "br#")
-unfolding unicode_ident found find find_many
-raw_bytes = none_from_found false (codes "br#") refl
-
-two_hashes : HasNoPiece false (codes "r##")
-unfolding unicode_ident found find find_many
-two_hashes = none_from_found false (codes "r##") refl
-
--- ---- lone quotes
-
-before_name : IsPiece false (Leaf (Mark 39 true)) (codes "'") (codes "a ")
-unfolding unicode_ident found find find_many
-before_name = (piece_from_found false (codes "'a ") (codes "'") (codes "a ") (Leaf (Mark 39 true)) refl).1
-
-before_underscore : IsPiece false (Leaf (Mark 39 true)) (codes "'") (codes "_")
-unfolding unicode_ident found find find_many
-before_underscore = (piece_from_found false (codes "'_") (codes "'") (codes "_") (Leaf (Mark 39 true)) refl).1
-
-before_raw_name : IsPiece false (Leaf (Mark 39 true)) (codes "'") (codes "r#prefix#lifetime")
-unfolding unicode_ident found find find_many
-before_raw_name = (piece_from_found false (codes "'r#prefix#lifetime") (codes "'") (codes "r#prefix#lifetime") (Leaf (Mark 39 true)) refl).1
-
--- the identifier after it is read without the prefixes
-before_byte_string : IsPiece false (Leaf (Mark 39 true)) (codes "'") (codes "b\"x\"")
-unfolding unicode_ident found find find_many
-before_byte_string = (piece_from_found false (codes "'b\"x\"") (codes "'") (codes "b\"x\"") (Leaf (Mark 39 true)) refl).1
-
--- and is none where `r#` begins and no raw one stands
-before_raw_digit : HasNoPiece false (codes "'r#1")
-unfolding unicode_ident found find find_many
-before_raw_digit = none_from_found false (codes "'r#1") refl
-
-quote_before_space : HasNoPiece false (codes "' a")
-unfolding unicode_ident found find find_many
-quote_before_space = none_from_found false (codes "' a") refl
-
-name_before_hash : HasNoPiece false (codes "'prefix#lifetime")
-unfolding unicode_ident found find find_many
-name_before_hash = none_from_found false (codes "'prefix#lifetime") refl
-
-bytes_before_hash : HasNoPiece false (codes "'br#\"x\"#")
-unfolding unicode_ident found find find_many
-bytes_before_hash = none_from_found false (codes "'br#\"x\"#") refl
-
-name_before_quote : HasNoPiece false (codes "'aa'bb")
-unfolding unicode_ident found find find_many
-name_before_quote = none_from_found false (codes "'aa'bb") refl
-
-raw_name_before_quote : HasNoPiece false (codes "'r#gen'a")
-unfolding unicode_ident found find find_many
-raw_name_before_quote = none_from_found false (codes "'r#gen'a") refl
+lone_quotes = computed _ assumption
 
 -- ---- delimiters
 
 -- an opener stands, but where `(/*ERROR*/)` begins that literal
-opener : IsPiece false (Open 40) (codes "(") (codes "/*ERROR*/ )")
-opener = ((40, refl, refl), refl)
-
-error_literal : IsPiece false (Leaf (Literal (codes "(/*ERROR*/)"))) (codes "(/*ERROR*/)") (codes "x")
-error_literal = (refl, inr refl)
-
-closer : IsPiece false (Close 125) (codes "}") []
-closer = (125, refl, refl)
+delimiters : AllHold (
+    Piece (Open 40) "(" "/*ERROR*/ )"
+    ∷ literal "(/*ERROR*/)" "x"
+    ∷ Piece (Close 125) "}" ""
+    ∷ [])
+unfolding unicode_ident found find
+delimiters = computed _ assumption
 
 -- ---- the front mark
 
-front_mark : IsPiece true FrontMark (0xFEFF ∷ []) (codes "a")
+front_mark : IsPiece true FrontMark (codes "\u{feff}") (codes "a")
 front_mark = (refl, refl)
 
-no_front_mark : HasNoPiece false (0xFEFF ∷ codes "a")
-unfolding unicode_ident found find find_many
-no_front_mark = none_from_found false (0xFEFF ∷ codes "a") refl
+no_front_mark : AllHold (NoPiece "\u{feff}a" ∷ [])
+unfolding unicode_ident found find
+no_front_mark = computed _ assumption
 
--- ---- comments that are gaps
+-- ---- comments
 
-line : IsPiece false Gap (codes "// a\r") (codes "\nb")
-unfolding unicode_ident found find find_many
-line = (piece_from_found false (codes "// a\r\nb") (codes "// a\r") (codes "\nb") Gap refl).1
-
-four_slashes : IsPiece false Gap (codes "////") []
-unfolding unicode_ident found find find_many
-four_slashes = (piece_from_found false (codes "////") (codes "////") [] Gap refl).1
-
-four_slashes_and_return : IsPiece false Gap (codes "////\r") []
-unfolding unicode_ident found find find_many
-four_slashes_and_return = (piece_from_found false (codes "////\r") (codes "////\r") [] Gap refl).1
-
-empty_block : IsPiece false Gap (codes "/**/") []
+plain_comments : AllHold (
+    Piece Gap "// a\r" "\nb"
+    ∷ Piece Gap "////" ""
+    ∷ Piece Gap "////\r" ""
+    ∷ Piece Gap "/**/" ""
+    ∷ Piece Gap "/***/" "x"
+    ∷ Piece Gap "/*** a\r*/" ""
+    ∷ Piece Gap "/* /**/ */" "*/"
+    ∷ [])
 unfolding unicode_ident found find find_many find_ends
-empty_block = (piece_from_found false (codes "/**/") (codes "/**/") [] Gap refl).1
+plain_comments = computed _ assumption
 
-star_block : IsPiece false Gap (codes "/***/") (codes "x")
+-- block comments that do not end
+unclosed : AllHold (NoPiece "/*/" ∷ NoPiece "/*/*/" ∷ NoPiece "/* /* */ x" ∷ [])
 unfolding unicode_ident found find find_many find_ends
-star_block = (piece_from_found false (codes "/***/x") (codes "/***/") (codes "x") Gap refl).1
+unclosed = computed _ assumption
 
-stars_and_return : IsPiece false Gap (codes "/*** a\r*/") []
+doc_comments : AllHold (
+    Piece (Doc false (codes " d")) "/// d\r" "\n"
+    ∷ Piece (Doc true (codes " doc")) "//! doc" ""
+    ∷ Piece (Doc false (codes "\r\n")) "/**\r\n*/" ""
+    ∷ Piece (Doc true []) "/*!*/" ""
+    -- a bare CR in what would be their text
+    ∷ NoPiece "///\r"
+    ∷ NoPiece "///\r\r\n"
+    ∷ NoPiece "/** a\r*/"
+    ∷ [])
 unfolding unicode_ident found find find_many find_ends
-stars_and_return = (piece_from_found false (codes "/*** a\r*/") (codes "/*** a\r*/") [] Gap refl).1
-
-nested : IsPiece false Gap (codes "/* /**/ */") (codes "*/")
-unfolding unicode_ident found find find_many find_ends
-nested = (piece_from_found false (codes "/* /**/ */*/") (codes "/* /**/ */") (codes "*/") Gap refl).1
-
--- ---- block comments that do not end
-
-half_closed : HasNoPiece false (codes "/*/")
-unfolding unicode_ident found find find_many find_ends
-half_closed = none_from_found false (codes "/*/") refl
-
-overlapping : HasNoPiece false (codes "/*/*/")
-unfolding unicode_ident found find find_many find_ends
-overlapping = none_from_found false (codes "/*/*/") refl
-
-unclosed : HasNoPiece false (codes "/* /* */ x")
-unfolding unicode_ident found find find_many find_ends
-unclosed = none_from_found false (codes "/* /* */ x") refl
-
--- ---- doc comments
-
-outer_line : IsPiece false (Doc false (codes " d")) (codes "/// d\r") (codes "\n")
-unfolding unicode_ident found find find_many
-outer_line = (piece_from_found false (codes "/// d\r\n") (codes "/// d\r") (codes "\n") (Doc false (codes " d")) refl).1
-
-inner_line : IsPiece false (Doc true (codes " doc")) (codes "//! doc") []
-unfolding unicode_ident found find find_many
-inner_line = (piece_from_found false (codes "//! doc") (codes "//! doc") [] (Doc true (codes " doc")) refl).1
-
-outer_block : IsPiece false (Doc false (codes "\r\n")) (codes "/**\r\n*/") []
-unfolding unicode_ident found find find_many find_ends
-outer_block = (piece_from_found false (codes "/**\r\n*/") (codes "/**\r\n*/") [] (Doc false (codes "\r\n")) refl).1
-
-inner_block : IsPiece false (Doc true []) (codes "/*!*/") []
-unfolding unicode_ident found find find_many find_ends
-inner_block = (piece_from_found false (codes "/*!*/") (codes "/*!*/") [] (Doc true []) refl).1
-
--- a bare CR in what would be their text
-return_at_end : HasNoPiece false (codes "///\r")
-unfolding unicode_ident found find find_many
-return_at_end = none_from_found false (codes "///\r") refl
-
-two_returns : HasNoPiece false (codes "///\r\r\n")
-unfolding unicode_ident found find find_many
-two_returns = none_from_found false (codes "///\r\r\n") refl
-
-return_in_block : HasNoPiece false (codes "/** a\r*/")
-unfolding unicode_ident found find find_many find_ends
-return_in_block = none_from_found false (codes "/** a\r*/") refl
+doc_comments = computed _ assumption
