@@ -1,8 +1,8 @@
 -- Classes of characters among the bytes of a text.
-use Rattle.std.proofs.Common.{◌≡◌, ℕ, ◌+◌, ◌<◌, ◌≤◌, Bool, true, false, List, [], ◌∷◌, ◌++◌, length, take, drop, refl, sym, ap, ◌∙◌, subst, arith, inl, inr, length-append, Some, None}
+use Rattle.std.proofs.Common.{◌≡◌, ℕ, ◌+◌, ◌<◌, ◌≤◌, Bool, true, false, List, [], ◌∷◌, ◌++◌, length, take, drop, refl, sym, ap, ◌∙◌, subst, arith, length-append, Some, None}
 use Rattle.std.specs.List.{list_all}
 use Rattle.std.specs.Str.{chars, IsUtf8, IsCharBoundary}
-use Rattle.std.proofs.lemmas.Bool.{agree_below_at, agree_below, and_left, and_parts, and_from, le-ltb, cond-true, cases_Bool}
+use Rattle.std.proofs.lemmas.Bool.{agree_below_at, agree_below, and_left, and_parts, and_from, false_from_ne_true, le-ltb, cond-true}
 use Rattle.lexical.specs.Ascii.{all_ascii}
 use Rattle.lexical.specs.Bytes.{ascii_in, has_kind, is_in}
 use Rattle.lexical.specs.Text.{first_passes}
@@ -83,10 +83,8 @@ past_one class at end to goes h =
 none_stands : (test : ℕ → Bool) (text : List ℕ) → find (One test) text ≡ None → first_passes test text ≡ false
 unfolding find
 none_stands test [] none = refl
-none_stands test (c ∷ text) none = elim (cases_Bool (test c)) [
-  | inl on ↦ let clash : ◌≡◌ {A = Answer} (Some (c ∷ [], text)) None = sym (cond-true _ _ _ on) ∙ none in cc
-  | inr off ↦ off
-]
+none_stands test (c ∷ text) none =
+    false_from_ne_true _ (λ on. let clash : ◌≡◌ {A = Answer} (Some (c ∷ [], text)) None = sym (cond-true _ _ _ on) ∙ none in cc)
 
 pub past_all : (class : Class) (at end : Cursor) → GoesOn (is_in class) at end → find (One (is_in class)) (chars end.rest.now) ≡ None → Passes (Run (is_in class)) at end
 past_all class at end goes none = run_stop (is_in class) at end goes (none_stands (is_in class) (chars end.rest.now) none)

@@ -1,8 +1,9 @@
 -- Classes of characters: on ASCII, and which are apart.
-use Rattle.std.proofs.Common.{◌≡◌, ℕ, ◌<◌, ◌⊎◌, Bool, true, false, cond, ◌||◌, ◌&&◌, ◌==◌, List, [], ◌∷◌, codes, refl, sym, ap, arith, ◌∙◌, subst, inl, inr, eqb-true, eq-eqb}
+use Rattle.std.proofs.Common.{◌≡◌, ℕ, ◌<◌, ◌⊎◌, Bool, true, false, cond, ◌||◌, ◌&&◌, ◌==◌, List, [], ◌∷◌, codes, refl, sym, ap, arith, ◌∙◌, subst, inl, inr, eqb-true}
+use Rattle.std.specs.Prelude.{if◌then◌else◌}
 use Rattle.std.specs.List.{list_all, list_any, AllByRecursion}
 use Rattle.std.specs.Char.{is_ascii_alphabetic, is_ascii_alphanumeric, is_ascii_digit}
-use Rattle.std.proofs.lemmas.Bool.{both_ways, and_parts, or_cases, or_parts, or_from, and_left, false_from_ne_true, not-true, agree_below_at, cond-true, cond-false, cond_both}
+use Rattle.std.proofs.lemmas.Bool.{both_ways, cases_Bool, and_parts, or_cases, or_parts, or_from, and_left, false_from_ne_true, not-true, agree_below_at, cond-true, cond-false, cond_both}
 use Rattle.unicode_ident.proofs.Computing.{unicode_ident}
 use Rattle.unicode_ident.proofs.IdentLemmas.{is_xid_continue-ascii}
 use Rattle.lexical.specs.Class.{is_white, is_ident_start, is_ident_continue}
@@ -48,11 +49,10 @@ sub_listed class (d ∷ ds) all c any =
 pub start_white : (c : ℕ) → is_white c ≡ true → start c ≡ starts.White
 start_white c white = cond-true _ _ _ white
 
-pub letter_is_not_white : (c : ℕ) → is_ident_start c ≡ true → is_white c ≡ false
-letter_is_not_white c letter = not-true _ (and_parts _ _ (and_parts _ _ letter).0).1
-
 pub start_letter : (c : ℕ) → is_ident_start c ≡ true → start c ≡ starts.Letter
-start_letter c letter = cond-false _ _ _ (letter_is_not_white c letter) ∙ cond-true _ _ _ letter
+start_letter c letter =
+    let other : is_white c ≡ false = not-true _ (and_parts _ _ (and_parts _ _ letter).0).1 in
+    cond-false _ _ _ other ∙ cond-true _ _ _ letter
 
 -- a digit is ASCII
 pub digit_below : (c : ℕ) → is_ascii_digit c ≡ true → c < 128
@@ -76,26 +76,19 @@ pub start_closer : (c : ℕ) → is_closer c ≡ true → start c ≡ starts.Clo
 unfolding unicode_ident
 start_closer c h = any_of (λ d. start d ≡ starts.Closer) (codes ")]}") c (refl, (refl, (refl, tt))) h
 
--- the class of a mark
-abbrev HasMarkClass : ℕ → Type 0
-HasMarkClass d = (start d ≡ starts.Mark) ⊎ ((start d ≡ starts.Slash) ⊎ (d ≡ 39))
-
-last_marks : AllByRecursion HasMarkClass (codes "+|;:,<.>/?'")
-unfolding unicode_ident
-last_marks =
-    (inl refl, (inl refl, (inl refl, (inl refl, (inl refl, (inl refl, (inl refl, (inl refl, (inr (inl refl), (inl refl, (inr (inr refl), tt)))))))))))
-
-all_marks : AllByRecursion HasMarkClass marks
-unfolding unicode_ident
-all_marks =
-    (inl refl, (inl refl, (inl refl, (inl refl, (inl refl, (inl refl, (inl refl, (inl refl, (inl refl, (inl refl, (inl refl, last_marks)))))))))))
+-- how a piece starts with a mark
+abbrev mark_start : ℕ → Start
+mark_start c = if c == 47 then starts.Slash else if c == 39 then starts.Quote else starts.Mark
 
 -- a mark, but `'`
 pub start_mark : (c : ℕ) → is_mark c ≡ true → (c == 39) ≡ false → (start c ≡ starts.Mark) ⊎ (start c ≡ starts.Slash)
-start_mark c h plain = elim (any_of HasMarkClass marks c all_marks h) [
-  | inl mark ↦ inl mark
-  | inr more ↦ elim more [ inl slash ↦ inr slash | inr quote ↦ absurd (both_ways _ plain (eq-eqb c 39 quote)) ]
-]
+unfolding unicode_ident
+start_mark c h plain =
+    let is : start c ≡ mark_start c = any_of (λ d. start d ≡ mark_start d) marks c (assumption) h in
+    elim (cases_Bool (c == 47)) [
+      | inl slash ↦ inr (is ∙ cond-true _ _ _ slash)
+      | inr other ↦ inl (is ∙ (cond-false _ _ _ other ∙ cond-false _ _ _ plain))
+    ]
 
 pub start_slash : start 47 ≡ starts.Slash
 unfolding unicode_ident

@@ -84,9 +84,7 @@ raw_prefixed : (kind : StringKind) (text : List ℕ) → begins_any raw_fronts t
 raw_prefixed kind text h =
     begins_each (λ t. begins_any literal_prefixes (raw_front kind ++ t) ≡ true) raw_fronts text h
     (each_kind (λ k. AllByRecursion (λ f. (rest : List ℕ) → begins_any literal_prefixes (raw_front k ++ (f ++ rest)) ≡ true) raw_fronts)
-    (λ rest. refl, (λ rest. refl, (λ rest. refl, tt)))
-    (λ rest. refl, (λ rest. refl, (λ rest. refl, tt)))
-    (λ rest. refl, (λ rest. refl, (λ rest. refl, tt))) kind)
+    (assumption) (assumption) (assumption) kind)
 
 raw_starts : (kind : StringKind) (p r : List ℕ) → Stands (raw_string kind) p r → StartsLetter (p ++ r)
 raw_starts kind p r h =

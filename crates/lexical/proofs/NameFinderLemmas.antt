@@ -41,11 +41,6 @@ named_start false name r h = ap (first_passes is_ident_start) (ap (λ x. x ++ r)
 
 -- ---- what follows a lone quote
 
-unbarred_follows : (raw : Bool) (p r : List ℕ) → Stands (unbarred raw) p r → FollowsQuote (p ++ r)
-unbarred_follows raw p r h =
-    let is = written_named raw p r h.0 in
-    record { raw = raw; name = is.0; rest = r; whole = ap (λ q. q ++ r) is.1 ∙ append_assoc (raw_front raw) is.0 r; named = is.2; unbarred = h.1 }
-
 pub follows_sound : (text : List ℕ) → follows_quote text ≡ true → FollowsQuote text
 follows_sound text =
     let raw = begins_with (codes "r#") text in
@@ -53,7 +48,10 @@ follows_sound text =
   where
     by_cases : (raw : Bool) (o : Answer) → IfSome o (IsSplit (Stands (unbarred raw)) text) → is_some o ≡ true → FollowsQuote text
     by_cases raw None is h = absurd (both_ways _ refl h)
-    by_cases raw (Some x) is h = rw is.0 (unbarred_follows raw x.0 x.1 is.1)
+    by_cases raw (Some x) is h =
+        let named = written_named raw x.0 x.1 is.1.0 in
+        let whole = is.0 ∙ (ap (λ q. q ++ x.1) named.1 ∙ append_assoc (raw_front raw) named.0 x.1) in
+        record { raw = raw; name = named.0; rest = x.1; whole = whole; named = named.2; unbarred = is.1.1 }
 
 -- after an identifier that is found, whatever literal begins there
 pub unbarred_found : (raw : Bool) (text p r : List ℕ) → begins_with (codes "r#") text ≡ raw → find (written raw) text ≡ Some (p, r)

@@ -22,9 +22,6 @@ use Rattle.lexical.proofs.LiteralFinderLemmas.{literal_front}
 
 -- ---- a piece isn't empty
 
-name_not_empty : (p r : List ℕ) → identifiers.Name p r → (c : ℕ) × (q : List ℕ) × (p ≡ c ∷ q)
-name_not_empty p r h = (h.first.0, h.back, h.whole ∙ ap (λ x. x ++ h.back) h.first.1)
-
 pub piece_not_empty : (first : Bool) (k : Kind) (p r : List ℕ) → IsPiece first k p r → (c : ℕ) × (q : List ℕ) × (p ≡ c ∷ q)
 piece_not_empty first FrontMark p r h = (0xFEFF, [], h.1)
 piece_not_empty first Gap p r (inl h) = (h.0, [], h.1)
@@ -34,8 +31,8 @@ piece_not_empty first (Open c) p r h = (h.0.0, [], h.0.1)
 piece_not_empty first (Close c) p r h = (h.0, [], h.1)
 piece_not_empty first (Leaf (Name true name)) p r h = (114, 35 ∷ name, h.0)
 piece_not_empty first (Leaf (Name false name)) p r h =
-    let first_is = name_not_empty name r h.1.0.0 in
-    (first_is.0, first_is.1, h.0 ∙ first_is.2)
+    let is = h.1.0.0 in
+    (is.first.0, is.back, h.0 ∙ (is.whole ∙ ap (λ x. x ++ is.back) is.first.1))
 piece_not_empty first (Leaf (Mark c joint)) p r h = (c, [], h.0)
 piece_not_empty first (Leaf (Literal text)) p r h = elim h.1 [
   | inl literal ↦ let begins = literal_front text r literal in (begins.0, begins.1, h.0 ∙ begins.2)

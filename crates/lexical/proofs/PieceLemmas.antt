@@ -62,22 +62,15 @@ name_piece first true p r h =
     rw is.1 (refl, (is.2, rw is.1 at h.1))
 name_piece first false p r h = (refl, h)
 
-quote_piece : (first : Bool) (p r : List ℕ) → marks.LoneQuote p r → IsPiece first (quote_kind p r) p r
-quote_piece first p r h = (h.0, inr ((refl, h.1), refl))
-
 -- a comment with its kind
-kind_sound : (first : Bool) (text : List ℕ) (x : List ℕ × List ℕ) → IsSplit Comment text x
-    → IfSome (with_kind x (comment_kind x.0 x.1)) (IsTagged first text)
-kind_sound first text x is =
+comment_found_sound : (first : Bool) (text : List ℕ) (o : Answer) → IfSome o (IsSplit Comment text) → IfSome (comment_found o) (IsTagged first text)
+comment_found_sound first text None is = tt
+comment_found_sound first text (Some x) is =
     cond_both (is_doc x.0) _ _ (λ o. IfSome (with_kind x o) (IsTagged first text))
     (λ doc. cond_both (has_bare_return (doc_text x.0 x.1)) _ _ (λ o. IfSome (with_kind x o) (IsTagged first text))
     (λ bare. tt)
     (λ plain. (is.0, doc_from x.0 x.1 is.1 doc plain)))
     (λ plain. (is.0, inr (is.1, not_from_false _ plain)))
-
-comment_found_sound : (first : Bool) (text : List ℕ) (o : Answer) → IfSome o (IsSplit Comment text) → IfSome (comment_found o) (IsTagged first text)
-comment_found_sound first text None is = tt
-comment_found_sound first text (Some x) is = kind_sound first text x is
 
 -- what a rule finds, with its kind
 rule_sound : (first : Bool) (rule : Rule) → Clear rule → (kind : List ℕ → List ℕ → Kind)
@@ -115,7 +108,8 @@ start_sound first starts.Closer text = rule_sound first closer tt closer_kind (�
 start_sound first starts.Slash text = cond_both (begins_any marks.comment_fronts text) _ _ (λ o. IfSome o (IsTagged first text))
     (λ e. comment_found_sound first text (find comment text) (finds_comment.sound text)) (λ e. mark_sound first text)
 start_sound first starts.Quote text =
-    or_sound first text _ _ (tagged_sound first _ quote_kind (quote_piece first) text _ (finds_lone_quote.sound text))
+    or_sound first text _ _
+    (tagged_sound first marks.LoneQuote quote_kind (λ p r h. (h.0, inr ((refl, h.1), refl))) text _ (finds_lone_quote.sound text))
     (quoted_sound first text)
 start_sound first starts.DoubleQuote text = quoted_sound first text
 start_sound first starts.FrontMark text = tagged_sound first _ front_mark_kind (λ p r h. h) text _ ((finds_front_mark first).sound text)

@@ -7,8 +7,8 @@ use Rattle.std.specs.Cmp.Lexicographic.{pointwise}
 use Rattle.std.specs.Prelude.{nat_eq, nat_lt, encode_utf8}
 use Rattle.std.specs.Str.{all_scalars as scalars}
 use Rattle.std.proofs.lemmas.Bool.{both_ways, cases_lt, and_parts, and_from, and_cases, and_left, and_right, or_cases, or_parts, or_from, or_left, or_right, false_from_ne_true}
-use Rattle.std.proofs.lemmas.List.{append_cancel_right, take_at, drop_at}
-use Rattle.std.proofs.lemmas.Str.{chars-encodes, encodes-append, encodes_same, IsCharBoundary-at_seam, chars-append, scalars-chars, IsUtf8-take, encode_ascii, encodes-chars, char_from_byte, length-encode, len_utf8_bounds, length-le-encodes}
+use Rattle.std.proofs.lemmas.List.{take_at, drop_at}
+use Rattle.std.proofs.lemmas.Str.{chars-encodes, encodes-append, encodes_same, IsCharBoundary-at_seam, scalars-chars, encode_ascii, encodes-chars, char_from_byte, length-encode, len_utf8_bounds, length-le-encodes}
 use Rattle.std.proofs.lemmas.Slice.Eq.{bytes_eq-Decides}
 use Rattle.lexical.specs.Text.{begins_with, begins_any, first_passes, ends_with}
 use Rattle.lexical.specs.Ascii.{all_ascii}
@@ -24,27 +24,23 @@ pub all_pass : (test other : ℕ → Bool) → ((c : ℕ) → test c ≡ true �
 all_pass test other part [] h = refl
 all_pass test other part (c ∷ text) h = let parts = and_parts _ _ h in and_from _ _ (part c parts.0) (all_pass test other part text parts.1)
 
-cons_of : (xs : List ℕ) → 1 ≤ length xs → (b : ℕ) × (more : List ℕ) × (xs ≡ b ∷ more)
-cons_of [] h = absurd (omega arith)
-cons_of (b ∷ more) h = (b, more, refl)
-
 -- a character past ASCII begins with a byte past ASCII
 pub first_byte : (d : ℕ) → 128 ≤ d → (b : ℕ) × (more : List ℕ) × (encode_utf8 d ≡ b ∷ more) × (128 ≤ b)
-first_byte d h =
-    let cell = cons_of (encode_utf8 d) (omega (arith, length-encode d, len_utf8_bounds d)) in (
-      cell.0,
-      cell.1,
-      cell.2,
-      elim (cases_lt cell.0 128) [
-        | inl low ↦ absurd (past cell.0 cell.1 cell.2 low)
+first_byte d h = by_bytes (encode_utf8 d) refl
+  where
+    by_bytes : (bytes : List ℕ) → encode_utf8 d ≡ bytes → (b : ℕ) × (more : List ℕ) × (encode_utf8 d ≡ b ∷ more) × (128 ≤ b)
+    by_bytes [] e = absurd (omega (arith, ap length e, length-encode d, len_utf8_bounds d))
+    by_bytes (b ∷ more) e = (
+      b,
+      more,
+      e,
+      elim (cases_lt b 128) [
+        | inl low ↦
+            let same : d ≡ b = char_from_byte (b ∷ more) [] d (sym (append-nil (encode_utf8 d) ∙ e)) low (omega arith) in
+            absurd (omega arith)
         | inr high ↦ high
       ],
     )
-  where
-    past : (b : ℕ) (more : List ℕ) → encode_utf8 d ≡ b ∷ more → b < 128 → ⊥
-    past b more e low =
-        let same : d ≡ b = char_from_byte (b ∷ more) [] d (sym (append-nil (encode_utf8 d) ∙ e)) low (omega arith) in
-        omega arith
 
 apart : (c d : ℕ) (x y : Bool) → c < 128 → 128 ≤ d → ((c == d) && x) ≡ false
 apart c d x y h k = ap (λ b. b && x) (ne_eqb c d (λ e. omega arith))
@@ -76,33 +72,6 @@ encode_all_ascii (c ∷ text) h =
 
 pub ascii_bytes : (front : List ℕ) → all_ascii front ≡ true → length (encode_utf8_all front) ≡ length front
 ascii_bytes front h = ap length (encode_all_ascii front h)
-
--- the bytes of a text and of an end of it
-pub front_bytes : (text rest front : List ℕ) → IsUtf8 text → IsUtf8 rest → chars text ≡ front ++ chars rest → text ≡ encode_utf8_all front ++ rest
-front_bytes text rest front t r e =
-    sym (encodes-chars text t) ∙ (ap encode_utf8_all e
-    ∙ (encodes-append front (chars rest) ∙ ap (λ ys. encode_utf8_all front ++ ys) (encodes-chars rest r)))
-
-pub front_len : (text rest front : List ℕ) → IsUtf8 text → IsUtf8 rest → chars text ≡ front ++ chars rest
-    → length (encode_utf8_all front) + length rest ≡ length text
-front_len text rest front t r e = sym (ap length (front_bytes text rest front t r e) ∙ length-append (encode_utf8_all front) rest)
-
-pub front_boundary : (text rest front : List ℕ) → IsUtf8 text → IsUtf8 rest → chars text ≡ front ++ chars rest
-    → IsCharBoundary text (length text - length rest)
-front_boundary text rest front t r e =
-    let same : length (encode_utf8_all front) ≡ length text - length rest = omega (arith, front_len text rest front t r e) in
-    subst (IsCharBoundary text) same (IsCharBoundary-at_seam text (encode_utf8_all front) rest (front_bytes text rest front t r e) r)
-
-pub front_chars : (text rest front : List ℕ) → IsUtf8 text → IsUtf8 rest → chars text ≡ front ++ chars rest
-    → chars (take (length text - length rest) text) ≡ front
-front_chars text rest front t r e =
-    let bytes = front_bytes text rest front t r e in
-    let same : length (encode_utf8_all front) ≡ length text - length rest = omega (arith, front_len text rest front t r e) in
-    let cut : take (length text - length rest) text ≡ encode_utf8_all front =
-    ap (take (length text - length rest)) bytes ∙ take_at (encode_utf8_all front) rest _ same in
-    let utf8 : IsUtf8 (take (length text - length rest) text) = IsUtf8-take text _ t (front_boundary text rest front t r e) in
-    let whole : text ≡ take (length text - length rest) text ++ rest = bytes ∙ ap (λ xs. xs ++ rest) (sym cut) in
-    append_cancel_right _ _ (chars rest) (sym (ap chars whole ∙ chars-append _ rest utf8) ∙ e)
 
 -- a text is an ASCII one in bytes where it is in characters
 pub ascii_same : (text ascii : List ℕ) → IsUtf8 text → all_ascii ascii ≡ true → pointwise nat_eq text ascii ≡ pointwise nat_eq (chars text) ascii
@@ -149,6 +118,23 @@ pub seam_drop : (text p r : List ℕ) (n : ℕ) → IsUtf8 text → chars text �
 seam_drop text p r n t e is =
     ap chars (ap (drop n) (seam_bytes text p r t e) ∙ drop_at (encode_utf8_all p) (encode_utf8_all r) n (sym is))
     ∙ seam_rest text p r t e
+
+-- a text and an end of it, which follows so many bytes
+pub front_len : (text rest front : List ℕ) → IsUtf8 text → IsUtf8 rest → chars text ≡ front ++ chars rest
+    → length (encode_utf8_all front) + length rest ≡ length text
+front_len text rest front t r e =
+    sym (ap length (seam_bytes text front (chars rest) t e ∙ ap (λ ys. encode_utf8_all front ++ ys) (encodes-chars rest r))
+    ∙ length-append (encode_utf8_all front) rest)
+
+pub front_boundary : (text rest front : List ℕ) → IsUtf8 text → IsUtf8 rest → chars text ≡ front ++ chars rest
+    → IsCharBoundary text (length text - length rest)
+front_boundary text rest front t r e =
+    seam_boundary text front (chars rest) (length text - length rest) t e (omega (arith, front_len text rest front t r e))
+
+pub front_chars : (text rest front : List ℕ) → IsUtf8 text → IsUtf8 rest → chars text ≡ front ++ chars rest
+    → chars (take (length text - length rest) text) ≡ front
+front_chars text rest front t r e =
+    seam_take text front (chars rest) (length text - length rest) t e (omega (arith, front_len text rest front t r e))
 
 -- a text with no characters has no bytes
 pub bytes_from_no_chars : (text : List ℕ) → IsUtf8 text → chars text ≡ [] → length text ≡ 0
