@@ -1,9 +1,9 @@
 -- Classes of characters: on ASCII, and which are apart.
-use Rattle.std.proofs.Common.{◌≡◌, ℕ, ◌<◌, ◌⊎◌, Bool, true, false, cond, ◌||◌, ◌&&◌, ◌==◌, List, [], ◌∷◌, codes, refl, sym, ap, arith, ◌∙◌, subst, inl, inr, eqb-true}
+use Rattle.std.proofs.Common.{◌≡◌, ℕ, ◌<◌, ◌⊎◌, Bool, true, false, not, cond, ◌||◌, ◌==◌, List, [], ◌∷◌, codes, refl, sym, ap, arith, ◌∙◌, subst, inl, inr, eqb-true}
 use Rattle.std.specs.Prelude.{if◌then◌else◌}
 use Rattle.std.specs.List.{list_all, list_any, AllByRecursion}
 use Rattle.std.specs.Char.{is_ascii_alphabetic, is_ascii_alphanumeric, is_ascii_digit}
-use Rattle.std.proofs.lemmas.Bool.{both_ways, cases_Bool, and_parts, or_cases, or_parts, or_from, and_left, false_from_ne_true, not-true, agree_below_at, cond-true, cond-false, cond_both}
+use Rattle.std.proofs.lemmas.Bool.{both_ways, cases_Bool, and_parts, or_cases, or_parts, or_from, and_left, false_from_ne_true, not-true, agree_below, agree_below_at, cond-true, cond-false, cond_both}
 use Rattle.unicode_ident.proofs.Computing.{unicode_ident}
 use Rattle.unicode_ident.proofs.IdentLemmas.{is_xid_continue-ascii}
 use Rattle.lexical.specs.Class.{is_white, is_ident_start, is_ident_continue}
@@ -58,14 +58,16 @@ start_letter c letter =
 pub digit_below : (c : ℕ) → is_ascii_digit c ≡ true → c < 128
 digit_below c h = grind arith
 
-digit_is_other : (c : ℕ) → is_ascii_digit c ≡ true → (is_white c || is_ident_start c) ≡ false
-unfolding unicode_ident
-digit_is_other c digit = sym (ap (λ b. b && (is_white c || is_ident_start c)) digit)
-    ∙ agree_below_at (λ x. is_ascii_digit x && (is_white x || is_ident_start x)) (λ x. false) 128 c refl (digit_below c digit)
+-- what passes each digit
+pub sub_digits : (class : ℕ → Bool) → agree_below (λ x. not (is_ascii_digit x) || class x) (λ x. true) 128 ≡ true → Sub is_ascii_digit class
+sub_digits class all c h =
+    sym (ap (λ b. not b || class c) h) ∙ agree_below_at (λ x. not (is_ascii_digit x) || class x) (λ x. true) 128 c all (digit_below c h)
 
 pub start_digit : (c : ℕ) → is_ascii_digit c ≡ true → start c ≡ starts.Digit
+unfolding unicode_ident
 start_digit c digit =
-    let parts = or_parts (is_white c) (is_ident_start c) (digit_is_other c digit) in
+    let none = sub_digits (λ x. not (is_white x || is_ident_start x)) refl c digit in
+    let parts = or_parts (is_white c) (is_ident_start c) (not-true _ none) in
     cond-false (is_white c) _ _ parts.0 ∙ (cond-false (is_ident_start c) _ _ parts.1 ∙ cond-true (is_ascii_digit c) _ _ digit)
 
 pub start_opener : (c : ℕ) → is_opener c ≡ true → start c ≡ starts.Opener

@@ -1,6 +1,5 @@
 -- How comments begin and end, and what kind of piece they are.
-use Rattle.std.proofs.Common.{◌≡◌, ℕ, Bool, true, false, not, ◌&&◌, ◌-◌, ◌==◌, List, [], ◌∷◌, ◌++◌, codes, length, take, drop, Some, inl, inr, refl, sym, ap, ◌∙◌, arith, append-nil, length-append, eqb-true}
-use Rattle.std.specs.List.{list_all}
+use Rattle.std.proofs.Common.{◌≡◌, ℕ, Bool, true, false, ◌&&◌, ◌-◌, List, [], ◌∷◌, ◌++◌, codes, length, take, drop, Some, inl, inr, refl, sym, ap, ◌∙◌, arith, append-nil, length-append}
 use Rattle.std.specs.Str.{encode_utf8_all}
 use Rattle.std.proofs.Math.Bool.{and-true}
 use Rattle.std.proofs.lemmas.Bool.{both_ways, cond_both, and_parts, or_cases, not-true}
@@ -16,7 +15,7 @@ use Rattle.lexical.specs.CommentKind.{doc_text, comment_kind}
 use Rattle.lexical.specs.Rule.{find}
 use Rattle.lexical.proofs.RuleLemmas.{Clear, exact}
 use Rattle.lexical.proofs.StripLemmas.{last_return}
-use Rattle.lexical.proofs.TextLemmas.{ascii_bytes, begins_splits, ends_splits, ends_over}
+use Rattle.lexical.proofs.TextLemmas.{ascii_bytes, begins_each, ends_splits, ends_over}
 
 -- ---- comments
 
@@ -46,32 +45,24 @@ pub record DocFront (p : List ℕ) : Type 0 where
   pub bytes : 3 ≡ length (encode_utf8_all front)
   pub last : ends_with 13 p ≡ ends_with 13 (drop 3 p)
 
-abbrev is_front : List ℕ → Bool
-is_front front = all_ascii front && (length front == 3) && not (ends_with 13 front)
-
-front_of : (fronts : List (List ℕ)) (p : List ℕ) → list_all is_front fronts ≡ true → begins_any fronts p ≡ true → DocFront p
-front_of [] p all h = absurd (both_ways false refl h)
-front_of (front ∷ fronts) p all h = elim (or_cases (begins_with front p) (begins_any fronts p) h) [
-  | inl begins ↦
-      let split = begins_splits front p begins in
-      let ascii = and_parts _ _ (and_parts _ _ (and_parts _ _ all).0).0 in
-      let three = eqb-true (length front) 3 ascii.1 in
-      let rest : drop 3 p ≡ split.0 = ap (drop 3) split.1 ∙ drop_at front split.0 3 three in
-      record {
-        front = front;
-        whole = split.1 ∙ ap (λ x. front ++ x) (sym rest);
-        three = three;
-        bytes = sym (ascii_bytes front ascii.0 ∙ three);
-        last = ap (ends_with 13) split.1
-            ∙ (ends_over 13 front split.0 (not-true _ (and_parts _ _ (and_parts _ _ all).0).1) ∙ ap (ends_with 13) (sym rest));
-      }
-  | inr more ↦ front_of fronts p (and_parts _ _ all).1 more
-]
+doc_at : (front rest : List ℕ) → drop 3 (front ++ rest) ≡ rest → length front ≡ 3 → all_ascii front ≡ true → ends_with 13 front ≡ false
+    → DocFront (front ++ rest)
+doc_at front rest cut three ascii last = record {
+  front = front;
+  whole = ap (λ x. front ++ x) (sym cut);
+  three = three;
+  bytes = sym (ascii_bytes front ascii ∙ three);
+  last = ends_over 13 front rest last ∙ ap (ends_with 13) (sym cut);
+}
 
 pub doc_front : (p : List ℕ) → is_doc p ≡ true → DocFront p
 doc_front p h = elim (or_cases (is_inner p) _ h) [
-  | inl inner ↦ front_of inner_fronts p refl inner
-  | inr outer ↦ front_of outer_fronts p refl (and_parts _ _ outer).0
+  | inl inner ↦
+      begins_each DocFront inner_fronts p inner
+      (λ r. doc_at (codes "//!") r refl refl refl refl, (λ r. doc_at (codes "/*!") r refl refl refl refl, tt))
+  | inr outer ↦
+      begins_each DocFront outer_fronts p (and_parts _ _ outer).0
+      (λ r. doc_at (codes "///") r refl refl refl refl, (λ r. doc_at (codes "/**") r refl refl refl refl, tt))
 ]
 
 -- ---- how they end

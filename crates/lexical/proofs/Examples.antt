@@ -9,43 +9,44 @@ use Rattle.lexical.specs.Token.{Name, Mark, Literal}
 use Rattle.lexical.specs.Piece.{Kind, FrontMark, Gap, Doc, Open, Close, Leaf, IsPiece, HasNoPiece}
 use Rattle.lexical.specs.Block.{find_ends}
 use Rattle.lexical.specs.Finder.{find_many}
+use Rattle.lexical.specs.Number.{number}
 use Rattle.lexical.specs.Rule.{find}
 use Rattle.lexical.specs.PieceFinder.{found}
 use Rattle.lexical.proofs.PieceLemmas.{piece_from_found, none_from_found}
 
 -- a text that is a piece of a kind before another, and a text that no piece begins
-pub data Example : Type 0 where
+data Example : Type 0 where
   Piece : Kind → String → String → Example
   NoPiece : String → Example
 
-abbrev pub Holds : Example → Type 0
+abbrev Holds : Example → Type 0
 Holds (Piece kind p r) = IsPiece false kind (codes p) (codes r)
 Holds (NoPiece text) = HasNoPiece false (codes text)
 
 -- what is found there computes to that
-abbrev pub Computes : Example → Type 0
+abbrev Computes : Example → Type 0
 Computes (Piece kind p r) = found false (codes p ++ codes r) ≡ Some (kind, codes p, codes r)
 Computes (NoPiece text) = found false (codes text) ≡ None
 
-pub record AllHold (examples : List Example) : Type 0 where
-  pub each : AllByRecursion Holds examples
+record AllHold (examples : List Example) : Type 0 where
+  each : AllByRecursion Holds examples
 
 each_holds : (examples : List Example) → AllByRecursion Computes examples → AllByRecursion Holds examples
 each_holds [] each = tt
 each_holds (Piece kind p r ∷ more) each = ((piece_from_found false _ _ _ kind each.0).1, each_holds more each.1)
 each_holds (NoPiece text ∷ more) each = (none_from_found false _ each.0, each_holds more each.1)
 
-pub computed : (examples : List Example) → AllByRecursion Computes examples → AllHold examples
+computed : (examples : List Example) → AllByRecursion Computes examples → AllHold examples
 computed examples each = record { each = each_holds examples each }
 
 -- the examples of names, of marks with whether they are Joint, and of literals
-abbrev pub name : Bool → String → String → String → Example
+abbrev name : Bool → String → String → String → Example
 name raw text p r = Piece (Leaf (Name raw (codes text))) p r
 
-abbrev pub mark : ℕ → Bool → String → String → Example
+abbrev mark : ℕ → Bool → String → String → Example
 mark c joint p r = Piece (Leaf (Mark c joint)) p r
 
-abbrev pub literal : String → String → Example
+abbrev literal : String → String → Example
 literal p r = Piece (Leaf (Literal (codes p))) p r
 
 -- a space, and U+200E
@@ -163,3 +164,130 @@ doc_comments : AllHold (
     ∷ [])
 unfolding unicode_ident found find find_many find_ends
 doc_comments = computed _ assumption
+
+-- ---- literals between quotes
+
+strings : AllHold (
+    literal "\"a\\n\"" "+"
+    -- the suffix is the longest name, and not `b"`
+    ∷ literal "\"a\"b" "\"x\""
+    -- `"`, a backslash, CR LF, four spaces, `x"`
+    ∷ literal "\"\\\r\n    x\"" ""
+    -- and CR among the spaces
+    ∷ NoPiece "\"\\\r\n  \rx\""
+    -- seven digits, no character, `_` first, no digits
+    ∷ NoPiece "\"\\u{0000000}\""
+    ∷ NoPiece "\"\\u{999999}\""
+    ∷ NoPiece "\"\\u{_0}\""
+    ∷ NoPiece "\"\\u{}\""
+    ∷ [])
+unfolding unicode_ident found find find_many
+strings = computed _ assumption
+
+-- no byte past ASCII, and no zero in a string of C
+bytes_and_c_strings : AllHold (
+    NoPiece "b\"é\""
+    ∷ NoPiece "c\"\\0\""
+    ∷ NoPiece "c\"\\x00\""
+    ∷ NoPiece "c\"\\u{0}\""
+    ∷ [])
+unfolding unicode_ident found find find_many
+bytes_and_c_strings = computed _ assumption
+
+raw_strings : AllHold (
+    literal "cr##\"Hello \"world\"!\"##" ""
+    ∷ literal "r#\"\"#r" ""
+    -- too few hashes
+    ∷ NoPiece "br##\"\"#"
+    ∷ [])
+unfolding unicode_ident found find find_many
+raw_strings = computed _ assumption
+
+single_quotes : AllHold (
+    literal "'\\u{10__FFFF}'" ""
+    ∷ literal "'\\''" ""
+    ∷ literal "' '" ""
+    ∷ literal "b'\\''u8" ""
+    -- what only an escape may give: a quote, a line end, a tab
+    ∷ NoPiece "'''x"
+    ∷ NoPiece "'\n'"
+    ∷ NoPiece "'\r'"
+    ∷ NoPiece "'\t'"
+    ∷ NoPiece "b'''"
+    ∷ NoPiece "b'\n'"
+    ∷ NoPiece "b'\r'"
+    ∷ NoPiece "b'\t'"
+    -- a backslash and a line end give no character
+    ∷ NoPiece "'\\\n'"
+    -- two characters, and a byte past ASCII
+    ∷ NoPiece "'\r\n'"
+    ∷ NoPiece "b'\u{86}'"
+    ∷ [])
+unfolding unicode_ident found find find_many
+single_quotes = computed _ assumption
+
+-- ---- numbers
+
+dots : AllHold (
+    literal "1." ""
+    -- a dot before a name is none of the number
+    ∷ literal "1" ".f32"
+    ∷ literal "1" "._0"
+    ∷ literal "1" "..2"
+    ∷ literal "0.0" ".0"
+    ∷ [])
+unfolding unicode_ident found find number
+dots = computed _ assumption
+
+exponents : AllHold (
+    literal "1_0_.5__e_+_6_f64" " "
+    -- what looks like an exponent is a suffix where no digit follows the sign
+    ∷ literal "1.0e" "+-5"
+    ∷ literal "0E" "--0"
+    ∷ literal "0.0ECMA" ""
+    -- a plain number may have one
+    ∷ literal "1e5" ""
+    ∷ [])
+unfolding unicode_ident found find number
+exponents = computed _ assumption
+
+integers : AllHold (
+    literal "999r" "#u256"
+    ∷ literal "0o0A" ""
+    ∷ literal "0x1e" "+5"
+    ∷ literal "0b1" ".0"
+    -- only a small letter makes a prefix
+    ∷ literal "0X1" ""
+    -- a digit that is too large bars the integer, and it does not fall back to a decimal one
+    ∷ NoPiece "0b12"
+    ∷ NoPiece "0x_"
+    ∷ NoPiece "0xg"
+    ∷ [])
+unfolding unicode_ident found find number
+integers = computed _ assumption
+
+-- before U+0301, which goes on with an identifier and begins none
+accents : AllHold (
+    -- no float stands, and the integer ends before the dot
+    literal "1" ".5́"
+    ∷ NoPiece "5́"
+    -- with an exponent no float stands either, and the suffix of the integer takes all
+    ∷ literal "1e5́" ""
+    -- where an exponent stands it is taken, also where no float stands then
+    ∷ literal "1" ".0e5́"
+    ∷ [])
+unfolding unicode_ident found find number
+accents = computed _ assumption
+
+-- why no line may be broken after a mark or a number
+broken_lines : AllHold (
+    -- `1` and two dots; where the line ends after the first dot, that is the number's
+    literal "1." "\n.2"
+    -- `1`, `.`, `5e`, `+`, and the name `_5` with U+0301
+    ∷ literal "1" ".5e+_5́"
+    ∷ literal "5e" "+_5́"
+    -- where the line ends after `5e`, no exponent stands there and a float does
+    ∷ literal "1.5e" "\n+_5́"
+    ∷ [])
+unfolding unicode_ident found find number
+broken_lines = computed _ assumption

@@ -29,5 +29,3 @@ pub mod AnswerLemmas
 pub mod PieceFacts
 pub mod WalkLemmas
 mod Examples
-mod LiteralExamples
-mod NumberExamples

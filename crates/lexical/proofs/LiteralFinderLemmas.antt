@@ -1,8 +1,7 @@
 -- Literals are found, and how they start.
-use Rattle.std.proofs.Common.{◌≡◌, ℕ, Bool, true, false, not, ◌||◌, ◌==◌, ◌⊎◌, List, [], ◌∷◌, ◌++◌, codes, is_some, Some, None, refl, sym, ap, ◌∙◌, inl, inr, eqb-true}
+use Rattle.std.proofs.Common.{◌≡◌, ℕ, Bool, true, false, not, ◌==◌, ◌⊎◌, List, [], ◌∷◌, ◌++◌, codes, is_some, Some, None, refl, sym, ap, ◌∙◌, inl, inr, eqb-true}
 use Rattle.std.specs.List.{list_all, AllByRecursion}
-use Rattle.std.specs.Char.{is_ascii_digit}
-use Rattle.std.proofs.lemmas.Bool.{both_ways, and_parts, and_right, cond-false, cond_both, or_from, agree_below_at}
+use Rattle.std.proofs.lemmas.Bool.{and_parts, and_right, cond-false, cond_both, or_from}
 use Rattle.unicode_ident.proofs.Computing.{unicode_ident}
 use Rattle.lexical.specs.Class.{is_ident_start, is_ident_continue}
 use Rattle.lexical.specs.Text.{begins_with, begins_any, first_passes}
@@ -19,13 +18,13 @@ use Rattle.lexical.specs.PieceFinder.{find_literal, find_lone_quote, start}
 use Rattle.lexical.specs.declared.class.Start.TheVariants as starts
 use Rattle.lexical.specs.declared.quoted.StringKind.{StringKind}
 use Rattle.lexical.specs.declared.quoted.StringKind.TheVariants as kinds
-use Rattle.lexical.proofs.TextLemmas.{begins_each, any_begins_more, any_first}
+use Rattle.lexical.proofs.TextLemmas.{begins_each, any_begins_more, any_first, first_cons}
 use Rattle.lexical.proofs.WordLemmas.{Disjoint, front_whole}
 use Rattle.lexical.proofs.NameFinderLemmas.{finds_lone_quote}
 use Rattle.lexical.proofs.RuleLemmas.{exact, begins, begins_one, first_one}
 use Rattle.lexical.proofs.QuotedFinderLemmas.{each_kind, clear_quoted, quoted_cases}
 use Rattle.lexical.proofs.NumberFinderLemmas.{clear_number, number_first}
-use Rattle.lexical.proofs.ClassLemmas.{start_letter, digit_below}
+use Rattle.lexical.proofs.ClassLemmas.{start_letter, sub_digits}
 
 pub finds_literal : Finds find_literal Literal
 unfolding Literal Str number find
@@ -43,14 +42,9 @@ pub record StartsLetter (text : List ℕ) : Type 0 where
 
 prefixed_starts : (text : List ℕ) → begins_any literal_prefixes text ≡ true → StartsLetter text
 unfolding unicode_ident
-prefixed_starts [] h = absurd (both_ways _ refl h)
-prefixed_starts (c ∷ text) h = record {
-  first = c;
-  rest = text;
-  whole = refl;
-  starts = start_letter c (any_first is_ident_start literal_prefixes (c ∷ text) refl h);
-  prefixed = h;
-}
+prefixed_starts text h =
+    let at = first_cons is_ident_start text (any_first is_ident_start literal_prefixes text refl h) in
+    record { first = at.0; rest = at.1; whole = at.2; starts = start_letter at.0 at.3; prefixed = h }
 
 rule_starts : (rule : Rule) → begins (begins_any literal_prefixes) rule ≡ true → (p r : List ℕ) → Stands rule p r → StartsLetter (p ++ r)
 rule_starts rule h p r is = prefixed_starts (p ++ r) (any_begins_more literal_prefixes p r (begins_one literal_prefixes rule h p r is))
@@ -100,17 +94,11 @@ BeginsWithOne characters p = (c : ℕ) × (q : List ℕ) × (p ≡ c ∷ q) × (
 abbrev pub literal_fronts : List ℕ
 literal_fronts = codes "\"'bcr0123456789"
 
-digit_front : (c : ℕ) → is_ascii_digit c ≡ true → is_one_of literal_fronts c ≡ true
-digit_front c h =
-    sym (ap (λ b. not b || is_one_of literal_fronts c) h)
-    ∙ agree_below_at (λ x. not (is_ascii_digit x) || is_one_of literal_fronts x)
-    (λ x. true) 128 c refl (digit_below c h)
-
 pub literal_front : (p r : List ℕ) → Literal p r → BeginsWithOne literal_fronts p
 unfolding Literal Str
 literal_front p r h = elim h [
   | inl quoted ↦ first_one (is_one_of literal_fronts) quoted_literal refl p r quoted
-  | inr number ↦ let at = number_first p r number in (at.0, at.1, at.2, digit_front at.0 at.3)
+  | inr number ↦ let at = number_first p r number in (at.0, at.1, at.2, sub_digits (is_one_of literal_fronts) refl at.0 at.3)
 ]
 
 -- one between quotes starts with `"`, as a character, or with a letter
