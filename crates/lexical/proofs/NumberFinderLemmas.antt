@@ -68,10 +68,7 @@ reads_decimal at result h = reads_same (Then digits tail) number at result (numb
 
 -- ---- a number begins with a digit
 
-abbrev FirstDigit : List ℕ → Type 0
-FirstDigit p = (c : ℕ) × (more : List ℕ) × (p ≡ c ∷ more) × (is_ascii_digit c ≡ true)
-
-pub number_first : (p r : List ℕ) → Number p r → FirstDigit p
+pub number_first : (p r : List ℕ) → Number p r → (c : ℕ) × (more : List ℕ) × (p ≡ c ∷ more) × (is_ascii_digit c ≡ true)
 unfolding number
 number_first p r is =
     let at = first_unbarred number refl p r is in

@@ -1,11 +1,10 @@
 -- The next piece of a walk.
-use Rattle.std.proofs.Common.{◌≡◌, ◌+◌, ◌<◌, ◌++◌, ◌∙◌, false, length, take, drop, sym, ap, ap₂, subst, arith}
+use Rattle.std.proofs.Common.{◌≡◌, ◌+◌, ◌<◌, ◌++◌, ◌∙◌, false, length, take, drop, sym, ap, ap₂, arith}
 use Rattle.std.proofs.Common.{length-append}
 use Rattle.std.proofs.lemmas.List.{take-append-drop}
 use Rattle.std.proofs.lemmas.Str.{length-le-encodes}
 use Rattle.std.specs.Str.{chars, IsUtf8}
-use Rattle.lexical.specs.Found.{kind_of, IsPieceAt}
-use Rattle.lexical.specs.Piece.{IsPiece}
+use Rattle.lexical.specs.Found.{IsPieceAt}
 use Rattle.lexical.specs.Walk.{IsNext}
 use Rattle.lexical.specs.declared.walk.PlacedPiece.{PlacedPiece}
 use Rattle.lexical.specs.declared.walk.PieceWalk.{PieceWalk}
@@ -30,10 +29,7 @@ next_is at next to utf8 found cut left size text place past behind =
     let bytes : 0 < length next.text.now = omega (arith, some, size, found.bytes, length-le-encodes found.front) in
     record {
       whole = found.whole ∙ sym (ap₂ (λ p r. p ++ r) front rest);
-      stands =
-          subst (λ r. IsPiece at.at_front (kind_of next.piece.kind (chars next.text.now)) (chars next.text.now) r)
-          (sym rest)
-          (subst (λ p. IsPiece at.at_front (kind_of next.piece.kind p) p found.rest) (sym front) found.stands);
+      stands = rw (front, rest) found.stands;
       joined = joined;
       shorter = omega (arith, bytes, ap length joined, length-append next.text.now to.rest.now);
       bytes = size;
