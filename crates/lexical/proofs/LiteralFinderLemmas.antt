@@ -20,6 +20,7 @@ use Rattle.lexical.specs.declared.quoted.StringKind.{StringKind}
 use Rattle.lexical.specs.declared.quoted.StringKind.TheVariants as kinds
 use Rattle.lexical.proofs.TextLemmas.{begins_each, any_begins_more, any_first, first_cons}
 use Rattle.lexical.proofs.WordLemmas.{Disjoint, front_whole}
+use Rattle.lexical.proofs.CommentKindLemmas.{front_is}
 use Rattle.lexical.proofs.NameFinderLemmas.{finds_lone_quote}
 use Rattle.lexical.proofs.RuleLemmas.{exact, begins, begins_one, first_one}
 use Rattle.lexical.proofs.QuotedFinderLemmas.{each_kind, clear_quoted, quoted_cases}
@@ -54,14 +55,9 @@ pub raw_text : (front : List ℕ) (allowed : ℕ → Bool) (p r : List ℕ) → 
     → (hashes : List ℕ) × (tail : List ℕ) × (p ≡ front ++ (hashes ++ (34 ∷ tail))) × (list_all (λ c. c == 35) hashes ≡ true)
 raw_text front allowed p r h =
     let inner = h.second in
-    let quotes = inner.second in (
-      inner.front,
-      quotes.back,
-      h.whole
-          ∙ (ap (λ x. x ++ h.back) h.first
-          ∙ ap (λ x. front ++ x) (inner.whole ∙ ap (λ x. inner.front ++ x) (quotes.whole ∙ ap (λ x. x ++ quotes.back) quotes.first))),
-      inner.first.0.each,
-    )
+    let quotes = inner.second in
+    let tail = inner.whole ∙ ap (λ x. inner.front ++ x) (front_is quotes) in
+    (inner.front, quotes.back, front_is h ∙ ap (λ x. front ++ x) tail, inner.first.0.each)
 
 -- how a raw string goes on after the letters that open it
 abbrev pub raw_fronts : List (List ℕ)

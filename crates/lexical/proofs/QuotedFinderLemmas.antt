@@ -3,7 +3,7 @@ use Rattle.std.proofs.Common.{◌≡◌, ℕ, true, ◌||◌, ◌==◌, List, �
 use Rattle.std.specs.List.{list_all}
 use Rattle.std.specs.Str.{chars}
 use Rattle.std.proofs.lemmas.Bool.{and_from, or_left}
-use Rattle.lexical.specs.Quoted.{is_code_digit, code_digits, escape, unit, Str, body, cooked}
+use Rattle.lexical.specs.Quoted.{is_code_digit, code_digits, unit, Str, body, cooked}
 use Rattle.lexical.specs.Literal.{string, quoted_literal, QuotedLiteral}
 use Rattle.lexical.specs.RawString.{is_raw, raw_unit, raw_string}
 use Rattle.lexical.specs.SingleQuoted.{character, byte}
@@ -34,9 +34,6 @@ pub each_kind : (P : StringKind → Type 0) → P kinds.Plain → P kinds.Byte �
 each_kind P plain bytes c kinds.Plain = plain
 each_kind P plain bytes c kinds.Byte = bytes
 each_kind P plain bytes c kinds.C = c
-
-clear_escape : (kind : StringKind) → Clear (escape kind)
-clear_escape = each_kind (λ k. Clear (escape k)) (assumption) (assumption) (assumption)
 
 -- ---- strings
 

@@ -1,21 +1,17 @@
 -- What is left of a text without its front or its end.
-use Rattle.std.proofs.Common.{◌≡◌, ◌≢◌, ℕ, true, false, List, [], ◌∷◌, ◌++◌, length, take, Option, Some, None, MatchOption, Bor, refl, sym, ap, ◌∙◌, subst, arith, append-nil, ltb-true}
-use Rattle.std.specs.Str.{chars, IsUtf8, IsAscii, encode_utf8_all}
+use Rattle.std.proofs.Common.{◌≡◌, ◌≢◌, ℕ, true, false, List, [], ◌∷◌, ◌++◌, length, take, Option, Some, None, MatchOption, Bor, refl, sym, ap, ◌∙◌, subst, arith, append-nil}
+use Rattle.std.specs.Str.{chars, IsUtf8, encode_utf8_all}
 use Rattle.std.specs.Str.Pattern.{FindsTextPrefix, StripsPrefix}
 use Rattle.std.specs.Prelude.{if◌then◌else◌}
-use Rattle.std.proofs.lemmas.Bool.{and_parts, false_from_ne_true, cond-true, cond-false}
+use Rattle.std.proofs.lemmas.Bool.{false_from_ne_true, cond-true, cond-false}
 use Rattle.std.proofs.lemmas.List.{take_at}
 use Rattle.std.proofs.lemmas.Str.{IsUtf8-from_ascii, IsUtf8-take, IsCharBoundary-at_seam, chars-append, chars-IsAscii, encode_ascii}
-use Rattle.std.proofs.lemmas.Str.Ascii.{IsAscii-nil, IsAscii-cons}
 use Rattle.lexical.specs.Ascii.{all_ascii}
 use Rattle.lexical.specs.Text.{begins_with, ends_with}
+pub use Rattle.lexical.proofs.TextLemmas.{is_ascii}
 use Rattle.lexical.proofs.TextLemmas.{begins_chars, begins_splits, ends_splits, ends_back, seam_bytes}
 
 -- ---- the front
-
-pub is_ascii : (front : List ℕ) → all_ascii front ≡ true → IsAscii front
-is_ascii [] h = IsAscii-nil
-is_ascii (c ∷ front) h = let parts = and_parts _ _ h in IsAscii-cons c front (ltb-true c 128 parts.0) (is_ascii front parts.1)
 
 -- the clause of `strip_prefix` at an ASCII text, by characters
 pub strips_chars : (front text : List ℕ) (r : Option (Bor (List ℕ))) → IsUtf8 text → all_ascii front ≡ true

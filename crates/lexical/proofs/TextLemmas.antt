@@ -1,14 +1,15 @@
 -- Lemmas on the characters of a text.
 use Rattle.std.proofs.Common.{◌≡◌, ℕ, ◌+◌, ◌<◌, ◌≤◌, ◌-◌, inl, inr, Bool, true, false, ◌&&◌, eqb, List, [], ◌∷◌, ◌++◌, length, take, length-append, drop, refl, sym, ap, ap₂, ◌∙◌, subst, arith, ltb-true, ne_eqb, eqb-true, eq-eqb, append_assoc, append-nil, ◌==◌, zero, suc}
 use Rattle.std.specs.List.{starts_with, list_all, AllByRecursion}
-use Rattle.std.specs.Str.{chars, IsUtf8, encode_utf8_all, IsCharBoundary}
+use Rattle.std.specs.Str.{chars, IsUtf8, IsAscii, encode_utf8_all, IsCharBoundary}
 use Rattle.std.specs.Bool.{one_answer}
 use Rattle.std.specs.Cmp.Lexicographic.{pointwise}
 use Rattle.std.specs.Prelude.{nat_eq, nat_lt, encode_utf8}
 use Rattle.std.specs.Str.{all_scalars as scalars}
 use Rattle.std.proofs.lemmas.Bool.{both_ways, cases_lt, and_parts, and_from, and_cases, and_left, and_right, or_cases, or_parts, or_from, or_left, or_right, false_from_ne_true}
 use Rattle.std.proofs.lemmas.List.{take_at, drop_at}
-use Rattle.std.proofs.lemmas.Str.{chars-encodes, encodes-append, encodes_same, IsCharBoundary-at_seam, scalars-chars, encode_ascii, encodes-chars, char_from_byte, length-encode, len_utf8_bounds, length-le-encodes}
+use Rattle.std.proofs.lemmas.Str.{chars-encodes, encodes-append, encodes_same, encodes-IsAscii, IsCharBoundary-at_seam, scalars-chars, encode_ascii, encodes-chars, char_from_byte, length-encode, len_utf8_bounds, length-le-encodes}
+use Rattle.std.proofs.lemmas.Str.Ascii.{IsAscii-nil, IsAscii-cons}
 use Rattle.std.proofs.lemmas.Slice.Eq.{bytes_eq-Decides}
 use Rattle.lexical.specs.Text.{begins_with, begins_any, first_passes, ends_with}
 use Rattle.lexical.specs.Ascii.{all_ascii}
@@ -63,12 +64,13 @@ begins_encodes (c ∷ front) (d ∷ cs) h =
 pub begins_chars : (front bytes : List ℕ) → IsUtf8 bytes → all_ascii front ≡ true → begins_with front bytes ≡ begins_with front (chars bytes)
 begins_chars front bytes utf8 h = ap (begins_with front) (sym (encodes-chars bytes utf8)) ∙ begins_encodes front (chars bytes) h
 
+pub is_ascii : (front : List ℕ) → all_ascii front ≡ true → IsAscii front
+is_ascii [] h = IsAscii-nil
+is_ascii (c ∷ front) h = let parts = and_parts _ _ h in IsAscii-cons c front (ltb-true c 128 parts.0) (is_ascii front parts.1)
+
 -- an ASCII text is its own encoding
 pub encode_all_ascii : (text : List ℕ) → all_ascii text ≡ true → encode_utf8_all text ≡ text
-encode_all_ascii [] h = refl
-encode_all_ascii (c ∷ text) h =
-    let parts = and_parts _ _ h in
-    rw (encode_ascii c (ltb-true c 128 parts.0)) (ap (λ x. c ∷ x) (encode_all_ascii text parts.1))
+encode_all_ascii text h = encodes-IsAscii text (is_ascii text h)
 
 pub ascii_bytes : (front : List ℕ) → all_ascii front ≡ true → length (encode_utf8_all front) ≡ length front
 ascii_bytes front h = ap length (encode_all_ascii front h)

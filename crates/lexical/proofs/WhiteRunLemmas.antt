@@ -15,8 +15,7 @@ use Rattle.lexical.specs.declared.bytes.Class.TheVariants.{White}
 use Rattle.lexical.proofs.ByteLemmas.{ascii_past}
 use Rattle.lexical.proofs.FinderLemmas.{finds_run, while_more, while_passes, while_rest_none, while_whole}
 use Rattle.lexical.proofs.Scan.{bytes_of, run_rest}
-use Rattle.lexical.proofs.TextLemmas.{all_pass, ascii_bytes}
-use Rattle.lexical.proofs.StripLemmas.{is_ascii}
+use Rattle.lexical.proofs.TextLemmas.{all_pass, ascii_bytes, is_ascii}
 
 pub all_white : (cs : List ℕ) → list_all ascii_white cs ≡ true → list_all is_white cs ≡ true
 all_white = all_pass _ _ (λ c is. (and_parts _ _ is).1)
