@@ -127,16 +127,14 @@ is_of starts.Other c = true
 of_choice : (c : ℕ) (b : Bool) (x y : Start) → (b ≡ true → is_of x c ≡ true) → is_of y c ≡ true → is_of (cond b x y) c ≡ true
 of_choice c b x y here there = cond_both b x y (λ s. is_of s c ≡ true) here (λ _. there)
 
-start_is_of : (c : ℕ) → is_of (start c) c ≡ true
-start_is_of c =
-    of_choice c (is_white c) _ _ (λ h. h) (of_choice c (is_ident_start c) _ _ (λ h. h)
+pub of_start : (s : Start) (c : ℕ) → s ≡ start c → is_of s c ≡ true
+of_start s c h =
+    subst (λ s. is_of s c ≡ true) (sym h)
+    (of_choice c (is_white c) _ _ (λ h. h) (of_choice c (is_ident_start c) _ _ (λ h. h)
     (of_choice c (is_ascii_digit c) _ _ (λ h. h) (of_choice c (is_opener c) _ _ (λ h. h)
     (of_choice c (is_closer c) _ _ (λ h. h) (of_choice c (c == 47) _ _ (λ h. h)
     (of_choice c (c == 39) _ _ (λ h. h) (of_choice c (c == 34) _ _ (λ h. h)
-    (of_choice c (c == 0xFEFF) _ _ (λ h. h) (of_choice c (is_mark c) _ _ (λ h. h) refl)))))))))
-
-pub of_start : (s : Start) (c : ℕ) → s ≡ start c → is_of s c ≡ true
-of_start s c h = subst (λ s. is_of s c ≡ true) (sym h) (start_is_of c)
+    (of_choice c (c == 0xFEFF) _ _ (λ h. h) (of_choice c (is_mark c) _ _ (λ h. h) refl))))))))))
 
 -- characters that start otherwise differ
 other_start : (s t : Start) (c d : ℕ) → s ≡ start c → t ≡ start d → (s ≡ t → ⊥) → (c == d) ≡ false

@@ -1,5 +1,5 @@
 -- What a piece that stands somewhere gives to the crates above.
-use Rattle.std.proofs.Common.{◌≡◌, ℕ, ◌<◌, inl, inr, Bool, true, false, not, ◌==◌, List, [], ◌∷◌, ◌++◌, codes, length, take, drop, refl, sym, ap, ◌∙◌, subst, arith, eqb-true, length-append}
+use Rattle.std.proofs.Common.{◌≡◌, ℕ, ◌<◌, inl, inr, Bool, true, false, not, List, [], ◌∷◌, ◌++◌, codes, length, take, drop, refl, sym, ap, ◌∙◌, subst, arith, eqb-true, length-append}
 use Rattle.std.specs.List.{list_all}
 use Rattle.std.specs.Str.{chars, IsUtf8, IsCharBoundary}
 use Rattle.std.proofs.lemmas.Bool.{both_ways, and_parts, and_from, or_cases, not-true, false_from_ne_true}
@@ -18,6 +18,7 @@ use Rattle.lexical.specs.declared.piece.Piece.{Piece}
 use Rattle.lexical.proofs.TextLemmas.{begins_splits, seam_boundary, seam_take, seam_drop}
 use Rattle.lexical.proofs.CommentKindLemmas.{comment_first}
 use Rattle.lexical.proofs.PieceLemmas.{passes_of}
+pub use Rattle.lexical.proofs.PieceLemmas.{mark_is}
 use Rattle.lexical.proofs.LiteralFinderLemmas.{literal_front}
 
 -- ---- a piece isn't empty
@@ -65,13 +66,6 @@ open_is first c p r h = passes_of is_opener c p r h.0
 
 pub close_is : (first : Bool) (c : ℕ) (p r : List ℕ) → IsPiece first (Close c) p r → (p ≡ c ∷ []) × (is_closer c ≡ true)
 close_is first c p r h = passes_of is_closer c p r h
-
--- a mark's character is one of the marks, and not `'`
-pub mark_is : (c : ℕ) (r : List ℕ) → marks.Mark (c ∷ []) r → (marks.is_mark c ≡ true) × ((c == 39) ≡ false)
-mark_is c r h =
-    let same : c ≡ h.0.0 = cc in
-    let parts = and_parts _ _ h.0.2 in
-    (ap marks.is_mark same ∙ parts.0, ap (λ d. d == 39) same ∙ not-true _ parts.1)
 
 -- the character of any mark is one of the marks
 pub stands_mark : (c : ℕ) (joint : Bool) (r : List ℕ) → Stands (Mark c joint) r → marks.is_mark c ≡ true

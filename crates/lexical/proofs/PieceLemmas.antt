@@ -165,6 +165,13 @@ passes_of passes c p r (d, e, h) =
     let same = eqb-true d c parts.1 in
     (e ∙ ap (λ x. x ∷ []) same, ap passes (sym same) ∙ parts.0)
 
+-- a mark's character is one of the marks, and not `'`
+pub mark_is : (c : ℕ) (r : List ℕ) → marks.Mark (c ∷ []) r → (marks.is_mark c ≡ true) × ((c == 39) ≡ false)
+mark_is c r h =
+    let same : c ≡ h.0.0 = cc in
+    let parts = and_parts _ _ h.0.2 in
+    (ap marks.is_mark same ∙ parts.0, ap (λ d. d == 39) same ∙ not-true _ parts.1)
+
 -- where a literal begins with a letter no identifier is found
 no_identifier : (text : List ℕ) → begins_any identifiers.literal_prefixes text ≡ true → found_identifier text ≡ None
 unfolding find
@@ -238,9 +245,8 @@ found_complete first (Leaf (Name raw name)) p r h =
     ∙ ap (λ o. or_found o (found_literal quoted_literal text)) (identifier_found raw name r h.1))
 found_complete first (Leaf (Mark c joint)) p r h = rw h.0 (elim h.1 [
   | inl mark ↦
-      let is : c ≡ mark.0.0.0 = cc in
-      let passes = and_parts _ _ mark.0.0.2 in
-      found_mark first (c ∷ r) c r refl (ap marks.is_mark is ∙ passes.0) (ap (λ d. d == 39) is ∙ not-true _ passes.1) mark.0.1
+      let is = mark_is c r mark.0 in
+      found_mark first (c ∷ r) c r refl is.0 is.1 mark.0.1
       ∙ (ap (tagged mark_kind) ((exact marks.mark tt).complete (c ∷ []) r mark.0) ∙ ap (λ b. Some (Leaf (Mark c b), c ∷ [], r)) (sym mark.1))
   | inr quote ↦
       let is : c ≡ 39 = cc in
