@@ -83,8 +83,8 @@ past_one class at end to goes h =
 none_stands : (test : ℕ → Bool) (text : List ℕ) → find (One test) text ≡ None → first_passes test text ≡ false
 unfolding find
 none_stands test [] none = refl
-none_stands test (c ∷ text) none =
-    false_from_ne_true _ (λ on. let clash : ◌≡◌ {A = Answer} (Some (c ∷ [], text)) None = sym (cond-true _ _ _ on) ∙ none in cc)
+none_stands test (c ∷ text) none = false_from_ne_true _ (λ on.
+    let clash : ◌≡◌ {A = Answer} (Some (c ∷ [], text)) None = sym (cond-true _ _ _ on) ∙ none in cc)
 
 pub past_all : (class : Class) (at end : Cursor) → GoesOn (is_in class) at end → find (One (is_in class)) (chars end.rest.now) ≡ None → Passes (Run (is_in class)) at end
 past_all class at end goes none = run_stop (is_in class) at end goes (none_stands (is_in class) (chars end.rest.now) none)

@@ -59,9 +59,11 @@ pub digit_below : (c : ℕ) → is_ascii_digit c ≡ true → c < 128
 digit_below c h = grind arith
 
 -- what passes each digit
-pub sub_digits : (class : ℕ → Bool) → agree_below (λ x. not (is_ascii_digit x) || class x) (λ x. true) 128 ≡ true → Sub is_ascii_digit class
+pub sub_digits : (class : ℕ → Bool) → agree_below (λ x. not (is_ascii_digit x) || class x) (λ x. true) 128 ≡ true
+    → Sub is_ascii_digit class
 sub_digits class all c h =
-    sym (ap (λ b. not b || class c) h) ∙ agree_below_at (λ x. not (is_ascii_digit x) || class x) (λ x. true) 128 c all (digit_below c h)
+    sym (ap (λ b. not b || class c) h)
+    ∙ agree_below_at (λ x. not (is_ascii_digit x) || class x) (λ x. true) 128 c all (digit_below c h)
 
 pub start_digit : (c : ℕ) → is_ascii_digit c ≡ true → start c ≡ starts.Digit
 unfolding unicode_ident

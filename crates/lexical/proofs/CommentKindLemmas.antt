@@ -45,8 +45,8 @@ pub record DocFront (p : List ℕ) : Type 0 where
   pub bytes : 3 ≡ length (encode_utf8_all front)
   pub last : ends_with 13 p ≡ ends_with 13 (drop 3 p)
 
-doc_at : (front rest : List ℕ) → drop 3 (front ++ rest) ≡ rest → length front ≡ 3 → all_ascii front ≡ true → ends_with 13 front ≡ false
-    → DocFront (front ++ rest)
+doc_at : (front rest : List ℕ) → drop 3 (front ++ rest) ≡ rest → length front ≡ 3 → all_ascii front ≡ true
+    → ends_with 13 front ≡ false → DocFront (front ++ rest)
 doc_at front rest cut three ascii last = record {
   front = front;
   whole = ap (λ x. front ++ x) (sym cut);

@@ -94,7 +94,9 @@ pub literal_front : (p r : List ℕ) → Literal p r → BeginsWithOne literal_f
 unfolding Literal Str
 literal_front p r h = elim h [
   | inl quoted ↦ first_one (is_one_of literal_fronts) quoted_literal refl p r quoted
-  | inr number ↦ let at = number_first p r number in (at.0, at.1, at.2, sub_digits (is_one_of literal_fronts) refl at.0 at.3)
+  | inr number ↦
+      let at = number_first p r number in
+      (at.0, at.1, at.2, sub_digits (is_one_of literal_fronts) refl at.0 at.3)
 ]
 
 -- one between quotes starts with `"`, as a character, or with a letter

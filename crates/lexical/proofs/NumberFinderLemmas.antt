@@ -47,10 +47,11 @@ or_nothing (Some x) = refl
 -- what stands before a choice may stand before each
 and_either : (f g : Finder) (o : Answer) → or_find (and_find f o) (and_find g o) ≡ and_find (λ text. or_find (f text) (g text)) o
 and_either f g None = refl
-and_either f g (Some x) = elim (f x.1) as (λ u. or_find (behind x.0 u) (behind x.0 (g x.1)) ≡ behind x.0 (or_find u (g x.1))) [
-  | None ↦ refl
-  | Some y ↦ refl
-]
+and_either f g (Some x) =
+    elim (f x.1) as (λ u. or_find (behind x.0 u) (behind x.0 (g x.1)) ≡ behind x.0 (or_find u (g x.1))) [
+      | None ↦ refl
+      | Some y ↦ refl
+    ]
 
 pub number_decimal : (text : List ℕ) → begins_any base_prefixes text ≡ false → find number text ≡ find (Then digits tail) text
 unfolding number find

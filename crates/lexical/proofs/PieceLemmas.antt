@@ -109,7 +109,8 @@ start_sound first starts.Slash text = cond_both (begins_any marks.comment_fronts
     (λ e. comment_found_sound first text (find comment text) (finds_comment.sound text)) (λ e. mark_sound first text)
 start_sound first starts.Quote text =
     or_sound first text _ _
-    (tagged_sound first marks.LoneQuote quote_kind (λ p r h. (h.0, inr ((refl, h.1), refl))) text _ (finds_lone_quote.sound text))
+    (tagged_sound first marks.LoneQuote quote_kind (λ p r h. (h.0, inr ((refl, h.1), refl))) text _
+    (finds_lone_quote.sound text))
     (quoted_sound first text)
 start_sound first starts.DoubleQuote text = quoted_sound first text
 start_sound first starts.FrontMark text = tagged_sound first _ front_mark_kind (λ p r h. h) text _ ((finds_front_mark first).sound text)

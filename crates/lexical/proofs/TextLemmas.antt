@@ -29,7 +29,7 @@ all_pass test other part (c ∷ text) h = let parts = and_parts _ _ h in and_fro
 pub first_byte : (d : ℕ) → 128 ≤ d → (b : ℕ) × (more : List ℕ) × (encode_utf8 d ≡ b ∷ more) × (128 ≤ b)
 first_byte d h = by_bytes (encode_utf8 d) refl
   where
-    by_bytes : (bytes : List ℕ) → encode_utf8 d ≡ bytes → (b : ℕ) × (more : List ℕ) × (encode_utf8 d ≡ b ∷ more) × (128 ≤ b)
+    by_bytes : (bs : List ℕ) → encode_utf8 d ≡ bs → (b : ℕ) × (more : List ℕ) × (encode_utf8 d ≡ b ∷ more) × (128 ≤ b)
     by_bytes [] e = absurd (omega (arith, ap length e, length-encode d, len_utf8_bounds d))
     by_bytes (b ∷ more) e = (
       b,
@@ -37,7 +37,8 @@ first_byte d h = by_bytes (encode_utf8 d) refl
       e,
       elim (cases_lt b 128) [
         | inl low ↦
-            let same : d ≡ b = char_from_byte (b ∷ more) [] d (sym (append-nil (encode_utf8 d) ∙ e)) low (omega arith) in
+            let whole = sym (append-nil (encode_utf8 d) ∙ e) in
+            let same : d ≡ b = char_from_byte (b ∷ more) [] d whole low (omega arith) in
             absurd (omega arith)
         | inr high ↦ high
       ],
@@ -125,13 +126,15 @@ seam_drop text p r n t e is =
 pub front_len : (text rest front : List ℕ) → IsUtf8 text → IsUtf8 rest → chars text ≡ front ++ chars rest
     → length (encode_utf8_all front) + length rest ≡ length text
 front_len text rest front t r e =
-    sym (ap length (seam_bytes text front (chars rest) t e ∙ ap (λ ys. encode_utf8_all front ++ ys) (encodes-chars rest r))
-    ∙ length-append (encode_utf8_all front) rest)
+    let bytes = encode_utf8_all front in
+    let whole = seam_bytes text front (chars rest) t e ∙ ap (λ ys. bytes ++ ys) (encodes-chars rest r) in
+    sym (ap length whole ∙ length-append bytes rest)
 
 pub front_boundary : (text rest front : List ℕ) → IsUtf8 text → IsUtf8 rest → chars text ≡ front ++ chars rest
     → IsCharBoundary text (length text - length rest)
 front_boundary text rest front t r e =
-    seam_boundary text front (chars rest) (length text - length rest) t e (omega (arith, front_len text rest front t r e))
+    seam_boundary text front (chars rest) (length text - length rest) t e
+    (omega (arith, front_len text rest front t r e))
 
 pub front_chars : (text rest front : List ℕ) → IsUtf8 text → IsUtf8 rest → chars text ≡ front ++ chars rest
     → chars (take (length text - length rest) text) ≡ front

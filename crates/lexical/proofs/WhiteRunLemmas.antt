@@ -29,7 +29,8 @@ white_boundary bytes n utf8 within white =
     IsCharBoundary-from_take bytes n utf8 within (IsUtf8-from_ascii (take n bytes) (is_ascii (take n bytes) (white_ascii (take n bytes) white)))
 
 -- a text whose first byte does not pass begins with none that does
-first_stops : (test : ℕ → Bool) (bytes : List ℕ) → (0 < length bytes → test (get_or bytes 0 0) ≡ false) → first_passes test bytes ≡ false
+first_stops : (test : ℕ → Bool) (bytes : List ℕ) → (0 < length bytes → test (get_or bytes 0 0) ≡ false)
+    → first_passes test bytes ≡ false
 first_stops test [] h = refl
 first_stops test (b ∷ bytes) h = h (omega arith)
 
@@ -38,11 +39,13 @@ pub white_run : (bytes : List ℕ) (n : ℕ) → IsUtf8 bytes → n ≤ length b
     → (n < length bytes → ascii_white (get_or bytes n 0) ≡ false) → IsPastWhite (chars bytes) (chars (drop n bytes)) n
 white_run bytes n utf8 within white stops =
     let next = first_stops ascii_white (drop n bytes) (λ more.
-    ap ascii_white (get_or-drop n bytes 0 0 ∙ ap (λ i. get_or bytes i 0) (omega arith)) ∙ stops (omega (arith, length-drop n bytes))) in
+    ap ascii_white (get_or-drop n bytes 0 0 ∙ ap (λ i. get_or bytes i 0) (omega arith))
+    ∙ stops (omega (arith, length-drop n bytes))) in
     let more = (while_more ascii_white (take n bytes) (drop n bytes) white).0 in
     let none = (while_rest_none ascii_white (drop n bytes) next).0 in
     let run : while_front ascii_white bytes ≡ take n bytes =
-    ap (while_front ascii_white) (sym (take-append-drop n bytes)) ∙ (more ∙ (ap (λ x. take n bytes ++ x) none ∙ append-nil (take n bytes))) in
+    ap (while_front ascii_white) (sym (take-append-drop n bytes))
+    ∙ (more ∙ (ap (λ x. take n bytes ++ x) none ∙ append-nil (take n bytes))) in
     let size : n ≡ length (while_front ascii_white bytes) = sym (length-take-le n bytes within) ∙ ap length (sym run) in
     let front = while_front ascii_white (chars bytes) in
     let rest = run_rest ascii_white false (ascii_past White) bytes utf8 n size in
