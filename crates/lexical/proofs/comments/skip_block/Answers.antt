@@ -1,15 +1,8 @@
-use Rattle.std.proofs.Common.{arith, codes}
-use Rattle.lexical.specs.Rule.{Exactly, Ends}
+use Rattle.std.proofs.Common.{arith}
 use Rattle.lexical.proofs.BlockSteps.{runs, ends_at_end, ends_none}
-use Rattle.lexical.proofs.RuleSteps.{past_text, run_goes_on}
-use Rattle.lexical.proofs.UnitSteps.{leads_then, leads_far, leads_passes, leads_fails}
+use Rattle.lexical.proofs.RuleSteps.{run_goes_on}
+use Rattle.lexical.proofs.UnitSteps.{leads_far, leads_passes, leads_fails}
 use Rattle.lexical.proofs.comments.skip_block.Goals as goal
-
-pub loop-depth-init : goal.loop-depth-init
-loop-depth-init c = record {
-  leads = leads_then (Exactly (codes "/*")) (Ends 1) _ _ c.in_ok-end.ensures;
-  fits = omega (arith, (past_text (codes "/*") _ _ c.in_ok-end.ensures).1);
-}
 
 pub returns-in_err-after : goal.returns-in_err-after
 returns-in_err-after c =
