@@ -5,7 +5,7 @@ use Rattle.lexical.specs.Text.{begins_with, begins_any}
 use Rattle.lexical.specs.Form.{Form}
 use Rattle.lexical.specs.Block.{block_signs, BlockBody, Empty, Nested, Single, Closed, Ends, find_ends}
 use Rattle.lexical.specs.Finder.{Answer, Finds, behind}
-use Rattle.lexical.proofs.FinderLemmas.{IsSplit}
+use Rattle.lexical.proofs.FinderLemmas.{IsSplit, behind_sound}
 use Rattle.lexical.proofs.TextLemmas.{begins_splits}
 
 -- ---- what the finder does at each sign and character
@@ -86,18 +86,6 @@ other_step outer c p r plain h = record {
   second = h.second;
 }
 
--- behind a front
-step_sound : (A B : Form) (front text : List ℕ) → ((p r : List ℕ) → text ≡ p ++ r → A p r → B (front ++ p) r)
-    → (o : Answer) → IfSome o (IsSplit A text) → IfSome (behind front o) (IsSplit B (front ++ text))
-step_sound A B front text step None is = tt
-step_sound A B front text step (Some x) is = (ap (λ t. front ++ t) is.0 ∙ sym (append_assoc front x.0 x.1), step x.0 x.1 is.0 is.1)
-
--- behind two characters that are a sign
-sign_sound : (sign : List ℕ) (A B : Form) (c d : ℕ) (text : List ℕ) → ((p r : List ℕ) → A p r → B (sign ++ p) r)
-    → (o : Answer) → IfSome o (IsSplit A text) → sign ≡ c ∷ d ∷ [] → IfSome (behind (c ∷ d ∷ []) o) (IsSplit B (c ∷ (d ∷ text)))
-sign_sound sign A B c d text step o is e =
-    subst (λ s. IfSome (behind s o) (IsSplit B (s ++ text))) e (step_sound A B sign text (λ p r whole. step p r) o is)
-
 ends_sound : (depth : ℕ) (text : List ℕ) → IfSome (find_ends depth text) (IsSplit (Ends depth) text)
 unfolding find_ends
 ends_sound zero text = (refl, refl)
@@ -106,11 +94,15 @@ ends_sound (suc outer) (c ∷ []) = tt
 ends_sound (suc outer) (c ∷ (d ∷ text)) =
     cond_both (begins_with (codes "*/") (c ∷ (d ∷ text))) _ _ (λ o. IfSome o (IsSplit (Ends (suc outer)) (c ∷ (d ∷ text))))
     (λ closes. let split = begins_splits (codes "*/") (c ∷ (d ∷ text)) closes in
-    sign_sound (codes "*/") (Ends outer) (Ends (suc outer)) c d text (close_step outer) _ (ends_sound outer text) cc)
+    let first : c ≡ 42 = cc in
+    let second : d ≡ 47 = cc in
+    rw (first, second) (behind_sound (Ends outer) (Ends (suc outer)) (codes "*/") text (λ p r e. close_step outer p r) _ (ends_sound outer text)))
     (λ no. cond_both (begins_with (codes "/*") (c ∷ (d ∷ text))) _ _ (λ o. IfSome o (IsSplit (Ends (suc outer)) (c ∷ (d ∷ text))))
     (λ opens. let split = begins_splits (codes "/*") (c ∷ (d ∷ text)) opens in
-    sign_sound (codes "/*") (Ends (suc (suc outer))) (Ends (suc outer)) c d text (open_step outer) _ (ends_sound (suc (suc outer)) text) cc)
-    (λ nor. step_sound (Ends (suc outer)) (Ends (suc outer)) (c ∷ []) (d ∷ text)
+    let first : c ≡ 47 = cc in
+    let second : d ≡ 42 = cc in
+    rw (first, second) (behind_sound (Ends (suc (suc outer))) (Ends (suc outer)) (codes "/*") text (λ p r e. open_step outer p r) _ (ends_sound (suc (suc outer)) text)))
+    (λ nor. behind_sound (Ends (suc outer)) (Ends (suc outer)) (c ∷ []) (d ∷ text)
     (λ p r e is. other_step outer c p r (ap (λ t. begins_any block_signs (c ∷ t)) (sym e) ∙ or_from _ _ nor (or_from _ _ no refl)) is)
     _ (ends_sound (suc outer) (d ∷ text))))
 

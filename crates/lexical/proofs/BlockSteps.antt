@@ -3,21 +3,16 @@ use Rattle.std.proofs.Common.{◌≡◌, ℕ, zero, suc, ◌+◌, ◌-◌, ◌<�
 use Rattle.std.specs.Str.{chars}
 use Rattle.std.specs.List.{list_all}
 use Rattle.std.proofs.lemmas.Bool.{and_parts, or_parts, or_from, and_left, not-true, both_ways, false_from_ne_true}
-use Rattle.lexical.specs.Block.{find_ends}
+use Rattle.lexical.specs.Text.{begins_any}
+use Rattle.lexical.specs.Block.{block_signs, find_ends}
 use Rattle.lexical.specs.Finder.{behind}
 use Rattle.lexical.specs.Rule.{Rule, Run, Exactly, Ends, Stands, find}
 use Rattle.lexical.specs.Step.{Leads, Passes}
 use Rattle.lexical.specs.declared.cursor.Cursor.{Cursor}
 use Rattle.lexical.proofs.BlockLemmas.{behind_nothing, behind_behind, at_close, at_open, at_other}
 use Rattle.lexical.proofs.RuleLemmas.{Clear}
-use Rattle.lexical.proofs.RuleSteps.{passed, lacks_text, past_text, steps}
-
--- past a piece that stands in front of what ends them
-leads_past : (rule : Rule) → Clear rule → (a b : Rule) (at to : Cursor) → Passes rule at to
-    → ((p r : List ℕ) → Stands rule p r → find a (p ++ r) ≡ behind p (find b r)) → Leads a at b to
-leads_past rule clear a b at to h step =
-    let is = passed rule clear at to h in
-    record { front = h.front; found = ap (find a) is.0 ∙ step h.front (chars to.rest.now) is.1; count = h.count }
+use Rattle.lexical.proofs.RuleSteps.{lacks_text, past_text, steps}
+use Rattle.lexical.proofs.UnitSteps.{leads_past}
 
 -- past a sign
 pub closes : (depth : ℕ) (at to : Cursor) → 0 < depth → Passes (Exactly (codes "*/")) at to → Leads (Ends depth) at (Ends (depth - 1)) to
@@ -46,15 +41,11 @@ passes (suc outer) c at to some e one closed opened =
 abbrev other : ℕ → Bool
 other c = not (c == 42 || c == 47)
 
-turned : (c a : ℕ) → (c == a) ≡ false → (a == c) ≡ false
-turned c a h = false_from_ne_true _ (λ e. both_ways _ h (eq-eqb c a (sym (eqb-true a c e))))
-
 run_ends : (outer : ℕ) (front rest : List ℕ) → list_all other front ≡ true → find_ends (suc outer) (front ++ rest) ≡ behind front (find_ends (suc outer) rest)
 run_ends outer [] rest all = sym (behind_nothing _)
 run_ends outer (c ∷ front) rest all =
-    let parts = and_parts _ _ all in
-    let signs = or_parts (c == 42) (c == 47) (not-true _ parts.0) in
-    let plain = or_from _ _ (and_left _ _ (turned c 47 signs.1)) (or_from _ _ (and_left _ _ (turned c 42 signs.0)) refl) in
+    let parts = and_parts (other c) (list_all other front) all in
+    let plain : begins_any block_signs (c ∷ (front ++ rest)) ≡ false = grind (arith, parts.0) in
     at_other outer c (front ++ rest) plain ∙ (ap (behind (c ∷ [])) (run_ends outer front rest parts.1) ∙ behind_behind (c ∷ []) front _)
 
 pub runs : (depth : ℕ) (at to : Cursor) → 0 < depth → Passes (Run (λ c. not (c == 42 || c == 47))) at to → Leads (Ends depth) at (Ends depth) to

@@ -18,14 +18,11 @@ hexes text = length (filter is_ascii_hexdigit text)
 abbrev pub CountsTo : ℕ → ℕ → List ℕ → List ℕ → Type 0
 CountsTo value count rest text = (fold value_step value rest ≡ hex_value text) × (count + hexes rest ≡ hexes text)
 
-digit_low : (c : ℕ) → is_code_digit c ≡ true → c < 128
-digit_low c h = grind arith
-
 -- a hex digit is one by its value
 hex_is : (c : ℕ) → is_code_digit c ≡ true → is_ascii_hexdigit c ≡ nat_lt (digit_value c) 16
 hex_is c h =
     let agree = agree_below_at (λ x. is_code_digit x && is_ascii_hexdigit x)
-    (λ x. is_code_digit x && nat_lt (digit_value x) 16) 128 c refl (digit_low c h) in
+    (λ x. is_code_digit x && nat_lt (digit_value x) 16) 128 c refl (grind arith) in
     sym (ap (λ b. b && is_ascii_hexdigit c) h) ∙ (agree ∙ ap (λ b. b && nat_lt (digit_value c) 16) h)
 
 hex_no_line : (c : ℕ) → is_ascii_hexdigit c ≡ true → (c == 95) ≡ false
@@ -36,22 +33,16 @@ pub reads_digit : (value count new many d c : ℕ) (after rest text : List ℕ) 
     → (digit_value c < 16) × (d ≡ digit_value c) → new ≡ 16 * value + d → many ≡ count + 1 → CountsTo new many after text
 reads_digit value count new many d c after rest text e is counts low value_is count_is =
     let hex : is_ascii_hexdigit c ≡ true = hex_is c is ∙ lt-ltb (digit_value c) 16 low.0 in
-    let one : hexes (c ∷ after) ≡ suc (hexes after) =
-    ap length (cond-true (is_ascii_hexdigit c) (c ∷ filter is_ascii_hexdigit after) (filter is_ascii_hexdigit after) hex) in
-    let step : new ≡ value_step value c =
-    value_is ∙ (ap (λ n. 16 * value + n) low.1 ∙ sym (cond-false (c == 95) value (16 * value + digit_value c) (hex_no_line c hex))) in
-    (ap (λ n. fold value_step n after) step ∙ (ap (fold value_step value) (sym e) ∙ counts.0), omega (arith, counts.1, ap hexes e, one, count_is))
+    let past = rw (e, hex_no_line c hex, hex) at counts in
+    rw (value_is, low.1, count_is) (past.0, omega (arith, past.1))
 
 -- past another
 pub reads_line : (value count new many c : ℕ) (after rest text : List ℕ) → rest ≡ c ∷ after → is_code_digit c ≡ true → CountsTo value count rest text
     → (digit_value c < 16 → ⊥) → new ≡ value → many ≡ count → CountsTo new many after text
 reads_line value count new many c after rest text e is counts high value_is count_is =
     let other : is_ascii_hexdigit c ≡ false = hex_is c is ∙ false_from_ne_true _ (λ low. high (ltb-true (digit_value c) 16 low)) in
-    let none : hexes (c ∷ after) ≡ hexes after =
-    ap length (cond-false (is_ascii_hexdigit c) (c ∷ filter is_ascii_hexdigit after) (filter is_ascii_hexdigit after) other) in
     let line : (c == 95) ≡ true = sym (ap (λ b. b || (c == 95)) other) ∙ is in
-    let step : new ≡ value_step value c = value_is ∙ sym (cond-true (c == 95) value (16 * value + digit_value c) line) in
-    (ap (λ n. fold value_step n after) step ∙ (ap (fold value_step value) (sym e) ∙ counts.0), omega (arith, counts.1, ap hexes e, none, count_is))
+    rw (value_is, count_is) (rw (e, line, other) at counts)
 
 pub digits_tail : (c : ℕ) (after rest : List ℕ) → rest ≡ c ∷ after → list_all is_code_digit rest ≡ true
     → (is_code_digit c ≡ true) × (list_all is_code_digit after ≡ true)
@@ -59,12 +50,9 @@ digits_tail c after rest e all = and_parts (is_code_digit c) (list_all is_code_d
 
 -- ---- no code
 
-step_grows : (n c : ℕ) → n ≤ value_step n c
-step_grows n c = grind arith
-
 fold_grows : (n : ℕ) (text : List ℕ) → n ≤ fold value_step n text
 fold_grows n [] = omega arith
-fold_grows n (c ∷ text) = let one = step_grows n c in let more = fold_grows (value_step n c) text in omega (arith, one, more)
+fold_grows n (c ∷ text) = grind (arith, fold_grows (value_step n c) text)
 
 -- too many digits
 pub no_code_long : (allowed : ℕ → Bool) (value count : ℕ) (rest text : List ℕ) → CountsTo value count rest text → 6 < count → is_code allowed text ≡ false

@@ -3,7 +3,7 @@ use Rattle.std.proofs.Common.{◌≡◌, ℕ, ◌+◌, ◌-◌, ◌/◌, ◌%◌
 use Rattle.std.specs.Char.{encode_utf8}
 use Rattle.std.specs.List.{count_by, slice_range}
 use Rattle.std.specs.Str.{chars, IsUtf8, IsCharBoundary, encode_utf8_all}
-use Rattle.std.proofs.lemmas.Bool.{cases_lt, le-ltb, cond-true, cond-false}
+use Rattle.std.proofs.lemmas.Bool.{cond_both, ltb-true}
 use Rattle.std.proofs.lemmas.List.{take-append-drop}
 use Rattle.std.proofs.lemmas.List.Sums.{sum_by-append}
 use Rattle.std.proofs.lemmas.Str.{encodes-chars, chars-append, IsUtf8-take}
@@ -12,35 +12,14 @@ use Rattle.std.proofs.lemmas.Str.{encodes-chars, chars-append, IsUtf8-take}
 abbrev pub is_first_byte : ℕ → Bool
 is_first_byte b = nat_lt b 128 || nat_le 192 b
 
--- a byte that follows in a character
-abbrev next : ℕ → ℕ
-next n = 128 + n % 64
-
-one : (c : ℕ) → c < 128 → count_by is_first_byte (c ∷ []) ≡ 1
-one c h = grind arith
-
-two : (a b : ℕ) → count_by is_first_byte ((192 + a) ∷ next b ∷ []) ≡ 1
-two a b = grind arith
-
-three : (a b c : ℕ) → count_by is_first_byte ((224 + a) ∷ next b ∷ next c ∷ []) ≡ 1
-three a b c = grind arith
-
-four : (a b c d : ℕ) → count_by is_first_byte ((240 + a) ∷ next b ∷ next c ∷ next d ∷ []) ≡ 1
-four a b c d = grind arith
-
 -- one byte of each character is its first
 one_first : (c : ℕ) → count_by is_first_byte (encode_utf8 c) ≡ 1
 unfolding encode_utf8
-one_first c = elim (cases_lt c 128) [
-  | inl h ↦ ap (count_by is_first_byte) (cond-true _ _ _ (lt-ltb c 128 h)) ∙ one c h
-  | inr h ↦ ap (count_by is_first_byte) (cond-false _ _ _ (le-ltb c 128 h)) ∙ elim (cases_lt c 2048) [
-    | inl i ↦ ap (count_by is_first_byte) (cond-true _ _ _ (lt-ltb c 2048 i)) ∙ two (c / 64) c
-    | inr i ↦ ap (count_by is_first_byte) (cond-false _ _ _ (le-ltb c 2048 i)) ∙ elim (cases_lt c 65536) [
-      | inl j ↦ ap (count_by is_first_byte) (cond-true _ _ _ (lt-ltb c 65536 j)) ∙ three (c / 4096) (c / 64) c
-      | inr j ↦ ap (count_by is_first_byte) (cond-false _ _ _ (le-ltb c 65536 j)) ∙ four (c / 262144) (c / 4096) (c / 64) c
-    ]
-  ]
-]
+one_first c =
+    let single : List ℕ → Type 0 = λ bytes. count_by is_first_byte bytes ≡ 1 in
+    cond_both (nat_lt c 128) _ _ single (λ low. grind (arith, ltb-true c 128 low)) (λ past.
+    cond_both (nat_lt c 2048) _ _ single (λ low. grind arith) (λ past.
+    cond_both (nat_lt c 65536) _ _ single (λ low. grind arith) (λ past. grind arith)))
 
 firsts : (cs : List ℕ) → count_by is_first_byte (encode_utf8_all cs) ≡ length cs
 firsts [] = refl

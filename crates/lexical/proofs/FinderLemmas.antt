@@ -1,7 +1,8 @@
 -- Each word on forms has a finder.
-use Rattle.std.proofs.Common.{◌≡◌, ℕ, Bool, true, false, cond, not, ◌==◌, List, [], ◌∷◌, ◌++◌, Some, None, IfSome, IsTrue, refl, sym, ap, ap₂, ◌∙◌, subst, append_assoc, append-nil, eqb-true, eq-eqb}
+use Rattle.std.proofs.Common.{◌≡◌, ℕ, Bool, true, false, cond, not, ◌==◌, List, [], ◌∷◌, ◌++◌, Some, None, IfSome, IsTrue, refl, sym, ap, ap₂, ◌∙◌, subst, arith, append_assoc, append-nil, eqb-true, eq-eqb}
 use Rattle.std.specs.List.{list_all}
 use Rattle.std.proofs.lemmas.Bool.{both_ways, cond-true, cond-false, cond_both, and_parts, and_from, not-true, not_from_false}
+use Rattle.std.proofs.lemmas.Option.{IfSome_then, some_pair_parts}
 use Rattle.lexical.specs.Text.{begins_any, first_passes}
 use Rattle.lexical.specs.Form.{Form, HasNone, Then, Next, NotAt, NotBefore, Exactly, One, Run}
 use Rattle.lexical.specs.Finder.{Answer, Finder, Finds, while_front, while_rest, behind, and_next, if_passes, find_next, find_then, find_if, find_not_at, find_not_before, find_where, find_one, find_run, find_text}
@@ -21,44 +22,37 @@ none_is f A h text e p r whole is =
     cc
 
 pub none_found : (f : Finder) (A : Form) → Finds f A → (text : List ℕ) → HasNone A text → f text ≡ None
-none_found f A h text none = by_cases (f text) (h.sound text)
-  where
-    by_cases : (o : Answer) → IfSome o (IsSplit A text) → o ≡ None
-    by_cases None is = refl
-    by_cases (Some x) is = absurd (none x.0 x.1 is.0 is.1)
+none_found f A h text none = (elim (f text) as (λ o. IfSome o (IsSplit A text) → o ≡ None) [
+  | None ↦ λ is. refl
+  | Some x ↦ λ is. absurd (none x.0 x.1 is.0 is.1)
+]) (h.sound text)
 
 -- at most one split of a text is a piece of the form
 pub one_split : (f : Finder) (A : Form) → Finds f A → (p q r s : List ℕ) → A p r → A q s → p ++ r ≡ q ++ s → (p ≡ q) × (r ≡ s)
 one_split f A h p q r s is other e =
-    let same : ◌≡◌ {A = Answer} (Some (p, r)) (Some (q, s)) = sym (h.complete p r is) ∙ (ap f e ∙ h.complete q s other) in
-    let parts : ◌≡◌ {A = List ℕ × List ℕ} (p, r) (q, s) = cc in
-    (ap (λ x. x.0) parts, ap (λ x. x.1) parts)
+    some_pair_parts p q r s (sym (h.complete p r is) ∙ (ap f e ∙ h.complete q s other))
 
 -- forms with the same pieces
 pub finds_same : (f : Finder) (A B : Form) → Finds f A → ((p r : List ℕ) → A p r → B p r) → ((p r : List ℕ) → B p r → A p r) → Finds f B
 finds_same f A B h to from = record {
-  sound = λ text. by_cases text (f text) (h.sound text);
+  sound = λ text. IfSome_then (f text) (h.sound text) (λ x is. (is.0, to x.0 x.1 is.1));
   complete = λ p r is. h.complete p r (from p r is);
 }
-  where
-    by_cases : (text : List ℕ) (o : Answer) → IfSome o (IsSplit A text) → IfSome o (IsSplit B text)
-    by_cases text None is = tt
-    by_cases text (Some x) is = (is.0, to x.0 x.1 is.1)
 
 -- ---- `Next`, `Then`
 
-next_back : (A : Form) (B : List ℕ → Form) (text : List ℕ) (x : List ℕ × List ℕ) → IsSplit A text x → (o : Answer)
-    → IfSome o (IsSplit (B x.0) x.1) → IfSome (behind x.0 o) (IsSplit (Next A B) text)
-next_back A B text x is None more = tt
-next_back A B text x is (Some y) more = (
-  is.0 ∙ (ap (λ xs. x.0 ++ xs) more.0 ∙ sym (append_assoc x.0 y.0 y.1)),
-  record { front = x.0; back = y.0; whole = refl; first = subst (λ xs. A x.0 xs) more.0 is.1; second = more.1 },
-)
+-- what was found, behind a front
+pub behind_sound : (A B : Form) (front text : List ℕ) → ((p r : List ℕ) → text ≡ p ++ r → A p r → B (front ++ p) r)
+    → (o : Answer) → IfSome o (IsSplit A text) → IfSome (behind front o) (IsSplit B (front ++ text))
+behind_sound A B front text step None is = tt
+behind_sound A B front text step (Some x) is = (ap (λ t. front ++ t) is.0 ∙ sym (append_assoc front x.0 x.1), step x.0 x.1 is.0 is.1)
 
-next_front : (g : List ℕ → Finder) (A : Form) (B : List ℕ → Form) → ((front : List ℕ) → Finds (g front) (B front))
+next_sound : (g : List ℕ → Finder) (A : Form) (B : List ℕ → Form) → ((front : List ℕ) → Finds (g front) (B front))
     → (text : List ℕ) (o : Answer) → IfSome o (IsSplit A text) → IfSome (and_next g o) (IsSplit (Next A B) text)
-next_front g A B h text None is = tt
-next_front g A B h text (Some x) is = next_back A B text x is (g x.0 x.1) ((h x.0).sound x.1)
+next_sound g A B h text None is = tt
+next_sound g A B h text (Some x) is = rw (is.0) (behind_sound (B x.0) (Next A B) x.0 x.1
+    (λ p r e back. record { front = x.0; back = p; whole = refl; first = subst (A x.0) e is.1; second = back })
+    (g x.0 x.1) ((h x.0).sound x.1))
 
 pub next_whole : (A : Form) (B : List ℕ → Form) (p r : List ℕ) (h : Next A B p r) → p ++ r ≡ h.front ++ (h.back ++ r)
 next_whole A B p r h = ap (λ q. q ++ r) h.whole ∙ append_assoc h.front h.back r
@@ -66,16 +60,10 @@ next_whole A B p r h = ap (λ q. q ++ r) h.whole ∙ append_assoc h.front h.back
 pub finds_next : (f : Finder) (g : List ℕ → Finder) (A : Form) (B : List ℕ → Form) → Finds f A
     → ((front : List ℕ) → Finds (g front) (B front)) → Finds (find_next f g) (Next A B)
 finds_next f g A B h j = record {
-  sound = λ text. next_front g A B j text (f text) (h.sound text);
+  sound = λ text. next_sound g A B j text (f text) (h.sound text);
   complete = λ p r is.
-      ap (λ t. and_next g (f t)) (next_whole A B p r is)
-      ∙ (ap (and_next g) (h.complete is.front (is.back ++ r) is.first)
-      ∙ (ap (behind is.front) ((j is.front).complete is.back r is.second) ∙ ap (λ q. Some (q, r)) (sym is.whole)));
+      rw (is.whole, append_assoc, h.complete is.front (is.back ++ r) is.first, (j is.front).complete is.back r is.second);
 }
-
--- a text that begins with a piece of the first form and then one of the second
-pub then_whole : (A B : Form) (p r : List ℕ) (h : Then A B p r) → p ++ r ≡ h.front ++ (h.back ++ r)
-then_whole A B = next_whole A (λ front. B)
 
 pub finds_then : (f g : Finder) (A B : Form) → Finds f A → Finds g B → Finds (find_then f g) (Then A B)
 finds_then f g A B h j = finds_next f (λ front. g) A (λ front. B) h (λ front. j)
@@ -88,16 +76,11 @@ finds_if false f A h = record { sound = λ text. tt; complete = λ p r is. absur
 
 -- ---- `NotAt`
 
-not_at_sound : (A : Form) (fronts : List (List ℕ)) (text : List ℕ) (o : Answer) → begins_any fronts text ≡ false
-    → IfSome o (IsSplit A text) → IfSome o (IsSplit (NotAt fronts A) text)
-not_at_sound A fronts text None e is = tt
-not_at_sound A fronts text (Some x) e is = (is.0, (is.1, ap (begins_any fronts) (sym is.0) ∙ e))
-
 pub finds_not_at : (fronts : List (List ℕ)) (f : Finder) (A : Form) → Finds f A → Finds (find_not_at fronts f) (NotAt fronts A)
 finds_not_at fronts f A h = record {
   sound =
       λ text. cond_both (begins_any fronts text) None (f text) (λ o. IfSome o (IsSplit (NotAt fronts A) text))
-      (λ e. tt) (λ e. not_at_sound A fronts text (f text) e (h.sound text));
+      (λ e. tt) (λ e. IfSome_then (f text) (h.sound text) (λ x is. (is.0, (is.1, ap (begins_any fronts) (sym is.0) ∙ e))));
   complete = λ p r is. cond-false _ _ _ is.1 ∙ h.complete p r is.0;
 }
 
@@ -124,23 +107,15 @@ finds_not_before passes f A h = finds_same _ _ _ (finds_where (λ p r. not (firs
 
 pub while_whole : (passes : ℕ → Bool) (text : List ℕ) → while_front passes text ++ while_rest passes text ≡ text
 while_whole passes [] = refl
-while_whole passes (c ∷ text) =
-    cond_both (passes c) (c ∷ while_front passes text) []
-    (λ xs. xs ++ cond (passes c) (while_rest passes text) (c ∷ text) ≡ c ∷ text)
-    (λ e. ap (λ ys. (c ∷ while_front passes text) ++ ys) (cond-true _ _ _ e) ∙ ap (λ ys. c ∷ ys) (while_whole passes text))
-    (λ e. cond-false _ _ _ e)
+while_whole passes (c ∷ text) = grind (arith, while_whole passes text)
 
 pub while_passes : (passes : ℕ → Bool) (text : List ℕ) → list_all passes (while_front passes text) ≡ true
 while_passes passes [] = refl
-while_passes passes (c ∷ text) =
-    cond_both (passes c) (c ∷ while_front passes text) [] (λ xs. list_all passes xs ≡ true)
-    (λ e. and_from _ _ e (while_passes passes text)) (λ e. refl)
+while_passes passes (c ∷ text) = grind (arith, while_passes passes text)
 
 while_stops : (passes : ℕ → Bool) (text : List ℕ) → first_passes passes (while_rest passes text) ≡ false
 while_stops passes [] = refl
-while_stops passes (c ∷ text) =
-    cond_both (passes c) (while_rest passes text) (c ∷ text) (λ xs. first_passes passes xs ≡ false)
-    (λ e. while_stops passes text) (λ e. e)
+while_stops passes (c ∷ text) = grind (arith, while_stops passes text)
 
 pub while_rest_none : (passes : ℕ → Bool) (r : List ℕ) → first_passes passes r ≡ false → (while_front passes r ≡ []) × (while_rest passes r ≡ r)
 while_rest_none passes [] stops = (refl, refl)
@@ -150,18 +125,13 @@ while_rest_none passes (c ∷ r) stops = (cond-false _ _ _ stops, cond-false _ _
 pub while_more : (passes : ℕ → Bool) (q r : List ℕ) → list_all passes q ≡ true
     → (while_front passes (q ++ r) ≡ q ++ while_front passes r) × (while_rest passes (q ++ r) ≡ while_rest passes r)
 while_more passes [] r all = (refl, refl)
-while_more passes (c ∷ q) r all =
-    let parts = and_parts _ _ all in
-    let more = while_more passes q r parts.1 in
-    (cond-true _ _ _ parts.0 ∙ ap (λ xs. c ∷ xs) more.0, cond-true _ _ _ parts.0 ∙ more.1)
+while_more passes (c ∷ q) r all = grind (arith, all, while_more passes q r)
 
 -- the front and the rest are the only such split
 while_split : (passes : ℕ → Bool) (q r : List ℕ) → list_all passes q ≡ true → first_passes passes r ≡ false
     → (while_front passes (q ++ r) ≡ q) × (while_rest passes (q ++ r) ≡ r)
 while_split passes q r all stops =
-    let more = while_more passes q r all in
-    let none = while_rest_none passes r stops in
-    (more.0 ∙ (ap (λ x. q ++ x) none.0 ∙ append-nil q), more.1 ∙ none.1)
+    grind (arith, while_more passes q r all, while_rest_none passes r stops, append-nil q)
 
 pub finds_run : (passes : ℕ → Bool) → Finds (find_run passes) (Run passes)
 finds_run passes = record {
@@ -183,15 +153,10 @@ finds_one passes = record {
   complete = λ q r is. subst (λ x. find_one passes (x ++ r) ≡ Some (x, r)) (sym is.1) (cond-true _ _ _ is.2);
 }
 
--- a text is its first character and then the others
-text_to : (c : ℕ) (front p r : List ℕ) → Then (One (λ d. d == c)) (Exactly front) p r → Exactly (c ∷ front) p r
-text_to c front p r h = h.whole ∙ ap₂ (λ xs ys. xs ++ ys) (h.first.1 ∙ ap (λ x. x ∷ []) (eqb-true h.first.0 c h.first.2)) h.second
-
-text_from : (c : ℕ) (front p r : List ℕ) → Exactly (c ∷ front) p r → Then (One (λ d. d == c)) (Exactly front) p r
-text_from c front p r is = record { front = c ∷ []; back = front; whole = is; first = (c, refl, eq-eqb c c refl); second = refl }
-
 pub finds_text : (front : List ℕ) → Finds (find_text front) (Exactly front)
 finds_text [] = record { sound = λ text. (refl, refl); complete = λ p r is. subst (λ q. find_text [] (q ++ r) ≡ Some (q, r)) (sym is) refl }
+-- its first character and then the others
 finds_text (c ∷ front) = finds_same (find_text (c ∷ front)) (Then (One (λ d. d == c)) (Exactly front)) (Exactly (c ∷ front))
     (finds_then (find_one (λ d. d == c)) (find_text front) (One (λ d. d == c)) (Exactly front) (finds_one (λ d. d == c)) (finds_text front))
-    (text_to c front) (text_from c front)
+    (λ p r h. h.whole ∙ ap₂ (λ xs ys. xs ++ ys) (h.first.1 ∙ ap (λ x. x ∷ []) (eqb-true h.first.0 c h.first.2)) h.second)
+    (λ p r is. record { front = c ∷ []; back = front; whole = is; first = (c, refl, eq-eqb c c refl); second = refl })

@@ -1,6 +1,5 @@
 -- The hash signs of raw strings.
-use Rattle.std.proofs.Common.{◌≡◌, ◌≢◌, ℕ, Bool, ◌==◌, ◌&&◌, true, false, not, Some, List, [], ◌∷◌, refl, sym, ap, ◌∙◌, eqb-true}
-use Rattle.std.specs.List.{list_all}
+use Rattle.std.proofs.Common.{◌≡◌, ◌≢◌, ℕ, Bool, ◌==◌, ◌&&◌, true, false, not, Some, List, [], ◌∷◌, refl, sym, ap, ◌∙◌, arith, nat_lt, eqb-true}
 use Rattle.std.specs.Str.{chars, IsUtf8, encode_utf8_all}
 use Rattle.std.proofs.lemmas.Bool.{both_ways, and_parts, and_from, false_from_ne_true, or_from, ne_eqb}
 use Rattle.std.proofs.lemmas.Str.{encodes-chars}
@@ -11,12 +10,7 @@ use Rattle.lexical.specs.Rule.{Rule, Run, find}
 use Rattle.lexical.specs.Step.{Passes}
 use Rattle.lexical.specs.declared.cursor.Cursor.{Cursor}
 use Rattle.lexical.proofs.RuleSteps.{passed, IsBetween}
-use Rattle.lexical.proofs.TextLemmas.{encode_all_ascii}
-
--- hash signs are ASCII
-hashes_ascii : (hashes : List ℕ) → list_all (λ c. c == 35) hashes ≡ true → all_ascii hashes ≡ true
-hashes_ascii [] h = refl
-hashes_ascii (c ∷ hashes) h = let parts = and_parts _ _ h in rw (eqb-true c 35 parts.0) (hashes_ascii hashes parts.1)
+use Rattle.lexical.proofs.TextLemmas.{all_pass, encode_all_ascii}
 
 -- all the hash signs
 abbrev pub signs : Rule
@@ -28,7 +22,7 @@ pub signs_text : (at to : Cursor) (h : Passes signs at to) (bytes : List ℕ) �
 signs_text at to h bytes utf8 between =
     let run = passed signs tt at to h in
     let is = between h.front run.0 in
-    let ascii = hashes_ascii h.front run.1.each in
+    let ascii : all_ascii h.front ≡ true = all_pass _ (λ b. nat_lt b 128) (λ c is. rw (eqb-true c 35 is) refl) h.front run.1.each in
     let whole : bytes ≡ h.front = sym (encodes-chars bytes utf8) ∙ (ap encode_utf8_all is ∙ encode_all_ascii h.front ascii) in
     (is ∙ sym whole, whole, ap all_ascii whole ∙ ascii)
 
@@ -39,7 +33,5 @@ pub raw_one : (allowed : ℕ → Bool) (hashes text rest : List ℕ) (c : ℕ) �
     → c ≢ 13 → allowed c ≡ true → find (raw_unit allowed (34 ∷ hashes)) text ≡ Some (c ∷ [], rest)
 unfolding find
 raw_one allowed hashes text rest c e closes other may =
-    let stands : (allowed c && not (c == 13)) ≡ true = and_from _ _ may (ap not (ne_eqb c 13 other)) in
-    let unclosed : begins_with (34 ∷ hashes) (c ∷ rest) ≡ false =
-    false_from_ne_true _ (λ h. let parts = and_parts (34 == c) _ h in both_ways _ (closes (sym (eqb-true 34 c parts.0))) parts.1) in
-    rw (e, or_from _ _ unclosed refl, stands) refl
+    let unclosed : begins_with (34 ∷ hashes) (c ∷ rest) ≡ false = grind (arith, closes) in
+    rw (e, or_from _ _ unclosed refl, may, ne_eqb c 13 other) refl

@@ -1,9 +1,9 @@
 -- Pieces of one form in a row are found.
-use Rattle.std.proofs.Common.{◌≡◌, ℕ, zero, suc, ◌≤◌, List, [], ◌∷◌, ◌++◌, length, Some, None, IfSome, refl, sym, ap, ◌∙◌, subst, arith, append_assoc, length-append}
+use Rattle.std.proofs.Common.{◌≡◌, ℕ, zero, suc, ◌≤◌, List, [], ◌∷◌, ◌++◌, length, Some, None, IfSome, refl, sym, ap, ap₂, ◌∙◌, subst, arith, append_assoc, length-append}
 use Rattle.std.specs.List.{concat}
 use Rattle.lexical.specs.Form.{Form, HasNone, Then, Each, Many}
 use Rattle.lexical.specs.Finder.{Answer, Finder, Finds, behind, find_then, some_of, or_stop, find_many}
-use Rattle.lexical.proofs.FinderLemmas.{IsSplit, none_found, none_is, found_is, finds_then, finds_same}
+use Rattle.lexical.proofs.FinderLemmas.{IsSplit, none_is, found_is, one_split, finds_then, finds_same}
 use Rattle.lexical.proofs.WordLemmas.{Disjoint, NotEmpty}
 
 -- pieces of the form, as long as one stands
@@ -16,51 +16,43 @@ none_at_end A some p r e is = let long = some p r is in absurd (omega (arith, le
 module _ (f : Finder) (A : Form) (h : Finds f A) (some : NotEmpty A) where
   many_more : (text : List ℕ) (x y : List ℕ × List ℕ) → IsSplit A text x → IsSplit (AllOf A) x.1 y → IsSplit (AllOf A) text (x.0 ++ y.0, y.1)
   many_more text x y is more =
-      let rest = more.1.0 in (
-        is.0 ∙ (ap (λ xs. x.0 ++ xs) more.0 ∙ sym (append_assoc x.0 y.0 y.1)),
-        (
-          record {
-            units = x.0 ∷ rest.units;
-            whole = ap (λ xs. x.0 ++ xs) rest.whole;
-            each = (subst (λ xs. A x.0 xs) (more.0 ∙ ap (λ q. q ++ y.1) rest.whole) is.1, rest.each);
-          },
-          more.1.1,
-        ),
-      )
-
-  many_step : (text : List ℕ) (go : List ℕ × List ℕ → List ℕ × List ℕ) (o : Answer) → IfSome o (IsSplit A text) → (o ≡ None → HasNone A text)
-      → ((x : List ℕ × List ℕ) → IsSplit A text x → IsSplit (AllOf A) x.1 (go x)) → IsSplit (AllOf A) text (or_stop text go o)
-  many_step text go None is none more = (refl, (record { units = []; whole = refl; each = tt }, none refl))
-  many_step text go (Some x) is none more = many_more text x (go x) is (more x is)
+      let rest = more.1.0 in
+      let whole = is.0 ∙ (ap (λ xs. x.0 ++ xs) more.0 ∙ sym (append_assoc x.0 y.0 y.1)) in
+      let first = rw (more.0, rest.whole) at is.1 in
+      (whole, (record { units = x.0 ∷ rest.units; whole = ap (λ xs. x.0 ++ xs) rest.whole; each = (first, rest.each) }, more.1.1))
 
   many_sound : (n : ℕ) (text : List ℕ) → length text ≤ n → IsSplit (AllOf A) text (some_of f n text)
   many_sound zero [] few = (refl, (record { units = []; whole = refl; each = tt }, none_at_end A some))
   many_sound zero (c ∷ text) few = absurd (omega arith)
   many_sound (suc n) text few =
-      many_step text (λ x. some_of f n x.1) (f text) (h.sound text) (none_is f A h text)
-      (λ x is. let long = some x.0 x.1 is.1 in many_sound n x.1 (omega (arith, length-append x.0 x.1, ap length is.0)))
+      (elim (f text) as (λ o. IfSome o (IsSplit A text) → (o ≡ None → HasNone A text) → IsSplit (AllOf A) text (or_stop text (λ x. some_of f n x.1) o)) [
+        | None ↦ λ is none. (refl, (record { units = []; whole = refl; each = tt }, none refl))
+        | Some x ↦ λ is none.
+            let long = some x.0 x.1 is.1 in
+            many_more text x (some_of f n x.1) is (many_sound n x.1 (omega (arith, length-append x.0 x.1, ap length is.0)))
+      ]) (h.sound text) (none_is f A h text)
 
-  many_complete : (n : ℕ) (units : List (List ℕ)) (r : List ℕ) → Each A units r → HasNone A r
-      → length (concat units ++ r) ≤ n → some_of f n (concat units ++ r) ≡ (concat units, r)
-  many_complete zero [] r each none few = refl
-  many_complete (suc n) [] r each none few = ap (or_stop r (λ x. some_of f n x.1)) (none_found f A h r none)
-  many_complete zero (unit ∷ units) r each none few =
-      let long = some unit (concat units ++ r) each.0 in
-      absurd (omega (arith, length-append (unit ++ concat units) r, length-append unit (concat units)))
-  many_complete (suc n) (unit ∷ units) r each none few =
-      let long = some unit (concat units ++ r) each.0 in
-      let go : List ℕ × List ℕ → List ℕ × List ℕ = λ x. some_of f n x.1 in
-      let whole : concat (unit ∷ units) ++ r ≡ unit ++ (concat units ++ r) = append_assoc unit (concat units) r in
-      ap (λ t. or_stop t go (f t)) whole
-      ∙ (ap (or_stop (unit ++ (concat units ++ r)) go) (h.complete unit (concat units ++ r) each.0)
-      ∙ ap (λ x. (unit ++ x.0, x.1)) (many_complete n units r each.1 none (omega (arith, ap length whole, length-append unit (concat units ++ r)))))
+  -- no other pieces are so many
+  many_same : (us vs : List (List ℕ)) (r s : List ℕ) → Each A us r → Each A vs s → HasNone A r → HasNone A s
+      → concat us ++ r ≡ concat vs ++ s → ◌≡◌ {A = List ℕ × List ℕ} (concat us, r) (concat vs, s)
+  many_same [] [] r s a b none stop e = ap (λ x. ([], x)) e
+  many_same [] (v ∷ vs) r s a b none stop e = absurd (none v (concat vs ++ s) (e ∙ append_assoc v (concat vs) s) b.0)
+  many_same (u ∷ us) [] r s a b none stop e = absurd (stop u (concat us ++ r) (sym e ∙ append_assoc u (concat us) r) a.0)
+  many_same (u ∷ us) (v ∷ vs) r s a b none stop e =
+      let one = one_split f A h u v (concat us ++ r) (concat vs ++ s) a.0 b.0 (sym (append_assoc u (concat us) r) ∙ (e ∙ append_assoc v (concat vs) s)) in
+      ap₂ (λ p x. (p ++ x.0, x.1)) one.0 (many_same us vs r s a.1 b.1 none stop one.1)
+
+  all_same : (p q r s : List ℕ) → AllOf A p r → AllOf A q s → p ++ r ≡ q ++ s → ◌≡◌ {A = List ℕ × List ℕ} (p, r) (q, s)
+  all_same p q r s a b e = rw (a.0.whole, b.0.whole)
+      (many_same a.0.units b.0.units r s a.0.each b.0.each a.1 b.1 (rw (a.0.whole, b.0.whole) at e))
 
   pub finds_many : Finds (find_many f) (AllOf A)
   unfolding find_many
   finds_many = record {
     sound = λ text. many_sound (length text) text (omega arith);
-    complete = λ p r is. subst (λ q. find_many f (q ++ r) ≡ Some (q, r)) (sym is.0.whole)
-        (ap Some (many_complete (length (concat is.0.units ++ r)) is.0.units r is.0.each is.1 (omega arith)));
+    complete = λ p r is.
+        let got = many_sound (length (p ++ r)) (p ++ r) (omega arith) in
+        ap Some (all_same _ p _ r got.1 is (sym got.0));
   }
 
   -- then something else, of which no piece begins as those do

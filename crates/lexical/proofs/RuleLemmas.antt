@@ -44,11 +44,9 @@ module _ (class : (ℕ → Bool) → Bool) (exact : List ℕ → Bool) (none : L
   led_more (Run passes) h p q back r e is = absurd (both_ways _ refl h)
   led_more (Exactly front) h p q back r e is = inr (inl (front, back, h, e ∙ ap (λ x. x ++ back) is))
   led_more (Then a b) h p q back r e is =
-      led_more a h is.front q (is.back ++ back) r (e ∙ (ap (λ x. x ++ back) is.whole ∙ append_assoc is.front is.back back))
-      (subst (Stands a is.front) (sym (append_assoc is.back back r)) is.first)
+      led_more a h is.front q (is.back ++ back) r (rw (e, is.whole, append_assoc)) (rw append_assoc is.first)
   led_more (Next a b) h p q back r e is =
-      led_more a h is.front q (is.back ++ back) r (e ∙ (ap (λ x. x ++ back) is.whole ∙ append_assoc is.front is.back back))
-      (subst (Stands a is.front) (sym (append_assoc is.back back r)) is.first)
+      led_more a h is.front q (is.back ++ back) r (rw (e, is.whole, append_assoc)) (rw append_assoc is.first)
   led_more (UpTo a b) h p q back r e is = absurd (both_ways _ refl h)
   led_more (Either a b) h p q back r e (inl is) = led_more a (and_parts _ _ h).0 p q back r e is
   led_more (Either a b) h p q back r e (inr is) = led_more b (and_parts _ _ h).1 p q back r e is
@@ -73,7 +71,8 @@ pub begins_holds : (test : List ℕ → Bool) (rule : Rule) → begins test rule
     → (front : List ℕ) × (rest : List ℕ) × (test front ≡ true) × (p ≡ front ++ rest)
 begins_holds test rule h p r is = elim (led (λ passes. false) test (λ fronts. false) rule h p r is) [
   | inl one ↦ absurd (both_ways _ refl one.1)
-  | inr more ↦ elim more [ inl text ↦ text | inr none ↦ absurd (both_ways _ refl none.1) ]
+  | inr (inl text) ↦ text
+  | inr (inr none) ↦ absurd (both_ways _ refl none.1)
 ]
 
 -- so with one of some texts, where each of those does
@@ -89,10 +88,8 @@ first_led : (class : (ℕ → Bool) → Bool) (passes : ℕ → Bool) (rule : Ru
     → (c : ℕ) × (q : List ℕ) × (p ≡ c ∷ q) × (passes c ≡ true)
 first_led class passes rule h part p r is = elim (led class (first_passes passes) (λ fronts. false) rule h p r is) [
   | inl one ↦ let at = first_cons one.0 p one.2 in (at.0, at.1, at.2, part one.0 at.0 one.1 at.3)
-  | inr more ↦ elim more [
-    | inl text ↦ first_cons passes p (ap (first_passes passes) text.3 ∙ first_more passes text.0 text.1 text.2)
-    | inr none ↦ absurd (both_ways _ refl none.1)
-  ]
+  | inr (inl text) ↦ first_cons passes p (ap (first_passes passes) text.3 ∙ first_more passes text.0 text.1 text.2)
+  | inr (inr none) ↦ absurd (both_ways _ refl none.1)
 ]
 
 pub first_one : (passes : ℕ → Bool) (rule : Rule) → begins (first_passes passes) rule ≡ true → (p r : List ℕ) → Stands rule p r
@@ -114,20 +111,14 @@ bars front = leads (λ passes. first_passes (λ c. not (passes c)) front) (λ te
 
 pub barred : (front : List ℕ) (rule : Rule) → bars front rule ≡ true → (rest p r : List ℕ) → Stands rule p r → p ++ r ≡ front ++ rest → ⊥
 barred front rule h rest p r is e = elim (led _ _ _ rule h p r is) [
-  | inl one ↦ not_first one.0 front p one.1 one.2 e
-  | inr more ↦ elim more [
-    | inl text ↦ texts_differ text.0 front (text.1 ++ r) rest text.2 (sym (append_assoc text.0 text.1 r) ∙ (ap (λ q. q ++ r) (sym text.3) ∙ e))
-    | inr none ↦ both_ways _ none.2 (ap (begins_any none.0) e ∙ any_begins_more none.0 front rest none.1)
-  ]
+  | inl one ↦ never one.0 (p ++ r) (first_more one.0 p r one.2) (rw e (first_more (λ c. not (one.0 c)) front rest one.1))
+  | inr (inl text) ↦ texts_differ text.0 front (text.1 ++ r) rest text.2 (sym (append_assoc text.0 text.1 r) ∙ (ap (λ q. q ++ r) (sym text.3) ∙ e))
+  | inr (inr none) ↦ both_ways _ none.2 (ap (begins_any none.0) e ∙ any_begins_more none.0 front rest none.1)
 ]
   where
-    not_first : (passes : ℕ → Bool) (front p : List ℕ) → first_passes (λ c. not (passes c)) front ≡ true
-        → first_passes passes p ≡ true → p ++ r ≡ front ++ rest → ⊥
-    not_first passes front [] out h e = both_ways _ refl h
-    not_first passes [] (c ∷ p) out h e = both_ways _ refl out
-    not_first passes (d ∷ front) (c ∷ p) out h e =
-        let same : c ≡ d = cc in
-        both_ways _ (not-true _ out) (ap passes (sym same) ∙ h)
+    never : (passes : ℕ → Bool) (text : List ℕ) → first_passes passes text ≡ true → first_passes (λ c. not (passes c)) text ≡ true → ⊥
+    never passes [] is out = both_ways _ refl is
+    never passes (c ∷ text) is out = both_ways _ (not-true _ out) is
 
 -- where a rule has no empty piece, each begins with a character that is not barred
 pub first_unbarred : (rule : Rule) → some rule ≡ true → (p r : List ℕ) → Stands rule p r
@@ -187,9 +178,6 @@ exact (Where test a) clear = finds_where (λ p r. test p) _ _ (exact a clear)
 exact (Ends depth) clear = finds_ends depth
 
 -- ---- and so, for all rules
-
-pub found_is : (rule : Rule) → Clear rule → (text p r : List ℕ) → find rule text ≡ Some (p, r) → (text ≡ p ++ r) × Stands rule p r
-found_is rule clear = finders.found_is (find rule) (Stands rule) (exact rule clear)
 
 pub none_found : (rule : Rule) → Clear rule → (text : List ℕ) → HasNone (Stands rule) text → find rule text ≡ None
 none_found rule clear = finders.none_found (find rule) (Stands rule) (exact rule clear)

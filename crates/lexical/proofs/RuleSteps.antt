@@ -3,19 +3,46 @@ use Rattle.std.proofs.Common.{◌≡◌, ℕ, ◌+◌, ◌≤◌, Bool, true, fa
 use Rattle.std.specs.Str.{chars}
 use Rattle.std.proofs.lemmas.Bool.{both_ways, false_from_ne_true, cond-true, cond-false, cond_both, not_from_true, not_from_false, or_from}
 use Rattle.lexical.specs.Text.{begins_with, begins_any, first_passes}
-use Rattle.lexical.specs.Form as forms
 use Rattle.lexical.specs.Finder.{and_find, behind, or_find, if_passes, find_one}
 use Rattle.lexical.specs.Rule.{Rule, One, Run, Exactly, Then, Either, Else, NotAt, NotBefore, Where, Stands, find, nothing, perhaps}
 use Rattle.lexical.specs.Step.{Passes, Reads}
 use Rattle.lexical.specs.declared.cursor.Cursor.{Cursor}
 use Rattle.lexical.proofs.TextLemmas.{begins_splits, begins_front}
-use Rattle.lexical.proofs.FinderLemmas.{none_is}
-use Rattle.lexical.proofs.RuleLemmas.{Clear, exact, found_is, none_found}
+use Rattle.lexical.proofs.FinderLemmas.{found_is}
+use Rattle.lexical.proofs.RuleLemmas.{Clear, exact, none_found}
+
+-- ---- what is found, word by word
+
+pub find_then : (a b : Rule) (text : List ℕ) → find (Then a b) text ≡ and_find (find b) (find a text)
+unfolding find
+find_then a b text = refl
+
+pub find_either : (a b : Rule) (text : List ℕ) → find (Either a b) text ≡ or_find (find a text) (find b text)
+unfolding find
+find_either a b text = refl
+
+pub find_other : (a b : Rule) (text : List ℕ) → find (Else a b) text ≡ or_find (find a text) (find b text)
+unfolding find
+find_other a b text = refl
+
+pub find_not_before : (passes : ℕ → Bool) (a : Rule) (text : List ℕ) → find (NotBefore passes a) text ≡ if_passes (λ p r. not (first_passes passes r)) (find a text)
+unfolding find
+find_not_before passes a text = refl
+
+pub find_where : (test : List ℕ → Bool) (a : Rule) (text : List ℕ) → find (Where test a) text ≡ if_passes (λ p r. test p) (find a text)
+unfolding find
+find_where test a text = refl
+
+pub find_nothing : (text : List ℕ) → find nothing text ≡ Some ([], text)
+unfolding find
+find_nothing text = refl
+
+-- ---- what was passed
 
 -- what was passed stands at the place
 pub passed : (rule : Rule) → Clear rule → (at to : Cursor) (h : Passes rule at to)
     → (chars at.rest.now ≡ h.front ++ chars to.rest.now) × Stands rule h.front (chars to.rest.now)
-passed rule clear at to h = found_is rule clear (chars at.rest.now) h.front (chars to.rest.now) h.found
+passed rule clear at to h = found_is (find rule) (Stands rule) (exact rule clear) (chars at.rest.now) h.front (chars to.rest.now) h.found
 
 -- a run leads no way back
 pub run_goes_on : (plain : ℕ → Bool) (at to : Cursor) → Passes (Run plain) at to → length (chars to.rest.now) ≤ length (chars at.rest.now)
@@ -52,16 +79,15 @@ pub text_passes : (front : List ℕ) (at to : Cursor) → chars at.rest.now ≡ 
 text_passes front at to whole count = record { front = front; found = text_found front _ _ whole; count = count }
 
 pub text_lacks : (front text : List ℕ) → begins_with front text ≡ false → find (Exactly front) text ≡ None
-text_lacks front text h =
-    none_found (Exactly front) tt text
-    (λ p r e is. both_ways _ h (ap (begins_with front) (e ∙ ap (λ x. x ++ r) is) ∙ begins_front front r))
+text_lacks front text h = none_found (Exactly front) tt text (λ p r e is. both_ways _ h (rw (e, is) (begins_front front r)))
 
 -- and the other way
 pub lacks_text : (front text : List ℕ) → find (Exactly front) text ≡ None → begins_with front text ≡ false
 lacks_text front text none =
     false_from_ne_true _ (λ begins.
     let split = begins_splits front text begins in
-    none_is (find (Exactly front)) (forms.Exactly front) (exact (Exactly front) tt) text none front split.0 split.1 refl)
+    let found = text_found front text split.0 split.1 in
+    cc)
 
 pub past_text : (front : List ℕ) (at to : Cursor) → Passes (Exactly front) at to
     → (chars at.rest.now ≡ front ++ chars to.rest.now) × (to.chars_before ≡ at.chars_before + length front)
@@ -72,21 +98,18 @@ past_text front at to h =
 -- ---- `Then`
 
 pub then_passes : (a b : Rule) (at mid to : Cursor) → Passes a at mid → Passes b mid to → Passes (Then a b) at to
-unfolding find
 then_passes a b at mid to h j = record {
   front = h.front ++ j.front;
-  found = ap (and_find (find b)) h.found ∙ ap (behind h.front) j.found;
+  found = rw (find_then, h.found, j.found);
   count = omega (arith, h.count, j.count, length-append h.front j.front);
 }
 
 pub then_reads : (a b : Rule) (at mid : Cursor) (result : Option Cursor) → Passes a at mid → Reads b mid result → Reads (Then a b) at result
-unfolding find
-then_reads a b at mid None h none = ap (and_find (find b)) h.found ∙ ap (behind h.front) none
+then_reads a b at mid None h none = rw (find_then, h.found, none)
 then_reads a b at mid (Some to) h j = then_passes a b at mid to h j
 
 pub then_lacks : (a b : Rule) (text : List ℕ) → find a text ≡ None → find (Then a b) text ≡ None
-unfolding find
-then_lacks a b text none = ap (and_find (find b)) none
+then_lacks a b text none = rw (find_then, none)
 
 pub then_fails : (a b : Rule) (at : Cursor) (result : Option Cursor) → result ≡ None → find a (chars at.rest.now) ≡ None → Reads (Then a b) at result
 then_fails a b at result e none = subst (Reads (Then a b) at) (sym e) (then_lacks a b (chars at.rest.now) none)
@@ -103,29 +126,23 @@ reads_same a b at None e h = e ∙ h
 reads_same a b at (Some to) e h = passes_same a b at to e h
 
 pub either_first : (a b : Rule) (at to : Cursor) → Passes a at to → Passes (Either a b) at to
-unfolding find
-either_first a b at to h = record { front = h.front; found = ap (λ o. or_find o (find b (chars at.rest.now))) h.found; count = h.count }
+either_first a b at to h = record { front = h.front; found = rw (find_either, h.found); count = h.count }
 
 pub either_second : (a b : Rule) (at to : Cursor) → find a (chars at.rest.now) ≡ None → Passes b at to → Passes (Either a b) at to
-unfolding find
-either_second a b at to none h = passes_same b (Either a b) at to (ap (λ o. or_find o (find b (chars at.rest.now))) none) h
+either_second a b at to none h = passes_same b (Either a b) at to (rw (find_either, none)) h
 
 pub either_reads : (a b : Rule) (at : Cursor) (result : Option Cursor) → find a (chars at.rest.now) ≡ None → Reads b at result → Reads (Either a b) at result
-unfolding find
-either_reads a b at result none h = reads_same b (Either a b) at result (ap (λ o. or_find o (find b (chars at.rest.now))) none) h
+either_reads a b at result none h = reads_same b (Either a b) at result (rw (find_either, none)) h
 
 pub else_first : (a b : Rule) (at to : Cursor) → Passes a at to → Passes (Else a b) at to
-unfolding find
-else_first a b at to h = record { front = h.front; found = ap (λ o. or_find o (find b (chars at.rest.now))) h.found; count = h.count }
+else_first a b at to h = record { front = h.front; found = rw (find_other, h.found); count = h.count }
 
 pub else_reads : (a b : Rule) (at : Cursor) (result : Option Cursor) → find a (chars at.rest.now) ≡ None → Reads b at result → Reads (Else a b) at result
-unfolding find
-else_reads a b at result none h = reads_same b (Else a b) at result (ap (λ o. or_find o (find b (chars at.rest.now))) none) h
+else_reads a b at result none h = reads_same b (Else a b) at result (rw (find_other, none)) h
 
 -- the place itself, where there may be nothing
 pub perhaps_stays : (a : Rule) (at : Cursor) → find a (chars at.rest.now) ≡ None → Passes (perhaps a) at at
-unfolding find
-perhaps_stays a at none = record { front = []; found = ap (λ o. or_find o (find nothing (chars at.rest.now))) none; count = omega arith }
+perhaps_stays a at none = record { front = []; found = rw (find_other, none, find_nothing); count = omega arith }
 
 -- ---- `NotAt`
 
@@ -151,13 +168,11 @@ apart_passes front a at to e h = not_at_passes (front ∷ []) a at to (or_from _
 
 pub before_passes : (passes : ℕ → Bool) (a : Rule) (at to : Cursor) → Passes a at to → first_passes passes (chars to.rest.now) ≡ false
     → Passes (NotBefore passes a) at to
-unfolding find
-before_passes passes a at to h e = record { front = h.front; found = ap (if_passes (λ p r. not (first_passes passes r))) h.found ∙ cond-true _ _ _ (not_from_false _ e); count = h.count }
+before_passes passes a at to h e = record { front = h.front; found = rw (find_not_before, h.found, e); count = h.count }
 
 pub before_lacks : (passes : ℕ → Bool) (a : Rule) (at to : Cursor) → Passes a at to → first_passes passes (chars to.rest.now) ≡ true
     → find (NotBefore passes a) (chars at.rest.now) ≡ None
-unfolding find
-before_lacks passes a at to h e = ap (if_passes (λ p r. not (first_passes passes r))) h.found ∙ cond-false _ _ _ (not_from_true _ e)
+before_lacks passes a at to h e = rw (find_not_before, h.found, e)
 
 -- ---- `Where`
 
@@ -167,45 +182,14 @@ IsBetween text at to = (front : List ℕ) → chars at.rest.now ≡ front ++ cha
 
 pub where_passes : (test : List ℕ → Bool) (a : Rule) → Clear a → (at to : Cursor) (text : List ℕ) → Passes a at to
     → IsBetween text at to → test text ≡ true → Passes (Where test a) at to
-unfolding find
-where_passes test a clear at to text h same e = record {
-  front = h.front;
-  found = ap (if_passes (λ p r. test p)) h.found ∙ cond-true _ _ _ (ap test (sym (same h.front (passed a clear at to h).0)) ∙ e);
-  count = h.count;
-}
+where_passes test a clear at to text h same e =
+    let is : text ≡ h.front = same h.front (passed a clear at to h).0 in
+    record { front = h.front; found = rw (find_where, h.found, ← is, e); count = h.count }
 
 pub where_lacks : (test : List ℕ → Bool) (a : Rule) → Clear a → (at to : Cursor) (text : List ℕ) → Passes a at to
     → IsBetween text at to → test text ≡ false → find (Where test a) (chars at.rest.now) ≡ None
-unfolding find
-where_lacks test a clear at to text h same e =
-    ap (if_passes (λ p r. test p)) h.found ∙ cond-false _ _ _ (ap test (sym (same h.front (passed a clear at to h).0)) ∙ e)
-
--- ---- what is found, word by word
-
-pub find_then : (a b : Rule) (text : List ℕ) → find (Then a b) text ≡ and_find (find b) (find a text)
-unfolding find
-find_then a b text = refl
-
-pub find_either : (a b : Rule) (text : List ℕ) → find (Either a b) text ≡ or_find (find a text) (find b text)
-unfolding find
-find_either a b text = refl
-
-pub find_other : (a b : Rule) (text : List ℕ) → find (Else a b) text ≡ or_find (find a text) (find b text)
-unfolding find
-find_other a b text = refl
-
-pub find_not_before : (passes : ℕ → Bool) (a : Rule) (text : List ℕ) → find (NotBefore passes a) text ≡ if_passes (λ p r. not (first_passes passes r)) (find a text)
-unfolding find
-find_not_before passes a text = refl
-
-pub find_where : (test : List ℕ → Bool) (a : Rule) (text : List ℕ) → find (Where test a) text ≡ if_passes (λ p r. test p) (find a text)
-unfolding find
-find_where test a text = refl
-
-pub find_nothing : (text : List ℕ) → find nothing text ≡ Some ([], text)
-unfolding find
-find_nothing text = refl
+where_lacks test a clear at to text h same e = rw (find_where, h.found, ← same h.front (passed a clear at to h).0, e)
 
 -- ---- all of them
 
-pub ruleset steps = (find_then, find_either, find_other, find_not_before, find_where, find_nothing, length-append, one_passes, one_lacks, one_ends, then_passes, then_reads, then_lacks, then_fails, either_first, either_second, either_reads, else_first, else_reads, perhaps_stays, apart_passes, not_at_passes, not_at_stops, not_at_lacks, before_passes, before_lacks)
+pub ruleset steps = (find_then, find_either, find_other, find_not_before, find_where, find_nothing, length-append, one_passes, one_lacks, one_ends, then_passes, then_reads, then_lacks, either_first, either_reads, else_first, else_reads, perhaps_stays, apart_passes, not_at_passes, not_at_stops, not_at_lacks, before_passes, before_lacks)

@@ -3,7 +3,7 @@ use Rattle.std.proofs.Common.{◌≡◌, ℕ, suc, ◌+◌, ◌<◌, ◌≤◌, 
 use Rattle.std.specs.Prelude.{encode_utf8}
 use Rattle.std.specs.List.{list_all}
 use Rattle.std.specs.Str.{chars, IsUtf8, IsCharBoundary, encode_utf8_all}
-use Rattle.std.proofs.lemmas.Bool.{cases_lt, cases_Bool, and_from, cond-true, cond-false}
+use Rattle.std.proofs.lemmas.Bool.{cases_lt, and_from, cond_both}
 use Rattle.std.proofs.lemmas.Str.{encode_ascii, inside_one, encodes-chars}
 use Rattle.lexical.specs.Text.{first_passes}
 use Rattle.lexical.specs.Finder.{while_front, while_rest}
@@ -15,10 +15,7 @@ use Rattle.lexical.proofs.TextLemmas.{first_byte, seam_boundary, seam_take, seam
 
 -- each byte of a character past ASCII is past ASCII
 byte_high : (c : ℕ) → 128 ≤ c → (k : ℕ) → k < length (encode_utf8 c) → 128 ≤ get_or (encode_utf8 c) k 0
-byte_high c h k within = elim (cases_lt (get_or (encode_utf8 c) k 0) 128) [
-  | inl low ↦ let same = inside_one c [] (encode_utf8 c) k (sym (append-nil (encode_utf8 c))) within low in absurd (omega arith)
-  | inr high ↦ high
-]
+byte_high c h k within = grind (arith, inside_one c [] (encode_utf8 c) k (sym (append-nil (encode_utf8 c))) within)
 
 all_from : (test : ℕ → Bool) (bs : List ℕ) → ((b : ℕ) → 128 ≤ b → test b ≡ true) → ((k : ℕ) → k < length bs → 128 ≤ get_or bs k 0) → list_all test bs ≡ true
 all_from test [] each high = refl
@@ -41,20 +38,13 @@ module _ (test : ℕ → Bool) (beyond : Bool) (high : (c : ℕ) → 128 ≤ c �
   -- the run over the bytes is that over the characters
   scan : (cs : List ℕ) → while_front test (encode_utf8_all cs) ≡ encode_utf8_all (while_front test cs)
   scan [] = refl
-  scan (c ∷ cs) = elim (cases_Bool (test c)) [
-    | inl on ↦
-        (while_more test (encode_utf8 c) (encode_utf8_all cs) (char_on c on)).0
-        ∙ (ap (λ x. encode_utf8 c ++ x) (scan cs) ∙ sym (ap encode_utf8_all (cond-true _ _ _ on)))
-    | inr off ↦
-        (while_rest_none test (encode_utf8 c ++ encode_utf8_all cs) (char_off c (encode_utf8_all cs) off)).0
-        ∙ sym (ap encode_utf8_all (cond-false _ _ _ off))
-  ]
+  scan (c ∷ cs) =
+      cond_both (test c) (c ∷ while_front test cs) [] (λ x. while_front test (encode_utf8 c ++ encode_utf8_all cs) ≡ encode_utf8_all x)
+      (λ on. (while_more test (encode_utf8 c) (encode_utf8_all cs) (char_on c on)).0 ∙ ap (λ x. encode_utf8 c ++ x) (scan cs))
+      (λ off. (while_rest_none test (encode_utf8 c ++ encode_utf8_all cs) (char_off c (encode_utf8_all cs) off)).0)
 
   -- so many bytes of the text are of the run
   module _ (text : List ℕ) (utf8 : IsUtf8 text) (n : ℕ) (size : n ≡ length (while_front test text)) where
-    front : List ℕ
-    front = while_front test (chars text)
-
     whole : chars text ≡ while_front test (chars text) ++ while_rest test (chars text)
     whole = sym (while_whole test (chars text))
 

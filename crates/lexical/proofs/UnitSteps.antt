@@ -3,7 +3,7 @@ use Rattle.std.proofs.Common.{◌≡◌, ℕ, ◌<◌, ◌==◌, Bool, true, cod
 use Rattle.std.specs.Borrow.{Bor}
 use Rattle.std.specs.Str.{chars}
 use Rattle.std.specs.List.{list_all}
-use Rattle.std.proofs.lemmas.Bool.{and_parts, or_parts, not-true, both_ways, cond_both, cond-true}
+use Rattle.std.proofs.lemmas.Bool.{and_parts, or_parts, not-true, cond_both, cond-true, eqb-false}
 use Rattle.lexical.specs.Finder.{Answer, and_find, and_next, behind, or_find, find_many, find_text}
 use Rattle.lexical.specs.Rule.{Rule, Run, Exactly, Then, Either, Next, UpTo, Stands, find}
 use Rattle.lexical.specs.Quoted.{is_plain, newline, escaped, unit as unit_of}
@@ -12,10 +12,11 @@ use Rattle.lexical.specs.RawString.{is_raw, is_raw_plain, raw_unit}
 use Rattle.lexical.specs.Step.{Leads, Passes, PassesText, Reads}
 use Rattle.lexical.specs.declared.cursor.Cursor.{Cursor}
 use Rattle.lexical.proofs.BlockLemmas.{behind_nothing, behind_behind}
+use Rattle.lexical.proofs.FinderLemmas.{found_is}
 use Rattle.lexical.proofs.ManyLemmas.{many_found, many_ends}
 use Rattle.lexical.proofs.RuleLemmas.{some_holds, Clear, exact}
 use Rattle.lexical.proofs.HashLemmas.{raw_one}
-use Rattle.lexical.proofs.RuleSteps.{passed}
+use Rattle.lexical.proofs.RuleSteps.{find_then, passed}
 
 pub leads_passes : (rule rest : Rule) (at mid to : Cursor) → Leads rule at rest mid → Passes rest mid to → Passes rule at to
 leads_passes rule rest at mid to h j = record {
@@ -24,13 +25,9 @@ leads_passes rule rest at mid to h j = record {
   count = omega (arith, h.count, j.count, length-append h.front j.front);
 }
 
-pub leads_reads : (rule rest : Rule) (at mid : Cursor) (result : Option Cursor) → Leads rule at rest mid → Reads rest mid result → Reads rule at result
-leads_reads rule rest at mid None h none = h.found ∙ ap (behind h.front) none
-leads_reads rule rest at mid (Some to) h j = leads_passes rule rest at mid to h j
-
 pub leads_fails : (rule rest : Rule) (at mid : Cursor) (result : Option Cursor) → result ≡ None → Leads rule at rest mid
     → find rest (chars mid.rest.now) ≡ None → Reads rule at result
-leads_fails rule rest at mid result e h none = subst (Reads rule at) (sym e) (leads_reads rule rest at mid None h none)
+leads_fails rule rest at mid result e h none = subst (Reads rule at) (sym e) (h.found ∙ ap (behind h.front) none)
 
 pub leads_far : (rule rest more : Rule) (at mid to : Cursor) → Leads rule at rest mid → Leads rest mid more to → Leads rule at more to
 leads_far rule rest more at mid to h j = record {
@@ -39,10 +36,16 @@ leads_far rule rest more at mid to h j = record {
   count = omega (arith, h.count, j.count, length-append h.front j.front);
 }
 
+-- past a piece that stands in front of what ends them
+pub leads_past : (rule : Rule) → Clear rule → (a b : Rule) (at to : Cursor) → Passes rule at to
+    → ((p r : List ℕ) → Stands rule p r → find a (p ++ r) ≡ behind p (find b r)) → Leads a at b to
+leads_past rule clear a b at to h step =
+    let is = passed rule clear at to h in
+    record { front = h.front; found = ap (find a) is.0 ∙ step h.front (chars to.rest.now) is.1; count = h.count }
+
 -- past a piece of the first rule
 pub leads_then : (a b : Rule) (at mid : Cursor) → Passes a at mid → Leads (Then a b) at b mid
-unfolding find
-leads_then a b at mid h = record { front = h.front; found = ap (and_find (find b)) h.found; count = h.count }
+leads_then a b at mid h = record { front = h.front; found = rw (find_then, h.found); count = h.count }
 
 pub leads_on : (rule a b : Rule) (at mid to : Cursor) → Leads rule at (Then a b) mid → Passes a mid to → Leads rule at b to
 leads_on rule a b at mid to h j = leads_far rule (Then a b) b at mid to h (leads_then a b mid to j)
@@ -72,26 +75,26 @@ and_behind f front None = refl
 and_behind f front (Some x) = sym (behind_behind front x.0 (f x.1))
 
 module _ (unit after : Rule) (clear : Clear (UpTo unit after)) where
-  pub leads_unit : (rule : Rule) (at mid to : Cursor) → Leads rule at (UpTo unit after) mid → Passes unit mid to → Leads rule at (UpTo unit after) to
+  one_more : (p r : List ℕ) → Stands unit p r → find (UpTo unit after) (p ++ r) ≡ behind p (find (UpTo unit after) r)
   unfolding find
-  leads_unit rule at mid to h j = leads_far rule (UpTo unit after) (UpTo unit after) at mid to h (record {
-    front = j.front;
-    found = ap (and_find (find after)) (many_found (find unit) (Stands unit) (exact unit clear.0) (some_holds unit clear.2)
-        (chars mid.rest.now) j.front (chars to.rest.now) j.found)
-        ∙ and_behind (find after) j.front _;
-    count = j.count;
-  })
+  one_more p r is =
+      let one = (exact unit clear.0).complete p r is in
+      ap (and_find (find after)) (many_found (find unit) (Stands unit) (exact unit clear.0) (some_holds unit clear.2) (p ++ r) p r one)
+      ∙ and_behind (find after) p (find_many (find unit) r)
+
+  pub leads_unit : (rule : Rule) (at mid to : Cursor) → Leads rule at (UpTo unit after) mid → Passes unit mid to → Leads rule at (UpTo unit after) to
+  leads_unit rule at mid to h j =
+      leads_far rule (UpTo unit after) (UpTo unit after) at mid to h (leads_past unit clear.0 (UpTo unit after) (UpTo unit after) mid to j one_more)
 
   -- past the last of them
   pub leads_last : (rule : Rule) (at mid : Cursor) → Leads rule at (UpTo unit after) mid → find unit (chars mid.rest.now) ≡ None → Leads rule at after mid
   unfolding find
-  leads_last rule at mid h none = record {
-    front = h.front;
-    found = h.found
-        ∙ ap (behind h.front) (ap (and_find (find after)) (many_ends (find unit) (Stands unit) (exact unit clear.0) (some_holds unit clear.2) (chars mid.rest.now) none)
-        ∙ behind_nothing _);
-    count = h.count;
-  }
+  leads_last rule at mid h none = leads_far rule (UpTo unit after) after at mid mid h (record {
+    front = [];
+    found = ap (and_find (find after))
+        (many_ends (find unit) (Stands unit) (exact unit clear.0) (some_holds unit clear.2) (chars mid.rest.now) none);
+    count = omega arith;
+  })
 
   -- a unit is not empty
   pub unit_shortens : (at to : Cursor) → Passes unit at to → length (chars to.rest.now) < length (chars at.rest.now)
@@ -103,25 +106,17 @@ module _ (unit after : Rule) (clear : Clear (UpTo unit after)) where
   -- past characters that are each a unit
   module _ (plain : ℕ → Bool) (alone : (c : ℕ) (text : List ℕ) → plain c ≡ true → find unit (c ∷ text) ≡ Some (c ∷ [], text)) where
     units_over : (front rest : List ℕ) → list_all plain front ≡ true
-        → find_many (find unit) (front ++ rest) ≡ behind front (find_many (find unit) rest)
+        → find (UpTo unit after) (front ++ rest) ≡ behind front (find (UpTo unit after) rest)
     units_over [] rest all = sym (behind_nothing _)
     units_over (c ∷ front) rest all =
         let parts = and_parts _ _ all in
-        many_found (find unit) (Stands unit) (exact unit clear.0) (some_holds unit clear.2)
-        (c ∷ (front ++ rest)) (c ∷ []) (front ++ rest) (alone c (front ++ rest) parts.0)
-        ∙ (ap (behind (c ∷ [])) (units_over front rest parts.1) ∙ behind_behind (c ∷ []) front _)
+        let one = found_is (find unit) (Stands unit) (exact unit clear.0) _ (c ∷ []) (front ++ rest) (alone c (front ++ rest) parts.0) in
+        one_more (c ∷ []) (front ++ rest) one.1 ∙ (ap (behind (c ∷ [])) (units_over front rest parts.1) ∙ behind_behind (c ∷ []) front _)
 
     pub leads_run : (rule : Rule) (at mid to : Cursor) → Leads rule at (UpTo unit after) mid → Passes (Run plain) mid to
         → Leads rule at (UpTo unit after) to
-    unfolding find
-    leads_run rule at mid to h run =
-        let is = passed (Run plain) tt mid to run in
-        leads_far rule (UpTo unit after) (UpTo unit after) at mid to h (record {
-          front = run.front;
-          found = ap (and_find (find after)) (ap (find_many (find unit)) is.0 ∙ units_over run.front (chars to.rest.now) is.1.each)
-              ∙ and_behind (find after) run.front _;
-          count = run.count;
-        })
+    leads_run rule at mid to h run = leads_far rule (UpTo unit after) (UpTo unit after) at mid to h
+        (leads_past (Run plain) tt (UpTo unit after) (UpTo unit after) mid to run (λ p r is. units_over p r is.each))
 
 -- a plain character is a unit of a string
 pub plain_unit : (kind : StringKind) (c : ℕ) (text : List ℕ) → is_plain kind c ≡ true → find (unit_of kind) (c ∷ text) ≡ Some (c ∷ [], text)
@@ -134,5 +129,4 @@ pub raw_plain_unit : (kind : StringKind) (hashes : List ℕ) (c : ℕ) (text : L
 raw_plain_unit kind hashes c text e =
     let parts = and_parts _ _ e in
     let other = or_parts (c == 34) (c == 13) (not-true _ parts.1) in
-    raw_one (is_raw kind) hashes (c ∷ text) text c refl (λ h. absurd (both_ways _ other.0 (eq-eqb c 34 h)))
-    (λ h. both_ways _ other.1 (eq-eqb c 13 h)) parts.0
+    raw_one (is_raw kind) hashes (c ∷ text) text c refl (λ h. absurd (eqb-false c 34 other.0 h)) (eqb-false c 13 other.1) parts.0

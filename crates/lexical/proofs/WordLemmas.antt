@@ -1,10 +1,10 @@
 -- More words on forms have finders, and forms that stand apart.
-use Rattle.std.proofs.Common.{◌≡◌, ℕ, ◌≤◌, Bool, true, false, not, ◌==◌, ◌||◌, List, [], ◌∷◌, ◌++◌, length, Some, None, IfSome, refl, sym, ap, ◌∙◌, subst, inl, inr, eq-eqb}
+use Rattle.std.proofs.Common.{◌≡◌, ℕ, ◌≤◌, Bool, true, false, not, ◌==◌, ◌||◌, List, [], ◌∷◌, ◌++◌, length, Some, None, IfSome, refl, sym, ap, ◌∙◌, subst, arith, inl, inr, eq-eqb}
 use Rattle.std.proofs.lemmas.Bool.{both_ways, or_cases, not-true}
 use Rattle.lexical.specs.Text.{first_passes}
 use Rattle.lexical.specs.Form.{Form, HasNone, Then, Either, Else, Exactly}
 use Rattle.lexical.specs.Finder.{Answer, Finder, Finds, or_find, find_else}
-use Rattle.lexical.proofs.FinderLemmas.{IsSplit, none_is, none_found, finds_same, then_whole}
+use Rattle.lexical.proofs.FinderLemmas.{IsSplit, none_is, none_found, finds_same, next_whole}
 
 -- ---- `Else`
 
@@ -17,10 +17,7 @@ else_sound A B text (Some x) u is other none = (is.0, inl is.1)
 pub finds_else : (f g : Finder) (A B : Form) → Finds f A → Finds g B → Finds (find_else f g) (Else A B)
 finds_else f g A B h j = record {
   sound = λ text. else_sound A B text (f text) (g text) (h.sound text) (j.sound text) (none_is f A h text);
-  complete = λ p r is. elim is [
-    | inl a ↦ ap (λ o. or_find o (g (p ++ r))) (h.complete p r a)
-    | inr b ↦ ap (λ o. or_find o (g (p ++ r))) (none_found f A h (p ++ r) b.0) ∙ j.complete p r b.1
-  ];
+  complete = λ p r is. elim is [ inl a ↦ rw (h.complete p r a) | inr b ↦ rw (none_found f A h (p ++ r) b.0, j.complete p r b.1) ];
 }
 
 -- ---- `Either` of forms that stand apart
@@ -45,12 +42,6 @@ finds_apart f g A B h j apart = finds_same (find_else f g) (Else A B) (Either A 
 abbrev pub NotEmpty : Form → Type 0
 NotEmpty A = (p r : List ℕ) → A p r → 1 ≤ length p
 
--- ---- forms that begin with different characters
-
--- each text that begins with a piece of the form begins with a character that passes
-abbrev pub Shows : (ℕ → Bool) → Form → Type 0
-Shows passes A = (p r : List ℕ) → A p r → first_passes passes (p ++ r) ≡ true
-
 -- ---- forms that begin with different texts
 
 -- whether two texts differ at some place that both have
@@ -64,14 +55,11 @@ texts_differ [] q r s h e = absurd (both_ways _ refl h)
 texts_differ (c ∷ p) [] r s h e = absurd (both_ways _ refl h)
 texts_differ (c ∷ p) (d ∷ q) r s h e =
     let head : c ≡ d = cc in
-    let tail : p ++ r ≡ q ++ s = cc in
-    elim (or_cases _ _ h) [
-      | inl here ↦ both_ways _ (not-true _ here) (eq-eqb c d head)
-      | inr there ↦ texts_differ p q r s there tail
-    ]
+    let more : differ p q ≡ true → ⊥ = λ there. texts_differ p q r s there (cc) in
+    grind (arith, h, head, more)
 
 pub front_whole : (front : List ℕ) (A : Form) (p r : List ℕ) (h : Then (Exactly front) A p r) → p ++ r ≡ front ++ (h.back ++ r)
-front_whole front A p r h = then_whole (Exactly front) A p r h ∙ ap (λ x. x ++ (h.back ++ r)) h.first
+front_whole front A p r h = next_whole (Exactly front) (λ x. A) p r h ∙ ap (λ x. x ++ (h.back ++ r)) h.first
 
 pub apart_fronts : (f g : List ℕ) (A B : Form) → differ f g ≡ true → Disjoint (Then (Exactly f) A) (Then (Exactly g) B)
 apart_fronts f g A B h p q r s a b e =
