@@ -1,5 +1,5 @@
 -- Block comments: what is found is all up to where so many of them end.
-use Rattle.std.proofs.Common.{◌≡◌, ℕ, zero, suc, false, List, [], ◌∷◌, ◌++◌, codes, Some, None, IfSome, refl, sym, ap, ◌∙◌, subst, append_assoc}
+use Rattle.std.proofs.Common.{◌≡◌, ℕ, zero, suc, false, List, [], ◌∷◌, ◌++◌, codes, Some, None, IfSome, refl, sym, ap, ◌∙◌, subst, arith, append_assoc}
 use Rattle.std.proofs.lemmas.Bool.{cond-false, cond_both, or_parts, or_from}
 use Rattle.lexical.specs.Text.{begins_with, begins_any}
 use Rattle.lexical.specs.Form.{Form}
@@ -30,10 +30,7 @@ pub at_other : (outer c : ℕ) (text : List ℕ) → begins_any block_signs (c �
     → find_ends (suc outer) (c ∷ text) ≡ behind (c ∷ []) (find_ends (suc outer) text)
 unfolding find_ends
 at_other outer c [] h = refl
-at_other outer c (d ∷ text) h =
-    let opens = or_parts _ _ h in
-    let closes = or_parts _ false opens.1 in
-    cond-false _ _ _ closes.0 ∙ cond-false _ _ _ opens.0
+at_other outer c (d ∷ text) h = grind (arith, h)
 
 -- ---- what ends so many comments is found
 
@@ -96,12 +93,14 @@ ends_sound (suc outer) (c ∷ (d ∷ text)) =
     (λ closes. let split = begins_splits (codes "*/") (c ∷ (d ∷ text)) closes in
     let first : c ≡ 42 = cc in
     let second : d ≡ 47 = cc in
-    rw (first, second) (behind_sound (Ends outer) (Ends (suc outer)) (codes "*/") text (λ p r e. close_step outer p r) _ (ends_sound outer text)))
+    rw (first, second) (behind_sound (Ends outer) (Ends (suc outer)) (codes "*/") text
+    (λ p r e. close_step outer p r) _ (ends_sound outer text)))
     (λ no. cond_both (begins_with (codes "/*") (c ∷ (d ∷ text))) _ _ (λ o. IfSome o (IsSplit (Ends (suc outer)) (c ∷ (d ∷ text))))
     (λ opens. let split = begins_splits (codes "/*") (c ∷ (d ∷ text)) opens in
     let first : c ≡ 47 = cc in
     let second : d ≡ 42 = cc in
-    rw (first, second) (behind_sound (Ends (suc (suc outer))) (Ends (suc outer)) (codes "/*") text (λ p r e. open_step outer p r) _ (ends_sound (suc (suc outer)) text)))
+    rw (first, second) (behind_sound (Ends (suc (suc outer))) (Ends (suc outer)) (codes "/*") text
+    (λ p r e. open_step outer p r) _ (ends_sound (suc (suc outer)) text)))
     (λ nor. behind_sound (Ends (suc outer)) (Ends (suc outer)) (c ∷ []) (d ∷ text)
     (λ p r e is. other_step outer c p r (ap (λ t. begins_any block_signs (c ∷ t)) (sym e) ∙ or_from _ _ nor (or_from _ _ no refl)) is)
     _ (ends_sound (suc outer) (d ∷ text))))

@@ -23,10 +23,7 @@ one_first c =
 
 firsts : (cs : List ℕ) → count_by is_first_byte (encode_utf8_all cs) ≡ length cs
 firsts [] = refl
-firsts (c ∷ cs) =
-    let more : count_by is_first_byte (encode_utf8 c ++ encode_utf8_all cs) ≡ count_by is_first_byte (encode_utf8 c) + count_by is_first_byte (encode_utf8_all cs) =
-    sum_by-append _ (encode_utf8 c) (encode_utf8_all cs) in
-    omega (arith, more, one_first c, firsts cs)
+firsts (c ∷ cs) = simp (sum_by-append, one_first, firsts cs) (omega arith)
 
 pub chars_counted : (text : List ℕ) → IsUtf8 text → count_by is_first_byte text ≡ length (chars text)
 chars_counted text utf8 = ap (count_by is_first_byte) (sym (encodes-chars text utf8)) ∙ firsts (chars text)

@@ -29,8 +29,7 @@ none_found f A h text none = (elim (f text) as (λ o. IfSome o (IsSplit A text) 
 
 -- at most one split of a text is a piece of the form
 pub one_split : (f : Finder) (A : Form) → Finds f A → (p q r s : List ℕ) → A p r → A q s → p ++ r ≡ q ++ s → (p ≡ q) × (r ≡ s)
-one_split f A h p q r s is other e =
-    some_pair_parts p q r s (sym (h.complete p r is) ∙ (ap f e ∙ h.complete q s other))
+one_split f A h p q r s is other e = some_pair_parts p q r s (sym (h.complete p r is) ∙ (ap f e ∙ h.complete q s other))
 
 -- forms with the same pieces
 pub finds_same : (f : Finder) (A B : Form) → Finds f A → ((p r : List ℕ) → A p r → B p r) → ((p r : List ℕ) → B p r → A p r) → Finds f B
@@ -45,7 +44,8 @@ finds_same f A B h to from = record {
 pub behind_sound : (A B : Form) (front text : List ℕ) → ((p r : List ℕ) → text ≡ p ++ r → A p r → B (front ++ p) r)
     → (o : Answer) → IfSome o (IsSplit A text) → IfSome (behind front o) (IsSplit B (front ++ text))
 behind_sound A B front text step None is = tt
-behind_sound A B front text step (Some x) is = (ap (λ t. front ++ t) is.0 ∙ sym (append_assoc front x.0 x.1), step x.0 x.1 is.0 is.1)
+behind_sound A B front text step (Some x) is =
+    (ap (λ t. front ++ t) is.0 ∙ sym (append_assoc front x.0 x.1), step x.0 x.1 is.0 is.1)
 
 next_sound : (g : List ℕ → Finder) (A : Form) (B : List ℕ → Form) → ((front : List ℕ) → Finds (g front) (B front))
     → (text : List ℕ) (o : Answer) → IfSome o (IsSplit A text) → IfSome (and_next g o) (IsSplit (Next A B) text)
@@ -62,7 +62,7 @@ pub finds_next : (f : Finder) (g : List ℕ → Finder) (A : Form) (B : List ℕ
 finds_next f g A B h j = record {
   sound = λ text. next_sound g A B j text (f text) (h.sound text);
   complete = λ p r is.
-      rw (is.whole, append_assoc, h.complete is.front (is.back ++ r) is.first, (j is.front).complete is.back r is.second);
+      rw (is.whole, append_assoc, h.complete is.front _ is.first, (j is.front).complete is.back r is.second);
 }
 
 pub finds_then : (f g : Finder) (A B : Form) → Finds f A → Finds g B → Finds (find_then f g) (Then A B)
@@ -80,7 +80,7 @@ pub finds_not_at : (fronts : List (List ℕ)) (f : Finder) (A : Form) → Finds 
 finds_not_at fronts f A h = record {
   sound =
       λ text. cond_both (begins_any fronts text) None (f text) (λ o. IfSome o (IsSplit (NotAt fronts A) text))
-      (λ e. tt) (λ e. IfSome_then (f text) (h.sound text) (λ x is. (is.0, (is.1, ap (begins_any fronts) (sym is.0) ∙ e))));
+      (λ e. tt) (λ e. IfSome_then (f text) (h.sound text) (λ x is. (is.0, (is.1, rw (is.0) at e))));
   complete = λ p r is. cond-false _ _ _ is.1 ∙ h.complete p r is.0;
 }
 
@@ -127,16 +127,13 @@ pub while_more : (passes : ℕ → Bool) (q r : List ℕ) → list_all passes q 
 while_more passes [] r all = (refl, refl)
 while_more passes (c ∷ q) r all = grind (arith, all, while_more passes q r)
 
--- the front and the rest are the only such split
-while_split : (passes : ℕ → Bool) (q r : List ℕ) → list_all passes q ≡ true → first_passes passes r ≡ false
-    → (while_front passes (q ++ r) ≡ q) × (while_rest passes (q ++ r) ≡ r)
-while_split passes q r all stops =
-    grind (arith, while_more passes q r all, while_rest_none passes r stops, append-nil q)
-
 pub finds_run : (passes : ℕ → Bool) → Finds (find_run passes) (Run passes)
 finds_run passes = record {
   sound = λ text. (sym (while_whole passes text), record { each = while_passes passes text; stops = while_stops passes text });
-  complete = λ q r is. let split = while_split passes q r is.each is.stops in ap₂ (λ x y. Some (x, y)) split.0 split.1;
+  complete = λ q r is.
+      let more = while_more passes q r is.each in
+      let none = while_rest_none passes r is.stops in
+      cc (append-nil q, more.0, more.1, none.0, none.1);
 }
 
 -- ---- `One`, `Exactly`
@@ -158,5 +155,5 @@ finds_text [] = record { sound = λ text. (refl, refl); complete = λ p r is. su
 -- its first character and then the others
 finds_text (c ∷ front) = finds_same (find_text (c ∷ front)) (Then (One (λ d. d == c)) (Exactly front)) (Exactly (c ∷ front))
     (finds_then (find_one (λ d. d == c)) (find_text front) (One (λ d. d == c)) (Exactly front) (finds_one (λ d. d == c)) (finds_text front))
-    (λ p r h. h.whole ∙ ap₂ (λ xs ys. xs ++ ys) (h.first.1 ∙ ap (λ x. x ∷ []) (eqb-true h.first.0 c h.first.2)) h.second)
+    (λ p r h. h.whole ∙ ap₂ ◌++◌ (h.first.1 ∙ ap (λ x. x ∷ []) (eqb-true h.first.0 c h.first.2)) h.second)
     (λ p r is. record { front = c ∷ []; back = front; whole = is; first = (c, refl, eq-eqb c c refl); second = refl })

@@ -22,7 +22,7 @@ pub signs_text : (at to : Cursor) (h : Passes signs at to) (bytes : List ℕ) �
 signs_text at to h bytes utf8 between =
     let run = passed signs tt at to h in
     let is = between h.front run.0 in
-    let ascii : all_ascii h.front ≡ true = all_pass _ (λ b. nat_lt b 128) (λ c is. rw (eqb-true c 35 is) refl) h.front run.1.each in
+    let ascii = all_pass (λ c. c == 35) (λ b. nat_lt b 128) (λ c is. rw (eqb-true c 35 is) refl) h.front run.1.each in
     let whole : bytes ≡ h.front = sym (encodes-chars bytes utf8) ∙ (ap encode_utf8_all is ∙ encode_all_ascii h.front ascii) in
     (is ∙ sym whole, whole, ap all_ascii whole ∙ ascii)
 

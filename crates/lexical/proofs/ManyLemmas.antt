@@ -18,28 +18,35 @@ module _ (f : Finder) (A : Form) (h : Finds f A) (some : NotEmpty A) where
   many_more text x y is more =
       let rest = more.1.0 in
       let whole = is.0 ∙ (ap (λ xs. x.0 ++ xs) more.0 ∙ sym (append_assoc x.0 y.0 y.1)) in
-      let first = rw (more.0, rest.whole) at is.1 in
-      (whole, (record { units = x.0 ∷ rest.units; whole = ap (λ xs. x.0 ++ xs) rest.whole; each = (first, rest.each) }, more.1.1))
+      let first = rw (more.0, rest.whole) at is.1 in (
+        whole,
+        (
+          record { units = x.0 ∷ rest.units; whole = ap (λ xs. x.0 ++ xs) rest.whole; each = (first, rest.each) },
+          more.1.1,
+        ),
+      )
 
   many_sound : (n : ℕ) (text : List ℕ) → length text ≤ n → IsSplit (AllOf A) text (some_of f n text)
   many_sound zero [] few = (refl, (record { units = []; whole = refl; each = tt }, none_at_end A some))
   many_sound zero (c ∷ text) few = absurd (omega arith)
   many_sound (suc n) text few =
-      (elim (f text) as (λ o. IfSome o (IsSplit A text) → (o ≡ None → HasNone A text) → IsSplit (AllOf A) text (or_stop text (λ x. some_of f n x.1) o)) [
+      (elim (f text) as (λ o. IfSome o (IsSplit A text) → (o ≡ None → HasNone A text)
+      → IsSplit (AllOf A) text (or_stop text (λ x. some_of f n x.1) o)) [
         | None ↦ λ is none. (refl, (record { units = []; whole = refl; each = tt }, none refl))
         | Some x ↦ λ is none.
             let long = some x.0 x.1 is.1 in
-            many_more text x (some_of f n x.1) is (many_sound n x.1 (omega (arith, length-append x.0 x.1, ap length is.0)))
+            let few : length x.1 ≤ n = omega (arith, length-append x.0 x.1, ap length is.0) in
+            many_more text x (some_of f n x.1) is (many_sound n x.1 few)
       ]) (h.sound text) (none_is f A h text)
 
   -- no other pieces are so many
   many_same : (us vs : List (List ℕ)) (r s : List ℕ) → Each A us r → Each A vs s → HasNone A r → HasNone A s
       → concat us ++ r ≡ concat vs ++ s → ◌≡◌ {A = List ℕ × List ℕ} (concat us, r) (concat vs, s)
   many_same [] [] r s a b none stop e = ap (λ x. ([], x)) e
-  many_same [] (v ∷ vs) r s a b none stop e = absurd (none v (concat vs ++ s) (e ∙ append_assoc v (concat vs) s) b.0)
-  many_same (u ∷ us) [] r s a b none stop e = absurd (stop u (concat us ++ r) (sym e ∙ append_assoc u (concat us) r) a.0)
+  many_same [] (v ∷ vs) r s a b none stop e = absurd (none v _ (simp append_assoc at e) b.0)
+  many_same (u ∷ us) [] r s a b none stop e = absurd (stop u _ (simp append_assoc at (sym e)) a.0)
   many_same (u ∷ us) (v ∷ vs) r s a b none stop e =
-      let one = one_split f A h u v (concat us ++ r) (concat vs ++ s) a.0 b.0 (sym (append_assoc u (concat us) r) ∙ (e ∙ append_assoc v (concat vs) s)) in
+      let one = one_split f A h u v _ _ a.0 b.0 (simp append_assoc at e) in
       ap₂ (λ p x. (p ++ x.0, x.1)) one.0 (many_same us vs r s a.1 b.1 none stop one.1)
 
   all_same : (p q r s : List ℕ) → AllOf A p r → AllOf A q s → p ++ r ≡ q ++ s → ◌≡◌ {A = List ℕ × List ℕ} (p, r) (q, s)

@@ -111,12 +111,14 @@ bars front = leads (λ passes. first_passes (λ c. not (passes c)) front) (λ te
 
 pub barred : (front : List ℕ) (rule : Rule) → bars front rule ≡ true → (rest p r : List ℕ) → Stands rule p r → p ++ r ≡ front ++ rest → ⊥
 barred front rule h rest p r is e = elim (led _ _ _ rule h p r is) [
-  | inl one ↦ never one.0 (p ++ r) (first_more one.0 p r one.2) (rw e (first_more (λ c. not (one.0 c)) front rest one.1))
+  | inl one ↦
+      never one.0 (p ++ r) (first_more one.0 p r one.2) (rw e (first_more (λ c. not (one.0 c)) front rest one.1))
   | inr (inl text) ↦ texts_differ text.0 front (text.1 ++ r) rest text.2 (sym (append_assoc text.0 text.1 r) ∙ (ap (λ q. q ++ r) (sym text.3) ∙ e))
   | inr (inr none) ↦ both_ways _ none.2 (ap (begins_any none.0) e ∙ any_begins_more none.0 front rest none.1)
 ]
   where
-    never : (passes : ℕ → Bool) (text : List ℕ) → first_passes passes text ≡ true → first_passes (λ c. not (passes c)) text ≡ true → ⊥
+    never : (passes : ℕ → Bool) (text : List ℕ) → first_passes passes text ≡ true
+        → first_passes (λ c. not (passes c)) text ≡ true → ⊥
     never passes [] is out = both_ways _ refl is
     never passes (c ∷ text) is out = both_ways _ (not-true _ out) is
 

@@ -42,7 +42,7 @@ find_nothing text = refl
 -- what was passed stands at the place
 pub passed : (rule : Rule) → Clear rule → (at to : Cursor) (h : Passes rule at to)
     → (chars at.rest.now ≡ h.front ++ chars to.rest.now) × Stands rule h.front (chars to.rest.now)
-passed rule clear at to h = found_is (find rule) (Stands rule) (exact rule clear) (chars at.rest.now) h.front (chars to.rest.now) h.found
+passed rule clear at to h = found_is _ _ (exact rule clear) _ h.front _ h.found
 
 -- a run leads no way back
 pub run_goes_on : (plain : ℕ → Bool) (at to : Cursor) → Passes (Run plain) at to → length (chars to.rest.now) ≤ length (chars at.rest.now)
@@ -79,7 +79,8 @@ pub text_passes : (front : List ℕ) (at to : Cursor) → chars at.rest.now ≡ 
 text_passes front at to whole count = record { front = front; found = text_found front _ _ whole; count = count }
 
 pub text_lacks : (front text : List ℕ) → begins_with front text ≡ false → find (Exactly front) text ≡ None
-text_lacks front text h = none_found (Exactly front) tt text (λ p r e is. both_ways _ h (rw (e, is) (begins_front front r)))
+text_lacks front text h =
+    none_found (Exactly front) tt text (λ p r e is. both_ways _ h (rw (e, is) (begins_front front r)))
 
 -- and the other way
 pub lacks_text : (front text : List ℕ) → find (Exactly front) text ≡ None → begins_with front text ≡ false
@@ -111,9 +112,6 @@ then_reads a b at mid (Some to) h j = then_passes a b at mid to h j
 pub then_lacks : (a b : Rule) (text : List ℕ) → find a text ≡ None → find (Then a b) text ≡ None
 then_lacks a b text none = rw (find_then, none)
 
-pub then_fails : (a b : Rule) (at : Cursor) (result : Option Cursor) → result ≡ None → find a (chars at.rest.now) ≡ None → Reads (Then a b) at result
-then_fails a b at result e none = subst (Reads (Then a b) at) (sym e) (then_lacks a b (chars at.rest.now) none)
-
 -- ---- `Either`, `Else`
 
 -- a rule that finds the same
@@ -127,9 +125,6 @@ reads_same a b at (Some to) e h = passes_same a b at to e h
 
 pub either_first : (a b : Rule) (at to : Cursor) → Passes a at to → Passes (Either a b) at to
 either_first a b at to h = record { front = h.front; found = rw (find_either, h.found); count = h.count }
-
-pub either_second : (a b : Rule) (at to : Cursor) → find a (chars at.rest.now) ≡ None → Passes b at to → Passes (Either a b) at to
-either_second a b at to none h = passes_same b (Either a b) at to (rw (find_either, none)) h
 
 pub either_reads : (a b : Rule) (at : Cursor) (result : Option Cursor) → find a (chars at.rest.now) ≡ None → Reads b at result → Reads (Either a b) at result
 either_reads a b at result none h = reads_same b (Either a b) at result (rw (find_either, none)) h

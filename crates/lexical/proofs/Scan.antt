@@ -39,8 +39,9 @@ module _ (test : ℕ → Bool) (beyond : Bool) (high : (c : ℕ) → 128 ≤ c �
   scan : (cs : List ℕ) → while_front test (encode_utf8_all cs) ≡ encode_utf8_all (while_front test cs)
   scan [] = refl
   scan (c ∷ cs) =
-      cond_both (test c) (c ∷ while_front test cs) [] (λ x. while_front test (encode_utf8 c ++ encode_utf8_all cs) ≡ encode_utf8_all x)
-      (λ on. (while_more test (encode_utf8 c) (encode_utf8_all cs) (char_on c on)).0 ∙ ap (λ x. encode_utf8 c ++ x) (scan cs))
+      cond_both (test c) (c ∷ while_front test cs) []
+      (λ x. while_front test (encode_utf8 c ++ encode_utf8_all cs) ≡ encode_utf8_all x)
+      (λ on. rw ((while_more test (encode_utf8 c) (encode_utf8_all cs) (char_on c on)).0, scan cs))
       (λ off. (while_rest_none test (encode_utf8 c ++ encode_utf8_all cs) (char_off c (encode_utf8_all cs) off)).0)
 
   -- so many bytes of the text are of the run

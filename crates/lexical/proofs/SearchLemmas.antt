@@ -12,8 +12,8 @@ use Rattle.lexical.proofs.Scan.{run_over}
 
 module _ (test : ℕ → Bool) where
   -- the byte at k is the first that passes, or the bytes end there
-  run_to : (bs : List ℕ) (k : ℕ) → k ≤ length bs → ((i : ℕ) → i < k → bytes.Passes test bs i → ⊥) → (k < length bs → bytes.Passes test bs k)
-      → length (while_front (λ b. not (test b)) bs) ≡ k
+  run_to : (bs : List ℕ) (k : ℕ) → k ≤ length bs → ((i : ℕ) → i < k → bytes.Passes test bs i → ⊥)
+      → (k < length bs → bytes.Passes test bs k) → length (while_front (λ b. not (test b)) bs) ≡ k
   run_to [] k within none hit = omega arith
   run_to (b ∷ bs) zero within none hit = ap length (cond-false _ _ _ (not_from_true _ (hit (omega arith))))
   run_to (b ∷ bs) (suc k) within none hit =
@@ -22,8 +22,10 @@ module _ (test : ℕ → Bool) where
 
   -- what the search answers, or the end of the bytes
   found_end : (bs : List ℕ) (r : Option ℕ) → IsFirstByte test bs r → length (while_front (λ b. not (test b)) bs) ≡ unwrap_or r (length bs)
-  found_end bs None none = run_to bs (length bs) (omega arith) (λ k within hit. none k (omega arith) within hit) (λ more. absurd (omega arith))
-  found_end bs (Some k) h = run_to bs k (omega (arith, h.0.high)) (λ i before hit. h.0.before i (omega arith) before hit) (λ more. h.1)
+  found_end bs None none =
+      run_to bs (length bs) (omega arith) (λ k within hit. none k (omega arith) within hit) (λ more. absurd (omega arith))
+  found_end bs (Some k) h =
+      run_to bs k (omega (arith, h.0.high)) (λ i before hit. h.0.before i (omega arith) before hit) (λ more. h.1)
 
   -- the place where the search ends is that after the run
   pub found_run : ((c : ℕ) → 128 ≤ c → test c ≡ false) → (at to : Cursor) (bs : List ℕ) (r : Option ℕ) (n : ℕ) → IsUtf8 bs → bs ≡ at.rest.now

@@ -79,12 +79,12 @@ module _ (unit after : Rule) (clear : Clear (UpTo unit after)) where
   unfolding find
   one_more p r is =
       let one = (exact unit clear.0).complete p r is in
-      ap (and_find (find after)) (many_found (find unit) (Stands unit) (exact unit clear.0) (some_holds unit clear.2) (p ++ r) p r one)
+      ap (and_find (find after)) (many_found _ _ (exact unit clear.0) (some_holds unit clear.2) (p ++ r) p r one)
       ∙ and_behind (find after) p (find_many (find unit) r)
 
   pub leads_unit : (rule : Rule) (at mid to : Cursor) → Leads rule at (UpTo unit after) mid → Passes unit mid to → Leads rule at (UpTo unit after) to
   leads_unit rule at mid to h j =
-      leads_far rule (UpTo unit after) (UpTo unit after) at mid to h (leads_past unit clear.0 (UpTo unit after) (UpTo unit after) mid to j one_more)
+      leads_far rule _ _ at mid to h (leads_past unit clear.0 (UpTo unit after) (UpTo unit after) mid to j one_more)
 
   -- past the last of them
   pub leads_last : (rule : Rule) (at mid : Cursor) → Leads rule at (UpTo unit after) mid → find unit (chars mid.rest.now) ≡ None → Leads rule at after mid
@@ -110,8 +110,8 @@ module _ (unit after : Rule) (clear : Clear (UpTo unit after)) where
     units_over [] rest all = sym (behind_nothing _)
     units_over (c ∷ front) rest all =
         let parts = and_parts _ _ all in
-        let one = found_is (find unit) (Stands unit) (exact unit clear.0) _ (c ∷ []) (front ++ rest) (alone c (front ++ rest) parts.0) in
-        one_more (c ∷ []) (front ++ rest) one.1 ∙ (ap (behind (c ∷ [])) (units_over front rest parts.1) ∙ behind_behind (c ∷ []) front _)
+        let one = found_is _ _ (exact unit clear.0) _ (c ∷ []) (front ++ rest) (alone c (front ++ rest) parts.0) in
+        rw (one_more (c ∷ []) (front ++ rest) one.1, units_over front rest parts.1, behind_behind)
 
     pub leads_run : (rule : Rule) (at mid to : Cursor) → Leads rule at (UpTo unit after) mid → Passes (Run plain) mid to
         → Leads rule at (UpTo unit after) to
@@ -129,4 +129,5 @@ pub raw_plain_unit : (kind : StringKind) (hashes : List ℕ) (c : ℕ) (text : L
 raw_plain_unit kind hashes c text e =
     let parts = and_parts _ _ e in
     let other = or_parts (c == 34) (c == 13) (not-true _ parts.1) in
-    raw_one (is_raw kind) hashes (c ∷ text) text c refl (λ h. absurd (eqb-false c 34 other.0 h)) (eqb-false c 13 other.1) parts.0
+    raw_one (is_raw kind) hashes (c ∷ text) text c refl (λ h. absurd (eqb-false c 34 other.0 h))
+    (eqb-false c 13 other.1) parts.0

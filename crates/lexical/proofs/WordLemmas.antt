@@ -17,7 +17,8 @@ else_sound A B text (Some x) u is other none = (is.0, inl is.1)
 pub finds_else : (f g : Finder) (A B : Form) → Finds f A → Finds g B → Finds (find_else f g) (Else A B)
 finds_else f g A B h j = record {
   sound = λ text. else_sound A B text (f text) (g text) (h.sound text) (j.sound text) (none_is f A h text);
-  complete = λ p r is. elim is [ inl a ↦ rw (h.complete p r a) | inr b ↦ rw (none_found f A h (p ++ r) b.0, j.complete p r b.1) ];
+  complete = λ p r is.
+      elim is [ inl a ↦ rw (h.complete p r a) | inr b ↦ rw (none_found f A h (p ++ r) b.0, j.complete p r b.1) ];
 }
 
 -- ---- `Either` of forms that stand apart
