@@ -109,8 +109,7 @@ pub name_lacks : (at inside : Cursor) → begins_any literal_prefixes (chars at.
 unfolding find
 name_lacks at inside plain h none =
     let begins = ap (begins_with (codes "r#")) (past_text (codes "r#") at inside h).0 in
-    ap (λ b. tagged (name_kind b) (find (identifier b) (chars at.rest.now))) begins
-    ∙ ap (tagged (name_kind true)) (cond-false _ _ _ plain ∙ then_reads (Exactly (codes "r#")) raw_name at inside None h none)
+    rw (begins, plain, then_reads (Exactly (codes "r#")) raw_name at inside None h none)
 
 -- a mark
 pub mark_read : (answer : Found) (at after : Cursor) (c : ℕ) (k : PieceKind) → answer ≡ tagged mark_kind (find mark (chars at.rest.now))

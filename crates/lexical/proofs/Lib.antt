@@ -14,7 +14,6 @@ pub mod CommentKindLemmas
 pub mod NameFinderLemmas
 pub mod WhiteRunLemmas
 pub mod WordLemmas
-pub mod ManyLemmas
 pub mod CodeLemmas
 pub mod HashLemmas
 pub mod QuotedFinderLemmas

@@ -9,8 +9,7 @@ use Rattle.lexical.proofs.TextLemmas.{first_more, first_cons, any_begins_more}
 use Rattle.lexical.proofs.BlockLemmas.{finds_ends}
 use Rattle.lexical.proofs.FinderLemmas as finders
 use Rattle.lexical.proofs.FinderLemmas.{finds_then, finds_next, finds_not_at, finds_not_before, finds_where, finds_one, finds_run, finds_text}
-use Rattle.lexical.proofs.WordLemmas.{Disjoint, NotEmpty, apart_sym, differ, texts_differ, finds_apart, finds_else}
-use Rattle.lexical.proofs.ManyLemmas.{finds_many_then}
+use Rattle.lexical.proofs.WordLemmas.{Disjoint, NotEmpty, differ, texts_differ, finds_apart, finds_else, finds_many_then}
 
 -- ---- how the pieces of a rule begin
 
@@ -138,7 +137,7 @@ apart a b = begins (λ front. bars front b) a || begins (λ front. bars front a)
 pub apart_holds : (a b : Rule) → apart a b ≡ true → Disjoint (Stands a) (Stands b)
 apart_holds a b h = elim (or_cases _ _ h) [
   | inl one ↦ by_texts a b one
-  | inr other ↦ apart_sym _ _ (by_texts b a other)
+  | inr other ↦ λ p q r s one also e. by_texts b a other q p s r also one (sym e)
 ]
   where
     by_texts : (a b : Rule) → begins (λ front. bars front b) a ≡ true → Disjoint (Stands a) (Stands b)

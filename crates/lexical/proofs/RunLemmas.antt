@@ -19,10 +19,9 @@ pub run_stop : (test : ℕ → Bool) (at end : Cursor) → GoesOn test at end
 unfolding find
 run_stop test at end goes stops =
     let none = while_rest_none test (chars end.rest.now) stops in
-    let rest : while_rest test (chars at.rest.now) ≡ chars end.rest.now = sym goes.0 ∙ none.1 in
     record {
       front = while_front test (chars at.rest.now);
-      found = ap (λ r. Some (while_front test (chars at.rest.now), r)) rest;
+      found = rw (← goes.0, none.1);
       count = omega (arith, goes.1, ap length none.0);
     }
 

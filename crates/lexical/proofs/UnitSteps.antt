@@ -13,7 +13,7 @@ use Rattle.lexical.specs.Step.{Leads, Passes, PassesText, Reads}
 use Rattle.lexical.specs.declared.cursor.Cursor.{Cursor}
 use Rattle.lexical.proofs.BlockLemmas.{behind_nothing, behind_behind}
 use Rattle.lexical.proofs.FinderLemmas.{found_is}
-use Rattle.lexical.proofs.ManyLemmas.{many_found, many_ends}
+use Rattle.lexical.proofs.WordLemmas.{many_found, many_ends}
 use Rattle.lexical.proofs.RuleLemmas.{some_holds, Clear, exact}
 use Rattle.lexical.proofs.HashLemmas.{raw_one}
 use Rattle.lexical.proofs.RuleSteps.{find_then, passed}
@@ -66,8 +66,7 @@ next_lacks a b text none = ap (and_next (λ front. find (b front))) none
 pub found_cons : (c : ℕ) (front text : List ℕ) → find (Exactly (c ∷ front)) text ≡ find (Then (Exactly (c ∷ [])) (Exactly front)) text
 unfolding find
 found_cons c front [] = refl
-found_cons c front (d ∷ text) = cond_both (d == c) (Some (d ∷ [], text)) None
-    (λ o. and_find (find_text front) o ≡ and_find (find_text front) (and_find (find_text []) o)) (λ e. refl) (λ e. refl)
+found_cons c front (d ∷ text) = grind arith
 
 -- past a unit
 and_behind : (f : List ℕ → Answer) (front : List ℕ) (o : Answer) → and_find f (behind front o) ≡ behind front (and_find f o)
@@ -91,8 +90,7 @@ module _ (unit after : Rule) (clear : Clear (UpTo unit after)) where
   unfolding find
   leads_last rule at mid h none = leads_far rule (UpTo unit after) after at mid mid h (record {
     front = [];
-    found = ap (and_find (find after))
-        (many_ends (find unit) (Stands unit) (exact unit clear.0) (some_holds unit clear.2) (chars mid.rest.now) none);
+    found = ap (and_find (find after)) (many_ends _ _ (exact unit clear.0) (some_holds unit clear.2) (chars mid.rest.now) none);
     count = omega arith;
   })
 
@@ -121,7 +119,7 @@ module _ (unit after : Rule) (clear : Clear (UpTo unit after)) where
 -- a plain character is a unit of a string
 pub plain_unit : (kind : StringKind) (c : ℕ) (text : List ℕ) → is_plain kind c ≡ true → find (unit_of kind) (c ∷ text) ≡ Some (c ∷ [], text)
 unfolding find
-plain_unit kind c text e = ap (λ o. or_find o (find (Either newline (Then (Exactly (codes "\\")) (escaped kind))) (c ∷ text))) (cond-true _ _ _ e)
+plain_unit kind c text e = rw e
 
 -- and of a raw one
 pub raw_plain_unit : (kind : StringKind) (hashes : List ℕ) (c : ℕ) (text : List ℕ) → is_raw_plain kind c ≡ true
