@@ -1,8 +1,7 @@
 -- Block comments: what is found is all up to where so many of them end.
-use Rattle.std.proofs.Common.{◌≡◌, ℕ, zero, suc, false, List, [], ◌∷◌, ◌++◌, codes, Some, None, IfSome, refl, sym, ap, ◌∙◌, subst, arith, append_assoc}
-use Rattle.std.proofs.lemmas.Bool.{cond-false, cond_both, or_parts, or_from}
+use Rattle.std.proofs.Common.{◌≡◌, ℕ, zero, suc, false, List, [], ◌∷◌, ◌++◌, codes, Some, None, IfSome, refl, sym, ap, ◌∙◌, arith, append_assoc}
+use Rattle.std.proofs.lemmas.Bool.{cond_both, or_from}
 use Rattle.lexical.specs.Text.{begins_with, begins_any}
-use Rattle.lexical.specs.Form.{Form}
 use Rattle.lexical.specs.Block.{block_signs, BlockBody, Empty, Nested, Single, Closed, Ends, find_ends}
 use Rattle.lexical.specs.Finder.{Answer, Finds, behind}
 use Rattle.lexical.proofs.FinderLemmas.{IsSplit, behind_sound}

@@ -1,16 +1,15 @@
 -- Steps within block comments.
-use Rattle.std.proofs.Common.{◌≡◌, ℕ, zero, suc, ◌+◌, ◌-◌, ◌<◌, ◌≤◌, Bool, true, false, not, ◌||◌, ◌==◌, List, [], ◌∷◌, ◌++◌, codes, None, refl, sym, ap, ◌∙◌, arith, add-one, eqb-true, eq-eqb}
+use Rattle.std.proofs.Common.{◌≡◌, ℕ, zero, suc, ◌+◌, ◌-◌, ◌<◌, ◌≤◌, Bool, true, false, not, ◌||◌, ◌==◌, List, [], ◌∷◌, ◌++◌, codes, None, refl, sym, ap, ◌∙◌, arith, add-one}
 use Rattle.std.specs.Str.{chars}
 use Rattle.std.specs.List.{list_all}
-use Rattle.std.proofs.lemmas.Bool.{and_parts, or_parts, or_from, and_left, not-true, both_ways, false_from_ne_true}
+use Rattle.std.proofs.lemmas.Bool.{and_parts, or_from}
 use Rattle.lexical.specs.Text.{begins_any}
 use Rattle.lexical.specs.Block.{block_signs, find_ends}
 use Rattle.lexical.specs.Finder.{behind}
-use Rattle.lexical.specs.Rule.{Rule, Run, Exactly, Ends, Stands, find}
+use Rattle.lexical.specs.Rule.{Run, Exactly, Ends, find}
 use Rattle.lexical.specs.Step.{Leads, Passes}
 use Rattle.lexical.specs.declared.cursor.Cursor.{Cursor}
 use Rattle.lexical.proofs.BlockLemmas.{behind_nothing, behind_behind, at_close, at_open, at_other}
-use Rattle.lexical.proofs.RuleLemmas.{Clear}
 use Rattle.lexical.proofs.RuleSteps.{lacks_text, past_text, steps}
 use Rattle.lexical.proofs.UnitSteps.{leads_past}
 

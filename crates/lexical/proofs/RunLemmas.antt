@@ -1,5 +1,5 @@
 -- Lemmas on runs of characters.
-use Rattle.std.proofs.Common.{◌≡◌, ℕ, ◌+◌, Bool, false, List, [], ◌∷◌, length, Some, sym, ap, ◌∙◌, arith}
+use Rattle.std.proofs.Common.{◌≡◌, ℕ, ◌+◌, Bool, false, List, [], ◌∷◌, length, ap, ◌∙◌, arith}
 use Rattle.std.specs.Str.{chars}
 use Rattle.lexical.specs.Text.{first_passes}
 use Rattle.lexical.specs.Finder.{while_front, while_rest}

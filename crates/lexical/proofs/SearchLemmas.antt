@@ -1,5 +1,5 @@
 -- A search for a byte finds where a run ends.
-use Rattle.std.proofs.Common.{◌≡◌, ℕ, zero, suc, ◌+◌, ◌<◌, ◌≤◌, Bool, true, false, not, inl, inr, List, [], ◌∷◌, length, Some, None, Option, unwrap_or, take, drop, subst, refl, sym, ap, ◌∙◌, arith}
+use Rattle.std.proofs.Common.{◌≡◌, ℕ, zero, suc, ◌+◌, ◌<◌, ◌≤◌, Bool, true, false, not, List, [], ◌∷◌, length, Some, None, Option, unwrap_or, take, drop, subst, sym, ap, ◌∙◌, arith}
 use Rattle.std.specs.Str.{chars, IsUtf8}
 use Rattle.std.proofs.lemmas.Bool.{cond-true, cond-false, false_from_ne_true, not_from_true, not_from_false}
 use Rattle.memchr.specs.Find.{IsFirstByte, IsFirst, Nowhere, NoneBefore, is_byte, is_byte2, is_byte3}

@@ -1,12 +1,12 @@
 -- Steps over the units of a string.
-use Rattle.std.proofs.Common.{◌≡◌, ℕ, ◌<◌, ◌==◌, Bool, true, codes, List, [], ◌∷◌, ◌++◌, length, Option, Some, None, refl, sym, ap, ◌∙◌, subst, arith, length-append, eq-eqb}
+use Rattle.std.proofs.Common.{◌≡◌, ℕ, ◌<◌, ◌==◌, Bool, true, List, [], ◌∷◌, ◌++◌, length, Option, Some, None, refl, sym, ap, ◌∙◌, subst, arith, length-append}
 use Rattle.std.specs.Borrow.{Bor}
 use Rattle.std.specs.Str.{chars}
 use Rattle.std.specs.List.{list_all}
-use Rattle.std.proofs.lemmas.Bool.{and_parts, or_parts, not-true, cond_both, cond-true, eqb-false}
-use Rattle.lexical.specs.Finder.{Answer, and_find, and_next, behind, or_find, find_many, find_text}
-use Rattle.lexical.specs.Rule.{Rule, Run, Exactly, Then, Either, Next, UpTo, Stands, find}
-use Rattle.lexical.specs.Quoted.{is_plain, newline, escaped, unit as unit_of}
+use Rattle.std.proofs.lemmas.Bool.{and_parts, or_parts, not-true, eqb-false}
+use Rattle.lexical.specs.Finder.{Answer, and_find, and_next, behind, find_many}
+use Rattle.lexical.specs.Rule.{Rule, Run, Exactly, Then, Next, UpTo, Stands, find}
+use Rattle.lexical.specs.Quoted.{is_plain, unit as unit_of}
 use Rattle.lexical.specs.declared.quoted.StringKind.{StringKind}
 use Rattle.lexical.specs.RawString.{is_raw, is_raw_plain, raw_unit}
 use Rattle.lexical.specs.Step.{Leads, Passes, PassesText, Reads}

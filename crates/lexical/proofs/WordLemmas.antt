@@ -1,7 +1,7 @@
 -- More words on forms have finders, and forms that stand apart.
-use Rattle.std.proofs.Common.{◌≡◌, ℕ, zero, suc, ◌≤◌, Bool, true, false, not, ◌==◌, ◌||◌, List, [], ◌∷◌, ◌++◌, length, Some, None, IfSome, refl, sym, ap, ap₂, ◌∙◌, subst, arith, append_assoc, length-append, inl, inr, eq-eqb}
+use Rattle.std.proofs.Common.{◌≡◌, ℕ, zero, suc, ◌≤◌, Bool, true, false, not, ◌==◌, ◌||◌, List, [], ◌∷◌, ◌++◌, length, Some, None, IfSome, refl, sym, ap, ap₂, ◌∙◌, subst, arith, append_assoc, length-append, inl, inr}
 use Rattle.std.specs.List.{concat}
-use Rattle.std.proofs.lemmas.Bool.{both_ways, or_cases, not-true}
+use Rattle.std.proofs.lemmas.Bool.{both_ways}
 use Rattle.lexical.specs.Form.{Form, HasNone, Then, Either, Else, Exactly, Each, Many}
 use Rattle.lexical.specs.Finder.{Answer, Finder, Finds, behind, or_find, find_else, find_then, some_of, or_stop, find_many}
 use Rattle.lexical.proofs.FinderLemmas.{IsSplit, found_is, none_is, none_found, one_split, finds_same, finds_then, next_whole}
