@@ -125,12 +125,12 @@ mark_read answer at after c k tags split one plain among other is =
 
 pub is_in : (rule : Rule) (A : Form) → Finds (find rule) A → (at end : Cursor) (text : List ℕ) → at.rest.now ≡ text → Passes rule at end
     → (front : List ℕ) × (chars text ≡ front ++ chars end.rest.now)
-is_in rule A finds at end text e h = (h.front, ap chars (sym e) ∙ (found_is (find rule) A finds (chars at.rest.now) h.front (chars end.rest.now) h.found).0)
+is_in rule A finds at end text e h = (h.front, ap chars (sym e) ∙ (found_is _ A finds _ h.front _ h.found).0)
 
 pub is_at : (rule : Rule) (A : Form) → Finds (find rule) A → (at end : Cursor) (text : List ℕ) (bytes : ℕ) → at.rest.now ≡ text → Passes rule at end
     → ((front : List ℕ) → chars text ≡ front ++ chars end.rest.now → bytes ≡ length (encode_utf8_all front)) → IsAt A (chars text) bytes
 is_at rule A finds at end text bytes e h size =
-    let is = found_is (find rule) A finds (chars at.rest.now) h.front (chars end.rest.now) h.found in
+    let is = found_is _ A finds _ h.front _ h.found in
     let whole = ap chars (sym e) ∙ is.0 in
     record { front = h.front; rest = chars end.rest.now; whole = whole; stands = is.1; size = size h.front whole }
 

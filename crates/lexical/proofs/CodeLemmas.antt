@@ -20,10 +20,8 @@ CountsTo value count rest text = (fold value_step value rest ≡ hex_value text)
 
 -- a hex digit is one by its value
 hex_is : (c : ℕ) → is_code_digit c ≡ true → is_ascii_hexdigit c ≡ nat_lt (digit_value c) 16
-hex_is c h =
-    let agree = agree_below_at (λ x. is_code_digit x && is_ascii_hexdigit x)
-    (λ x. is_code_digit x && nat_lt (digit_value x) 16) 128 c refl (grind arith) in
-    sym (ap (λ b. b && is_ascii_hexdigit c) h) ∙ (agree ∙ ap (λ b. b && nat_lt (digit_value c) 16) h)
+hex_is c h = rw h at (agree_below_at (λ x. is_code_digit x && is_ascii_hexdigit x)
+    (λ x. is_code_digit x && nat_lt (digit_value x) 16) 128 c refl (grind arith))
 
 hex_no_line : (c : ℕ) → is_ascii_hexdigit c ≡ true → (c == 95) ≡ false
 hex_no_line c h = grind arith
@@ -41,8 +39,7 @@ pub reads_line : (value count new many c : ℕ) (after rest text : List ℕ) →
     → (digit_value c < 16 → ⊥) → new ≡ value → many ≡ count → CountsTo new many after text
 reads_line value count new many c after rest text e is counts high value_is count_is =
     let other : is_ascii_hexdigit c ≡ false = hex_is c is ∙ false_from_ne_true _ (λ low. high (ltb-true (digit_value c) 16 low)) in
-    let line : (c == 95) ≡ true = sym (ap (λ b. b || (c == 95)) other) ∙ is in
-    rw (value_is, count_is) (rw (e, line, other) at counts)
+    rw (value_is, count_is) (rw (e, (rw other at is), other) at counts)
 
 pub digits_tail : (c : ℕ) (after rest : List ℕ) → rest ≡ c ∷ after → list_all is_code_digit rest ≡ true
     → (is_code_digit c ≡ true) × (list_all is_code_digit after ≡ true)
