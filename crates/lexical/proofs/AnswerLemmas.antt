@@ -52,12 +52,8 @@ quote_found {rest = rest} {c = c} e h = ap find_lone_quote (e ∙ ap (λ d. d �
 pub read_as : (kind : List ℕ → List ℕ → Kind) (o : Answer) (answer : Found) (at end : Cursor) (k : PieceKind) (front : List ℕ)
     → answer ≡ tagged kind o → o ≡ Some (front, chars end.rest.now) → end.chars_before ≡ at.chars_before + length front
     → kind_of k front ≡ kind front (chars end.rest.now) → LendsText k → IsFound answer at (k, end)
-read_as kind o answer at end k front tags found count same lends = record {
-  front = front;
-  found = tags ∙ (ap (tagged kind) found ∙ ap (λ x. Some (x, front, chars end.rest.now)) (sym same));
-  count = count;
-  lends = lends;
-}
+read_as kind o answer at end k front tags found count same lends =
+    record { front = front; found = rw (tags, found, same); count = count; lends = lends }
 
 -- the same, where one character was found
 pub read_one : (kind : List ℕ → List ℕ → Kind) (o : Answer) (answer : Found) (at after : Cursor) (k : PieceKind) (c : ℕ)

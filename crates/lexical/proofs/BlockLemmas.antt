@@ -74,13 +74,10 @@ open_step outer p r h =
     }
 
 other_step : (outer c : ℕ) (p r : List ℕ) → begins_any block_signs (c ∷ (p ++ r)) ≡ false → Ends (suc outer) p r → Ends (suc outer) (c ∷ p) r
-other_step outer c p r plain h = record {
-  front = c ∷ h.front;
-  back = h.back;
-  whole = ap (λ x. c ∷ x) h.whole;
-  first = Single c h.front refl (rw (h.whole, append_assoc h.front h.back r) at plain) h.first;
-  second = h.second;
-}
+other_step outer c p r plain h =
+    let first : BlockBody (c ∷ h.front) (h.back ++ r) =
+    Single c h.front refl (rw (h.whole, append_assoc h.front h.back r) at plain) h.first in
+    record { front = c ∷ h.front; back = h.back; whole = ap (λ x. c ∷ x) h.whole; first = first; second = h.second }
 
 ends_sound : (depth : ℕ) (text : List ℕ) → IfSome (find_ends depth text) (IsSplit (Ends depth) text)
 unfolding find_ends

@@ -99,11 +99,9 @@ past_text front at to h =
 -- ---- `Then`
 
 pub then_passes : (a b : Rule) (at mid to : Cursor) → Passes a at mid → Passes b mid to → Passes (Then a b) at to
-then_passes a b at mid to h j = record {
-  front = h.front ++ j.front;
-  found = rw (find_then, h.found, j.found);
-  count = omega (arith, h.count, j.count, length-append h.front j.front);
-}
+then_passes a b at mid to h j =
+    let long = length-append h.front j.front in
+    record { front = h.front ++ j.front; found = rw (find_then, h.found, j.found); count = omega arith }
 
 pub then_reads : (a b : Rule) (at mid : Cursor) (result : Option Cursor) → Passes a at mid → Reads b mid result → Reads (Then a b) at result
 then_reads a b at mid None h none = rw (find_then, h.found, none)

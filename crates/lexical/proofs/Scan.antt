@@ -69,6 +69,6 @@ module _ (test : ℕ → Bool) (beyond : Bool) (high : (c : ℕ) → 128 ≤ c �
       let front = run_front at.rest.now utf8 n size in
       record {
         front = while_front test (chars at.rest.now);
-        found = ap (λ x. Some (while_front test (chars at.rest.now), x)) (sym (ap chars rest ∙ run_rest at.rest.now utf8 n size));
+        found = rw (rest, run_rest at.rest.now utf8 n size);
         count = omega (arith, count, ap length front);
       }

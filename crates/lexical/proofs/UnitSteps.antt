@@ -19,22 +19,18 @@ use Rattle.lexical.proofs.HashLemmas.{raw_one}
 use Rattle.lexical.proofs.RuleSteps.{find_then, passed}
 
 pub leads_passes : (rule rest : Rule) (at mid to : Cursor) → Leads rule at rest mid → Passes rest mid to → Passes rule at to
-leads_passes rule rest at mid to h j = record {
-  front = h.front ++ j.front;
-  found = h.found ∙ ap (behind h.front) j.found;
-  count = omega (arith, h.count, j.count, length-append h.front j.front);
-}
+leads_passes rule rest at mid to h j =
+    let long = length-append h.front j.front in
+    record { front = h.front ++ j.front; found = rw (h.found, j.found); count = omega arith }
 
 pub leads_fails : (rule rest : Rule) (at mid : Cursor) (result : Option Cursor) → result ≡ None → Leads rule at rest mid
     → find rest (chars mid.rest.now) ≡ None → Reads rule at result
 leads_fails rule rest at mid result e h none = subst (Reads rule at) (sym e) (h.found ∙ ap (behind h.front) none)
 
 pub leads_far : (rule rest more : Rule) (at mid to : Cursor) → Leads rule at rest mid → Leads rest mid more to → Leads rule at more to
-leads_far rule rest more at mid to h j = record {
-  front = h.front ++ j.front;
-  found = h.found ∙ (ap (behind h.front) j.found ∙ behind_behind h.front j.front _);
-  count = omega (arith, h.count, j.count, length-append h.front j.front);
-}
+leads_far rule rest more at mid to h j =
+    let long = length-append h.front j.front in
+    record { front = h.front ++ j.front; found = rw (h.found, j.found, behind_behind); count = omega arith }
 
 -- past a piece that stands in front of what ends them
 pub leads_past : (rule : Rule) → Clear rule → (a b : Rule) (at to : Cursor) → Passes rule at to
@@ -88,11 +84,10 @@ module _ (unit after : Rule) (clear : Clear (UpTo unit after)) where
   -- past the last of them
   pub leads_last : (rule : Rule) (at mid : Cursor) → Leads rule at (UpTo unit after) mid → find unit (chars mid.rest.now) ≡ None → Leads rule at after mid
   unfolding find
-  leads_last rule at mid h none = leads_far rule (UpTo unit after) after at mid mid h (record {
-    front = [];
-    found = ap (and_find (find after)) (many_ends _ _ (exact unit clear.0) (some_holds unit clear.2) (chars mid.rest.now) none);
-    count = omega arith;
-  })
+  leads_last rule at mid h none =
+      let ended = many_ends _ _ (exact unit clear.0) (some_holds unit clear.2) (chars mid.rest.now) none in
+      leads_far rule (UpTo unit after) after at mid mid h
+      (record { front = []; found = ap (and_find (find after)) ended; count = omega arith })
 
   -- a unit is not empty
   pub unit_shortens : (at to : Cursor) → Passes unit at to → length (chars to.rest.now) < length (chars at.rest.now)

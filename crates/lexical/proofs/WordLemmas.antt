@@ -53,14 +53,10 @@ module _ (f : Finder) (A : Form) (h : Finds f A) (some : NotEmpty A) where
   many_more : (text : List ℕ) (x y : List ℕ × List ℕ) → IsSplit A text x → IsSplit (AllOf A) x.1 y → IsSplit (AllOf A) text (x.0 ++ y.0, y.1)
   many_more text x y is more =
       let rest = more.1.0 in
-      let whole = is.0 ∙ (ap (λ xs. x.0 ++ xs) more.0 ∙ sym (append_assoc x.0 y.0 y.1)) in
-      let first = rw (more.0, rest.whole) at is.1 in (
-        whole,
-        (
-          record { units = x.0 ∷ rest.units; whole = ap (λ xs. x.0 ++ xs) rest.whole; each = (first, rest.each) },
-          more.1.1,
-        ),
-      )
+      let first = rw (more.0, rest.whole) at is.1 in
+      let all : Many A (x.0 ++ y.0) y.1 =
+      record { units = x.0 ∷ rest.units; whole = ap (λ xs. x.0 ++ xs) rest.whole; each = (first, rest.each) } in
+      (rw (is.0, more.0, append_assoc), (all, more.1.1))
 
   many_sound : (n : ℕ) (text : List ℕ) → length text ≤ n → IsSplit (AllOf A) text (some_of f n text)
   many_sound zero [] few = (refl, (record { units = []; whole = refl; each = tt }, none_at_end A some))
@@ -103,13 +99,9 @@ module _ (f : Finder) (A : Form) (h : Finds f A) (some : NotEmpty A) where
   finds_many_then g B j apart = finds_same (find_then (find_many f) g) (Then (AllOf A) B) (Then (Many A) B)
       (finds_then (find_many f) g (AllOf A) B finds_many j)
       (λ p r is. record { front = is.front; back = is.back; whole = is.whole; first = is.first.0; second = is.second })
-      (λ p r is. record {
-        front = is.front;
-        back = is.back;
-        whole = is.whole;
-        first = (is.first, λ q s e a. apart q is.back s r a is.second (sym e));
-        second = is.second;
-      })
+      (λ p r is.
+      let stops : HasNone A (is.back ++ r) = λ q s e a. apart q is.back s r a is.second (sym e) in
+      record { front = is.front; back = is.back; whole = is.whole; first = (is.first, stops); second = is.second })
 
   -- one piece more
   pub many_found : (text unit rest : List ℕ) → f text ≡ Some (unit, rest) → find_many f text ≡ behind unit (find_many f rest)
