@@ -1,5 +1,5 @@
 -- A CR that no LF follows is looked for from one CR to the next.
-use Rattle.std.proofs.Common.{◌≡◌, ℕ, ◌==◌, Bool, true, false, not, ◌||◌, List, [], ◌∷◌, ◌++◌, codes, refl, sym, ap, ◌∙◌}
+use Rattle.std.proofs.Common.{◌≡◌, ℕ, ◌==◌, Bool, true, false, not, ◌||◌, List, [], ◌∷◌, ◌++◌, codes, refl, sym, ap, ◌∙◌, arith}
 use Rattle.std.specs.List.{list_all}
 use Rattle.std.specs.Str.{chars}
 use Rattle.std.proofs.lemmas.Bool.{and_parts, not-true, not-false}
@@ -17,9 +17,7 @@ other c = not (c == carriage_return)
 
 none_in : (p r : List ℕ) → list_all other p ≡ true → has_bare_return (p ++ r) ≡ has_bare_return r
 none_in [] r all = refl
-none_in (c ∷ p) r all =
-    let parts = and_parts (other c) (list_all other p) all in
-    rw (not-true (c == carriage_return) parts.0) (none_in p r parts.1)
+none_in (c ∷ p) r all = grind (arith, all, none_in p r)
 
 -- the place is at the next CR, or at the end
 pub record AtReturn (text : List ℕ) (at : Cursor) : Type 0 where

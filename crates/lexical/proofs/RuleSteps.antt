@@ -84,17 +84,13 @@ text_lacks front text h =
 
 -- and the other way
 pub lacks_text : (front text : List ℕ) → find (Exactly front) text ≡ None → begins_with front text ≡ false
-lacks_text front text none =
-    false_from_ne_true _ (λ begins.
-    let split = begins_splits front text begins in
-    let found = text_found front text split.0 split.1 in
-    cc)
+lacks_text front text none = grind (arith, none, begins_splits front text, text_found front text)
 
 pub past_text : (front : List ℕ) (at to : Cursor) → Passes (Exactly front) at to
     → (chars at.rest.now ≡ front ++ chars to.rest.now) × (to.chars_before ≡ at.chars_before + length front)
 past_text front at to h =
     let is = passed (Exactly front) tt at to h in
-    (is.0 ∙ ap (λ x. x ++ chars to.rest.now) is.1, h.count ∙ ap (λ x. at.chars_before + length x) is.1)
+    (rw is.1 at is.0, rw is.1 at h.count)
 
 -- ---- `Then`
 

@@ -125,10 +125,7 @@ differ (c ∷ p) (d ∷ q) = not (c == d) || differ p q
 pub texts_differ : (p q r s : List ℕ) → differ p q ≡ true → p ++ r ≡ q ++ s → ⊥
 texts_differ [] q r s h e = absurd (both_ways _ refl h)
 texts_differ (c ∷ p) [] r s h e = absurd (both_ways _ refl h)
-texts_differ (c ∷ p) (d ∷ q) r s h e =
-    let head : c ≡ d = cc in
-    let more : differ p q ≡ true → ⊥ = λ there. texts_differ p q r s there (cc) in
-    grind (arith, h, head, more)
+texts_differ (c ∷ p) (d ∷ q) r s h e = grind (arith, h, e, texts_differ p q r s)
 
 pub front_whole : (front : List ℕ) (A : Form) (p r : List ℕ) (h : Then (Exactly front) A p r) → p ++ r ≡ front ++ (h.back ++ r)
 front_whole front A p r h = next_whole (Exactly front) (λ x. A) p r h ∙ ap (λ x. x ++ (h.back ++ r)) h.first
