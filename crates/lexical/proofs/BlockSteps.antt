@@ -43,9 +43,8 @@ other c = not (c == 42 || c == 47)
 run_ends : (outer : ℕ) (front rest : List ℕ) → list_all other front ≡ true → find_ends (suc outer) (front ++ rest) ≡ behind front (find_ends (suc outer) rest)
 run_ends outer [] rest all = sym (behind_nothing _)
 run_ends outer (c ∷ front) rest all =
-    let parts = and_parts (other c) (list_all other front) all in
-    let plain : begins_any block_signs (c ∷ (front ++ rest)) ≡ false = grind (arith, parts.0) in
-    at_other outer c (front ++ rest) plain ∙ (ap (behind (c ∷ [])) (run_ends outer front rest parts.1) ∙ behind_behind (c ∷ []) front _)
+    let more = behind_behind (c ∷ []) front (find_ends (suc outer) rest) in
+    grind (arith, all, at_other outer c (front ++ rest), run_ends outer front rest, more)
 
 pub runs : (depth : ℕ) (at to : Cursor) → 0 < depth → Passes (Run (λ c. not (c == 42 || c == 47))) at to → Leads (Ends depth) at (Ends depth) to
 unfolding find

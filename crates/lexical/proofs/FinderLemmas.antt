@@ -17,15 +17,10 @@ pub found_is : (f : Finder) (A : Form) → Finds f A → (text p r : List ℕ) �
 found_is f A h text p r e = subst (λ o. IfSome o (IsSplit A text)) e (h.sound text)
 
 pub none_is : (f : Finder) (A : Form) → Finds f A → (text : List ℕ) → f text ≡ None → HasNone A text
-none_is f A h text e p r whole is =
-    let clash : ◌≡◌ {A = Answer} None (Some (p, r)) = sym e ∙ (ap f whole ∙ h.complete p r is) in
-    cc
+none_is f A h text e p r whole is = cc (h.complete p r is)
 
 pub none_found : (f : Finder) (A : Form) → Finds f A → (text : List ℕ) → HasNone A text → f text ≡ None
-none_found f A h text none = (elim (f text) as (λ o. IfSome o (IsSplit A text) → o ≡ None) [
-  | None ↦ λ is. refl
-  | Some x ↦ λ is. absurd (none x.0 x.1 is.0 is.1)
-]) (h.sound text)
+none_found f A h text none = grind (arith, h.sound text, none)
 
 -- at most one split of a text is a piece of the form
 pub one_split : (f : Finder) (A : Form) → Finds f A → (p q r s : List ℕ) → A p r → A q s → p ++ r ≡ q ++ s → (p ≡ q) × (r ≡ s)
@@ -89,9 +84,7 @@ finds_not_at fronts f A h = record {
 where_sound : (test : List ℕ → List ℕ → Bool) (A : Form) (text : List ℕ) (o : Answer) → IfSome o (IsSplit A text)
     → IfSome (if_passes test o) (IsSplit (λ p r. A p r × IsTrue (test p r)) text)
 where_sound test A text None is = tt
-where_sound test A text (Some x) is =
-    cond_both (test x.0 x.1) (Some x) None (λ o. IfSome o (IsSplit (λ p r. A p r × IsTrue (test p r)) text))
-    (λ e. (is.0, (is.1, e))) (λ e. tt)
+where_sound test A text (Some x) is = grind (arith, is)
 
 pub finds_where : (test : List ℕ → List ℕ → Bool) (f : Finder) (A : Form) → Finds f A → Finds (find_where test f) (λ p r. A p r × IsTrue (test p r))
 finds_where test f A h = record {
@@ -140,9 +133,7 @@ finds_run passes = record {
 
 one_sound : (passes : ℕ → Bool) (text : List ℕ) → IfSome (find_one passes text) (IsSplit (One passes) text)
 one_sound passes [] = tt
-one_sound passes (c ∷ text) =
-    cond_both (passes c) (Some (c ∷ [], text)) None (λ o. IfSome o (IsSplit (One passes) (c ∷ text)))
-    (λ e. (refl, (c, refl, e))) (λ e. tt)
+one_sound passes (c ∷ text) = grind arith
 
 pub finds_one : (passes : ℕ → Bool) → Finds (find_one passes) (One passes)
 finds_one passes = record {

@@ -32,6 +32,4 @@ signs_text at to h bytes utf8 between =
 pub raw_one : (allowed : ℕ → Bool) (hashes text rest : List ℕ) (c : ℕ) → text ≡ c ∷ rest → (c ≡ 34 → begins_with hashes rest ≡ false)
     → c ≢ 13 → allowed c ≡ true → find (raw_unit allowed (34 ∷ hashes)) text ≡ Some (c ∷ [], rest)
 unfolding find
-raw_one allowed hashes text rest c e closes other may =
-    let unclosed : begins_with (34 ∷ hashes) (c ∷ rest) ≡ false = grind (arith, closes) in
-    rw (e, or_from _ _ unclosed refl, may, ne_eqb c 13 other) refl
+raw_one allowed hashes text rest c e closes other may = grind (arith, e, closes, other, may)

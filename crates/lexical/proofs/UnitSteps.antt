@@ -119,8 +119,4 @@ plain_unit kind c text e = rw e
 -- and of a raw one
 pub raw_plain_unit : (kind : StringKind) (hashes : List ℕ) (c : ℕ) (text : List ℕ) → is_raw_plain kind c ≡ true
     → find (raw_unit (is_raw kind) (34 ∷ hashes)) (c ∷ text) ≡ Some (c ∷ [], text)
-raw_plain_unit kind hashes c text e =
-    let parts = and_parts _ _ e in
-    let other = or_parts (c == 34) (c == 13) (not-true _ parts.1) in
-    raw_one (is_raw kind) hashes (c ∷ text) text c refl (λ h. absurd (eqb-false c 34 other.0 h))
-    (eqb-false c 13 other.1) parts.0
+raw_plain_unit kind hashes c text e = grind (arith, e, raw_one (is_raw kind) hashes (c ∷ text) text c refl)
