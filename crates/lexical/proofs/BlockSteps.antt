@@ -1,10 +1,9 @@
 -- Steps within block comments.
-use Rattle.std.proofs.Common.{◌≡◌, ℕ, zero, suc, ◌+◌, ◌-◌, ◌<◌, ◌≤◌, Bool, true, false, not, ◌||◌, ◌==◌, List, [], ◌∷◌, ◌++◌, codes, None, refl, sym, ap, ◌∙◌, arith, add-one}
+use Rattle.std.proofs.Common.{◌≡◌, ℕ, zero, suc, ◌+◌, ◌-◌, ◌<◌, ◌≤◌, Bool, true, not, ◌||◌, ◌==◌, List, [], ◌∷◌, ◌++◌, codes, None, refl, sym, arith, add-one}
 use Rattle.std.specs.Str.{chars}
 use Rattle.std.specs.List.{list_all}
-use Rattle.std.proofs.lemmas.Bool.{and_parts, or_from}
-use Rattle.lexical.specs.Text.{begins_any}
-use Rattle.lexical.specs.Block.{block_signs, find_ends}
+use Rattle.std.proofs.lemmas.Bool.{or_from}
+use Rattle.lexical.specs.Block.{find_ends}
 use Rattle.lexical.specs.Finder.{behind}
 use Rattle.lexical.specs.Rule.{Run, Exactly, Ends, find}
 use Rattle.lexical.specs.Step.{Leads, Passes}

@@ -1,7 +1,6 @@
 -- The hash signs of raw strings.
 use Rattle.std.proofs.Common.{◌≡◌, ◌≢◌, ℕ, Bool, ◌==◌, true, false, Some, List, [], ◌∷◌, refl, sym, ap, ◌∙◌, arith, nat_lt, eqb-true}
 use Rattle.std.specs.Str.{chars, IsUtf8, encode_utf8_all}
-use Rattle.std.proofs.lemmas.Bool.{or_from, ne_eqb}
 use Rattle.std.proofs.lemmas.Str.{encodes-chars}
 use Rattle.lexical.specs.Ascii.{all_ascii}
 use Rattle.lexical.specs.Text.{begins_with}

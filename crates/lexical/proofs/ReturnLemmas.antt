@@ -2,7 +2,7 @@
 use Rattle.std.proofs.Common.{◌≡◌, ℕ, ◌==◌, Bool, true, false, not, ◌||◌, List, [], ◌∷◌, ◌++◌, codes, refl, sym, ap, ◌∙◌, arith}
 use Rattle.std.specs.List.{list_all}
 use Rattle.std.specs.Str.{chars}
-use Rattle.std.proofs.lemmas.Bool.{and_parts, not-true, not-false}
+use Rattle.std.proofs.lemmas.Bool.{not-false}
 use Rattle.lexical.specs.Character.{carriage_return}
 use Rattle.lexical.specs.Comment.{has_bare_return}
 use Rattle.lexical.specs.Text.{begins_with, first_passes}

@@ -112,7 +112,7 @@ pub barred : (front : List ℕ) (rule : Rule) → bars front rule ≡ true → (
 barred front rule h rest p r is e = elim (led _ _ _ rule h p r is) [
   | inl one ↦
       never one.0 (p ++ r) (first_more one.0 p r one.2) (rw e (first_more (λ c. not (one.0 c)) front rest one.1))
-  | inr (inl text) ↦ texts_differ text.0 front (text.1 ++ r) rest text.2 (sym (append_assoc text.0 text.1 r) ∙ (ap (λ q. q ++ r) (sym text.3) ∙ e))
+  | inr (inl text) ↦ texts_differ text.0 front (text.1 ++ r) rest text.2 (rw (text.3, append_assoc) at e)
   | inr (inr none) ↦ both_ways _ none.2 (ap (begins_any none.0) e ∙ any_begins_more none.0 front rest none.1)
 ]
   where

@@ -1,9 +1,9 @@
 -- Steps over the units of a string.
-use Rattle.std.proofs.Common.{◌≡◌, ℕ, ◌<◌, ◌==◌, Bool, true, List, [], ◌∷◌, ◌++◌, length, Option, Some, None, refl, sym, ap, ◌∙◌, subst, arith, length-append}
+use Rattle.std.proofs.Common.{◌≡◌, ℕ, ◌<◌, Bool, true, List, [], ◌∷◌, ◌++◌, length, Option, Some, None, refl, sym, ap, ◌∙◌, subst, arith, length-append}
 use Rattle.std.specs.Borrow.{Bor}
 use Rattle.std.specs.Str.{chars}
 use Rattle.std.specs.List.{list_all}
-use Rattle.std.proofs.lemmas.Bool.{and_parts, or_parts, not-true, eqb-false}
+use Rattle.std.proofs.lemmas.Bool.{and_parts}
 use Rattle.lexical.specs.Finder.{Answer, and_find, and_next, behind, find_many}
 use Rattle.lexical.specs.Rule.{Rule, Run, Exactly, Then, Next, UpTo, Stands, find}
 use Rattle.lexical.specs.Quoted.{is_plain, unit as unit_of}
