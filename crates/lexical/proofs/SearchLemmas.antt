@@ -23,7 +23,8 @@ module _ (test : ℕ → Bool) where
   -- what the search answers, or the end of the bytes
   found_end : (bs : List ℕ) (r : Option ℕ) → IsFirstByte test bs r → length (while_front (λ b. not (test b)) bs) ≡ unwrap_or r (length bs)
   found_end bs None none =
-      run_to bs (length bs) (omega arith) (λ k within hit. none k (omega arith) within hit) (λ more. absurd (omega arith))
+      run_to bs (length bs) (omega arith) (λ k within hit. none k (omega arith) within hit)
+      (λ more. absurd (omega arith))
   found_end bs (Some k) h =
       run_to bs k (omega (arith, h.0.high)) (λ i before hit. h.0.before i (omega arith) before hit) (λ more. h.1)
 
