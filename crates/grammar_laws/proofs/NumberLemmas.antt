@@ -1,8 +1,8 @@
 -- The parts of a number, and floats, stay what they are where something follows that doesn't go on with them.
-use Rattle.std.proofs.Common.{◌≡◌, ℕ, ◌≤◌, Bool, true, false, not, ◌||◌, ◌==◌, List, [], ◌∷◌, ◌++◌, length, length-append, arith, refl, sym, ap, ◌∙◌, subst, inl, inr, append_assoc, append-nil}
+use Rattle.std.proofs.Common.{◌≡◌, ℕ, ◌≤◌, Bool, true, false, ◌||◌, ◌==◌, List, [], ◌∷◌, ◌++◌, length, length-append, arith, refl, sym, ap, ◌∙◌, subst, inl, inr, append_assoc, append-nil}
 use Rattle.std.specs.List.{list_all}
 use Rattle.std.specs.Char.{is_ascii_digit}
-use Rattle.std.proofs.lemmas.Bool.{both_ways, and_parts, or_left, or_right, agree_below_at}
+use Rattle.std.proofs.lemmas.Bool.{both_ways, and_parts, or_left, or_right}
 use Rattle.std.proofs.lemmas.List.{nil_from_length}
 use Rattle.std.proofs.lemmas.List.Folds.{list_all-append}
 use Rattle.unicode_ident.proofs.Computing.{unicode_ident}
@@ -15,7 +15,7 @@ use Rattle.lexical.specs.Identifier.{name}
 use Rattle.lexical.specs.Quoted.{suffix}
 use Rattle.lexical.specs.Number as rule
 use Rattle.lexical.specs.Number.{is_underscore, is_digit_or_underscore, Digits, bars_dot, is_exponent_letter, is_sign}
-use Rattle.lexical.proofs.ClassLemmas.{Sub, digit_below}
+use Rattle.lexical.proofs.ClassLemmas.{Sub, sub_digits}
 use Rattle.lexical.proofs.PieceFacts.{start_continues}
 use Rattle.grammar_laws.proofs.StableLemmas.{sub_one, sub_either, none, Stable, KeepsNone, AllIn, anew, Looks, Within, stable, fronts_compared, passes_at, all_append, inside, none_extended, none_one, all_in}
 
@@ -30,9 +30,7 @@ continue_goes_on c is = or_left _ _ is
 
 pub digit_continues : Sub is_ascii_digit is_ident_continue
 unfolding unicode_ident
-digit_continues c is =
-    sym (ap (λ b. not b || is_ident_continue c) is)
-    ∙ agree_below_at (λ x. not (is_ascii_digit x) || is_ident_continue x) (λ x. true) 128 c refl (digit_below c is)
+digit_continues = sub_digits is_ident_continue refl
 
 pub underscore_continues : Sub is_underscore is_ident_continue
 unfolding unicode_ident

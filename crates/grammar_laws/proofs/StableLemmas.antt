@@ -9,7 +9,7 @@ use Rattle.lexical.specs.Form.{Form, HasNone, Next, Many, Each}
 use Rattle.lexical.specs.Rule as rules
 use Rattle.lexical.specs.Rule.{Rule, Stands}
 use Rattle.lexical.specs.Finder.{while_front, while_rest}
-use Rattle.lexical.proofs.TextLemmas.{any_after}
+use Rattle.lexical.proofs.TextLemmas.{all_pass, any_after}
 use Rattle.lexical.proofs.ClassLemmas.{Sub}
 use Rattle.lexical.proofs.FinderLemmas.{finds_run}
 
@@ -205,13 +205,9 @@ module _ (class : ℕ → Bool) where
   pub all_append : (xs ys : List ℕ) → list_all class xs ≡ true → list_all class ys ≡ true → list_all class (xs ++ ys) ≡ true
   all_append xs ys h j = list_all-append class xs ys ∙ and_from _ _ h j
 
-  pub all_within : (passes : ℕ → Bool) → Sub passes class → (xs : List ℕ) → list_all passes xs ≡ true → list_all class xs ≡ true
-  all_within passes within [] h = refl
-  all_within passes within (x ∷ xs) h = let parts = and_parts _ _ h in and_from _ _ (within x parts.0) (all_within passes within xs parts.1)
-
   pub all_in : (rule : Rule) → Within class rule → AllIn class (Stands rule)
   all_in (rules.One passes) within = λ p r is. ap (list_all class) is.1 ∙ and_from _ _ (within is.0 is.2) refl
-  all_in (rules.Run passes) within = λ p r is. all_within passes within p is.each
+  all_in (rules.Run passes) within = λ p r is. all_pass passes class within p is.each
   all_in (rules.Exactly text) within = λ p r is. ap (list_all class) is ∙ within
   all_in (rules.Then a b) within = λ p r is.
       ap (list_all class) is.whole

@@ -269,12 +269,12 @@ integers = computed _ assumption
 -- before U+0301, which goes on with an identifier and begins none
 accents : AllHold (
     -- no float stands, and the integer ends before the dot
-    literal "1" ".5\u{301}"
-    ∷ NoPiece "5\u{301}"
+    literal "1" ".5́"
+    ∷ NoPiece "5́"
     -- with an exponent no float stands either, and the suffix of the integer takes all
-    ∷ literal "1e5\u{301}" ""
+    ∷ literal "1e5́" ""
     -- where an exponent stands it is taken, also where no float stands then
-    ∷ literal "1" ".0e5\u{301}"
+    ∷ literal "1" ".0e5́"
     ∷ [])
 unfolding unicode_ident found find number
 accents = computed _ assumption
@@ -284,10 +284,10 @@ broken_lines : AllHold (
     -- `1` and two dots; where the line ends after the first dot, that is the number's
     literal "1." "\n.2"
     -- `1`, `.`, `5e`, `+`, and the name `_5` with U+0301
-    ∷ literal "1" ".5e+_5\u{301}"
-    ∷ literal "5e" "+_5\u{301}"
+    ∷ literal "1" ".5e+_5́"
+    ∷ literal "5e" "+_5́"
     -- where the line ends after `5e`, no exponent stands there and a float does
-    ∷ literal "1.5e" "\n+_5\u{301}"
+    ∷ literal "1.5e" "\n+_5́"
     ∷ [])
 unfolding unicode_ident found find number
 broken_lines = computed _ assumption
