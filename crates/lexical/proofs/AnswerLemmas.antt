@@ -111,7 +111,7 @@ name_lacks at inside plain h none =
 pub mark_read : (answer : Found) (at after : Cursor) (c : ℕ) (k : PieceKind) → answer ≡ tagged mark_kind (find mark (chars at.rest.now))
     → chars at.rest.now ≡ c ∷ chars after.rest.now → after.chars_before ≡ at.chars_before + 1
     → begins_any comment_fronts (chars at.rest.now) ≡ false → is_mark c ≡ true → (c == 39) ≡ false
-    → k ≡ kinds.Mark c (joint_before (chars after.rest.now)) → IsFound answer at (k, after)
+    → k ≡ kinds.Mark (joint_before (chars after.rest.now)) c → IsFound answer at (k, after)
 mark_read answer at after c k tags split one plain among other is =
     read_one mark_kind (find mark (chars at.rest.now)) answer at after k c tags
     (one_found_not_at comment_fronts (λ d. is_mark d && not (d == 39)) _ _ _ split plain (and_from _ _ among (not_from_false _ other)))

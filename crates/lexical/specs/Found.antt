@@ -16,7 +16,7 @@ kind_of (Doc inner text) p = pieces.Doc inner (chars text.now)
 kind_of (Opener c) p = pieces.Open c
 kind_of (Closer c) p = pieces.Close c
 kind_of Literal p = pieces.Leaf (tokens.Literal p)
-kind_of (Mark mark joint) p = pieces.Leaf (tokens.Mark mark joint)
+kind_of (Mark joint mark) p = pieces.Leaf (tokens.Mark mark joint)
 kind_of (Name raw name) p = pieces.Leaf (tokens.Name raw (chars name.now))
 
 -- the texts that a kind lends are texts
@@ -27,7 +27,7 @@ LendsText (Doc inner text) = IsUtf8 text.now
 LendsText (Opener c) = Unit {0}
 LendsText (Closer c) = Unit {0}
 LendsText Literal = Unit {0}
-LendsText (Mark mark joint) = Unit {0}
+LendsText (Mark joint mark) = Unit {0}
 LendsText (Name raw name) = IsUtf8 name.now
 
 -- the piece stands at the front of the text, with so many bytes and characters

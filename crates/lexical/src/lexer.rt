@@ -58,8 +58,8 @@ fn read_piece(at: Cursor<'_>, at_front: bool) -> Option<(PieceKind<'_>, Cursor<'
                 return as_literal(quoted(at));
             }
             let kind = PieceKind::Mark {
-                mark: '\'',
                 joint: true,
+                mark: '\'',
             };
             Some((kind, after))
         }

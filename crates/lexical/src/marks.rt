@@ -29,13 +29,13 @@ pub fn begins_comment(text: &str) -> bool
 
 /// The kind of the mark that stands before `rest`, by the rules `mark` and `joint`.
 pub fn mark<'a>(mark: char, rest: &str) -> PieceKind<'a>
-    ensures { result ≡ kinds.Mark mark (joint_before (chars rest.now)) }
+    ensures { result ≡ kinds.Mark (joint_before (chars rest.now)) mark }
 {
     let joint = match split_first(rest) {
         Some((next, _)) => is_mark(next) && !begins_comment(rest),
         None => false,
     };
-    PieceKind::Mark { mark, joint }
+    PieceKind::Mark { joint, mark }
 }
 
 /// Whether no character follows the place that bars a `'` before the identifier that ends there.

@@ -23,11 +23,12 @@ pub enum PieceKind<'a> {
     Literal,
     /// A punctuation mark, by the rule `mark` or `lone-quote`.
     Mark {
-        /// The mark's character.
-        mark: char,
         /// Whether it is Joint: by the rule `joint` if a mark that begins no comment follows right
         /// after it, and by the rule `lone-quote` always as the `'` before an identifier.
+        // Before the character, where no kind has a pointer: else the two are merged byte by byte.
         joint: bool,
+        /// The mark's character.
+        mark: char,
     },
     /// An identifier, by the rule `identifier`.
     Name {

@@ -78,7 +78,7 @@ fn doc(inner: bool, text: &str) -> PieceKind<'_> {
 }
 
 fn mark(mark: char, joint: bool) -> PieceKind<'static> {
-    PieceKind::Mark { mark, joint }
+    PieceKind::Mark { joint, mark }
 }
 
 fn name(raw: bool, name: &str) -> PieceKind<'_> {

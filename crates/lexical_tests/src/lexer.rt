@@ -37,7 +37,7 @@ fn each_text_begins_with_its_piece(rt: HostRuntime) {
 /// Asserts that each text begins with this mark, joint or not.
 fn check_marks(rt: &impl Abort, rows: &[(&str, char, bool)]) {
     for &(text, mark, joint) in rows {
-        check_pieces(rt, PieceKind::Mark { mark, joint }, &[(text, 1, 1)]);
+        check_pieces(rt, PieceKind::Mark { joint, mark }, &[(text, 1, 1)]);
     }
 }
 
@@ -61,8 +61,8 @@ fn a_lone_quote_stands_before_an_identifier(rt: HostRuntime) {
     check_pieces(
         &rt,
         PieceKind::Mark {
-            mark: '\'',
             joint: true,
+            mark: '\'',
         },
         &[
             ("'a", 1, 1),

@@ -68,15 +68,15 @@ fn kind_at(text: &str, at_front: bool) -> Option<(PieceKind<'_>, &str)> {
                 return None;
             }
             let kind = PieceKind::Mark {
-                mark: first,
                 joint: true,
+                mark: first,
             };
             Some((kind, rest))
         }
         mark if is_mark(mark) => {
             let is_comment = rest.starts_with("//") || rest.starts_with("/*");
             let joint = rest.starts_with(|c| is_mark(c)) && !is_comment;
-            Some((PieceKind::Mark { mark, joint }, rest))
+            Some((PieceKind::Mark { joint, mark }, rest))
         }
         _ => None,
     }

@@ -24,7 +24,7 @@ fn check_end(rt: &impl Abort, walk: &mut PieceWalk<'_>, rest: &str) {
 
 /// The kind of a mark.
 fn mark_of(mark: char, joint: bool) -> PieceKind<'static> {
-    PieceKind::Mark { mark, joint }
+    PieceKind::Mark { joint, mark }
 }
 
 #[test]

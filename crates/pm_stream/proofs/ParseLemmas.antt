@@ -79,7 +79,7 @@ stray_at base source mid front rest at first groups trees (Opener c) reads whole
 stray_at base source mid front rest at first groups trees (Closer c) reads whole stands stray =
     reads_stray base source mid front rest at first groups trees c reads whole stands stray
 stray_at base source mid front rest at first groups trees Literal reads whole stands stray = absurd stray
-stray_at base source mid front rest at first groups trees (Mark mark joint) reads whole stands stray =
+stray_at base source mid front rest at first groups trees (Mark joint mark) reads whole stands stray =
     absurd stray
 stray_at base source mid front rest at first groups trees (Name raw name) reads whole stands stray =
     absurd stray

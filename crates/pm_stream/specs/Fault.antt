@@ -22,7 +22,7 @@ IsStray (Doc inner text) groups = ⊥
 IsStray (Opener c) groups = ⊥
 IsStray (Closer c) groups = FitsInnermost (delimiter_of c) groups → ⊥
 IsStray Literal groups = ⊥
-IsStray (Mark mark joint) groups = ⊥
+IsStray (Mark joint mark) groups = ⊥
 IsStray (Name raw name) groups = ⊥
 
 -- a fault where the innermost of the open groups begins, or want of memory where none is open

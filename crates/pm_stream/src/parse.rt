@@ -150,7 +150,7 @@ impl Reading {
             PieceKind::Opener(c) => self.open(delimiter(c), lo)?,
             PieceKind::Closer(c) => self.close(delimiter(c), lo, hi)?,
             PieceKind::Doc { inner, text } => self.push_doc(inner, text, span_of(lo, hi))?,
-            PieceKind::Mark { mark, joint } => self.push_mark(mark, joint, span_of(lo, hi))?,
+            PieceKind::Mark { joint, mark } => self.push_mark(mark, joint, span_of(lo, hi))?,
             PieceKind::Name { raw, name } => {
                 let name = ident(self.alloc, name, raw, span_of(lo, hi))?;
                 self.push(TokenTree::Ident(name))?;

@@ -1,5 +1,6 @@
 //! Punctuation marks.
-ghost use Rattle.std.specs.Prelude.{◌≡◌, ◌≤◌, IsTrue};
+ghost use Rattle.std.specs.Prelude.{◌≡◌, ◌≤◌, ◌∷◌, [], IsTrue};
+ghost use Rattle.std.specs.Str.{encode_utf8_all};
 ghost use Rattle.lexical.specs.Mark.{is_mark};
 ghost use Rattle.pm_span.specs.Extent.{nowhere};
 ghost use Rattle.pm_token.specs.Built.{IsBuiltToken};
@@ -132,7 +133,41 @@ impl fmt::Display for Punct {
     ghost output = { λ punct. Some (encode_utf8_all (token_text (mark_token punct))) };
 
     fn fmt<W: fmt::Write>(&self, f: &mut fmt::Formatter<W>) -> fmt::Result {
-        f.write_char(self.mark)
+        f.write_str(text_of(self.mark))
+    }
+}
+
+/// The text of a mark.
+// A text of one byte is written by one store, where a character would be encoded first.
+#[inline(always)]
+fn text_of(mark: char) -> &'static str
+    requires { IsTrue (is_mark mark) }
+    ensures { result.now ≡ encode_utf8_all (mark ∷ []) }
+{
+    match mark {
+        '~' => "~",
+        '!' => "!",
+        '@' => "@",
+        '#' => "#",
+        '$' => "$",
+        '%' => "%",
+        '^' => "^",
+        '&' => "&",
+        '*' => "*",
+        '-' => "-",
+        '=' => "=",
+        '+' => "+",
+        '|' => "|",
+        ';' => ";",
+        ':' => ":",
+        ',' => ",",
+        '<' => "<",
+        '.' => ".",
+        '>' => ">",
+        '/' => "/",
+        '?' => "?",
+        '\'' => "'",
+        _ => unreachable!(),
     }
 }
 
