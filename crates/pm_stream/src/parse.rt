@@ -5,7 +5,7 @@ ghost use Rattle.std.specs.Str.{chars};
 ghost use Rattle.lexical.specs.Found.{IsPieceAt, kind_of};
 ghost use Rattle.lexical.specs.Mark.{is_mark};
 ghost use Rattle.lexical.specs.Token as tokens;
-ghost use Rattle.pm_span.specs.Files.{Fits, Holds, next_lo, with_file};
+ghost use Rattle.pm_span.specs.Files.{Fits, Holds, new_map, next_lo, with_file};
 ghost use Rattle.pm_token.specs.Built.{IsBuiltToken};
 ghost use Rattle.pm_token.specs.Leaf.{is_joint};
 ghost use Rattle.pm_stream.specs.Delimited.{delimiter_of};
@@ -69,6 +69,30 @@ impl TokenStream {
         }
         add_file(map, text)?;
         parsed
+    }
+
+    /// The token trees of a text that becomes no file of a map (`parses-to`). The stream is `built`.
+    ///
+    /// Answers and spans are those of [`from_str`](TokenStream::from_str) with a new map, but no map holds
+    /// the spans. It takes no copy of the text and looks for no lines, so what only prints trees reads a text
+    /// by it in less time. Where a fault stands is asked of a map: `from_str` finds it at the same position.
+    ///
+    /// `a += b` gives four trees, the first the identifier `a` at 1..2. The fault of `(]` is 2..2.
+    pub fn parse_unmapped(alloc: Global, text: &str) -> Result<TokenStream, ParseError>
+        ensures ok { IfOk result (λ stream. ParsesTo (next_lo new_map) (chars text.now) stream) }
+        ensures built { IfOk result IsBuilt }
+        ensures apart { IfOk result (λ _. HasNoFault (next_lo new_map) (chars text.now)) }
+        ensures lex { IfErr result (λ error. IfLex error (λ fault.
+            (fault.lo ≡ fault.hi) × FaultAt (next_lo new_map) (chars text.now) fault.lo)) }
+        ensures only { IfErr result (λ error. IfLex error (λ fault.
+            IsOnlyFault (next_lo new_map) (chars text.now) fault.lo)) }
+        ensures map_full { (result ≡ Err ParseError.MapFull)
+            ↔ (Fits new_map (length (chars text.now)) → ⊥) }
+    {
+        let Some(lo) = fits(&SourceMap::new(alloc), text) else {
+            return Err(ParseError::MapFull);
+        };
+        parse(alloc, lo, text)
     }
 }
 

@@ -1,4 +1,4 @@
-//! Texts that are parsed into a map that holds another.
+//! Texts that are parsed, into a map that holds another or without a map.
 
 use crate::fails::Fail;
 use crate::shown::{show_map, show_stream};
@@ -7,13 +7,14 @@ use proc_macro2::{Literal, ParseError, SourceMap, TokenStream};
 use std::alloc::Global;
 use std::io::Write;
 
-/// Parses the text as a stream or as a literal, into a map that is large or has four positions.
+/// Parses the text as a stream or as a literal, into a map that is large or has four positions, or without a map.
 pub fn run<W: Write>(alloc: Global, out: &mut W, call: &str, text: &str) -> Result<(), Fail> {
     match call {
         "stream" => parse_stream(out, text, &mut map_of_x(alloc, u32::MAX)?),
         "stream_in_four" => parse_stream(out, text, &mut map_of_x(alloc, 4)?),
         "literal" => parse_literal(out, text, &mut map_of_x(alloc, u32::MAX)?),
         "literal_in_four" => parse_literal(out, text, &mut map_of_x(alloc, 4)?),
+        "unmapped" => parse_unmapped(alloc, out, text),
         _ => Err(Fail::NoCase),
     }
 }
@@ -28,14 +29,31 @@ pub fn map_of_x(alloc: Global, limit: u32) -> Result<SourceMap, ParseError> {
 fn parse_stream<W: Write>(out: &mut W, text: &str, map: &mut SourceMap) -> Result<(), Fail> {
     for _ in 0..2 {
         let answer = watched!(out; TokenStream::from_str(text, map));
-        match &answer {
-            Ok(stream) => {
-                writeln!(out, "Ok")?;
-                show_stream(out, stream)?;
-            }
-            Err(error) => writeln!(out, "{error:?}")?,
-        }
+        show_answer(out, &answer)?;
         show_map(out, map)?;
+    }
+    Ok(())
+}
+
+fn parse_unmapped<W: Write>(alloc: Global, out: &mut W, text: &str) -> Result<(), Fail> {
+    for _ in 0..2 {
+        let answer = watched!(out; TokenStream::parse_unmapped(alloc, text));
+        show_answer(out, &answer)?;
+    }
+    Ok(())
+}
+
+/// Writes the stream, or why there is none.
+fn show_answer<W: Write>(
+    out: &mut W,
+    answer: &Result<TokenStream, ParseError>,
+) -> Result<(), Fail> {
+    match answer {
+        Ok(stream) => {
+            writeln!(out, "Ok")?;
+            show_stream(out, stream)?;
+        }
+        Err(error) => writeln!(out, "{error:?}")?,
     }
     Ok(())
 }

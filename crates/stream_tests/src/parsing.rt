@@ -3,7 +3,7 @@ use pm_span::SourceMap;
 use pm_span::parts::span_of;
 use pm_stream::TokenStream;
 use pm_token::ParseError;
-use std::alloc::Global;
+use std::alloc::{AllocError, Global};
 use std::process::Abort;
 
 #[test]
@@ -67,4 +67,28 @@ fn a_file_stays_in_the_map_up_to_the_limit(rt: HostRuntime) {
     check_limit(&rt, "abcd", true, 6, false);
     check_limit(&rt, "abc)", false, 5, true);
     check_limit(&rt, "abc)", false, 6, false);
+}
+
+// How Debug shows what the text parses to in a new map, and without a map.
+fn both_shown(alloc: Global, text: &str) -> Result<[String; 2], AllocError> {
+    let mapped = TokenStream::from_str(text, &mut SourceMap::new(alloc));
+    let unmapped = TokenStream::parse_unmapped(alloc, text);
+    Ok([
+        format!(in alloc; "{mapped:?}")?,
+        format!(in alloc; "{unmapped:?}")?,
+    ])
+}
+
+/// Asserts that the text is parsed without a map as it is in a new one, spans and faults too.
+fn check_unmapped(rt: &(impl Abort + AllocGlobal), text: &str) {
+    let [mapped, unmapped] = both_shown(rt.alloc(), text).expect(rt, text);
+    assert_eq!(rt; unmapped.as_str(), mapped.as_str(), "of {text:?}");
+}
+
+#[test]
+fn a_text_is_parsed_without_a_map_as_in_a_new_one(rt: HostRuntime) {
+    check_unmapped(&rt, "");
+    check_unmapped(&rt, "/// x\nf(1, 'c') += \u{e9}");
+    check_unmapped(&rt, "a (]");
+    check_unmapped(&rt, "a ( [ b");
 }
