@@ -1,11 +1,12 @@
 //! A run: from the bytes of a source to the bytes of a sink.
-ghost use Rattle.std.specs.Prelude.{◌≡◌, ◌↔◌, ℕ, List, IfOk, IsFalse, alloc_error, flat_map, string_bytes};
-ghost use Rattle.std.specs.Str.{IsUtf8};
+ghost use Rattle.std.specs.Prelude.{◌≡◌, ◌↔◌, ◌++◌, ℕ, List, IfOk, IsFalse, alloc_error, codes, flat_map, string_bytes};
+ghost use Rattle.std.specs.Str.{IsUtf8, encode_utf8_all};
 ghost use Rattle.proc_macro2.specs.declared.LineColumn.{LineColumn};
 ghost use Rattle.proc_macro2.specs.Files.{Holds};
 ghost use Rattle.proc_macro2.specs.HeldSpans.{HoldsAll};
 ghost use Rattle.proc_macro2.specs.Lookup.{StartsAt};
 ghost use Rattle.proc_macro2.specs.Outcome.{IfLex};
+ghost use Rattle.proc_macro2.specs.Printed.{printed};
 ghost use Rattle.tokens.specs.Answer.{is_io};
 ghost use Rattle.tokens.specs.Output.{IsOutput, IsReadable, IsTooLong, HasFaultAt, written};
 ghost use Rattle.tokens.specs.Run.{Runs, seen_by};
@@ -59,6 +60,14 @@ fn output_of(alloc: Global, mode: OutputMode, input: Vec<u8>) -> Result<Vec<Stri
     let Ok(text) = String::from_utf8(input) else {
         return Err(RunError::NotUtf8);
     };
+    if mode == OutputMode::Print {
+        // What is printed has no positions, so a map is wanted only where a fault has to be told.
+        match TokenStream::parse_unmapped(alloc, text.as_str()) {
+            Ok(stream) => return Ok(printed(alloc, text, stream)?),
+            Err(ParseError::Memory(error)) => return Err(RunError::Memory(error)),
+            Err(ParseError::Lex(_) | ParseError::MapFull) => {}
+        }
+    }
     let mut map = SourceMap::new(alloc);
     match TokenStream::from_str(text.as_str(), &mut map) {
         Ok(stream) => Ok(written(alloc, mode, text, stream, map)?),
@@ -82,12 +91,12 @@ fn refusal(error: ParseError, map: &SourceMap) -> RunError
     }
 }
 
-// What is written of the stream that the text parses to, which alone was read into the map. It has the
-// text too, so the memory of this one is used anew or given back.
+// What is written of the stream that the text parses to, which alone was read into the map. The map has the
+// text too.
 fn written(
     alloc: Global,
     mode: OutputMode,
-    mut text: String,
+    text: String,
     stream: TokenStream,
     map: SourceMap,
 ) -> Result<Vec<String>, AllocError>
@@ -97,13 +106,8 @@ fn written(
 {
     match mode {
         OutputMode::Print => {
-            // What is printed has no positions, and is about as long as the source.
             drop(map);
-            text.clear();
-            write!(text, "{stream}\n")?;
-            let mut blocks = Vec::new(alloc);
-            blocks.push(text)?;
-            Ok(blocks)
+            printed(alloc, text, stream)
         }
         OutputMode::Spans => {
             let bytes = text.len();
@@ -111,4 +115,16 @@ fn written(
             span_lines(alloc, bytes, stream, &map)
         }
     }
+}
+
+// The printed stream and a line feed. It is about as long as the source, whose memory it takes.
+fn printed(alloc: Global, mut text: String, stream: TokenStream) -> Result<Vec<String>, AllocError>
+    ensures { IfOk result (λ blocks. flat_map string_bytes blocks.items
+        ≡ encode_utf8_all (printed stream) ++ codes "\n") }
+{
+    text.clear();
+    write!(text, "{stream}\n")?;
+    let mut blocks = Vec::new(alloc);
+    blocks.push(text)?;
+    Ok(blocks)
 }
