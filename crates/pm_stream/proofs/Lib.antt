@@ -10,9 +10,12 @@ pub mod SpacedLemmas
 pub mod SameLemmas
 pub mod EventLemmas
 pub mod WrittenLemmas
+pub mod PrintedEventLemmas
 pub mod ReadSoFar
 pub mod ParseLemmas
 pub mod FaultLemmas
+pub mod FusedLemmas
+pub mod UnflattenedLemmas
 pub mod SpanLemmas
 pub mod PlaceLemmas
 pub mod LawLemmas

@@ -8,6 +8,7 @@ pub mod Level
 pub mod InnerSize
 pub mod TreeSpan
 pub mod Printed
+pub mod PrintedEvents
 pub mod PrintedTree
 pub mod Rule
 pub mod Shown
@@ -17,9 +18,12 @@ pub mod Same
 pub mod SameTree
 pub mod Parsing
 pub mod Written
+pub mod PrintsText
+pub mod Unflattened
 pub mod Fault
 pub mod Nesting
 pub mod Progress
+pub mod PrintedSoFar
 pub mod InOrder
 pub mod DocGroup
 pub mod Walk

@@ -93,7 +93,7 @@ fn print_ending<W: fmt::Write>(delimiter: Delimiter, f: &mut fmt::Formatter<W>) 
     f.write_str(closer(delimiter))
 }
 
-fn opener(delimiter: Delimiter) -> &'static str
+pub(crate) fn opener(delimiter: Delimiter) -> &'static str
     ensures { result.now ≡ opening delimiter }
 {
     match delimiter {
@@ -104,7 +104,7 @@ fn opener(delimiter: Delimiter) -> &'static str
     }
 }
 
-fn closer(delimiter: Delimiter) -> &'static str
+pub(crate) fn closer(delimiter: Delimiter) -> &'static str
     ensures { result.now ≡ ending delimiter }
 {
     match delimiter {
@@ -115,7 +115,7 @@ fn closer(delimiter: Delimiter) -> &'static str
     }
 }
 
-fn is_brace(delimiter: Delimiter) -> bool
+pub(crate) fn is_brace(delimiter: Delimiter) -> bool
     ensures { result ≡ is_brace delimiter }
 {
     delimiter == Delimiter::Brace

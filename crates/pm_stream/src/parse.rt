@@ -315,7 +315,7 @@ impl Reading {
 }
 
 /// The delimiter of which `c` is the opener or the closer.
-fn delimiter(c: char) -> Delimiter
+pub(crate) fn delimiter(c: char) -> Delimiter
     ensures { result ≡ delimiter_of c }
 {
     match c {
@@ -337,7 +337,7 @@ fn spacing(joint: bool) -> Spacing
 }
 
 /// The fault at a position.
-fn fault_at(position: u32) -> ParseError
+pub(crate) fn fault_at(position: u32) -> ParseError
     ensures { result ≡ ParseError.Lex (record { lo = position; hi = position }) }
 {
     ParseError::Lex(fault(span_of(position, position)))

@@ -23,6 +23,12 @@ pub chars_pushed : {E : Type 0} (r : Result (Unit {0}) E) (new old : List ℕ) (
 chars_pushed (Ok v) new old c utf8 is e = ap chars e ∙ (chars-append old (encode_utf8 c) utf8 ∙ ap (λ cs. chars old ++ cs) (chars-encode c is))
 chars_pushed (Err v) new old c utf8 is e = tt
 
+-- after `push_str`
+pub chars_texted : {E : Type 0} (r : Result (Unit {0}) E) (new old text : List ℕ) → IsUtf8 old
+    → new ≡ (if is_ok r then old ++ text else old) → OnOk r (chars new ≡ chars old ++ chars text)
+chars_texted (Ok v) new old text utf8 e = ap chars e ∙ chars-append old text utf8
+chars_texted (Err v) new old text utf8 e = tt
+
 -- ---- the content of a literal, one character after another
 
 pub content_more : (quote c : ℕ) (old new text rest : List ℕ) → IsUtf8 text → text ≡ encode_utf8 c ++ rest

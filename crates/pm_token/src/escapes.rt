@@ -1,12 +1,13 @@
 //! How literals between quotes are written.
 ghost use Rattle.std.specs.Prelude.{◌≡◌, ◌∷◌, ◌++◌, ℕ, List, [], codes, length, IfOk, OnOk};
-ghost use Rattle.std.specs.Str.{IsUtf8, chars};
+ghost use Rattle.std.specs.Prelude.{string_bytes};
+ghost use Rattle.std.specs.Str.{IsUtf8, chars, encode_utf8_all};
 ghost use Rattle.std.specs.Char.Escape.{escape_unicode};
 ghost use Rattle.lexical.specs.Text.{first_passes};
 ghost use Rattle.lexical.specs.Finder.{while_front};
 ghost use Rattle.lexical.specs.Form.{Run};
 ghost use Rattle.lexical.specs.Quoted.{is_octal_digit};
-ghost use Rattle.pm_token.specs.Escaped.{is_hidden, is_bare as bare, is_plain_ascii, written_char, written, content};
+ghost use Rattle.pm_token.specs.Escaped.{is_hidden, is_bare as bare, is_plain_ascii, written_char, written, content, string_text};
 ghost use Rattle.pm_token.specs.Text.{IsText};
 
 mod bytes;
@@ -17,9 +18,9 @@ use std::alloc::{AllocError, Global};
 use std::marker::Model;
 use ucd_category::GeneralCategory;
 
-/// The text of a literal while it is written.
+/// A text while it is written, seen as its characters.
 #[derive(Drop)]
-pub(crate) struct Draft {
+pub struct Draft {
     text: String,
 }
 
@@ -43,7 +44,7 @@ impl Draft {
     }
 
     /// Nothing yet, with room for so many bytes. Fails where memory runs out.
-    pub(crate) fn with_room(alloc: Global, bytes: usize) -> Result<Draft, AllocError>
+    pub fn with_room(alloc: Global, bytes: usize) -> Result<Draft, AllocError>
         ensures { IfOk result (λ draft. draft ≡ []) }
     {
         Ok(Draft {
@@ -59,8 +60,31 @@ impl Draft {
         Symbol::from_string(alloc, self.text)
     }
 
+    /// The text. It takes no memory.
+    pub fn into_string(self) -> String
+        ensures { string_bytes result ≡ encode_utf8_all self }
+    {
+        self.text
+    }
+
+    /// Writes the text. Fails where memory runs out.
+    pub fn push_text(&mut self, text: &str) -> Result<(), AllocError>
+        ensures ok { OnOk result (self.new ≡ self.old ++ chars text.now) }
+    {
+        self.text.push_str(text)
+    }
+
+    /// Writes the string literal of the text. Fails where memory runs out.
+    pub fn push_string(&mut self, text: &str) -> Result<(), AllocError>
+        ensures ok { OnOk result (self.new ≡ self.old ++ string_text (chars text.now)) }
+    {
+        self.push('"')?;
+        self.push_content('"', text)?;
+        self.push('"')
+    }
+
     /// Writes the character.
-    pub(crate) fn push(&mut self, c: char) -> Result<(), AllocError>
+    pub fn push(&mut self, c: char) -> Result<(), AllocError>
         ensures ok { OnOk result (self.new ≡ self.old ++ c ∷ []) }
     {
         self.text.push(c)
@@ -139,7 +163,7 @@ impl Draft {
     }
 
     /// Writes the characters of the text between these quotes.
-    pub(crate) fn push_content(&mut self, quote: char, text: &str) -> Result<(), AllocError>
+    pub fn push_content(&mut self, quote: char, text: &str) -> Result<(), AllocError>
         ensures ok { OnOk result (self.new ≡ self.old ++ content quote written_char (chars text.now)) }
     {
         let mut rest = self.push_plain(quote, text)?.chars();

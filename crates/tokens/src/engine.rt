@@ -19,7 +19,7 @@ use crate::sinks::ByteSink;
 use crate::sources::ByteSource;
 use crate::spans::span_lines;
 use crate::writing::write_blocks;
-use proc_macro2::{ParseError, SourceMap, TokenStream};
+use proc_macro2::{ParseError, SourceMap, TokenStream, print_unmapped};
 use std::alloc::{AllocError, Global};
 
 /// Reads source text to its end, and writes its tokens as `mode` says.
@@ -61,9 +61,9 @@ fn output_of(alloc: Global, mode: OutputMode, input: Vec<u8>) -> Result<Vec<Stri
         return Err(RunError::NotUtf8);
     };
     if mode == OutputMode::Print {
-        // What is printed has no positions, so a map is wanted only where a fault has to be told.
-        match TokenStream::parse_unmapped(alloc, text.as_str()) {
-            Ok(stream) => return Ok(printed(alloc, text, stream)?),
+        // What is printed has no positions, so trees and a map are wanted only where a fault has to be told.
+        match print_unmapped(alloc, text.as_str()) {
+            Ok(out) => return Ok(ended(alloc, out)?),
             Err(ParseError::Memory(error)) => return Err(RunError::Memory(error)),
             Err(ParseError::Lex(_) | ParseError::MapFull) => {}
         }
@@ -115,6 +115,16 @@ fn written(
             span_lines(alloc, bytes, stream, &map)
         }
     }
+}
+
+// The text and a line feed, as one block.
+fn ended(alloc: Global, mut text: String) -> Result<Vec<String>, AllocError>
+    ensures { IfOk result (λ blocks. flat_map string_bytes blocks.items ≡ string_bytes text ++ codes "\n") }
+{
+    text.push_str("\n")?;
+    let mut blocks = Vec::new(alloc);
+    blocks.push(text)?;
+    Ok(blocks)
 }
 
 // The printed stream and a line feed. It is about as long as the source, whose memory it takes.
