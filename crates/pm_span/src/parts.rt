@@ -1,11 +1,12 @@
 //! What the crates above need of spans and of the map, and users don't.
 ghost use Rattle.std.specs.Prelude.{◌≡◌, ◌+◌, ◌^◌, ◌<◌, ◌≤◌, length, IfSome, OnOk, OnErr, SomeIff};
 ghost use Rattle.std.specs.Str.{chars};
-ghost use Rattle.pm_span.specs.Files.{Fits, next_lo, with_file};
+ghost use Rattle.pm_span.specs.Files.{Fits, new_map, next_lo, with_file};
 
 use crate::source_map::SourceMap;
 use crate::spans::Span;
 pub use crate::text::char_count;
+use crate::text::has_fewer;
 use std::alloc::{AllocError, Global};
 
 /// The span of the positions from `lo` up to `hi`, in characters.
@@ -34,6 +35,19 @@ pub fn fits(map: &SourceMap, text: &str) -> Option<u32>
     ensures within { IfSome result (λ lo. lo + length (chars text.now) < 2 ^ 32) }
 {
     map.fits(text)
+}
+
+/// The position, in characters, where the file of this text would begin in a new map, if it fits there
+/// (`fits`): 1, without a map being made.
+pub fn fits_new(text: &str) -> Option<u32>
+    ensures found { SomeIff result (Fits new_map (length (chars text.now))) (next_lo new_map) }
+    ensures within { IfSome result (λ lo. lo + length (chars text.now) < 2 ^ 32) }
+{
+    if has_fewer(text, u32::MAX as usize) {
+        Some(1)
+    } else {
+        None
+    }
 }
 
 /// Adds the text, which fits, as the map's next file.

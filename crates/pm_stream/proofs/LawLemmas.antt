@@ -276,10 +276,10 @@ only_fault base source position h = (
   λ other fault. one_fault base source other position fault h,
 )
 
-pub refused_only : (base begin : ℕ) (source : List ℕ) (result : Result Forest ParseError) → base ≡ begin
+pub refused_only : {A : Type 0} (base begin : ℕ) (source : List ℕ) (result : Result A ParseError) → base ≡ begin
     → IfErr result (IsFault base source)
     → IfErr result (λ error. IfLex error (λ fault. IsOnlyFault begin source fault.lo))
-refused_only base begin source (Ok stream) e h = tt
+refused_only base begin source (Ok value) e h = tt
 refused_only base begin source (Err (Lex fault)) e h =
     only_fault begin source fault.lo (subst (λ n. FaultAt n source fault.lo) e h.1)
 refused_only base begin source (Err MapFull) e h = tt

@@ -14,8 +14,7 @@ pub mod PrintedEventLemmas
 pub mod ReadSoFar
 pub mod ParseLemmas
 pub mod FaultLemmas
-pub mod FusedLemmas
-pub mod UnflattenedLemmas
+pub mod ReprintLemmas
 pub mod SpanLemmas
 pub mod PlaceLemmas
 pub mod LawLemmas

@@ -19,11 +19,10 @@ pub mod SameTree
 pub mod Parsing
 pub mod Written
 pub mod PrintsText
-pub mod Unflattened
 pub mod Fault
 pub mod Nesting
 pub mod Progress
-pub mod PrintedSoFar
+pub mod ReprintSoFar
 pub mod InOrder
 pub mod DocGroup
 pub mod Walk

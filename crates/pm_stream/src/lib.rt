@@ -9,7 +9,7 @@ mod debug;
 mod display;
 mod doc;
 pub mod extra;
-pub mod fused;
+pub mod reprinting;
 pub mod laws;
 mod parse;
 pub mod parts;

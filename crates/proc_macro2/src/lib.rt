@@ -9,7 +9,7 @@ pub mod laws;
 pub use lexical::{Piece, PieceKind, PieceWalk, PlacedPiece, pieces};
 pub use literal_escaper::{EscapeError, NonZeroChar, NonZeroU8};
 pub use pm_span::{LineColumn, SourceMap, Span};
-pub use pm_stream::fused::print_unmapped;
+pub use pm_stream::reprinting::reprint;
 pub use pm_stream::{Group, TokenStream, TokenTree};
 pub use pm_token::{
     ConversionErrorKind, Delimiter, Ident, IdentError, LexError, Literal, ParseError, Punct,

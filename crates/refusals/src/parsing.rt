@@ -3,11 +3,12 @@
 use crate::fails::Fail;
 use crate::shown::{show_map, show_stream};
 use crate::watched::watched;
-use proc_macro2::{Literal, ParseError, SourceMap, TokenStream};
+use proc_macro2::{Literal, ParseError, SourceMap, TokenStream, reprint};
 use std::alloc::Global;
 use std::io::Write;
 
-/// Parses the text as a stream or as a literal, into a map that is large or has four positions, or without a map.
+/// Parses the text as a stream or as a literal, into a map that is large or has four positions, or without a map,
+/// or prints it with no trees made.
 pub fn run<W: Write>(alloc: Global, out: &mut W, call: &str, text: &str) -> Result<(), Fail> {
     match call {
         "stream" => parse_stream(out, text, &mut map_of_x(alloc, u32::MAX)?),
@@ -15,6 +16,7 @@ pub fn run<W: Write>(alloc: Global, out: &mut W, call: &str, text: &str) -> Resu
         "literal" => parse_literal(out, text, &mut map_of_x(alloc, u32::MAX)?),
         "literal_in_four" => parse_literal(out, text, &mut map_of_x(alloc, 4)?),
         "unmapped" => parse_unmapped(alloc, out, text),
+        "reprint" => reprint_text(alloc, out, text),
         _ => Err(Fail::NoCase),
     }
 }
@@ -39,6 +41,14 @@ fn parse_unmapped<W: Write>(alloc: Global, out: &mut W, text: &str) -> Result<()
     for _ in 0..2 {
         let answer = watched!(out; TokenStream::parse_unmapped(alloc, text));
         show_answer(out, &answer)?;
+    }
+    Ok(())
+}
+
+fn reprint_text<W: Write>(alloc: Global, out: &mut W, text: &str) -> Result<(), Fail> {
+    for _ in 0..2 {
+        let answer = watched!(out; reprint(alloc, text));
+        writeln!(out, "{answer:?}")?;
     }
     Ok(())
 }

@@ -2,6 +2,7 @@ use crate::checks::{check_fault, check_printed};
 use pm_span::SourceMap;
 use pm_span::parts::span_of;
 use pm_stream::TokenStream;
+use pm_stream::reprinting::reprint;
 use pm_token::ParseError;
 use std::alloc::{AllocError, Global};
 use std::process::Abort;
@@ -91,4 +92,32 @@ fn a_text_is_parsed_without_a_map_as_in_a_new_one(rt: HostRuntime) {
     check_unmapped(&rt, "/// x\nf(1, 'c') += \u{e9}");
     check_unmapped(&rt, "a (]");
     check_unmapped(&rt, "a ( [ b");
+}
+
+// How Debug shows the printed text of what the text parses to, by its trees and with none made.
+fn both_printed(alloc: Global, text: &str) -> Result<[String; 2], AllocError> {
+    let by_trees = match TokenStream::parse_unmapped(alloc, text) {
+        Ok(stream) => Ok(format!(in alloc; "{stream}")?),
+        Err(error) => Err(error),
+    };
+    let reprinted = reprint(alloc, text);
+    Ok([
+        format!(in alloc; "{by_trees:?}")?,
+        format!(in alloc; "{reprinted:?}")?,
+    ])
+}
+
+/// Asserts that the text is printed with no trees made as its stream is, or has the same fault.
+fn check_reprinted(rt: &(impl Abort + AllocGlobal), text: &str) {
+    let [by_trees, reprinted] = both_printed(rt.alloc(), text).expect(rt, text);
+    assert_eq!(rt; reprinted.as_str(), by_trees.as_str(), "of {text:?}");
+}
+
+#[test]
+fn a_text_is_reprinted_as_its_stream_is_printed(rt: HostRuntime) {
+    check_reprinted(&rt, "");
+    check_reprinted(&rt, "//! x\n/// \u{e9}\"\n{f(1, 'c') += r#a; [] ({}) 'b}");
+    check_reprinted(&rt, "a (]");
+    check_reprinted(&rt, "a ( [ b");
+    check_reprinted(&rt, "{ \"");
 }

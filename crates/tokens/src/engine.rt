@@ -1,12 +1,14 @@
 //! A run: from the bytes of a source to the bytes of a sink.
-ghost use Rattle.std.specs.Prelude.{◌≡◌, ◌↔◌, ◌++◌, ℕ, List, IfOk, IsFalse, alloc_error, codes, flat_map, string_bytes};
-ghost use Rattle.std.specs.Str.{IsUtf8, encode_utf8_all};
+ghost use Rattle.std.specs.Prelude.{◌≡◌, ◌≢◌, ◌↔◌, ◌++◌, ℕ, List, IfOk, IsFalse, alloc_error, codes, flat_map, length};
+ghost use Rattle.std.specs.Prelude.{string_bytes};
+ghost use Rattle.std.specs.Str.{IsUtf8, chars};
 ghost use Rattle.proc_macro2.specs.declared.LineColumn.{LineColumn};
-ghost use Rattle.proc_macro2.specs.Files.{Holds};
+ghost use Rattle.proc_macro2.specs.Files.{Fits, Holds, new_map, next_lo};
+ghost use Rattle.proc_macro2.specs.Forest.{Forest};
 ghost use Rattle.proc_macro2.specs.HeldSpans.{HoldsAll};
 ghost use Rattle.proc_macro2.specs.Lookup.{StartsAt};
 ghost use Rattle.proc_macro2.specs.Outcome.{IfLex};
-ghost use Rattle.proc_macro2.specs.Printed.{printed};
+ghost use Rattle.proc_macro2.specs.Parsing.{ParsesTo};
 ghost use Rattle.tokens.specs.Answer.{is_io};
 ghost use Rattle.tokens.specs.Output.{IsOutput, IsReadable, IsTooLong, HasFaultAt, written};
 ghost use Rattle.tokens.specs.Run.{Runs, seen_by};
@@ -19,7 +21,7 @@ use crate::sinks::ByteSink;
 use crate::sources::ByteSource;
 use crate::spans::span_lines;
 use crate::writing::write_blocks;
-use proc_macro2::{ParseError, SourceMap, TokenStream, print_unmapped};
+use proc_macro2::{ParseError, SourceMap, TokenStream, reprint};
 use std::alloc::{AllocError, Global};
 
 /// Reads source text to its end, and writes its tokens as `mode` says.
@@ -60,18 +62,35 @@ fn output_of(alloc: Global, mode: OutputMode, input: Vec<u8>) -> Result<Vec<Stri
     let Ok(text) = String::from_utf8(input) else {
         return Err(RunError::NotUtf8);
     };
-    if mode == OutputMode::Print {
-        // What is printed has no positions, so trees and a map are wanted only where a fault has to be told.
-        match print_unmapped(alloc, text.as_str()) {
-            Ok(out) => return Ok(ended(alloc, out)?),
-            Err(ParseError::Memory(error)) => return Err(RunError::Memory(error)),
-            Err(ParseError::Lex(_) | ParseError::MapFull) => {}
+    match mode {
+        // What is printed has no positions, so trees and a map are wanted only where the place of a fault is told.
+        OutputMode::Print => match reprint(alloc, text.as_str()) {
+            Ok(printed) => Ok(ended(alloc, printed)?),
+            Err(ParseError::Lex(_)) => Err(place_of_fault(alloc, text.as_str())),
+            Err(ParseError::MapFull) => Err(RunError::MapFull),
+            Err(ParseError::Memory(error)) => Err(RunError::Memory(error)),
+        },
+        OutputMode::Spans => {
+            let mut map = SourceMap::new(alloc);
+            match TokenStream::from_str(text.as_str(), &mut map) {
+                Ok(stream) => Ok(lines(alloc, text, stream, &map)?),
+                Err(error) => Err(refusal(error, &map)),
+            }
         }
     }
+}
+
+// Where the fault of a text stands that doesn't parse, or that memory ran out.
+fn place_of_fault(alloc: Global, text: &str) -> RunError
+    requires fits { Fits new_map (length (chars text.now)) }
+    requires faulty { (stream : Forest) → ParsesTo (next_lo new_map) (chars text.now) stream → ⊥ }
+    ensures lex { (place : LineColumn) → result ≡ RunError.Lex place → HasFaultAt text.now place }
+    ensures others { (result ≢ RunError.Io) × (result ≢ RunError.NotUtf8) × (result ≢ RunError.MapFull) }
+{
     let mut map = SourceMap::new(alloc);
-    match TokenStream::from_str(text.as_str(), &mut map) {
-        Ok(stream) => Ok(written(alloc, mode, text, stream, map)?),
-        Err(error) => Err(refusal(error, &map)),
+    match TokenStream::from_str(text, &mut map) {
+        Ok(_) => unreachable!(),
+        Err(error) => refusal(error, &map),
     }
 }
 
@@ -91,30 +110,21 @@ fn refusal(error: ParseError, map: &SourceMap) -> RunError
     }
 }
 
-// What is written of the stream that the text parses to, which alone was read into the map. The map has the
+// A line for each tree of the stream that the text parses to, which alone was read into the map. The map has the
 // text too.
-fn written(
+fn lines(
     alloc: Global,
-    mode: OutputMode,
     text: String,
     stream: TokenStream,
-    map: SourceMap,
+    map: &SourceMap,
 ) -> Result<Vec<String>, AllocError>
-    requires { HoldsAll map stream }
-    ensures { IfOk result (λ blocks. (source : List ℕ) → HasRead map source stream
-        → flat_map string_bytes blocks.items ≡ written mode source stream) }
+    requires { HoldsAll map.now stream }
+    ensures { IfOk result (λ blocks. (source : List ℕ) → HasRead map.now source stream
+        → flat_map string_bytes blocks.items ≡ written OutputMode.Spans source stream) }
 {
-    match mode {
-        OutputMode::Print => {
-            drop(map);
-            printed(alloc, text, stream)
-        }
-        OutputMode::Spans => {
-            let bytes = text.len();
-            drop(text);
-            span_lines(alloc, bytes, stream, &map)
-        }
-    }
+    let bytes = text.len();
+    drop(text);
+    span_lines(alloc, bytes, stream, map)
 }
 
 // The text and a line feed, as one block.
@@ -122,18 +132,6 @@ fn ended(alloc: Global, mut text: String) -> Result<Vec<String>, AllocError>
     ensures { IfOk result (λ blocks. flat_map string_bytes blocks.items ≡ string_bytes text ++ codes "\n") }
 {
     text.push_str("\n")?;
-    let mut blocks = Vec::new(alloc);
-    blocks.push(text)?;
-    Ok(blocks)
-}
-
-// The printed stream and a line feed. It is about as long as the source, whose memory it takes.
-fn printed(alloc: Global, mut text: String, stream: TokenStream) -> Result<Vec<String>, AllocError>
-    ensures { IfOk result (λ blocks. flat_map string_bytes blocks.items
-        ≡ encode_utf8_all (printed stream) ++ codes "\n") }
-{
-    text.clear();
-    write!(text, "{stream}\n")?;
     let mut blocks = Vec::new(alloc);
     blocks.push(text)?;
     Ok(blocks)

@@ -1,4 +1,3 @@
-use Rattle.std.proofs.Common.{◌≡◌, ◌∙◌, ap}
 use Rattle.std.specs.Str.{chars}
 use Rattle.pm_span.specs.Files.{new_map, next_lo}
 use Rattle.pm_stream.proofs.LawLemmas.{parsed_faultless, refused_only}
@@ -6,10 +5,10 @@ use Rattle.pm_stream.proofs.stream.TokenStream.parse_unmapped.Goals as goal
 
 pub returns-clause-apart : goal.returns-clause-apart
 returns-clause-apart c =
-    let begins : c.in-Some.lo ≡ next_lo new_map = c.in-Some.ensures.found.1 ∙ ap next_lo c.new.ensures in
-    parsed_faultless c.in-Some.lo (next_lo new_map) (chars c.args.text.now) c.parse.result begins c.parse.ensures.ok
+    parsed_faultless c.in-Some.lo (next_lo new_map) (chars c.args.text.now) c.parse.result c.in-Some.ensures.found.1
+    c.parse.ensures.ok
 
 pub returns-clause-only : goal.returns-clause-only
 returns-clause-only c =
-    let begins : c.in-Some.lo ≡ next_lo new_map = c.in-Some.ensures.found.1 ∙ ap next_lo c.new.ensures in
-    refused_only c.in-Some.lo (next_lo new_map) (chars c.args.text.now) c.parse.result begins c.parse.ensures.lex
+    refused_only c.in-Some.lo (next_lo new_map) (chars c.args.text.now) c.parse.result c.in-Some.ensures.found.1
+    c.parse.ensures.lex

@@ -6,14 +6,14 @@ use Rattle.lexical.specs.declared.piece.PieceKind.{PieceKind}
 use Rattle.lexical.specs.declared.piece.PieceKind.TheVariants as kinds
 use Rattle.lexical.proofs.PieceFacts.{piece_boundary}
 use Rattle.pm_stream.specs.Events.{One, Opens, Closes, doc_onto, events_onto}
-use Rattle.pm_stream.specs.PrintedSoFar.{Tells}
-use Rattle.pm_stream.proofs.FusedLemmas.{tells_by, tells_nothing, token_found}
+use Rattle.pm_stream.specs.ReprintSoFar.{PrintsEvents}
+use Rattle.pm_stream.proofs.ReprintLemmas.{prints_by, prints_nothing, token_found}
 use Rattle.pm_stream.proofs.PieceLemmas.{front_is}
-use Rattle.pm_stream.proofs.fused.Printing.take.Goals as goal
-use Rattle.pm_stream.proofs.fused.Printing.take.Goals.{in-Opener+in_ok-open-in-Opener, in-Closer+in_ok-close-in-Closer}
-use Rattle.pm_stream.proofs.fused.Printing.take.Goals.{in-Doc+in_ok-doc-in-Doc, in-Mark+in_ok-leaf-in-Mark}
-use Rattle.pm_stream.proofs.fused.Printing.take.Goals.{in-Name+in_ok-leaf-in-Name}
-use Rattle.pm_stream.proofs.fused.Printing.take.Goals.{in-Literal+in_ok-leaf-in-Literal, in-FrontMark}
+use Rattle.pm_stream.proofs.reprinting.Printing.take.Goals as goal
+use Rattle.pm_stream.proofs.reprinting.Printing.take.Goals.{in-Opener+in_ok-open-in-Opener, in-Closer+in_ok-close-in-Closer}
+use Rattle.pm_stream.proofs.reprinting.Printing.take.Goals.{in-Doc+in_ok-push_doc-in-Doc, in-Mark+in_ok-push_token-in-Mark}
+use Rattle.pm_stream.proofs.reprinting.Printing.take.Goals.{in-Name+in_ok-push_token-in-Name}
+use Rattle.pm_stream.proofs.reprinting.Printing.take.Goals.{in-Literal+in_ok-push_token-in-Literal, in-FrontMark}
 
 pub range-requires-clause-end_boundary : goal.range-requires-clause-end_boundary
 range-requires-clause-end_boundary c = piece_boundary _ c.args.text.now c.args.piece c.utf8.text c.requires.stands.1
@@ -32,33 +32,33 @@ returns-clause-ok c = λ front rest whole e.
     let found = c.requires.stands.1 in
     elim c.match-piece.branch [
       | in-Opener+in_ok-open-in-Opener w ↦
-          tells_by old _ _ _ _ _ lo front w.self-is w.in_ok-open-in-Opener.ensures.ok w.in-Opener.is
+          prints_by old _ _ _ _ _ lo front w.self-is w.in_ok-open-in-Opener.ensures.ok w.in-Opener.is
           (ap (λ d. Opens d lo ∷ []) w.delimiter.ensures)
       | in-Closer+in_ok-close-in-Closer w ↦
-          tells_by old _ _ _ _ _ lo front w.self-is (w.in_ok-close-in-Closer.ensures.ok hi) w.in-Closer.is
+          prints_by old _ _ _ _ _ lo front w.self-is (w.in_ok-close-in-Closer.ensures.ok hi) w.in-Closer.is
           (ap (λ d. Closes d hi ∷ []) w.delimiter-in-Closer.ensures)
-      | in-Doc+in_ok-doc-in-Doc w ↦
-          tells_by old _ _ _ _ _ lo front w.self-is (w.in_ok-doc-in-Doc.ensures.ok lo hi) w.in-Doc.is refl
-      | in-Mark+in_ok-leaf-in-Mark w ↦
-          tells_by old _ _ _ _ _ lo front w.self-is
-          (w.in_ok-leaf-in-Mark.ensures.ok (Mark w.in-Mark.mark w.in-Mark.joint) lo hi
+      | in-Doc+in_ok-push_doc-in-Doc w ↦
+          prints_by old _ _ _ _ _ lo front w.self-is (w.in_ok-push_doc-in-Doc.ensures.ok lo hi) w.in-Doc.is refl
+      | in-Mark+in_ok-push_token-in-Mark w ↦
+          prints_by old _ _ _ _ _ lo front w.self-is
+          (w.in_ok-push_token-in-Mark.ensures.ok (Mark w.in-Mark.mark w.in-Mark.joint) lo hi
           (token_found _ c.args.text.now w.range.result.now c.args.piece (Mark w.in-Mark.mark w.in-Mark.joint)
           (kinds.Mark w.in-Mark.joint w.in-Mark.mark) c.utf8.text found w.range.ensures.value w.in-Mark.is refl)
           refl) w.in-Mark.is refl
-      | in-Name+in_ok-leaf-in-Name w ↦
-          tells_by old _ _ _ _ _ lo front w.self-is
-          (w.in_ok-leaf-in-Name.ensures.ok (Name w.in-Name.raw (chars w.in-Name.name.now)) lo hi
+      | in-Name+in_ok-push_token-in-Name w ↦
+          prints_by old _ _ _ _ _ lo front w.self-is
+          (w.in_ok-push_token-in-Name.ensures.ok (Name w.in-Name.raw (chars w.in-Name.name.now)) lo hi
           (token_found _ c.args.text.now w.range-in-Name.result.now c.args.piece (Name w.in-Name.raw (chars w.in-Name.name.now))
           (kinds.Name w.in-Name.raw w.in-Name.name) c.utf8.text found w.range-in-Name.ensures.value w.in-Name.is refl)
           refl) w.in-Name.is refl
-      | in-Literal+in_ok-leaf-in-Literal w ↦
-          tells_by old _ _ _ _ _ lo front w.self-is
-          (w.in_ok-leaf-in-Literal.ensures.ok (Literal front) lo hi
+      | in-Literal+in_ok-push_token-in-Literal w ↦
+          prints_by old _ _ _ _ _ lo front w.self-is
+          (w.in_ok-push_token-in-Literal.ensures.ok (Literal front) lo hi
           (front_is _ c.args.text.now w.range-in-Literal.result.now front rest c.args.piece c.utf8.text found w.range-in-Literal.ensures.value whole e)
           refl) w.in-Literal.is refl
       | in-FrontMark w ↦
           elim w.in-FrontMark.is [
-            | inl mark ↦ tells_by old _ _ _ _ kinds.FrontMark lo front w.self-is (tells_nothing old old refl) mark refl
-            | inr gap ↦ tells_by old _ _ _ _ kinds.Gap lo front w.self-is (tells_nothing old old refl) gap refl
+            | inl mark ↦ prints_by old _ _ _ _ kinds.FrontMark lo front w.self-is (prints_nothing old old refl) mark refl
+            | inr gap ↦ prints_by old _ _ _ _ kinds.Gap lo front w.self-is (prints_nothing old old refl) gap refl
           ]
     ]

@@ -2,8 +2,8 @@ use Rattle.std.proofs.Common.{◌≡◌, ◌+◌, length}
 use Rattle.std.specs.Str.{chars}
 use denote.Shadow.{shadow}
 use denote.Text.{Utf8}
-use Rattle.pm_stream.proofs.FusedLemmas.{Printed}
-use Rattle.pm_stream.proofs.fused.print_at.Given as goal
+use Rattle.pm_stream.proofs.ReprintLemmas.{Printed}
+use Rattle.pm_stream.proofs.reprinting.reprint_at.Given as goal
 
 abbrev pub invariant-loop-piece : goal.invariant-loop-piece
 invariant-loop-piece l = record {
