@@ -9,6 +9,7 @@
 
 mod check;
 mod check_raw;
+mod classes;
 mod cooked;
 mod errors;
 mod escape;
