@@ -1,5 +1,5 @@
 -- Lemmas on the places after line feeds: they give the line and the column of a place.
-use Rattle.std.proofs.Common.{◌≡◌, ℕ, zero, suc, ◌+◌, ◌-◌, ◌<◌, ◌≤◌, true, false, cond, not, List, [], ◌∷◌, ◌++◌}
+use Rattle.std.proofs.Common.{◌≡◌, ℕ, zero, suc, ◌+◌, ◌-◌, ◌<◌, ◌≤◌, Bool, true, false, cond, not, List, [], ◌∷◌, ◌++◌}
 use Rattle.std.proofs.Common.{length, get_or, take, drop, reverse, refl, sym, ap, ap₂, leb, ◌∙◌, arith, length-append}
 use Rattle.std.proofs.Common.{length-drop, append-nil, inl, inr}
 use Rattle.std.specs.Prelude.{count_by, take_while}
@@ -139,6 +139,28 @@ column_is text (suc k) h =
     let e : take (suc k) text ≡ take k text ++ get_or text k 0 ∷ [] = ap (λ n. take n text) next ∙ take_more text k 0 (omega arith) in
     let step = length-last_line-push (take k text) (get_or text k 0) (column_is text k (omega arith) ∙ sym (length-take-le k text (omega arith))) in
     ap (λ xs. length (last_line xs) + last_start (after_line_feeds xs)) e ∙ (step ∙ omega (arith, length-take-le k text (omega arith)))
+
+-- the column of the next place, by the character before it
+column-next :
+    (text : List ℕ) (k : ℕ) → k < length text
+    → column text (k + 1) ≡ cond (not (is_line_feed (get_or text k 0))) (column text k + 1) 0
+column-next text k less =
+    ap (λ front. length (last_line front)) (take_more text k 0 less)
+    ∙ (ap length (last_line-push (take k text) (get_or text k 0)) ∙ size (not (is_line_feed (get_or text k 0))))
+  where
+    size : (b : Bool) → length (cond b (get_or text k 0 ∷ last_line (take k text)) []) ≡ cond b (column text k + 1) 0
+    size true = omega arith
+    size false = refl
+
+-- it is 0 after a line feed, and nowhere else past the text's start
+pub column-feed : (text : List ℕ) (k : ℕ) → k < length text → get_or text k 0 ≡ 10 → column text (k + 1) ≡ 0
+column-feed text k less feed =
+    column-next text k less ∙ ap (λ c. cond (not (is_line_feed c)) (column text k + 1) 0) feed
+
+pub column-inside :
+    (text : List ℕ) (k : ℕ) → k < length text → not (is_line_feed (get_or text k 0)) ≡ true → 0 < column text (k + 1)
+column-inside text k less inside =
+    omega (arith, column-next text k less, ap (λ b. cond b (column text k + 1) 0) inside)
 
 -- the line after the one of a place begins after the place
 pub next_start :
