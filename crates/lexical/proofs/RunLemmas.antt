@@ -11,7 +11,8 @@ use Rattle.lexical.proofs.FinderLemmas.{while_rest_none}
 -- the run from one place goes on at the other
 abbrev pub GoesOn : (ℕ → Bool) → Cursor → Cursor → Type 0
 GoesOn test at end = (while_rest test (chars end.rest.now) ≡ while_rest test (chars at.rest.now))
-    × (end.chars_before + length (while_front test (chars end.rest.now)) ≡ at.chars_before + length (while_front test (chars at.rest.now)))
+    × (end.chars_before + length (while_front test (chars end.rest.now))
+    ≡ at.chars_before + length (while_front test (chars at.rest.now)))
 
 -- at a character that doesn't, or the end
 pub run_stop : (test : ℕ → Bool) (at end : Cursor) → GoesOn test at end

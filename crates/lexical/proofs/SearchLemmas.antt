@@ -1,8 +1,10 @@
 -- A search for a byte finds where a run ends.
-use Rattle.std.proofs.Common.{◌≡◌, ℕ, zero, suc, ◌+◌, ◌<◌, ◌≤◌, Bool, true, false, not, ◌&&◌, inl, inr, List, [], ◌∷◌, length, Some, None, Option, unwrap_or, take, drop, refl, subst, sym, ap, ◌∙◌, arith}
+use Rattle.std.proofs.Common.{◌≡◌, ℕ, zero, suc, ◌+◌, ◌<◌, ◌≤◌, Bool, true, false, not, ◌&&◌, inl, inr, List, [], ◌∷◌}
+use Rattle.std.proofs.Common.{length, Some, None, Option, unwrap_or, take, drop, refl, subst, sym, ap, ◌∙◌, arith}
 use Rattle.std.specs.Char.{is_ascii}
 use Rattle.std.specs.Str.{chars, IsAscii, IsUtf8, IsCharBoundary}
-use Rattle.std.proofs.lemmas.Bool.{cases_Bool, cond-true, cond-false, false_from_ne_true, lt-ltb, not_from_true, not_from_false}
+use Rattle.std.proofs.lemmas.Bool.{cases_Bool, cond-true, cond-false, false_from_ne_true, lt-ltb, not_from_true}
+use Rattle.std.proofs.lemmas.Bool.{not_from_false}
 use Rattle.memchr.specs.Find.{IsFirstByte, is_byte3}
 use Rattle.memchr.specs.Find as bytes
 use Rattle.lexical.specs.Finder.{while_front}
@@ -26,7 +28,8 @@ module _ (test : ℕ → Bool) where
       ∙ ap suc (run_to bs k (omega arith) (λ i before at. none (suc i) (omega arith) at) (λ more. hit (omega arith)))
 
   -- what the search answers, or the end of the bytes
-  pub found_end : (bs : List ℕ) (r : Option ℕ) → IsFirstByte test bs r → length (while_front (λ b. not (test b)) bs) ≡ unwrap_or r (length bs)
+  pub found_end : (bs : List ℕ) (r : Option ℕ) → IsFirstByte test bs r
+      → length (while_front (λ b. not (test b)) bs) ≡ unwrap_or r (length bs)
   found_end bs None none =
       run_to bs (length bs) (omega arith) (λ k within hit. none k (omega arith) within hit)
       (λ more. absurd (omega arith))
@@ -34,7 +37,8 @@ module _ (test : ℕ → Bool) where
       run_to bs k (omega (arith, h.0.high)) (λ i before hit. h.0.before i (omega arith) before hit) (λ more. h.1)
 
   -- the place where the search ends is that after the run
-  pub found_run : ((c : ℕ) → 128 ≤ c → test c ≡ false) → (at to : Cursor) (bs : List ℕ) (r : Option ℕ) (n : ℕ) → IsUtf8 bs → bs ≡ at.rest.now
+  pub found_run : ((c : ℕ) → 128 ≤ c → test c ≡ false) → (at to : Cursor) (bs : List ℕ) (r : Option ℕ) (n : ℕ)
+      → IsUtf8 bs → bs ≡ at.rest.now
       → IsFirstByte test bs r → n ≡ unwrap_or r (length bs) → to.rest.now ≡ drop n at.rest.now
       → to.chars_before ≡ at.chars_before + length (chars (take n at.rest.now)) → Passes (Run (λ c. not (test c))) at to
   found_run past at to bs r n utf8 same found e rest count =
@@ -45,7 +49,8 @@ module _ (test : ℕ → Bool) where
 module _ (test allowed both : ℕ → Bool) (same : (c : ℕ) → both c ≡ (allowed c && not (test c))) where
   -- up to what may not stand there, as much as is of the run
   count_both : (bs : List ℕ)
-      → length (while_front allowed (take (length (while_front (λ b. not (test b)) bs)) bs)) ≡ length (while_front both bs)
+      → length (while_front allowed (take (length (while_front (λ b. not (test b)) bs)) bs))
+      ≡ length (while_front both bs)
   count_both [] = refl
   count_both (b ∷ bs) = elim (cases_Bool (test b)) [
     | inl stops ↦ grind (arith, same b, stops)

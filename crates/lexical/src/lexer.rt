@@ -25,7 +25,8 @@ use crate::piece::{Piece, PieceKind};
 /// A literal that was read, if one was, as a piece: its kind, and the place after it.
 #[inline(always)]
 fn as_literal(end: Option<Cursor<'_>>) -> Option<(PieceKind<'_>, Cursor<'_>)>
-    ensures { (rule : Rule) (at : Cursor) → Reads rule at end.entry → Answers (found_literal rule (chars at.rest.now)) at result }
+    ensures { (rule : Rule) (at : Cursor) → Reads rule at end.entry
+        → Answers (found_literal rule (chars at.rest.now)) at result }
 {
     Some((PieceKind::Literal, end?))
 }

@@ -2,7 +2,8 @@
 use Rattle.std.specs.Prelude.{ℕ, Bool, not, ◌||◌, ◌==◌, nat_eq, get_or, bit_and, is_some}
 use Rattle.std.specs.Char.{is_whitespace}
 use Rattle.literal_escaper.specs.declared.classes.Class.{Class}
-use Rattle.literal_escaper.specs.declared.classes.Class.TheVariants.{Blank, White, HexDigit, CodeCharacter, SimpleEscape}
+use Rattle.literal_escaper.specs.declared.classes.Class.TheVariants.{Blank, White, HexDigit, CodeCharacter}
+use Rattle.literal_escaper.specs.declared.classes.Class.TheVariants.{SimpleEscape}
 use Rattle.literal_escaper.specs.declared.classes.Class.TheVariants.{StringSpecial, CharSpecial, RawSpecial}
 use Rattle.literal_escaper.specs.declared.classes.TheConstants.{CLASSES}
 use Rattle.literal_escaper.specs.Character.{backslash, carriage_return, double_quote, is_blank, line_feed, quote, tab}

@@ -63,11 +63,20 @@ AreEnds-ascii {text} {start} {end} {places} ends line ascii = record {
   only = ends.only;
   all = λ from to wide le. elim (lines_up_to line wide le) [
     | inl before ↦ ends.all from to wide before
-    | inr same ↦ absurd (omega (arith, wide.wide, ascii, same.0, same.1, ap (byte_offset text) same.0, ap (byte_offset text) same.1))
+    | inr same ↦ absurd (omega (
+      arith,
+      wide.wide,
+      ascii,
+      same.0,
+      same.1,
+      ap (byte_offset text) same.0,
+      ap (byte_offset text) same.1,
+    ))
   ];
 }
 
-among_more : (places : List KnownPlace) {n : ℕ} (place : KnownPlace) → IsAmong places n → IsAmong (places ++ place ∷ []) n
+among_more : (places : List KnownPlace) {n : ℕ} (place : KnownPlace) → IsAmong places n
+    → IsAmong (places ++ place ∷ []) n
 among_more places place among = (among.0, Contains-append_left places (place ∷ []) among.0 among.1, among.2)
 
 -- one place more
@@ -82,7 +91,8 @@ AreEnds-push {text} {end} {places} place ends known le only all = record {
   rising = IsNonDecreasingBy-push (λ known. known.place) places place ends.rising
       (λ d some. omega (arith, ends.within (length places - 1) d (omega arith)));
   within = All-push (λ known. known.place ≤ place.place) places place
-      (All-weaker (λ known. known.place ≤ end) (λ known. known.place ≤ place.place) (λ known h. omega arith) _ ends.within)
+      (All-weaker (λ known. known.place ≤ end) (λ known. known.place ≤ place.place)
+      (λ known h. omega arith) _ ends.within)
       (omega arith);
   only = All-push (λ known. IsWideEnd text known.place) places place ends.only only;
   all = all;
@@ -124,20 +134,24 @@ IsParted places place n =
     × IsPartitionPoint (λ known. leb known.place place ≡ true) (λ known. leb known.place place ≡ false) places n
 
 pub parted :
-    {text : List ℕ} {end : ℕ} {places slice : List KnownPlace} (place : ℕ) {n : ℕ} → AreEnds text end places → slice ≡ places → n ≤ length slice
+    {text : List ℕ} {end : ℕ} {places slice : List KnownPlace} (place : ℕ) {n : ℕ} → AreEnds text end places
+    → slice ≡ places → n ≤ length slice
     → (IsPartitionedBy (λ known. leb known.place place) slice
     → IsPartitionPoint (λ known. leb known.place place ≡ true) (λ known. leb known.place place ≡ false) slice n)
     → IsParted places place n
 parted {places = places} {slice = slice} place {n = n} ends same bound point =
-    let rising : IsNonDecreasingBy (λ known. known.place) slice = subst (IsNonDecreasingBy (λ known. known.place)) (sym same) ends.rising in (
+    let rising : IsNonDecreasingBy (λ known. known.place) slice =
+    subst (IsNonDecreasingBy (λ known. known.place)) (sym same) ends.rising in (
       omega (arith, ap length same),
-      subst (λ xs. IsPartitionPoint (λ known. leb known.place place ≡ true) (λ known. leb known.place place ≡ false) xs n) same
+      subst (λ xs. IsPartitionPoint (λ known. leb known.place place ≡ true)
+          (λ known. leb known.place place ≡ false) xs n) same
           (point (IsPartitionedBy-leb (λ known. known.place) slice place rising)),
     )
 
 -- the last of them
 pub end_before :
-    {own text : List ℕ} {end : ℕ} {places : List KnownPlace} (place : ℕ) {n : ℕ} {found : KnownPlace} → own ≡ text → AreEnds own end places
+    {own text : List ℕ} {end : ℕ} {places : List KnownPlace} (place : ℕ) {n : ℕ} {found : KnownPlace} → own ≡ text
+    → AreEnds own end places
     → IsParted places place n → (n ≡ 0 → ⊥) → found ≡ get_or places (n - 1) found
     → IsByteOffset text found.place found.bytes × (found.place ≤ place)
 end_before place {n = zero} same ends h some is = absurd (some refl)
@@ -150,7 +164,8 @@ end_before {own} {places = places} place {n = suc m} {found = found} same ends h
 
 -- and the first after them
 pub end_after :
-    {own text : List ℕ} {end : ℕ} {places slice : List KnownPlace} (place : ℕ) {n : ℕ} {found : KnownPlace} → own ≡ text → AreEnds own end places
+    {own text : List ℕ} {end : ℕ} {places slice : List KnownPlace} (place : ℕ) {n : ℕ} {found : KnownPlace} → own ≡ text
+    → AreEnds own end places
     → IsParted places place n → slice ≡ places → n < length slice → found ≡ get_or slice n found
     → IsByteOffset text found.place found.bytes × (place ≤ found.place)
 end_after {own} {places = places} place {n = n} {found = found} same ends h whole less is =

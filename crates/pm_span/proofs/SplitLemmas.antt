@@ -7,7 +7,8 @@ use Rattle.std.specs.Option.{MatchOption}
 use Rattle.std.specs.Str.{chars, IsUtf8, NoCharPasses, NonePass, encode_utf8_all}
 use Rattle.std.proofs.lemmas.Bool.{and_parts, and_from, not-true}
 use Rattle.std.proofs.lemmas.List.{drop_at, drop-drop, get_or-drop, get_or_append_left}
-use Rattle.std.proofs.lemmas.Str.{chars_from_encodes, chars-append, encodes-append, encodes-chars, encodes-IsAscii, IsUtf8-take}
+use Rattle.std.proofs.lemmas.Str.{chars_from_encodes, chars-append, encodes-append, encodes-chars, encodes-IsAscii}
+use Rattle.std.proofs.lemmas.Str.{IsUtf8-take}
 use Rattle.std.proofs.lemmas.Str.{IsCharBoundary-before_ascii}
 use Rattle.std.proofs.lemmas.Str.Pattern.{IsSplitOnceResult, split_parts}
 use Rattle.pm_span.specs.FileInfo.{after_line_feeds_from, IsLine}
@@ -21,7 +22,8 @@ one_line [] h = refl
 one_line (c ∷ cs) h = and_from _ _ (ap not h.0) (one_line cs h.1)
 
 one_line_of : (bytes : List ℕ) → IsUtf8 bytes → NoCharPasses is_line_feed bytes → is_one_line (chars bytes) ≡ true
-one_line_of bytes utf8 h = subst (λ cs. is_one_line cs ≡ true) (chars_from_encodes h.0 bytes utf8 h.1) (one_line h.0 h.2)
+one_line_of bytes utf8 h = subst (λ cs. is_one_line cs ≡ true) (chars_from_encodes h.0 bytes utf8 h.1)
+    (one_line h.0 h.2)
 
 feed_first : (bytes : List ℕ) → chars (10 ∷ bytes) ≡ 10 ∷ chars bytes
 unfolding chars
@@ -38,8 +40,10 @@ line_split text (Some x) utf8 h =
     let here : get_or text h.0 0 < 128 = omega (arith, h.2.1.byte (omega arith)) in
     let size = ap length parts.0 ∙ length-append x.0.now (10 ∷ x.1.now) in
     let line : IsUtf8 x.0.now =
-    subst IsUtf8 (sym h.3) (IsUtf8-take text h.0 utf8 (IsCharBoundary-before_ascii text h.0 (omega (arith, h.6, size)) here)) in (
-      ap chars parts.0 ∙ (chars-append x.0.now (10 ∷ x.1.now) line ∙ ap (λ cs. chars x.0.now ++ cs) (feed_first x.1.now)),
+    subst IsUtf8 (sym h.3) (IsUtf8-take text h.0 utf8
+    (IsCharBoundary-before_ascii text h.0 (omega (arith, h.6, size)) here)) in (
+      ap chars parts.0 ∙ (chars-append x.0.now (10 ∷ x.1.now) line
+          ∙ ap (λ cs. chars x.0.now ++ cs) (feed_first x.1.now)),
       one_line_of x.0.now line (subst (NoCharPasses is_line_feed) (sym h.3) h.2.0),
     )
 
@@ -48,16 +52,19 @@ pub after_line_feeds_from-line : (k : ℕ) (cs : List ℕ) → is_one_line cs �
 after_line_feeds_from-line k [] h = refl
 after_line_feeds_from-line k (c ∷ cs) h =
     let parts = and_parts _ _ h in
-    ap (λ b. cond b ((k + 1) ∷ after_line_feeds_from (k + 1) cs) (after_line_feeds_from (k + 1) cs)) (not-true _ parts.0)
+    ap (λ b. cond b ((k + 1) ∷ after_line_feeds_from (k + 1) cs) (after_line_feeds_from (k + 1) cs))
+    (not-true _ parts.0)
     ∙ after_line_feeds_from-line (k + 1) cs parts.1
 
 -- and one after its line feed
-pub after_line_feeds_from-split : (k n : ℕ) (text line rest : List ℕ) → text ≡ line ++ (10 ∷ rest) → is_one_line line ≡ true
+pub after_line_feeds_from-split : (k n : ℕ) (text line rest : List ℕ) → text ≡ line ++ (10 ∷ rest)
+    → is_one_line line ≡ true
     → n ≡ k + (length line + 1) → after_line_feeds_from k text ≡ n ∷ after_line_feeds_from n rest
 after_line_feeds_from-split k n text line rest whole h e =
     ap (after_line_feeds_from k) whole
     ∙ (after_line_feeds_from-append k line (10 ∷ rest)
-    ∙ (ap (λ starts. starts ++ after_line_feeds_from (k + length line) (10 ∷ rest)) (after_line_feeds_from-line k line h)
+    ∙ (ap (λ starts. starts ++ after_line_feeds_from (k + length line) (10 ∷ rest))
+    (after_line_feeds_from-line k line h)
     ∙ ap (λ m. m ∷ after_line_feeds_from m rest) (omega arith)))
 
 pub split_size : (text line rest : List ℕ) → text ≡ line ++ (10 ∷ rest) → length text ≡ length line + (length rest + 1)
@@ -65,7 +72,8 @@ split_size text line rest whole = omega (arith, ap length whole, length-append l
 
 -- what is left after a line more
 pub left_after :
-    (text : List ℕ) {rest : List ℕ} (count : ℕ) (line after : List ℕ) → rest ≡ drop count text → rest ≡ line ++ (10 ∷ after)
+    (text : List ℕ) {rest : List ℕ} (count : ℕ) (line after : List ℕ) → rest ≡ drop count text
+    → rest ≡ line ++ (10 ∷ after)
     → after ≡ drop (count + (length line + 1)) text
 left_after text {rest} count line after left split =
     let one : rest ≡ (line ++ 10 ∷ []) ++ after = split ∙ sym (append_assoc line (10 ∷ []) after) in
@@ -74,7 +82,8 @@ left_after text {rest} count line after left split =
     ∙ (ap (drop (length line + 1)) left ∙ drop-drop (length line + 1) count text)
 
 -- no line feed stands in a line
-inside_line : (line : List ℕ) (j : ℕ) → is_one_line line ≡ true → j < length line → not (is_line_feed (get_or line j 0)) ≡ true
+inside_line : (line : List ℕ) (j : ℕ) → is_one_line line ≡ true → j < length line
+    → not (is_line_feed (get_or line j 0)) ≡ true
 inside_line [] j h less = absurd (omega arith)
 inside_line (c ∷ line) zero h less = (and_parts _ _ h).0
 inside_line (c ∷ line) (suc j) h less = inside_line line j (and_parts _ _ h).1 (omega arith)
@@ -87,7 +96,8 @@ column_in_line text line tail start zero split one less le = absurd (omega arith
 column_in_line text line tail start (suc k) split one less le =
     let j : start + (k - start) ≡ k = omega arith in
     let here : get_or text k 0 ≡ get_or line (k - start) 0 =
-    ap (λ i. get_or text i 0) (sym j) ∙ (sym (get_or-drop start text (k - start) 0) ∙ (ap (λ xs. get_or xs (k - start) 0) split
+    ap (λ i. get_or text i 0) (sym j)
+    ∙ (sym (get_or-drop start text (k - start) 0) ∙ (ap (λ xs. get_or xs (k - start) 0) split
     ∙ get_or_append_left line tail 0 (k - start) (omega arith))) in
     let within : k < length text =
     omega (arith, length-drop start text, ap length split, length-append line tail) in
@@ -123,20 +133,23 @@ first_line text line rest start end begins split one is =
 
 -- all that is left, where it is one line
 pub only_line :
-    (text : List ℕ) (start end : ℕ) → column text start ≡ 0 → is_one_line (drop start text) ≡ true → end ≡ length text → start < end
+    (text : List ℕ) (start end : ℕ) → column text start ≡ 0 → is_one_line (drop start text) ≡ true → end ≡ length text
+    → start < end
     → IsLine text start end
 only_line text start end begins one is some = record {
   some = some;
   within = omega arith;
   begins = begins;
   one = λ k less before.
-      column_in_line text (drop start text) [] start k (sym (append-nil (drop start text))) one less (omega (arith, length-drop start text));
+      column_in_line text (drop start text) [] start k (sym (append-nil (drop start text))) one less
+      (omega (arith, length-drop start text));
   ends = inr is;
 }
 
 -- how many bytes a line takes
 pub line_bytes :
-    (bytes line rest : List ℕ) → IsUtf8 bytes → IsUtf8 line → IsUtf8 rest → chars bytes ≡ chars line ++ (10 ∷ chars rest)
+    (bytes line rest : List ℕ) → IsUtf8 bytes → IsUtf8 line → IsUtf8 rest
+    → chars bytes ≡ chars line ++ (10 ∷ chars rest)
     → length bytes ≡ length line + (length rest + 1)
 line_bytes bytes line rest utf8 first last split =
     let whole : bytes ≡ encode_utf8_all (chars line) ++ encode_utf8_all (10 ∷ chars rest) =

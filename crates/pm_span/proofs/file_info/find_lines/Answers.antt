@@ -1,4 +1,5 @@
-use Rattle.std.proofs.Common.{◌≡◌, ℕ, ◌+◌, ◌-◌, ◌<◌, ◌≤◌, true, List, [], ◌∷◌, ◌++◌, length, drop, ap, sym, subst, refl, ◌∙◌}
+use Rattle.std.proofs.Common.{◌≡◌, ℕ, ◌+◌, ◌-◌, ◌<◌, ◌≤◌, true, List, [], ◌∷◌, ◌++◌, length, drop, ap, sym, subst, refl}
+use Rattle.std.proofs.Common.{◌∙◌}
 use Rattle.std.proofs.Common.{append_assoc, append-nil, arith, inl, inr}
 use Rattle.std.proofs.lemmas.Bool.{cases_lt}
 use Rattle.std.specs.Str.{chars, IsUtf8}
@@ -9,14 +10,16 @@ use Rattle.pm_span.specs.declared.file_info.KnownPlace.{KnownPlace}
 use Rattle.pm_span.proofs.ByteOffsetLemmas.{text_end}
 use Rattle.pm_span.proofs.EndLemmas.{AreEnds-ascii}
 use Rattle.pm_span.proofs.SeamLemmas.{rest_bytes}
-use Rattle.pm_span.proofs.SplitLemmas.{after_line_feeds_from-line, after_line_feeds_from-split, first_line, left_after, line_bytes}
+use Rattle.pm_span.proofs.SplitLemmas.{after_line_feeds_from-line, after_line_feeds_from-split, first_line, left_after}
+use Rattle.pm_span.proofs.SplitLemmas.{line_bytes}
 use Rattle.pm_span.proofs.SplitLemmas.{only_line, split_size}
 use Rattle.pm_span.proofs.file_info.find_lines.Goals as goal
 use Rattle.pm_span.proofs.file_info.find_lines.Goals.{then-chars-rest+in_ok-push_ends-2, else-chars-rest}
 
 -- what is left after a line more, and the bytes before it
 next_line :
-    (text after line : List ℕ) {rest : List ℕ} (count n : ℕ) → IsUtf8 text → IsUtf8 after → rest ≡ drop count (chars text)
+    (text after line : List ℕ) {rest : List ℕ} (count n : ℕ) → IsUtf8 text → IsUtf8 after
+    → rest ≡ drop count (chars text)
     → count + length rest ≡ length (chars text) → rest ≡ line ++ (10 ∷ chars after) → n ≡ count + (length line + 1)
     → (chars after ≡ drop n (chars text)) × (n + length (chars after) ≡ length (chars text))
     × (byte_offset (chars text) n + length after ≡ length text)
@@ -40,7 +43,8 @@ record IsNext (text : List ℕ) (start next bytes : ℕ) : Type 0 where
 
 line_more :
     (text after line rest : List ℕ) (start next : ℕ) → IsUtf8 text → IsUtf8 rest → IsUtf8 line → IsUtf8 after
-    → column (chars text) start ≡ 0 → chars rest ≡ drop start (chars text) → chars rest ≡ chars line ++ (10 ∷ chars after)
+    → column (chars text) start ≡ 0 → chars rest ≡ drop start (chars text)
+    → chars rest ≡ chars line ++ (10 ∷ chars after)
     → is_one_line (chars line) ≡ true → next ≡ start + (length (chars line) + 1)
     → byte_offset (chars text) next + length after ≡ length text → IsNext (chars text) start next (length line + 1)
 line_more text after line rest start next utf8 left first last begins cut split one is here =
@@ -48,7 +52,12 @@ line_more text after line rest start next utf8 left first last begins cut split 
     record {
       line = found.0;
       begins = found.1;
-      size = omega (arith, here, rest_bytes text rest start utf8 left cut, line_bytes rest line after left first last split);
+      size = omega (
+        arith,
+        here,
+        rest_bytes text rest start utf8 left cut,
+        line_bytes rest line after left first last split,
+      );
     }
 
 pub loop-line-preserved-in_ok-push_ends : goal.loop-line-preserved-in_ok-push_ends
@@ -61,8 +70,10 @@ loop-line-preserved-in_ok-push_ends c =
     let size : n ≡ c.loop-line.start.place + (length (chars line) + 1) = omega (arith, c.char_count-chars.ensures) in
     let next = next_line text after (chars line) c.loop-line.start.place n c.utf8.text
     c.in-Some.ensures.utf8.1 c.loop-line.invariant.left c.loop-line.invariant.count split.0 size in
-    let one = line_more text after line c.loop-line.rest.now c.loop-line.start.place n c.utf8.text c.loop-line.invariant.utf8
-    c.in-Some.ensures.utf8.0 c.in-Some.ensures.utf8.1 c.loop-line.invariant.begins c.loop-line.invariant.left split.0 split.1 size next.2 in
+    let one = line_more text after line c.loop-line.rest.now c.loop-line.start.place n c.utf8.text
+    c.loop-line.invariant.utf8
+    c.in-Some.ensures.utf8.0 c.in-Some.ensures.utf8.1 c.loop-line.invariant.begins c.loop-line.invariant.left split.0
+    split.1 size next.2 in
     let start : IsByteOffset (chars text) n (length text - length after) =
     record { within = omega (arith, next.1); value = omega (arith, next.2) } in
     let left = after_line_feeds_from n (chars after) in
@@ -90,8 +101,10 @@ loop-line-preserved c =
     let size : n ≡ c.loop-line.start.place + (length (chars line) + 1) = omega (arith, c.char_count-chars.ensures) in
     let next = next_line text after (chars line) c.loop-line.start.place n c.utf8.text
     c.in-Some.ensures.utf8.1 c.loop-line.invariant.left c.loop-line.invariant.count split.0 size in
-    let one = line_more text after line c.loop-line.rest.now c.loop-line.start.place n c.utf8.text c.loop-line.invariant.utf8
-    c.in-Some.ensures.utf8.0 c.in-Some.ensures.utf8.1 c.loop-line.invariant.begins c.loop-line.invariant.left split.0 split.1 size next.2 in
+    let one = line_more text after line c.loop-line.rest.now c.loop-line.start.place n c.utf8.text
+    c.loop-line.invariant.utf8
+    c.in-Some.ensures.utf8.0 c.in-Some.ensures.utf8.1 c.loop-line.invariant.begins c.loop-line.invariant.left split.0
+    split.1 size next.2 in
     let left = after_line_feeds_from n (chars after) in
     let more = after_line_feeds_from-split c.loop-line.start.place n _ _ _ split.0 split.1 size in
     record {
@@ -115,8 +128,10 @@ returns-clause-starts c =
 
 -- the last line, which may have nothing
 last_line :
-    (text rest : List ℕ) (start n count : ℕ) (places : List KnownPlace) → IsUtf8 text → IsUtf8 rest → column (chars text) start ≡ 0
-    → chars rest ≡ drop start (chars text) → is_one_line (chars rest) ≡ true → n ≡ length (chars text) → n ≡ start + count
+    (text rest : List ℕ) (start n count : ℕ) (places : List KnownPlace) → IsUtf8 text → IsUtf8 rest
+    → column (chars text) start ≡ 0
+    → chars rest ≡ drop start (chars text) → is_one_line (chars rest) ≡ true → n ≡ length (chars text)
+    → n ≡ start + count
     → (count < length rest → IsWideLine (chars text) start n)
     × (length rest ≤ count → AreEnds (chars text) start places → AreEnds (chars text) n places)
 last_line text rest start n count places utf8 left begins cut one is size =
@@ -151,5 +166,6 @@ returns-clause-ends c =
           (w.in_ok-push_ends-2.ensures.ok text c.loop-line.invariant.ends c.loop-line.invariant.start end
           (last.0 w.if-chars-rest.true))
       | else-chars-rest w ↦
-          subst (λ ends. AreEnds text n ends.items) (sym w.wide_ends-is) (last.1 w.if-chars-rest.false c.loop-line.invariant.ends)
+          subst (λ ends. AreEnds text n ends.items) (sym w.wide_ends-is)
+          (last.1 w.if-chars-rest.false c.loop-line.invariant.ends)
     ]

@@ -25,7 +25,8 @@ returns c = record {
             subst (HasStart text c.args.start.place) (sym (ap (λ v. v.items) w.ends-is))
             (old, subst (λ xs. IsAmong xs c.args.start.place) c.deref.ensures.value among)
         | in_default+in_ok-push-in_default w ↦
-            subst (HasStart text c.args.start.place) (sym (ap (λ v. v.items) w.ends-is ∙ w.in_ok-push-in_default.ensures.items))
+            subst (HasStart text c.args.start.place)
+            (sym (ap (λ v. v.items) w.ends-is ∙ w.in_ok-push-in_default.ensures.items))
             (AreEnds-start c.args.start old start wide, (c.args.start, Contains-push _ c.args.start, refl))
       ] in
       subst (AreEnds text c.args.end.place) (sym c.in_ok-push.ensures.items)
