@@ -14,6 +14,7 @@ mod errors;
 mod escape;
 mod front;
 mod kind;
+pub mod laws;
 mod mixed_unit;
 mod mode;
 mod num;
