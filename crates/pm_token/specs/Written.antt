@@ -15,7 +15,8 @@ use Rattle.pm_token.specs.Leaf.{Name, name_token}
 abbrev pub name_text : Name → List ℕ
 name_text ident = token_text (name_token ident)
 
--- the characters that the bytes of a text spell. They are `chars` of it, but those of an ASCII text are its bytes, so that
+-- the characters that the bytes of a text spell. They are `chars` of it, but those of an ASCII text are its bytes, so
+-- that
 -- they compute where the text is known.
 abbrev pub spelled : List ℕ → List ℕ
 spelled text = cond (all_ascii text) text (chars text)
