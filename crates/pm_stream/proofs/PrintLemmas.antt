@@ -1,5 +1,5 @@
 -- What is left to print while groups are open.
-use Rattle.std.proofs.Common.{◌≡◌, ℕ, ◌+◌, ◌*◌, ◌<◌, length, Result, Ok, Err, is_ok, is_err, if◌then◌else◌, Bool, true}
+use Rattle.std.proofs.Common.{◌≡◌, ℕ, ◌+◌, ◌*◌, ◌<◌, length, Result, Ok, Err, is_ok, if◌then◌else◌, Bool, true}
 use Rattle.std.proofs.Common.{false, List, [], ◌∷◌, ◌++◌, refl, sym, ap, ◌∙◌, append_assoc, arith}
 use Rattle.std.proofs.Output.{has_written_append, has_written_of_eq}
 use Rattle.std.proofs.lemmas.List.{append-nil}
@@ -71,17 +71,24 @@ end_text : (gap : Bool) (level : Level) (outer : List Level)
     → left_text gap [] (outer ++ level ∷ []) ≡ ending level.delimiter ++ left_text true level.after.now outer
 end_text gap level outer = rw (outer_text-push outer level) (simp append_assoc refl)
 
--- a push that succeeds
-pub pushed : {E X : Type 0} (r : Result (Unit {0}) E) (b : Bool) (new xs ys : List X) → b ≡ is_err r → b ≡ false
-    → new ≡ (if is_ok r then xs else ys) → new ≡ xs
-pushed (Ok u) b new xs ys e f p = p
-pushed (Err x) b new xs ys e f p = cc
+-- a push that fails
+pub not_pushed : {E X : Type 0} (r : Result (Unit {0}) E) (b : Bool) (new xs ys : List X) → b ≡ is_ok r → b ≡ false
+    → new ≡ (if is_ok r then xs else ys) → new ≡ ys
+not_pushed (Ok u) b new xs ys e f p = cc
+not_pushed (Err x) b new xs ys e f p = p
 
 -- after a token
 pub leaf_more : (gap now : Bool) (t : TokenTree) (left after : List TokenTree) (outer : List Level) → left ≡ t ∷ after
     → ((g : Grouped) → t ≡ Group g → ⊥) → now ≡ gap_within t
     → (space gap ++ front_text t) ++ left_text now after outer ≡ left_text gap left outer
 leaf_more gap now t left after outer whole other e = rw (e, whole) (sym (leaf_text gap t after outer other))
+
+pub leaf_less : (t : TokenTree) (left after : List TokenTree) (outer : List Level) → left ≡ t ∷ after
+    → ((g : Grouped) → t ≡ Group g → ⊥) → left_count after outer < left_count left outer
+leaf_less (Group g) left after outer whole other = absurd (other g refl)
+leaf_less (Ident i) left after outer whole other = rw whole (omega arith)
+leaf_less (Punct p) left after outer whole other = rw whole (omega arith)
+leaf_less (Literal l) left after outer whole other = rw whole (omega arith)
 
 -- after a group's opener
 pub group_more : (gap now : Bool) (t : TokenTree) (g : Grouped) (left inside : List TokenTree) (level : Level) (outer new : List Level)
@@ -93,6 +100,19 @@ pub group_less : (t : TokenTree) (g : Grouped) (left inside : List TokenTree) (l
     → left ≡ t ∷ level.after.now → t ≡ Group g → forest inside ≡ g.stream → new ≡ outer ++ level ∷ []
     → left_count inside new < left_count left outer
 group_less t g left inside level outer new whole is into p = rw (whole, is, into, p) (group_count g level outer)
+
+-- after a group that is printed by itself, where the list found no memory
+pub group_around : (gap now : Bool) (t : TokenTree) (g : Grouped) (left inside after : List TokenTree) (d : Delimiter)
+    (outer new : List Level)
+    → left ≡ t ∷ after → t ≡ Group g → now ≡ gap_within t → d ≡ g.delimiter → forest inside ≡ g.stream → new ≡ outer
+    → (space gap ++ (front_text t ++ (printed_after now (forest inside) ++ ending d))) ++ left_text true after new
+    ≡ left_text gap left outer
+group_around gap now t g left inside after d outer new whole is e same into kept =
+    rw (whole, e, is, into, same, kept) (simp append_assoc refl)
+
+pub around_less : (t : TokenTree) (g : Grouped) (left after : List TokenTree) (outer new : List Level)
+    → left ≡ t ∷ after → t ≡ Group g → new ≡ outer → left_count after new < left_count left outer
+around_less t g left after outer new whole is kept = rw (whole, is, kept) (omega arith)
 
 -- after a group's closer
 pub end_more : (gap : Bool) (left : List TokenTree) (level : Level) (outer new : List Level) → length left ≡ 0 → outer ≡ new ++ level ∷ []

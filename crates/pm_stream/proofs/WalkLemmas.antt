@@ -1,6 +1,6 @@
 -- Steps of a walk over a stream's trees.
-use Rattle.std.proofs.Common.{◌≡◌, List, [], ◌∷◌, ◌++◌, length, Bor, refl, arith}
-use Rattle.pm_stream.specs.InOrder.{in_order_onto}
+use Rattle.std.proofs.Common.{◌≡◌, List, [], ◌∷◌, ◌++◌, length, Bor, refl, sym, ◌∙◌, arith}
+use Rattle.pm_stream.specs.InOrder.{in_order_onto, BeginsWithGroup}
 use Rattle.pm_stream.specs.Level.{forest}
 use Rattle.pm_stream.specs.Walk.{after_groups, left_to_read}
 use Rattle.pm_stream.specs.declared.stream.Group.{Group as Grouped}
@@ -34,6 +34,12 @@ pub left_to_read-group : (outer new : Rests) (left within : List TokenTree) (aft
     → left_to_read outer left ≡ t ∷ left_to_read new within
 left_to_read-group outer new left within after t g whole is into push =
     rw (whole, is, into, push, after_groups-push outer after []) refl
+
+-- so a group is the first of the trees that are left
+pub begins_with_group : (outer : Rests) (left after walk : List TokenTree) (t : TokenTree) (g : Grouped)
+    → left ≡ t ∷ after → t ≡ Group g → left_to_read outer left ≡ walk → BeginsWithGroup walk
+begins_with_group outer left after walk t g whole is left_is =
+    (g, in_order_onto g.stream (in_order_onto (forest after) (after_groups outer [])), sym left_is ∙ rw (whole, is) refl)
 
 -- no tree is left of the innermost group
 pub left_to_read-close : (outer new : Rests) (left : List TokenTree) (after : Bor (List TokenTree))

@@ -1,10 +1,11 @@
 -- The trees of a stream in reading order.
-use Rattle.std.specs.Prelude.{ℕ, Bool, true, false, List, [], ◌∷◌}
+use Rattle.std.specs.Prelude.{◌≡◌, ℕ, Bool, true, false, List, [], ◌∷◌}
 use Rattle.lexical.specs.Token as tokens
 use Rattle.lexical.specs.Token.{Token}
 use Rattle.pm_token.specs.declared.marks.Spacing.{Spacing}
 use Rattle.pm_token.specs.declared.marks.Spacing.TheVariants.{Alone, Joint}
 use Rattle.pm_stream.specs.Forest.{Forest, nil, leaf, group}
+use Rattle.pm_stream.specs.declared.stream.Group.{Group as Grouped}
 use Rattle.pm_stream.specs.declared.stream.TokenTree.{TokenTree}
 use Rattle.pm_stream.specs.declared.stream.TokenTree.TheVariants.{Group, Ident, Punct, Literal}
 
@@ -31,3 +32,7 @@ in_order_onto (group d lo hi inside rest) more =
 -- `reading-order`: the trees of a stream, each group before those inside it
 abbrev pub in_order : Forest → List TokenTree
 in_order stream = in_order_onto stream []
+
+-- the first of the trees is a group
+abbrev pub BeginsWithGroup : List TokenTree → Type 0
+BeginsWithGroup trees = (g : Grouped) × (rest : List TokenTree) × (trees ≡ Group g ∷ rest)

@@ -116,6 +116,8 @@ impl TokenStream {
             (PutsIn (λ group. split (GroupTree group)))
             groups self.old self.new result }
         ensures memory { OnErr result (GivesAnItem I.into_iter_gives I.IntoIter.next_gives groups) }
+        ensures refused { OnErr result (RefusesAnItem I.into_iter_gives I.IntoIter.next_gives
+            (PutsIn (λ group. split (GroupTree group))) groups self.old self.new) }
     {
         for group in groups {
             self.put(TokenTree::Group(group))?;
@@ -134,6 +136,8 @@ impl TokenStream {
             (PutsIn (λ ident. split (IdentTree ident)))
             idents self.old self.new result }
         ensures memory { OnErr result (GivesAnItem I.into_iter_gives I.IntoIter.next_gives idents) }
+        ensures refused { OnErr result (RefusesAnItem I.into_iter_gives I.IntoIter.next_gives
+            (PutsIn (λ ident. split (IdentTree ident))) idents self.old self.new) }
     {
         for ident in idents {
             self.put(TokenTree::Ident(ident))?;
@@ -152,6 +156,8 @@ impl TokenStream {
             (PutsIn (λ punct. split (PunctTree punct)))
             puncts self.old self.new result }
         ensures memory { OnErr result (GivesAnItem I.into_iter_gives I.IntoIter.next_gives puncts) }
+        ensures refused { OnErr result (RefusesAnItem I.into_iter_gives I.IntoIter.next_gives
+            (PutsIn (λ punct. split (PunctTree punct))) puncts self.old self.new) }
     {
         for punct in puncts {
             self.put(TokenTree::Punct(punct))?;
@@ -171,6 +177,8 @@ impl TokenStream {
             (PutsIn (λ literal. split (LiteralTree literal)))
             literals self.old self.new result }
         ensures memory { OnErr result (GivesAnItem I.into_iter_gives I.IntoIter.next_gives literals) }
+        ensures refused { OnErr result (RefusesAnItem I.into_iter_gives I.IntoIter.next_gives
+            (PutsIn (λ literal. split (LiteralTree literal))) literals self.old self.new) }
     {
         for literal in literals {
             self.put(TokenTree::Literal(literal))?;

@@ -1,5 +1,5 @@
 //! Streams of token trees.
-ghost use Rattle.std.specs.Prelude.{◌≡◌, ◌≤◌, ◌+◌, All, IfOk, IfErr, OnOk};
+ghost use Rattle.std.specs.Prelude.{◌≡◌, ◌≤◌, ◌+◌, All, IfOk, IfErr, IsOk, OnOk};
 ghost use Rattle.pm_span.specs.Extent.{nowhere};
 ghost use Rattle.pm_span.specs.Files.{Files};
 ghost use Rattle.pm_stream.specs.Forest.{Forest, nil, joined, IsBuilt};
@@ -333,9 +333,11 @@ impl Group {
     /// Its trees, without the delimiters, as a stream of their own: `x` of `(x)`.
     ///
     /// They are shared until one of the two is changed, so that this takes no memory. It fails only where
-    /// the trees have more owners than can be counted. [`stream_ref`](Group::stream_ref) lends them.
+    /// the trees have more owners than can be counted, and never for a group without trees.
+    /// [`stream_ref`](Group::stream_ref) lends them.
     pub fn stream(&self) -> Result<TokenStream, AllocError>
-        ensures { IfOk result (λ stream. stream ≡ self.now.stream) }
+        ensures ok { IfOk result (λ stream. stream ≡ self.now.stream) }
+        ensures empty { self.now.stream ≡ nil → IsOk result }
     {
         self.stream.clone()
     }

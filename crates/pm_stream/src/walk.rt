@@ -1,6 +1,6 @@
 //! All trees of a stream, one at a time.
 ghost use Rattle.std.specs.Prelude.{◌≡◌, [], ◌∷◌, IfOk, MatchOption, OnErr};
-ghost use Rattle.pm_stream.specs.InOrder.{in_order};
+ghost use Rattle.pm_stream.specs.InOrder.{in_order, BeginsWithGroup};
 
 use crate::stream::{TokenStream, TokenTree};
 use std::alloc::AllocError;
@@ -52,11 +52,12 @@ impl TokenStream {
 impl<'a> Walk<'a> {
     /// The next tree, or `None` after the last.
     ///
-    /// It takes memory only at a group, for what comes after that. Where memory is refused the walk
-    /// stays as it was.
+    /// It takes memory only at a group, for what comes after that, so it fails only where the next tree
+    /// is a group. Where memory is refused the walk stays as it was.
     pub fn next(&mut self) -> Result<Option<&'a TokenTree>, AllocError>
         ensures ok { IfOk result (λ next. MatchOption next ((self.old ≡ []) × (self.new ≡ []))
             (λ tree. self.old ≡ tree.now ∷ self.new)) }
+        ensures memory { OnErr result (BeginsWithGroup self.old) }
         ensures err { OnErr result (self.new ≡ self.old) }
     {
         loop {

@@ -1,15 +1,22 @@
 //! Copies of streams and trees.
 ghost use Rattle.std.specs.Prelude.{◌≡◌};
+ghost use Rattle.pm_stream.specs.Forest.{nil};
 
 use super::{Group, TokenStream, TokenTree};
 use std::alloc::AllocError;
 
 /// The same trees. They are shared until one of the two streams is changed, so that this takes no
-/// memory, however many they are.
+/// memory, however many they are. It fails only where they have more owners than can be counted, and
+/// never without trees.
 impl Clone for TokenStream {
     ghost is_clone = { λ stream copy. copy ≡ stream };
 
+    ghost is_infallible = { λ stream. stream ≡ nil };
+
     fn clone(&self) -> Result<TokenStream, AllocError> {
+        if self.is_empty() {
+            return Ok(TokenStream::new(self.alloc));
+        }
         let trees = match &self.trees {
             Some(trees) => Some(trees.clone()?),
             None => None,
@@ -38,6 +45,8 @@ impl Clone for TokenTree {
 /// The same group, whose trees are shared as those of a stream are.
 impl Clone for Group {
     ghost is_clone = { λ group copy. copy ≡ group };
+
+    ghost is_infallible = { λ group. group.stream ≡ nil };
 
     fn clone(&self) -> Result<Group, AllocError> {
         Ok(Group {
