@@ -66,7 +66,8 @@ AreParts l minus rest =
 
 split_by : (l : Text) (b : Bool) → has_minus l.text ≡ b
     → split (Literal l) ≡ (if b then before (Punct (minus_of l)) (alone (Literal (number_of l))) else alone (Literal l))
-split_by l b is = ap (λ x. if x then before (Punct (minus_of l)) (alone (Literal (number_of l))) else alone (Literal l)) is
+split_by l b is = ap (λ x. if x then before (Punct (minus_of l)) (alone (Literal (number_of l))) else alone (Literal l))
+    is
 
 -- a literal without a sign
 pub pushed_plain : (old new : List TokenTree) (t : TokenTree) (l rest : Text) (minus : Option Mark)
@@ -75,7 +76,8 @@ pub pushed_plain : (old new : List TokenTree) (t : TokenTree) (l rest : Text) (m
 pushed_plain old new t l rest (Some m) is parts other pushed = absurd (other m refl)
 pushed_plain old new t l rest None is parts other pushed =
     ap forest pushed ∙ forest_append old (Literal rest ∷ [])
-    ∙ ap (joined (forest old)) (ap (λ (x : Text). alone (Literal x)) parts.1 ∙ sym (split_by l false parts.0) ∙ ap split (sym is))
+    ∙ ap (joined (forest old)) (ap (λ (x : Text). alone (Literal x)) parts.1 ∙ sym (split_by l false parts.0)
+    ∙ ap split (sym is))
 
 -- one with a sign
 pub pushed_negative : (old first new : List TokenTree) (t : TokenTree) (l rest : Text) (m : Mark) (minus : Option Mark)
@@ -84,13 +86,15 @@ pub pushed_negative : (old first new : List TokenTree) (t : TokenTree) (l rest :
 pushed_negative old first new t l rest m minus is parts some one two =
     let known = subst (λ o. AreParts l o rest) some parts in
     let same : before (Punct m) (alone (Literal rest)) ≡ split (Literal l) =
-    ap₂ (λ (x : Mark) (y : Text). before (Punct x) (alone (Literal y))) known.1 known.2 ∙ sym (split_by l true known.0) in
+    ap₂ (λ (x : Mark) (y : Text). before (Punct x) (alone (Literal y))) known.1 known.2
+    ∙ sym (split_by l true known.0) in
     ap forest (two ∙ (ap (λ ts. ts ++ Literal rest ∷ []) one ∙ append_assoc old (Punct m ∷ []) (Literal rest ∷ [])))
     ∙ forest_append old (Punct m ∷ Literal rest ∷ [])
     ∙ ap (joined (forest old)) (same ∙ ap split (sym is))
 
 -- a list and its copy
-pub clones_same : (old new : Vec TokenTree Global) → (new ≡ old) ⊎ (AllZip (λ t copy. copy ≡ t) old.items new.items × (vec_len new ≡ vec_len old))
+pub clones_same : (old new : Vec TokenTree Global)
+    → (new ≡ old) ⊎ (AllZip (λ t copy. copy ≡ t) old.items new.items × (vec_len new ≡ vec_len old))
     → new.items ≡ old.items
 clones_same old new (inl same) = ap (λ (v : Vec TokenTree Global). v.items) same
 clones_same old new (inr copied) = same_from_all_zip _ old.items new.items copied.0 (λ x y e. e)
@@ -113,14 +117,16 @@ literal_built l is ordered = go (has_minus l.text) refl
 -- ---- what an iterator gives
 
 -- where it gave items and then one more, it gives an item
-gives_item : {U T A : Type 0} (becomes : U → T → Type 0) (steps : T → Option A → T → Type 0) (iterable : U) (it now next : T) (items : List A) (item : A)
+gives_item : {U T A : Type 0} (becomes : U → T → Type 0) (steps : T → Option A → T → Type 0) (iterable : U)
+    (it now next : T) (items : List A) (item : A)
     → becomes iterable it → Yields steps it items now → steps now (Some item) next → GivesAnItem becomes steps iterable
 gives_item becomes steps iterable it now next [] item is yields step =
     (it, item, next, is, subst (λ s. steps s (Some item) next) (sym yields) step)
 gives_item becomes steps iterable it now next (first ∷ items) item is yields step = (it, first, yields.0, is, yields.1)
 
 -- so does that whose last item was refused
-pub refused_item : {U T A E : Type 0} (becomes : U → T → Type 0) (steps : T → Option A → T → Type 0) (iterable : U) (it now next : T) (items : List A) (item : A) (r : Result (Unit {0}) E)
+pub refused_item : {U T A E : Type 0} (becomes : U → T → Type 0) (steps : T → Option A → T → Type 0) (iterable : U)
+    (it now next : T) (items : List A) (item : A) (r : Result (Unit {0}) E)
     → becomes iterable it → Yields steps it items now → steps now (Some item) next
     → OnErr r (GivesAnItem becomes steps iterable)
 refused_item becomes steps iterable it now next items item (Ok u) is yields step = tt
@@ -128,8 +134,10 @@ refused_item becomes steps iterable it now next items item (Err e) is yields ste
     gives_item becomes steps iterable it now next items item is yields step
 
 -- an empty stream with all of them is all of them
-pub gives_all : {U T A : Type 0} (becomes : U → T → Type 0) (steps : T → Option A → T → Type 0) (trees : A → Forest) (iterable : U) (empty new : Forest)
-    → empty ≡ nil → (it : T) × (items : List A) × becomes iterable it × PutsIn trees empty items new × Drains steps it items
+pub gives_all : {U T A : Type 0} (becomes : U → T → Type 0) (steps : T → Option A → T → Type 0) (trees : A → Forest)
+    (iterable : U) (empty new : Forest)
+    → empty ≡ nil → (it : T) × (items : List A) × becomes iterable it × PutsIn trees empty items new
+    × Drains steps it items
     → GivesAll becomes steps iterable (λ items. new ≡ gathered trees items)
 gives_all becomes steps trees iterable empty new none ran =
     (ran.0, ran.1, ran.2, ran.4, ran.3 ∙ ap (λ f. joined f (gathered trees ran.1)) none)

@@ -29,7 +29,8 @@ starts_doc : is_ident_start 100 ≡ true
 starts_doc = ident_start_ascii 100 (omega arith)
 
 ends_doc : list_all is_ident_continue (codes "oc") ≡ true
-ends_doc = and_from _ _ (ident_continue_ascii 111 (omega arith)) (and_from _ _ (ident_continue_ascii 99 (omega arith)) refl)
+ends_doc = and_from _ _ (ident_continue_ascii 111 (omega arith))
+    (and_from _ _ (ident_continue_ascii 99 (omega arith)) refl)
 
 pub doc_name_built : IsBuiltToken (Name false (codes "doc"))
 doc_name_built = (
@@ -53,7 +54,8 @@ doc_chars = refl
 
 abbrev doc_group : ℕ → ℕ → List ℕ → Forest
 doc_group lo hi text =
-    group Bracket lo hi (leaf (Name false (codes "doc")) lo hi (leaf equals lo hi (leaf (Literal (string_text text)) lo hi nil))) nil
+    group Bracket lo hi (leaf (Name false (codes "doc")) lo hi
+    (leaf equals lo hi (leaf (Literal (string_text text)) lo hi nil))) nil
 
 abbrev pub doc_trees : ℕ → ℕ → Bool → List ℕ → Forest
 doc_trees lo hi true text = leaf hash lo hi (leaf bang lo hi (doc_group lo hi text))
@@ -77,11 +79,14 @@ doc_built lo hi false text within all = (refl, within, doc_group_built lo hi tex
 -- the events of the group that is made of these parts
 pub doc_group_events : (text : List ℕ) (doc : leaves.Name) (mark : leaves.Mark) (literal : leaves.Text)
     (items : List TokenTree) (made : Grouped) (span : Extent) (events : List Event)
-    → doc ≡ record { name = codes "doc"; raw = false; span = span } → mark ≡ record { mark = 61; spacing = Alone; span = span }
-    → literal ≡ record { text = string_text text; span = span } → items ≡ Ident doc ∷ Punct mark ∷ trees.Literal literal ∷ []
+    → doc ≡ record { name = codes "doc"; raw = false; span = span }
+    → mark ≡ record { mark = 61; spacing = Alone; span = span }
+    → literal ≡ record { text = string_text text; span = span }
+    → items ≡ Ident doc ∷ Punct mark ∷ trees.Literal literal ∷ []
     → made ≡ record { delimiter = Bracket; stream = forest items; span = span }
     → flat_onto (alone (trees.Group made)) events ≡ doc_group_onto span.lo span.hi text events
-doc_group_events text doc mark literal items made span events name sign content all is = rw (is, all, name, sign, content) refl
+doc_group_events text doc mark literal items made span events name sign content all is =
+    rw (is, all, name, sign, content) refl
 
 -- ---- the trees of a stream
 

@@ -52,7 +52,8 @@ goes_on (x ∷ groups) trees {es} h =
     let outer = goes_on groups x.outer closed in (
       Closes x.delimiter 0 ∷ outer.0,
       subst (λ xs. Balanced (written_onto groups x.outer (Opens x.delimiter x.lo ∷ xs)))
-          (append_assoc (flat_onto trees es) (Closes x.delimiter 0 ∷ []) outer.0 ∙ sym (flat-append trees es (Closes x.delimiter 0 ∷ outer.0)))
+          (append_assoc (flat_onto trees es) (Closes x.delimiter 0 ∷ []) outer.0
+          ∙ sym (flat-append trees es (Closes x.delimiter 0 ∷ outer.0)))
           outer.1,
     )
 
@@ -123,7 +124,8 @@ written_leaves : (groups : List Opened) (trees : Forest) (es : List Event)
 unfolding stack_after
 written_leaves [] trees es = flat_leaves trees es []
 written_leaves (x ∷ groups) trees es =
-    written_leaves groups x.outer (Opens x.delimiter x.lo ∷ flat_onto trees es) ∙ flat_leaves trees es (openers (x ∷ groups))
+    written_leaves groups x.outer (Opens x.delimiter x.lo ∷ flat_onto trees es)
+    ∙ flat_leaves trees es (openers (x ∷ groups))
 
 stray_leaves : (groups : List Opened) (d : Delimiter) → (FitsInnermost d groups → ⊥)
     → after_closer d (openers groups) ≡ Nothing
@@ -137,12 +139,17 @@ pub stray_closer : (groups : List Opened) (trees : Forest) (d : Delimiter) (hi :
     → CanGoOn (written_onto groups trees [] ++ (Closes d hi ∷ [])) → ⊥
 unfolding stack_after
 stray_closer groups trees d hi apart more =
-    let whole : written_onto groups trees (Closes d hi ∷ more.0) ≡ ((written_onto groups trees [] ++ (Closes d hi ∷ [])) ++ more.0) ++ [] =
-    written-append groups trees [] (Closes d hi ∷ more.0) ∙ sym (append-nil _ ∙ append_assoc (written_onto groups trees []) (Closes d hi ∷ []) more.0) in
-    let ends : stack_after (((written_onto groups trees [] ++ (Closes d hi ∷ [])) ++ more.0) ++ []) [] ≡ Some [] = balanced_leaves more.1 [] [] in
+    let whole : written_onto groups trees (Closes d hi ∷ more.0)
+    ≡ ((written_onto groups trees [] ++ (Closes d hi ∷ [])) ++ more.0) ++ [] =
+    written-append groups trees [] (Closes d hi ∷ more.0)
+    ∙ sym (append-nil _ ∙ append_assoc (written_onto groups trees []) (Closes d hi ∷ []) more.0) in
+    let ends : stack_after (((written_onto groups trees [] ++ (Closes d hi ∷ [])) ++ more.0) ++ []) [] ≡ Some [] =
+    balanced_leaves more.1 [] [] in
     let stuck : stack_after (written_onto groups trees (Closes d hi ∷ more.0)) [] ≡ Nothing =
-    written_leaves groups trees (Closes d hi ∷ more.0) ∙ ap (option_and_then (stack_after more.0)) (stray_leaves groups d apart) in
-    let clash : ◌≡◌ {A = Option (List (Delimiter × ℕ))} (Some []) Nothing = sym ends ∙ (ap (λ xs. stack_after xs []) (sym whole) ∙ stuck) in
+    written_leaves groups trees (Closes d hi ∷ more.0)
+    ∙ ap (option_and_then (stack_after more.0)) (stray_leaves groups d apart) in
+    let clash : ◌≡◌ {A = Option (List (Delimiter × ℕ))} (Some []) Nothing = sym ends
+    ∙ (ap (λ xs. stack_after xs []) (sym whole) ∙ stuck) in
     cc
 
 -- ---- the last opener that no closer matches
@@ -184,7 +191,8 @@ top_is es front back d j st more h e closed =
     ∙ balanced_leaves closed [] ((d, j) ∷ reached.0) in (
       reached.0,
       ap (λ xs. stack_after xs []) e
-          ∙ (stack_after-append front (Opens d j ∷ back) [] ∙ (ap (option_and_then (stack_after (Opens d j ∷ back))) reached.1 ∙ after)),
+          ∙ (stack_after-append front (Opens d j ∷ back) []
+          ∙ (ap (option_and_then (stack_after (Opens d j ∷ back))) reached.1 ∙ after)),
     )
 
 balanced_ends : (es : List Event) → Balanced es → stack_after es [] ≡ Some []
@@ -198,15 +206,18 @@ one_last_opener es front back front' back' d e j k goes split closed split' clos
     let ends = balanced_ends (es ++ goes.0) goes.1 in
     let one = top_is es front back d j [] goes.0 ends split closed in
     let two = top_is es front' back' e k [] goes.0 ends split' closed' in
-    let same : ◌≡◌ {A = Option (List (Delimiter × ℕ))} (Some ((d, j) ∷ one.0)) (Some ((e, k) ∷ two.0)) = sym one.1 ∙ two.1 in
+    let same : ◌≡◌ {A = Option (List (Delimiter × ℕ))} (Some ((d, j) ∷ one.0)) (Some ((e, k) ∷ two.0)) = sym one.1
+    ∙ two.1 in
     let tops : ◌≡◌ {A = Delimiter × ℕ} (d, j) (e, k) = cc in
     ap (λ x. x.1) tops
 
 pub balanced_has_none : (es front back : List Event) (d : Delimiter) (j : ℕ) → Balanced es
     → es ≡ front ++ (Opens d j ∷ back) → Balanced back → ⊥
 balanced_has_none es front back d j h split closed =
-    let one = top_is es front back d j [] [] (balanced_ends (es ++ []) (subst Balanced (sym (append-nil es)) h)) split closed in
-    let clash : ◌≡◌ {A = Option (List (Delimiter × ℕ))} (Some []) (Some ((d, j) ∷ one.0)) = sym (balanced_ends es h) ∙ one.1 in
+    let one = top_is es front back d j [] [] (balanced_ends (es ++ []) (subst Balanced (sym (append-nil es)) h)) split
+    closed in
+    let clash : ◌≡◌ {A = Option (List (Delimiter × ℕ))} (Some []) (Some ((d, j) ∷ one.0)) = sym (balanced_ends es h)
+    ∙ one.1 in
     cc
 
 -- ---- a flattening is of one forest

@@ -83,6 +83,7 @@ pub parsed_held : (old new : Files) (base : ℕ) (source : List ℕ) (result : R
     → IfErr result (IsFault base source) → IfErr result (λ error. IfLex error (Holds new))
 parsed_held old new base source (Ok stream) begins added h = tt
 parsed_held old new base source (Err (Lex fault)) begins added h =
-    subst (λ map. Holds map fault) (sym added) (fault_held old source fault h.0 (subst (λ n. FaultAt n source fault.lo) begins h.1))
+    subst (λ map. Holds map fault) (sym added)
+    (fault_held old source fault h.0 (subst (λ n. FaultAt n source fault.lo) begins h.1))
 parsed_held old new base source (Err MapFull) begins added h = tt
 parsed_held old new base source (Err (Memory error)) begins added h = tt

@@ -96,7 +96,8 @@ compared first (u ∷ us) (v ∷ vs) r s g h e =
 goes_not_from_end : (first : Bool) (us vs : List Piece) (r s : List ℕ) → GoesOn first us vs r s → r ≢ []
 goes_not_from_end first us vs r s h e =
     let begin = piece_not_empty (at_front first us) h.next.0 h.next.1 (onto h.later s) h.stands in
-    let clash : begin.0 ∷ (begin.1 ++ onto h.later s) ≡ [] = ap (λ p. p ++ onto h.later s) (sym begin.2) ∙ (sym h.whole ∙ e) in
+    let clash : begin.0 ∷ (begin.1 ++ onto h.later s) ≡ [] = ap (λ p. p ++ onto h.later s) (sym begin.2)
+    ∙ (sym h.whole ∙ e) in
     cc
 
 pub one_cover : (source : List ℕ) (us vs : List Piece) → IsCover us source → IsCover vs source → us ≡ vs
@@ -112,7 +113,8 @@ one_cover source us vs g h = elim (compared true us vs [] [] g.stand h.stand (sy
 pub one_parse : (base : ℕ) (source : List ℕ) (s t : Forest) → ParsesTo base source s → ParsesTo base source t
     → s ≡ t
 one_parse base source s t g h =
-    one_stream s t (g.expands ∙ (ap (expansion base) (one_cover source g.pieces h.pieces g.covers h.covers) ∙ sym h.expands))
+    one_stream s t (g.expands ∙ (ap (expansion base) (one_cover source g.pieces h.pieces g.covers h.covers)
+    ∙ sym h.expands))
 
 -- ---- the fault has one position, and a source with a fault doesn't parse
 
@@ -120,7 +122,8 @@ front_goes_on : (es fs : List Event) → CanGoOn (es ++ fs) → CanGoOn es
 front_goes_on es fs h = (fs ++ h.0, subst Balanced (append_assoc es fs h.0) h.1)
 
 -- pieces that can go on pass no position where reading stops
-passes_none : (base : ℕ) (source : List ℕ) (position : ℕ) (h : StopsAt base source position) (vs : List Piece) (s : List ℕ)
+passes_none : (base : ℕ) (source : List ℕ) (position : ℕ) (h : StopsAt base source position) (vs : List Piece)
+    (s : List ℕ)
     → GoesOn true h.pieces vs h.rest s → CanGoOn (expansion base vs) → ⊥
 passes_none base source position h vs s more goes =
     let x = more.next in
@@ -132,31 +135,35 @@ passes_none base source position h vs s more goes =
           one_piece (is_first h.pieces) x.0 (Close closer.character) x.1 closer.front
           (onto more.later s) closer.rest stands closer.stands (sym more.whole ∙ closer.whole) in
           let later = expansion (base + width h.pieces + length x.1) more.later in
-          let event : expansion (base + width h.pieces) (x ∷ more.later) ≡ Closes (delimiter_of closer.character) (position + length closer.front) ∷ later =
+          let event : expansion (base + width h.pieces) (x ∷ more.later)
+          ≡ Closes (delimiter_of closer.character) (position + length closer.front) ∷ later =
           ap₂ (λ k p. events_onto (base + width h.pieces) k p later) same.0 same.1
           ∙ ap (λ n. Closes (delimiter_of closer.character) (n + length closer.front) ∷ later) (sym h.at) in
           let split : expansion base vs ≡ (expansion base h.pieces
           ++ (Closes (delimiter_of closer.character) (position + length closer.front) ∷ [])) ++ later =
           ap (expansion base) more.split
           ∙ (expansion-append base h.pieces (x ∷ more.later) ∙ (ap (λ es. expansion base h.pieces ++ es) event
-          ∙ sym (append_assoc (expansion base h.pieces) (Closes (delimiter_of closer.character) (position + length closer.front) ∷ []) later))) in
+          ∙ sym (append_assoc (expansion base h.pieces)
+          (Closes (delimiter_of closer.character) (position + length closer.front) ∷ []) later))) in
           closer.stray (front_goes_on _ later (subst CanGoOn split goes))
     ]
 
 -- a cover of the whole source that can go on leaves no position where reading stops
 stops_not : (base : ℕ) (source : List ℕ) (position : ℕ) → StopsAt base source position → (vs : List Piece)
     → IsCover vs source → CanGoOn (expansion base vs) → ⊥
-stops_not base source position h vs c goes = elim (compared true h.pieces vs h.rest [] h.covers.stand c.stand (sym h.covers.whole ∙ c.whole)) [
-  | inl more ↦ passes_none base source position h vs [] more goes
-  | inr other ↦ elim other [
-    | inl more ↦ goes_not_from_end true vs h.pieces [] h.rest more refl
-    | inr both ↦ h.more both.1
-  ]
-]
+stops_not base source position h vs c goes =
+    elim (compared true h.pieces vs h.rest [] h.covers.stand c.stand (sym h.covers.whole ∙ c.whole)) [
+      | inl more ↦ passes_none base source position h vs [] more goes
+      | inr other ↦ elim other [
+        | inl more ↦ goes_not_from_end true vs h.pieces [] h.rest more refl
+        | inr both ↦ h.more both.1
+      ]
+    ]
 
 pub one_fault : (base : ℕ) (source : List ℕ) (j k : ℕ) → FaultAt base source j → FaultAt base source k → j ≡ k
 one_fault base source j k (inl g) (inl h) =
-    elim (compared true g.pieces h.pieces g.rest h.rest g.covers.stand h.covers.stand (sym g.covers.whole ∙ h.covers.whole)) [
+    elim (compared true g.pieces h.pieces g.rest h.rest g.covers.stand h.covers.stand
+    (sym g.covers.whole ∙ h.covers.whole)) [
       | inl more ↦ absurd (passes_none base source j g h.pieces h.rest more h.goes_on)
       | inr other ↦ elim other [
         | inl more ↦ absurd (passes_none base source k h g.pieces g.rest more g.goes_on)
@@ -167,15 +174,18 @@ one_fault base source j k (inl g) (inr h) = absurd (stops_not base source j g h.
 one_fault base source j k (inr g) (inl h) = absurd (stops_not base source k h g.pieces g.covers g.goes_on)
 one_fault base source j k (inr g) (inr h) =
     let same = ap (expansion base) (one_cover source g.pieces h.pieces g.covers h.covers) in
-    one_last_opener (expansion base g.pieces) g.front g.back h.front h.back g.delimiter h.delimiter j k g.goes_on g.split g.closed (same ∙ h.split) h.closed
+    one_last_opener (expansion base g.pieces) g.front g.back h.front h.back g.delimiter h.delimiter j k g.goes_on
+    g.split g.closed (same ∙ h.split) h.closed
 
 pub parses_or_not : (base : ℕ) (source : List ℕ) (stream : Forest) (k : ℕ) → ParsesTo base source stream
     → FaultAt base source k → ⊥
 parses_or_not base source stream k g (inl h) =
-    stops_not base source k h g.pieces g.covers ([], subst Balanced (g.expands ∙ sym (append-nil _)) (flattening_balanced stream))
+    stops_not base source k h g.pieces g.covers
+    ([], subst Balanced (g.expands ∙ sym (append-nil _)) (flattening_balanced stream))
 parses_or_not base source stream k g (inr h) =
     let same = ap (expansion base) (one_cover source g.pieces h.pieces g.covers h.covers) in
-    balanced_has_none (flattening stream) h.front h.back h.delimiter k (flattening_balanced stream) (g.expands ∙ (same ∙ h.split)) h.closed
+    balanced_has_none (flattening stream) h.front h.back h.delimiter k (flattening_balanced stream)
+    (g.expands ∙ (same ∙ h.split)) h.closed
 
 -- ---- a source parses or has a fault
 
@@ -186,7 +196,8 @@ HasOutcome base source =
 -- what is written with one piece more, or that the piece is a stray closer
 abbrev Moved : Kind → List ℕ → ℕ → List Opened → Forest → Type 0
 Moved k p at groups trees =
-    ((new : List Opened) × (more : Forest) × (written_onto new more [] ≡ written_onto groups trees (events_onto at k p [])))
+    ((new : List Opened) × (more : Forest)
+    × (written_onto new more [] ≡ written_onto groups trees (events_onto at k p [])))
     ⊎ ((c : ℕ) × (k ≡ Close c) × (FitsInnermost (delimiter_of c) groups → ⊥))
 
 same_or_not : (d e : Delimiter) → (d ≡ e) ⊎ (d ≢ e)
@@ -224,7 +235,11 @@ moved (Close c) p at [] trees = inr (c, refl, λ fits. fits)
 moved (Close c) p at (x ∷ groups) trees =
     closed p at c x groups trees (same_or_not x.delimiter (delimiter_of c))
 moved (Leaf token) p at groups trees =
-    inl (groups, joined trees (leaf token at (at + length p) nil), written-joined groups trees (leaf token at (at + length p) nil) [])
+    inl (
+      groups,
+      joined trees (leaf token at (at + length p) nil),
+      written-joined groups trees (leaf token at (at + length p) nil) [],
+    )
 
 ends : (base : ℕ) (source rest : List ℕ) (at : ℕ) (first : Bool) (groups : List Opened) (trees : Forest)
     → Reads base source rest at first groups trees → rest ≡ [] → HasOutcome base source
@@ -241,10 +256,12 @@ goes : (n base : ℕ) (source rest : List ℕ) (at : ℕ) (first : Bool) (groups
 goes zero base source rest at first groups trees l h = absurd (omega arith)
 goes (suc n) base source rest at first groups trees l h = elim (front_or_none first rest (found first rest) refl) [
   | inl x ↦
-      let shorter : length x.rest < n = omega (arith, ap length x.whole, piece_shortens first x.kind x.piece x.rest x.stands) in
+      let shorter : length x.rest < n =
+      omega (arith, ap length x.whole, piece_shortens first x.kind x.piece x.rest x.stands) in
       elim (moved x.kind x.piece at groups trees) [
         | inl new ↦ goes n base source x.rest (at + length x.piece) false new.0 new.1 shorter
-            (reads_more base source rest x.piece x.rest at (at + length x.piece) first groups new.0 trees new.1 x.kind h x.whole x.stands refl new.2)
+            (reads_more base source rest x.piece x.rest at (at + length x.piece) first groups new.0 trees new.1 x.kind h
+            x.whole x.stands refl new.2)
         | inr stray ↦ inr (
           at,
           reads_stray base source rest x.piece x.rest at first groups trees stray.0 h x.whole

@@ -59,14 +59,16 @@ built_inside (Literal l ∷ ts) h = All-cons GoesInside (Literal l) ts h.0.0 (bu
 pub flat_onto-joined : (f g : Forest) (es : List Event) → flat_onto (joined f g) es ≡ flat_onto f (flat_onto g es)
 flat_onto-joined nil g es = refl
 flat_onto-joined (leaf t lo hi f) g es = ap (λ e. One t lo hi ∷ e) (flat_onto-joined f g es)
-flat_onto-joined (group d lo hi f k) g es = ap (λ e. Opens d lo ∷ flat_onto f (Closes d hi ∷ e)) (flat_onto-joined k g es)
+flat_onto-joined (group d lo hi f k) g es =
+    ap (λ e. Opens d lo ∷ flat_onto f (Closes d hi ∷ e)) (flat_onto-joined k g es)
 
 -- what is flattened onto other events is flattened alone before them
 pub flat_onto-append : (f : Forest) (es more : List Event) → flat_onto f es ++ more ≡ flat_onto f (es ++ more)
 flat_onto-append nil es more = refl
 flat_onto-append (leaf t lo hi f) es more = ap (λ e. One t lo hi ∷ e) (flat_onto-append f es more)
 flat_onto-append (group d lo hi f g) es more =
-    ap (λ e. Opens d lo ∷ e) (flat_onto-append f (Closes d hi ∷ flat_onto g es) more ∙ ap (λ e. flat_onto f (Closes d hi ∷ e)) (flat_onto-append g es more))
+    ap (λ e. Opens d lo ∷ e) (flat_onto-append f (Closes d hi ∷ flat_onto g es) more
+    ∙ ap (λ e. flat_onto f (Closes d hi ∷ e)) (flat_onto-append g es more))
 
 pub flattening-joined : (f g : Forest) → flattening (joined f g) ≡ flattening f ++ flattening g
 flattening-joined f g = flat_onto-joined f g [] ∙ sym (flat_onto-append f [] (flattening g))
@@ -78,10 +80,17 @@ most_size_le (t ∷ ts) = omega (arith, deep_le-before t (forest ts), most_size_
 
 pub item_size_le : (ts : List TokenTree) (i : ℕ) (t : TokenTree) (f : Forest) → i < length ts → t ≡ get_or ts i t
     → forest ts ≡ f → size-TokenTree t ≤ 3 * count f + 2
-item_size_le ts i t f h is e = omega (arith, at_most size-TokenTree ts i t h, most_size_le ts, ap size-TokenTree is, ap count e)
+item_size_le ts i t f h is e = omega (
+  arith,
+  at_most size-TokenTree ts i t h,
+  most_size_le ts,
+  ap size-TokenTree is,
+  ap count e,
+)
 
 -- the last of a list
-pub takes_last : (own new : List TokenTree) (r : Option TokenTree) → own ≡ new ++ option_to_list r → TakesLast (forest own) r (forest new)
+pub takes_last : (own new : List TokenTree) (r : Option TokenTree) → own ≡ new ++ option_to_list r
+    → TakesLast (forest own) r (forest new)
 takes_last own new None p = ap forest (sym (p ∙ append-nil new))
 takes_last own new (Some t) p = ap forest p ∙ forest-push new t
 
@@ -97,7 +106,8 @@ count-alone (Punct p) = omega arith
 count-alone (Literal l) = omega arith
 
 -- with the last tree away
-pub count-taken : (old new : Forest) (t : TokenTree) → old ≡ joined new (alone t) → count old ≡ count new + 1 + count (inside t)
+pub count-taken : (old new : Forest) (t : TokenTree) → old ≡ joined new (alone t)
+    → count old ≡ count new + 1 + count (inside t)
 count-taken old new t p = omega (arith, ap count p, count-joined new (alone t), count-alone t)
 
 pub IsBuilt-taken : (old new : Forest) (r : Option TokenTree) → TakesLast old r new → IsBuilt old → IsBuilt new
@@ -109,7 +119,8 @@ pub shared_size_le : (ts : List TokenTree) (f : Forest) → forest ts ≡ f → 
 shared_size_le ts f e = omega (arith, most_size_le ts, ap count e)
 
 -- the way back in the place of a group
-pub count-put : (old new : Forest) (g : Grouped) → new ≡ joined old (alone (Group g)) → count new ≡ count old + 1 + count g.stream
+pub count-put : (old new : Forest) (g : Grouped) → new ≡ joined old (alone (Group g))
+    → count new ≡ count old + 1 + count g.stream
 count-put old new g p = omega (arith, ap count p, count-joined old (alone (Group g)))
 
 pub count-not_nil : (f : Forest) → is_nil f ≡ false → 0 < count f

@@ -34,12 +34,15 @@ pub left_shorter : (first : Bool) (text behind rest : List ℕ) (count : ℕ) (p
 left_shorter first text behind rest count piece utf8 h e white =
     let less = found_shorter first (chars text) piece h in
     let same = ap length (ap chars e ∙ piece_rest first text piece utf8 h) in
-    let size : count + length rest ≡ length (chars behind) = omega (arith, white.chars, ap length white.whole, length-append white.front rest) in
+    let size : count + length rest ≡ length (chars behind) =
+    omega (arith, white.chars, ap length white.whole, length-append white.front rest) in
     (omega (arith, same, less.0), omega (arith, same, less.1))
 
-reads_found : (base : ℕ) (source mid rest : List ℕ) (at : ℕ) (first : Bool) (groups groups' : List Opened) (trees trees' : Forest) (piece : Piece)
+reads_found : (base : ℕ) (source mid rest : List ℕ) (at : ℕ) (first : Bool) (groups groups' : List Opened)
+    (trees trees' : Forest) (piece : Piece)
     → Reads base source mid at first groups trees → (h : IsPieceAt first mid piece) → rest ≡ h.rest
-    → written_onto groups' trees' [] ≡ written_onto groups trees (events_onto at (kind_of piece.kind h.front) h.front [])
+    → written_onto groups' trees' []
+    ≡ written_onto groups trees (events_onto at (kind_of piece.kind h.front) h.front [])
     → Reads base source rest (at + piece.chars) false groups' trees'
 reads_found base source mid rest at first groups groups' trees trees' piece reads h e grows =
     subst (λ r. Reads base source r (at + piece.chars) false groups' trees') (sym e)
@@ -47,10 +50,12 @@ reads_found base source mid rest at first groups groups' trees trees' piece read
     (kind_of piece.kind h.front) reads h.whole h.stands (ap (λ n. at + n) h.chars) grows)
 
 -- past a piece and the white characters after it
-pub reads_on : (base : ℕ) (source mid behind rest : List ℕ) (at count : ℕ) (first : Bool) (groups groups' : List Opened) (trees trees' : Forest)
+pub reads_on : (base : ℕ) (source mid behind rest : List ℕ) (at count : ℕ) (first : Bool) (groups groups' : List Opened)
+    (trees trees' : Forest)
     (piece : Piece)
     → Reads base source mid at first groups trees → (h : IsPieceAt first mid piece) → behind ≡ h.rest
-    → written_onto groups' trees' [] ≡ written_onto groups trees (events_onto at (kind_of piece.kind h.front) h.front [])
+    → written_onto groups' trees' []
+    ≡ written_onto groups trees (events_onto at (kind_of piece.kind h.front) h.front [])
     → IsPastWhite behind rest count
     → Reads base source rest (at + (piece.chars + count)) false groups' trees'
 reads_on base source mid behind rest at count first groups groups' trees trees' piece reads h e grows white =
@@ -68,7 +73,8 @@ fault_is base source at reason (Lex extent) fault h =
 fault_is base source at reason MapFull fault h = absurd h
 fault_is base source at reason (Memory error) fault h = tt
 
-stray_at : (base : ℕ) (source mid front rest : List ℕ) (at : ℕ) (first : Bool) (groups : List Opened) (trees : Forest) (kind : PieceKind)
+stray_at : (base : ℕ) (source mid front rest : List ℕ) (at : ℕ) (first : Bool) (groups : List Opened) (trees : Forest)
+    (kind : PieceKind)
     → Reads base source mid at first groups trees → mid ≡ front ++ rest
     → IsPiece first (kind_of kind front) front rest → IsStray kind groups → FaultAt base source at
 stray_at base source mid front rest at first groups trees FrontMark reads whole stands stray = absurd stray
@@ -84,7 +90,8 @@ stray_at base source mid front rest at first groups trees (Mark joint mark) read
 stray_at base source mid front rest at first groups trees (Name raw name) reads whole stands stray =
     absurd stray
 
-pub fault_stray : (base : ℕ) (source mid : List ℕ) (at : ℕ) (first : Bool) (groups : List Opened) (trees : Forest) (piece : Piece) (error : ParseError)
+pub fault_stray : (base : ℕ) (source mid : List ℕ) (at : ℕ) (first : Bool) (groups : List Opened) (trees : Forest)
+    (piece : Piece) (error : ParseError)
     → Reads base source mid at first groups trees → IsPieceAt first mid piece
     → IsFaultFor at (IsStray piece.kind groups) error → IsFault base source error
 fault_stray base source mid at first groups trees piece error reads h =
@@ -99,7 +106,8 @@ pub ok_at_end : (rest : List ℕ) (groups : List Opened) (trees : Forest) (resul
 ok_at_end rest groups trees (Ok stream) done h = (done, h.0, h.1)
 ok_at_end rest groups trees (Err error) done h = tt
 
-pub ends_ok : (base : ℕ) (source rest : List ℕ) (at : ℕ) (first : Bool) (groups : List Opened) (trees : Forest) (result : Result Forest ParseError)
+pub ends_ok : (base : ℕ) (source rest : List ℕ) (at : ℕ) (first : Bool) (groups : List Opened) (trees : Forest)
+    (result : Result Forest ParseError)
     → Reads base source rest at first groups trees
     → IfOk result (λ stream. (rest ≡ []) × (groups ≡ []) × (stream ≡ trees)) → IfOk result (ParsesTo base source)
 ends_ok base source rest at first groups trees (Ok stream) reads h =
@@ -107,7 +115,8 @@ ends_ok base source rest at first groups trees (Ok stream) reads h =
     (reads_all base source rest at first trees (subst (λ gs. Reads base source rest at first gs trees) h.1 reads) h.0)
 ends_ok base source rest at first groups trees (Err error) reads h = tt
 
-ends_fault : (base : ℕ) (source rest : List ℕ) (at : ℕ) (first : Bool) (groups : List Opened) (trees : Forest) (error : ParseError)
+ends_fault : (base : ℕ) (source rest : List ℕ) (at : ℕ) (first : Bool) (groups : List Opened) (trees : Forest)
+    (error : ParseError)
     → Reads base source rest at first groups trees → rest ≡ [] → IsOpenFault groups error
     → IsFault base source error
 ends_fault base source rest at first [] trees error reads done h =
@@ -115,7 +124,8 @@ ends_fault base source rest at first [] trees error reads done h =
 ends_fault base source rest at first (x ∷ groups) trees error reads done h =
     fault_is base source x.lo (Unit {0}) error (λ u. reads_open base source rest at first x groups trees reads done) h
 
-pub ends_open : (base : ℕ) (source rest : List ℕ) (at : ℕ) (first : Bool) (groups : List Opened) (trees : Forest) (result : Result Forest ParseError)
+pub ends_open : (base : ℕ) (source rest : List ℕ) (at : ℕ) (first : Bool) (groups : List Opened) (trees : Forest)
+    (result : Result Forest ParseError)
     → Reads base source rest at first groups trees → rest ≡ [] → IfErr result (IsOpenFault groups)
     → IfErr result (IsFault base source)
 ends_open base source rest at first groups trees (Ok stream) reads done h = tt
@@ -123,7 +133,8 @@ ends_open base source rest at first groups trees (Err error) reads done h =
     ends_fault base source rest at first groups trees error reads done h
 
 -- what is left of the text is a fault, or else a group that is still open
-pub ends_refused : (base : ℕ) (source rest : List ℕ) (at : ℕ) (first : Bool) (groups : List Opened) (trees : Forest) (result : Result Forest ParseError)
+pub ends_refused : (base : ℕ) (source rest : List ℕ) (at : ℕ) (first : Bool) (groups : List Opened) (trees : Forest)
+    (result : Result Forest ParseError)
     → Reads base source rest at first groups trees → HasNoPiece first rest
     → (rest ≢ [] → IfErr result (IsFaultFor at (Unit {0}))) → (rest ≡ [] → IfErr result (IsOpenFault groups))
     → IfErr result (IsFault base source)
@@ -132,4 +143,5 @@ ends_refused base source [] at first groups trees (Err error) reads none stuck s
     ends_open base source [] at first groups trees (Err error) reads refl (stays_open refl)
 ends_refused base source (c ∷ rest) at first groups trees (Err error) reads none stuck stays_open =
     let more : c ∷ rest ≢ [] = λ e. let clash : c ∷ rest ≡ [] = e in cc in
-    fault_is base source at (Unit {0}) error (λ u. reads_stuck base source (c ∷ rest) at first groups trees reads more none) (stuck more)
+    fault_is base source at (Unit {0}) error
+    (λ u. reads_stuck base source (c ∷ rest) at first groups trees reads more none) (stuck more)

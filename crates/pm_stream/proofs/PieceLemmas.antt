@@ -53,7 +53,8 @@ piece_chars first text bytes piece utf8 h e =
     ap chars (e ∙ ap (λ n. take n text) all) ∙ piece_front first text piece utf8 h
 
 -- the text of a literal is whole
-pub literal_found : (first : Bool) (text bytes : List ℕ) (piece : Found) → IsUtf8 text → IsPieceAt first (chars text) piece → piece.kind ≡ kinds.Literal
+pub literal_found : (first : Bool) (text bytes : List ℕ) (piece : Found) → IsUtf8 text
+    → IsPieceAt first (chars text) piece → piece.kind ≡ kinds.Literal
     → bytes ≡ take (piece.bytes - 0) text → IsBuiltToken (Literal (chars bytes))
 literal_found first text bytes piece utf8 h is e =
     let stands = subst (λ kind. IsPiece first (kind_of kind h.front) h.front h.rest) is h.stands in
@@ -75,7 +76,8 @@ pub front_is : (first : Bool) (text bytes front rest : List ℕ) (piece : Found)
     → IsPieceAt first (chars text) piece → bytes ≡ take (piece.bytes - 0) text
     → chars text ≡ front ++ rest → piece.chars ≡ length front → chars bytes ≡ front
 front_is first text bytes front rest piece utf8 h e whole size =
-    piece_chars first text bytes piece utf8 h e ∙ same_fronts h.front front h.rest rest (sym h.whole ∙ whole) (sym h.chars ∙ size)
+    piece_chars first text bytes piece utf8 h e
+    ∙ same_fronts h.front front h.rest rest (sym h.whole ∙ whole) (sym h.chars ∙ size)
 
 -- ---- the events of one token
 

@@ -52,11 +52,13 @@ each_placed text (tree ∷ trees) h =
 -- so has each tree of a text that was parsed with a new map
 pub parsed_places : (text : List ℕ) (stream : Forest) → ParsesTo (next_lo new_map) text stream
     → Each (IsPlaced text) (in_order stream)
-parsed_places text stream parses = each_placed text (in_order stream) (parsed_within (next_lo new_map) text stream parses)
+parsed_places text stream parses =
+    each_placed text (in_order stream) (parsed_within (next_lo new_map) text stream parses)
 
 -- where the fault of a map's last file starts
 pub fault_starts : (old new : Files) (source : List ℕ) (fault : Extent) (place : LineColumn)
-    → new ≡ with_file old source → (fault.lo ≡ fault.hi) × FaultAt (next_lo old) source fault.lo → StartsAt new fault place
+    → new ≡ with_file old source → (fault.lo ≡ fault.hi) × FaultAt (next_lo old) source fault.lo
+    → StartsAt new fault place
     → place ≡ line_column source (fault.lo - next_lo old)
 fault_starts old new source fault place added stands starts =
     let within = fault_within (next_lo old) source fault.lo stands.1 in

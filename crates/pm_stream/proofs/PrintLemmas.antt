@@ -32,7 +32,8 @@ abbrev pub outer_count : List Level → ℕ
 outer_count [] = 0
 outer_count (level ∷ inner) = 1 + 2 * count (forest level.after.now) + outer_count inner
 
-pub outer_text-push : (levels : List Level) (level : Level) → outer_text (levels ++ level ∷ []) ≡ level_text level ++ outer_text levels
+pub outer_text-push : (levels : List Level) (level : Level)
+    → outer_text (levels ++ level ∷ []) ≡ level_text level ++ outer_text levels
 outer_text-push [] level = sym (append-nil (level_text level))
 outer_text-push (x ∷ levels) level =
     ap (λ l. l ++ level_text x) (outer_text-push levels level)
@@ -51,7 +52,8 @@ left_text gap trees outer = printed_after gap (forest trees) ++ outer_text outer
 abbrev pub left_count : List TokenTree → List Level → ℕ
 left_count trees outer = 2 * count (forest trees) + outer_count outer
 
-leaf_text : (gap : Bool) (t : TokenTree) (after : List TokenTree) (outer : List Level) → ((g : Grouped) → t ≡ Group g → ⊥)
+leaf_text : (gap : Bool) (t : TokenTree) (after : List TokenTree) (outer : List Level)
+    → ((g : Grouped) → t ≡ Group g → ⊥)
     → left_text gap (t ∷ after) outer ≡ (space gap ++ front_text t) ++ left_text (gap_within t) after outer
 leaf_text gap (Group g) after outer other = absurd (other g refl)
 leaf_text gap (Ident i) after outer other = simp append_assoc refl
@@ -60,7 +62,8 @@ leaf_text gap (Literal l) after outer other = simp append_assoc refl
 
 group_text : (gap : Bool) (g : Grouped) (level : Level) (outer : List Level) → level.delimiter ≡ g.delimiter
     → left_text gap (Group g ∷ level.after.now) outer
-    ≡ (space gap ++ front_text (Group g)) ++ (printed_after (gap_within (Group g)) g.stream ++ outer_text (outer ++ level ∷ []))
+    ≡ (space gap ++ front_text (Group g))
+    ++ (printed_after (gap_within (Group g)) g.stream ++ outer_text (outer ++ level ∷ []))
 group_text gap g level outer e = rw (outer_text-push outer level, e) (simp append_assoc refl)
 
 group_count : (g : Grouped) (level : Level) (outer : List Level)
@@ -91,10 +94,13 @@ leaf_less (Punct p) left after outer whole other = rw whole (omega arith)
 leaf_less (Literal l) left after outer whole other = rw whole (omega arith)
 
 -- after a group's opener
-pub group_more : (gap now : Bool) (t : TokenTree) (g : Grouped) (left inside : List TokenTree) (level : Level) (outer new : List Level)
-    → left ≡ t ∷ level.after.now → t ≡ Group g → now ≡ gap_within t → level.delimiter ≡ g.delimiter → forest inside ≡ g.stream → new ≡ outer ++ level ∷ []
+pub group_more : (gap now : Bool) (t : TokenTree) (g : Grouped) (left inside : List TokenTree) (level : Level)
+    (outer new : List Level)
+    → left ≡ t ∷ level.after.now → t ≡ Group g → now ≡ gap_within t → level.delimiter ≡ g.delimiter
+    → forest inside ≡ g.stream → new ≡ outer ++ level ∷ []
     → (space gap ++ front_text t) ++ left_text now inside new ≡ left_text gap left outer
-group_more gap now t g left inside level outer new whole is e d into p = rw (whole, e, is, into, p) (sym (group_text gap g level outer d))
+group_more gap now t g left inside level outer new whole is e d into p =
+    rw (whole, e, is, into, p) (sym (group_text gap g level outer d))
 
 pub group_less : (t : TokenTree) (g : Grouped) (left inside : List TokenTree) (level : Level) (outer new : List Level)
     → left ≡ t ∷ level.after.now → t ≡ Group g → forest inside ≡ g.stream → new ≡ outer ++ level ∷ []
@@ -115,7 +121,8 @@ pub around_less : (t : TokenTree) (g : Grouped) (left after : List TokenTree) (o
 around_less t g left after outer new whole is kept = rw (whole, is, kept) (omega arith)
 
 -- after a group's closer
-pub end_more : (gap : Bool) (left : List TokenTree) (level : Level) (outer new : List Level) → length left ≡ 0 → outer ≡ new ++ level ∷ []
+pub end_more : (gap : Bool) (left : List TokenTree) (level : Level) (outer new : List Level) → length left ≡ 0
+    → outer ≡ new ++ level ∷ []
     → ending level.delimiter ++ left_text true level.after.now new ≡ left_text gap left outer
 end_more gap [] level outer new z p = rw p (sym (end_text gap level new))
 end_more gap (t ∷ ts) level outer new z p = absurd (omega (arith, z))
@@ -126,15 +133,21 @@ end_less left level outer new p = rw p (omega (arith, outer_count-push new level
 
 -- some texts are written, and the next
 pub written_more : {W : Type 0} (took : W → List ℕ → W → Type 0) (f g h : Formatter W) (done next left all : List ℕ)
-    → HasWritten took f (encode_utf8_all done) g → HasWritten took g (encode_utf8_all next) h → done ++ (next ++ left) ≡ all
+    → HasWritten took f (encode_utf8_all done) g → HasWritten took g (encode_utf8_all next) h
+    → done ++ (next ++ left) ≡ all
     → (now : List ℕ) × HasWritten took f (encode_utf8_all now) h × (now ++ left ≡ all)
-written_more took f g h done next left all p q e =
-    (done ++ next, has_written_of_eq _ _ _ _ _ (sym (encodes-append done next)) (has_written_append _ _ _ _ _ _ p q), append_assoc done next left ∙ e)
+written_more took f g h done next left all p q e = (
+  done ++ next,
+  has_written_of_eq _ _ _ _ _ (sym (encodes-append done next)) (has_written_append _ _ _ _ _ _ p q),
+  append_assoc done next left ∙ e,
+)
 
 -- two texts are written
 pub written_two : {W : Type 0} (took : W → List ℕ → W → Type 0) (f g h : Formatter W) (a b : List ℕ)
-    → HasWritten took f (encode_utf8_all a) g → HasWritten took g (encode_utf8_all b) h → HasWritten took f (encode_utf8_all (a ++ b)) h
-written_two took f g h a b p q = has_written_of_eq _ _ _ _ _ (sym (encodes-append a b)) (has_written_append _ _ _ _ _ _ p q)
+    → HasWritten took f (encode_utf8_all a) g → HasWritten took g (encode_utf8_all b) h
+    → HasWritten took f (encode_utf8_all (a ++ b)) h
+written_two took f g h a b p q =
+    has_written_of_eq _ _ _ _ _ (sym (encodes-append a b)) (has_written_append _ _ _ _ _ _ p q)
 
 -- a group is written
 pub group_written : {W : Type 0} (took : W → List ℕ → W → Type 0) (f f1 f2 f3 : Formatter W) (g : Grouped)

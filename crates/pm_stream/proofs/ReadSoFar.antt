@@ -16,7 +16,8 @@ use Rattle.pm_stream.proofs.CoverLemmas.{covers_none, covers_more, width-append,
 use Rattle.pm_stream.proofs.EventLemmas.{flattening_balanced, written-append, written_goes_on, stray_closer}
 
 -- what is written is the expansion of pieces up to the rest of the source; `first` says that there are none
-pub record Reads (base : ℕ) (source rest : List ℕ) (at : ℕ) (first : Bool) (groups : List Opened) (trees : Forest) : Type 0 where
+pub record Reads (base : ℕ) (source rest : List ℕ) (at : ℕ) (first : Bool) (groups : List Opened)
+    (trees : Forest) : Type 0 where
   pub pieces : List Piece
   pub covers : CoversUpTo pieces source rest
   pub begins : is_first pieces ≡ first
@@ -28,17 +29,20 @@ reads_none base source =
     record { pieces = []; covers = covers_none source; begins = refl; place = omega arith; expands = refl }
 
 -- one piece more, whose events were written
-pub reads_more : (base : ℕ) (source mid p rest : List ℕ) (at end : ℕ) (first : Bool) (groups groups' : List Opened) (trees trees' : Forest) (k : Kind)
+pub reads_more : (base : ℕ) (source mid p rest : List ℕ) (at end : ℕ) (first : Bool) (groups groups' : List Opened)
+    (trees trees' : Forest) (k : Kind)
     → Reads base source mid at first groups trees → mid ≡ p ++ rest → IsPiece first k p rest
     → end ≡ at + length p
     → written_onto groups' trees' [] ≡ written_onto groups trees (events_onto at k p [])
     → Reads base source rest end false groups' trees'
 reads_more base source mid p rest at end first groups groups' trees trees' k h whole stands e grows = record {
   pieces = h.pieces ++ ((k, p) ∷ []);
-  covers = covers_more h.pieces source p rest k (subst (CoversUpTo h.pieces source) whole h.covers) (subst (λ b. IsPiece b k p rest) (sym h.begins) stands);
+  covers = covers_more h.pieces source p rest k (subst (CoversUpTo h.pieces source) whole h.covers)
+      (subst (λ b. IsPiece b k p rest) (sym h.begins) stands);
   begins = is_first-more h.pieces (k, p);
   place = omega (arith, width-append h.pieces ((k, p) ∷ []), h.place);
-  expands = grows ∙ (written-append groups trees [] (events_onto at k p []) ∙ (ap (λ es. es ++ events_onto at k p []) h.expands
+  expands = grows ∙ (written-append groups trees [] (events_onto at k p [])
+      ∙ (ap (λ es. es ++ events_onto at k p []) h.expands
       ∙ (ap (λ n. expansion base h.pieces ++ events_onto n k p []) h.place ∙ sym (expansion-more base h.pieces k p))));
 }
 
@@ -47,10 +51,12 @@ pub reads_white : (base : ℕ) (source mid p rest : List ℕ) (at end : ℕ) (gr
     → Reads base source mid at false groups trees → mid ≡ p ++ rest → list_all is_white p ≡ true
     → end ≡ at + length p → Reads base source rest end false groups trees
 reads_white base source mid [] rest at end groups trees h whole white e =
-    subst (λ n. Reads base source rest n false groups trees) (omega arith) (subst (λ m. Reads base source m at false groups trees) whole h)
+    subst (λ n. Reads base source rest n false groups trees) (omega arith)
+    (subst (λ m. Reads base source m at false groups trees) whole h)
 reads_white base source mid (c ∷ p) rest at end groups trees h whole white e =
     let parts = and_parts _ _ white in
-    let past = reads_more base source mid (c ∷ []) (p ++ rest) at (at + 1) false groups groups trees trees Gap h whole (inl (c, refl, parts.0)) refl refl in
+    let past = reads_more base source mid (c ∷ []) (p ++ rest) at (at + 1) false groups groups trees trees Gap h whole
+    (inl (c, refl, parts.0)) refl refl in
     reads_white base source (p ++ rest) p rest (at + 1) end groups trees past refl parts.1 (omega arith)
 
 -- ---- how the reading ends
@@ -64,7 +70,8 @@ goes_on : {base : ℕ} {source rest : List ℕ} {at : ℕ} {first : Bool} {group
     (h : Reads base source rest at first groups trees) → CanGoOn (expansion base h.pieces)
 goes_on {groups = groups} {trees = trees} h = subst CanGoOn h.expands (written_goes_on groups trees)
 
-pub reads_open : (base : ℕ) (source rest : List ℕ) (at : ℕ) (first : Bool) (x : Opened) (groups : List Opened) (trees : Forest)
+pub reads_open : (base : ℕ) (source rest : List ℕ) (at : ℕ) (first : Bool) (x : Opened) (groups : List Opened)
+    (trees : Forest)
     → Reads base source rest at first (x ∷ groups) trees → rest ≡ [] → FaultAt base source x.lo
 reads_open base source rest at first x groups trees h done = inr (record {
   pieces = h.pieces;
@@ -90,13 +97,15 @@ reads_stuck base source rest at first groups trees h more none = inl (record {
   stuck = inl (subst (λ b. HasNoPiece b rest) (sym h.begins) none);
 })
 
-pub reads_stray : (base : ℕ) (source mid p rest : List ℕ) (at : ℕ) (first : Bool) (groups : List Opened) (trees : Forest) (c : ℕ)
+pub reads_stray : (base : ℕ) (source mid p rest : List ℕ) (at : ℕ) (first : Bool) (groups : List Opened)
+    (trees : Forest) (c : ℕ)
     → Reads base source mid at first groups trees → mid ≡ p ++ rest → IsPiece first (Close c) p rest
     → (FitsInnermost (delimiter_of c) groups → ⊥)
     → FaultAt base source at
 reads_stray base source mid p rest at first groups trees c h whole stands apart =
     let begin = piece_not_empty first (Close c) p rest stands in
-    let more : mid ≢ [] = λ e. let clash : begin.0 ∷ (begin.1 ++ rest) ≡ [] = ap (λ q. q ++ rest) (sym begin.2) ∙ (sym whole ∙ e) in cc in
+    let more : mid ≢ [] = λ e. let clash : begin.0 ∷ (begin.1 ++ rest) ≡ [] = ap (λ q. q ++ rest) (sym begin.2)
+    ∙ (sym whole ∙ e) in cc in
     let closer : HasStrayCloser (is_first h.pieces) at (expansion base h.pieces) mid = record {
       character = c;
       front = p;
@@ -106,4 +115,13 @@ reads_stray base source mid p rest at first groups trees c h whole stands apart 
       stray = subst (λ es. CanGoOn (es ++ (Closes (delimiter_of c) (at + length p) ∷ [])) → ⊥) h.expands
           (stray_closer groups trees (delimiter_of c) (at + length p) apart);
     } in
-    inl (record { pieces = h.pieces; rest = mid; covers = h.covers; at = h.place; goes_on = goes_on h; more = more; stuck = inr closer })
+    inl (record {
+      pieces = h.pieces;
+      rest = mid;
+      covers = h.covers;
+      at = h.place;
+      goes_on = goes_on h;
+      more =
+          more;
+      stuck = inr closer;
+    })

@@ -35,7 +35,8 @@ printed_after-ruled gap nil = refl
 printed_after-ruled gap (leaf t lo hi f) = ap (λ l. space gap ++ (token_text t ++ l)) (printed_after-ruled (parts t) f)
 printed_after-ruled gap (group d lo hi f g) =
     ap (λ l. space gap ++ l)
-    (ap₂ (λ x y. opening d ++ (x ++ (space (is_brace d) ++ (closing d ++ y)))) (printed_after-ruled (is_brace d) f) (printed_after-ruled true g)
+    (ap₂ (λ x y. opening d ++ (x ++ (space (is_brace d) ++ (closing d ++ y)))) (printed_after-ruled (is_brace d) f)
+    (printed_after-ruled true g)
     ∙ enclosed_same d f (ruled f) (separator true g ++ ruled g) (ruled-nil f))
 
 pub printed-ruled : (f : Forest) → printed f ≡ ruled f

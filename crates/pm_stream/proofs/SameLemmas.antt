@@ -81,13 +81,15 @@ same-before (Literal l) (Punct q) f k = leaf_same (text_token l) (mark_token q) 
 same-before (Literal l) (Literal m) f k = leaf_same (text_token l) (text_token m) f k
 
 -- literals are alike where their bytes are
-pub literal_alike : (a b s t : List ℕ) (r : Bool) → chars s ≡ a → chars t ≡ b → IsUtf8 s → IsUtf8 t → r ≡ pointwise nat_eq s t
+pub literal_alike : (a b s t : List ℕ) (r : Bool) → chars s ≡ a → chars t ≡ b → IsUtf8 s → IsUtf8 t
+    → r ≡ pointwise nat_eq s t
     → IsTrue r ↔ (One (tokens.Literal a) 0 0 ≡ One (tokens.Literal b) 0 0)
 literal_alike a b s t r own other utf8 utf8-other is =
     let bytes = bytes_eq-Decides s t in (
       λ h. let same = bytes.0 (sym is ∙ h) in cc,
       λ e. let same : a ≡ b = cc in
-          is ∙ bytes.1 (sym (encodes-chars s utf8) ∙ (ap encode_utf8_all (own ∙ (same ∙ sym other)) ∙ encodes-chars t utf8-other)),
+          is ∙ bytes.1 (sym (encodes-chars s utf8)
+          ∙ (ap encode_utf8_all (own ∙ (same ∙ sym other)) ∙ encodes-chars t utf8-other)),
     )
 
 not_nil : (u : TokenTree) (f : Forest) → Same nil (before u f) → ⊥
@@ -104,7 +106,8 @@ uneven [] (u ∷ others) outer r none is some h = not_nil u (forest others) h.0
 uneven (t ∷ trees) others outer r none is some h = absurd (omega (arith, none))
 
 -- the first trees begin alike, and the trees inside them are next
-pub inside_same : (trees others within within-other : List TokenTree) (after : Lists) (t u : TokenTree) (r : Bool) (outer new : List Lists)
+pub inside_same : (trees others within within-other : List TokenTree) (after : Lists) (t u : TokenTree) (r : Bool)
+    (outer new : List Lists)
     → trees ≡ t ∷ after.trees.now → others ≡ u ∷ after.others.now
     → IsTrue r ↔ (first_event t ≡ first_event u) → IsTrue r
     → forest within ≡ inside t → forest within-other ≡ inside u → new ≡ outer ++ after ∷ []

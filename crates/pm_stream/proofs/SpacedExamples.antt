@@ -107,7 +107,8 @@ deep = refl
 
 -- ---- spans don't matter
 
-other_spans : Same (leaf a 1 2 (group Brace 2 9 (leaf a 3 4 nil) nil)) (leaf a 7 8 (group Brace 0 0 (leaf a 1 1 nil) nil))
+other_spans : Same (leaf a 1 2 (group Brace 2 9 (leaf a 3 4 nil) nil))
+    (leaf a 7 8 (group Brace 0 0 (leaf a 1 1 nil) nil))
 other_spans = refl
 
 -- ---- what is printed

@@ -38,8 +38,12 @@ left_to_read-group outer new left within after t g whole is into push =
 -- so a group is the first of the trees that are left
 pub begins_with_group : (outer : Rests) (left after walk : List TokenTree) (t : TokenTree) (g : Grouped)
     → left ≡ t ∷ after → t ≡ Group g → left_to_read outer left ≡ walk → BeginsWithGroup walk
-begins_with_group outer left after walk t g whole is left_is =
-    (g, in_order_onto g.stream (in_order_onto (forest after) (after_groups outer [])), sym left_is ∙ rw (whole, is) refl)
+begins_with_group outer left after walk t g whole is left_is = (
+  g,
+  in_order_onto g.stream (in_order_onto (forest after) (after_groups outer [])),
+  sym left_is
+      ∙ rw (whole, is) refl,
+)
 
 -- no tree is left of the innermost group
 pub left_to_read-close : (outer new : Rests) (left : List TokenTree) (after : Bor (List TokenTree))

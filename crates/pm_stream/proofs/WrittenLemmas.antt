@@ -30,7 +30,8 @@ nested_more [] m n le h = tt
 nested_more (frame ∷ frames) m n le h = (omega (arith, h.0), h.1)
 
 -- what is left of the list before a group
-nested_before : (frame : Frame) (frames : List Frame) (trees : List TokenTree) → IsNested (frame ∷ frames) (length trees)
+nested_before : (frame : Frame) (frames : List Frame) (trees : List TokenTree)
+    → IsNested (frame ∷ frames) (length trees)
     → IsNested frames (length (take frame.before trees))
 nested_before frame frames trees h = subst (IsNested frames) (sym (length-take-le frame.before trees h.0)) h.1
 
@@ -39,7 +40,8 @@ nested_before frame frames trees h = subst (IsNested frames) (sym (length-take-l
 abbrev pub written_in : List Frame → List TokenTree → List Event → List Event
 written_in frames trees = written_onto (opened frames trees) (forest (innermost frames trees))
 
-pub written-push : (frames : List Frame) (trees : List TokenTree) (tree : TokenTree) (events : List Event) → IsNested frames (length trees)
+pub written-push : (frames : List Frame) (trees : List TokenTree) (tree : TokenTree) (events : List Event)
+    → IsNested frames (length trees)
     → written_in frames (trees ++ tree ∷ []) events ≡ written_in frames trees (flat_onto (alone tree) events)
 written-push frames trees tree events h =
     ap (λ (s : List Opened × Forest). written_onto s.0 s.1 events) (seen-push frames trees tree h)
@@ -48,19 +50,26 @@ written-push frames trees tree events h =
 -- the tree of a group that was open
 abbrev pub closed : Delimiter → Frame → List TokenTree → ℕ → TokenTree
 closed d frame trees hi =
-    Group (record { delimiter = d; stream = forest (drop frame.before trees); span = record { lo = frame.lo; hi = hi } })
+    Group (record {
+      delimiter = d;
+      stream = forest (drop frame.before trees);
+      span =
+          record { lo = frame.lo; hi = hi };
+    })
 
 -- the list, once the group is closed
 abbrev pub with_closed : Delimiter → Frame → List TokenTree → ℕ → List TokenTree
 with_closed d frame trees hi = take frame.before trees ++ closed d frame trees hi ∷ []
 
-pub written-close : (frames : List Frame) (frame : Frame) (trees : List TokenTree) (d : Delimiter) (hi : ℕ) (events : List Event)
+pub written-close : (frames : List Frame) (frame : Frame) (trees : List TokenTree) (d : Delimiter) (hi : ℕ)
+    (events : List Event)
     → IsNested (frame ∷ frames) (length trees) → frame.delimiter ≡ d
     → written_in frames (with_closed d frame trees hi) events ≡ written_in (frame ∷ frames) trees (Closes d hi ∷ events)
 written-close frames frame trees d hi events h same =
     let outer = take frame.before trees in
     written-push frames outer (closed d frame trees hi) events (nested_before frame frames trees h)
-    ∙ ap (λ x. written_in frames outer (Opens x frame.lo ∷ flat_onto (forest (drop frame.before trees)) (Closes d hi ∷ events))) (sym same)
+    ∙ ap (λ x. written_in frames outer
+    (Opens x frame.lo ∷ flat_onto (forest (drop frame.before trees)) (Closes d hi ∷ events))) (sym same)
 
 -- ---- what is written stays built
 

@@ -74,8 +74,9 @@ impl TokenStream {
     /// The token trees of a text that becomes no file of a map (`parses-to`). The stream is `built`.
     ///
     /// Answers and spans are those of [`from_str`](TokenStream::from_str) with a new map, but the text is no
-    /// file of any map, so no map is promised to hold the spans. It takes no copy of the text and looks for no lines, so what only prints trees reads a text
-    /// by it in less time. Where a fault stands is asked of a map: `from_str` finds it at the same position.
+    /// file of any map, so no map is promised to hold the spans. It takes no copy of the text and looks for
+    /// no lines, so what only prints trees reads a text by it in less time. Where a fault stands is asked of
+    /// a map: `from_str` finds it at the same position.
     ///
     /// `a += b` gives four trees, the first the identifier `a` at 1..2. The fault of `(]` is 2..2.
     pub fn parse_unmapped(alloc: Global, text: &str) -> Result<TokenStream, ParseError>

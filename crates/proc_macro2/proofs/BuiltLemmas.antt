@@ -50,13 +50,15 @@ doc_group_rises : (n lo hi : ℕ) (text : List ℕ) (es : List Event) → n ≤ 
 doc_group_rises n lo hi text es l le all more =
     let literal : Rising lo (One (Literal (string_text text)) lo hi ∷ Closes Bracket hi ∷ es) =
     (escaped.doc_built text all, le, (le, more)) in
-    let sign : Rising lo (One equals lo hi ∷ One (Literal (string_text text)) lo hi ∷ Closes Bracket hi ∷ es) = (refl, le, literal) in
+    let sign : Rising lo (One equals lo hi ∷ One (Literal (string_text text)) lo hi ∷ Closes Bracket hi ∷ es) =
+    (refl, le, literal) in
     (l, (doc_name_built, le, sign))
 
 doc_rises : (n lo hi : ℕ) (inner : Bool) (text : List ℕ) (es : List Event) → n ≤ lo → lo ≤ hi → IsText text
     → Rising lo es → Rising n (doc_onto lo hi inner text es)
 doc_rises n lo hi true text es l le all more =
-    let sign : Rising n (One bang lo hi ∷ doc_group_onto lo hi text es) = (refl, le, doc_group_rises n lo hi text es l le all more) in
+    let sign : Rising n (One bang lo hi ∷ doc_group_onto lo hi text es) =
+    (refl, le, doc_group_rises n lo hi text es l le all more) in
     (refl, le, sign)
 doc_rises n lo hi false text es l le all more = (refl, le, doc_group_rises n lo hi text es l le all more)
 

@@ -15,7 +15,8 @@ use Rattle.lexical.specs.Cover.{onto, StandBefore}
 use Rattle.lexical.proofs.TextLemmas.{any_cut}
 use Rattle.grammar_laws.proofs.LeafLaws.{plain_line, doc_line, comment_cut, doc_cut, identifier_before_stop}
 use Rattle.grammar_laws.proofs.LeafLaws.{mark_before_stop, stop_alone, stop_unbarred, quote_unbarred, quote_next}
-use Rattle.grammar_laws.proofs.LeafLaws.{follows_something, IsNameOrLiteral, literal_before_stop, onto_split, literal_cut}
+use Rattle.grammar_laws.proofs.LeafLaws.{follows_something, IsNameOrLiteral, literal_before_stop, onto_split}
+use Rattle.grammar_laws.proofs.LeafLaws.{literal_cut}
 use Rattle.grammar_laws.proofs.LeafLaws.{literal_quoted, prefixed_follows}
 use Rattle.grammar_laws.proofs.CommentLemmas.{plain_stays}
 use Rattle.lexical.proofs.PieceFacts.{piece_not_empty}
@@ -27,13 +28,15 @@ abbrev pub MayBreak : List Piece → List ℕ → Type 0
 MayBreak us v = (v ≡ []) ⊎ (ends_quiet us ≡ true)
 
 -- a text that begins with none of the fronts begins with none of them where a line's end is put in
-any_line : (fronts : List (List ℕ)) (p : List ℕ) (us : List Piece) (v w : List ℕ) → list_all (list_all (λ c. not (c == 10))) fronts ≡ true
+any_line : (fronts : List (List ℕ)) (p : List ℕ) (us : List Piece) (v w : List ℕ)
+    → list_all (list_all (λ c. not (c == 10))) fronts ≡ true
     → begins_any fronts (p ++ onto us v) ≡ false → begins_any fronts (p ++ onto us (10 ∷ w)) ≡ false
 any_line fronts p us v w none h =
     let far : (t : List ℕ) → p ++ onto us t ≡ (p ++ onto us []) ++ t =
     λ t. ap (λ r. p ++ r) (onto_split us t) ∙ sym (append_assoc p (onto us []) t) in
     ap (begins_any fronts) (far (10 ∷ w))
-    ∙ any_cut (λ c. not (c == 10)) fronts (p ++ onto us []) v (10 ∷ w) none refl (ap (begins_any fronts) (sym (far v)) ∙ h)
+    ∙ any_cut (λ c. not (c == 10)) fronts (p ++ onto us []) v (10 ∷ w) none refl
+    (ap (begins_any fronts) (sym (far v)) ∙ h)
 
 -- the first character of a piece stays
 first_stays : (f : ℕ → Bool) (x : Piece) (us : List Piece) (v w : List ℕ) → IsPiece false x.0 x.1 (onto us v)
@@ -45,7 +48,8 @@ first_stays f x us v w h =
 -- ---- the last piece
 
 cut_mark : (c : ℕ) (joint : Bool) (v w : List ℕ) → v ≡ [] → Stands (Mark c joint) v → Stands (Mark c joint) (10 ∷ w)
-cut_mark c joint v w e (inl h) = inl (mark_before_stop c v (10 ∷ w) refl h.0, h.1 ∙ (ap joint_before e ∙ sym (stop_alone (10 ∷ w) refl)))
+cut_mark c joint v w e (inl h) =
+    inl (mark_before_stop c v (10 ∷ w) refl h.0, h.1 ∙ (ap joint_before e ∙ sym (stop_alone (10 ∷ w) refl)))
 cut_mark c joint v w e (inr h) = absurd (follows_something (subst FollowsQuote e h.0.1))
 
 cut_last : (b : Bool) (k : Kind) (p v w : List ℕ) → IsPiece b k p v → MayBreak ((k, p) ∷ []) v → IsPiece b k p (10 ∷ w)
@@ -63,7 +67,8 @@ cut_last b (Leaf (Literal text)) p v w h q = (h.0, literal_before_stop text v (1
 -- ---- a piece before others
 
 -- the identifier after `'` is the piece there, and nothing that bars the `'` follows it
-follows_cut : (x : Piece) (us : List Piece) (v w : List ℕ) → FollowsQuote (onto (x ∷ us) v) → StandBefore false (x ∷ us) v
+follows_cut : (x : Piece) (us : List Piece) (v w : List ℕ) → FollowsQuote (onto (x ∷ us) v)
+    → StandBefore false (x ∷ us) v
     → StandBefore false (x ∷ us) (10 ∷ w) → FollowsQuote (onto (x ∷ us) (10 ∷ w))
 follows_cut (k, p) us v w f old new = by_kind (quote_next false k p (onto us v) old.0 f)
   where
@@ -74,7 +79,8 @@ follows_cut (k, p) us v w f old new = by_kind (quote_next false k p (onto us v) 
 
     by_kind : IsNameOrLiteral k → FollowsQuote (p ++ onto us (10 ∷ w))
     by_kind (inl (raw, name, is)) =
-        let was : IsPiece false (Leaf (Name raw name)) p (onto us v) = subst (λ x. IsPiece false x p (onto us v)) is old.0 in
+        let was : IsPiece false (Leaf (Name raw name)) p (onto us v) =
+        subst (λ x. IsPiece false x p (onto us v)) is old.0 in
         let now : IsPiece false (Leaf (Name raw name)) p (onto us (10 ∷ w)) =
         subst (λ x. IsPiece false x p (onto us (10 ∷ w))) is new.0 in
         let far : (t : List ℕ) → p ++ t ≡ raw_front raw ++ (name ++ t) =
@@ -89,7 +95,8 @@ follows_cut (k, p) us v w f old new = by_kind (quote_next false k p (onto us v) 
           unbarred = after raw us old.1 bars;
         }
     by_kind (inr (text, is)) =
-        let was : IsPiece false (Leaf (Literal text)) p (onto us v) = subst (λ x. IsPiece false x p (onto us v)) is old.0 in
+        let was : IsPiece false (Leaf (Literal text)) p (onto us v) =
+        subst (λ x. IsPiece false x p (onto us v)) is old.0 in
         let fronts = literal_quoted text (onto us v) was.1 (subst (λ x. FollowsQuote (x ++ onto us v)) was.0 f) in
         subst (λ x. FollowsQuote (x ++ onto us (10 ∷ w))) (sym was.0) (prefixed_follows text (onto us (10 ∷ w)) fronts)
 
@@ -97,19 +104,24 @@ follows_cut (k, p) us v w f old new = by_kind (quote_next false k p (onto us v) 
 name_same : (p r s : List ℕ) → ((f : ℕ → Bool) → first_passes f r ≡ first_passes f s) → IsName p r → IsName p s
 name_same p r s same h = name_before p r s (sym (same is_ident_continue) ∙ h.second.stops) h
 
-identifier_cut : (raw : Bool) (name : List ℕ) (x : Piece) (us : List Piece) (v w : List ℕ) → StandBefore false (x ∷ us) v
+identifier_cut : (raw : Bool) (name : List ℕ) (x : Piece) (us : List Piece) (v w : List ℕ)
+    → StandBefore false (x ∷ us) v
     → Identifier raw name (onto (x ∷ us) v) → Identifier raw name (onto (x ∷ us) (10 ∷ w))
 identifier_cut true name x us v w old h = (
   (name_same name _ _ (λ f. first_stays f x us v (10 ∷ w) old.0) h.0.0, h.0.1),
   any_line literal_prefixes (codes "r#" ++ name) (x ∷ us) v w refl h.1,
 )
 identifier_cut false name x us v w old h = (
-  (name_same name _ _ (λ f. first_stays f x us v (10 ∷ w) old.0) h.0.0, any_line (codes "r#" ∷ []) name (x ∷ us) v w refl h.0.1),
+  (
+    name_same name _ _ (λ f. first_stays f x us v (10 ∷ w) old.0) h.0.0,
+    any_line (codes "r#" ∷ []) name (x ∷ us) v w refl h.0.1,
+  ),
   any_line literal_prefixes name (x ∷ us) v w refl h.1,
 )
 
 mark_cut : (c : ℕ) (joint : Bool) (x : Piece) (us : List Piece) (v w : List ℕ) → StandBefore false (x ∷ us) v
-    → StandBefore false (x ∷ us) (10 ∷ w) → Stands (Mark c joint) (onto (x ∷ us) v) → Stands (Mark c joint) (onto (x ∷ us) (10 ∷ w))
+    → StandBefore false (x ∷ us) (10 ∷ w) → Stands (Mark c joint) (onto (x ∷ us) v)
+    → Stands (Mark c joint) (onto (x ∷ us) (10 ∷ w))
 mark_cut c joint x us v w old new (inl h) = inl (
   (h.0.0, any_line comment_fronts (c ∷ []) (x ∷ us) v w refl h.0.1),
   h.1 ∙ (joint_by false x.0 x.1 (onto us v) old.0 ∙ sym (joint_by false x.0 x.1 (onto us (10 ∷ w)) new.0)),
@@ -123,7 +135,8 @@ cut_piece b FrontMark p x us v w q h old new = h
 cut_piece b Gap p x us v w q (inl h) old new = inl h
 cut_piece b Gap p x us v w q (inr h) old new =
     inr (plain_stays p _ _ (comment_cut p _ _ (λ f. first_stays f x us v (10 ∷ w) old.0) h.0) h)
-cut_piece b (Doc inner text) p x us v w q h old new = doc_cut inner text p _ _ (λ f. first_stays f x us v (10 ∷ w) old.0) h
+cut_piece b (Doc inner text) p x us v w q h old new =
+    doc_cut inner text p _ _ (λ f. first_stays f x us v (10 ∷ w) old.0) h
 cut_piece b (Open c) p x us v w q h old new = (h.0, any_line (error_literal ∷ []) p (x ∷ us) v w refl h.1)
 cut_piece b (Close c) p x us v w q h old new = h
 cut_piece b (Leaf (Name raw name)) p x us v w q h old new = (h.0, identifier_cut raw name x us v w old h.1)
@@ -132,7 +145,8 @@ cut_piece b (Leaf (Literal text)) p x us v w q h old new = (h.0, literal_cut tex
 
 -- ---- all of them
 
-pub stand_cut : (b : Bool) (us : List Piece) (v w : List ℕ) → MayBreak us v → StandBefore b us v → StandBefore b us (10 ∷ w)
+pub stand_cut : (b : Bool) (us : List Piece) (v w : List ℕ) → MayBreak us v → StandBefore b us v
+    → StandBefore b us (10 ∷ w)
 stand_cut b [] v w q h = tt
 stand_cut b (x ∷ []) v w q h = (cut_last b x.0 x.1 v w h.0 q, tt)
 stand_cut b (x ∷ (y ∷ us)) v w q h =

@@ -15,16 +15,19 @@ use Rattle.proc_macro2.specs.Laws.{Gives}
 use Rattle.proc_macro2.proofs.Places.{bare, bare-append, said, said-append, said_parsed, same_from_said}
 use Rattle.proc_macro2.proofs.CutLemmas.{MayBreak, stand_cut}
 
-stand-append : (b : Bool) (us vs : List Piece) (r : List ℕ) → StandBefore b us (onto vs r) → ((c : Bool) → StandBefore c vs r)
+stand-append : (b : Bool) (us vs : List Piece) (r : List ℕ) → StandBefore b us (onto vs r)
+    → ((c : Bool) → StandBefore c vs r)
     → StandBefore b (us ++ vs) r
 stand-append b [] vs r h j = j b
-stand-append b (x ∷ us) vs r h j = (subst (IsPiece b x.0 x.1) (sym (onto-append us vs r)) h.0, stand-append false us vs r h.1 j)
+stand-append b (x ∷ us) vs r h j =
+    (subst (IsPiece b x.0 x.1) (sym (onto-append us vs r)) h.0, stand-append false us vs r h.1 j)
 
 stand_front : (b : Bool) (us vs : List Piece) (r : List ℕ) → StandBefore b (us ++ vs) r → StandBefore b us (onto vs r)
 stand_front b [] vs r h = tt
 stand_front b (x ∷ us) vs r h = (subst (IsPiece b x.0 x.1) (onto-append us vs r) h.0, stand_front false us vs r h.1)
 
-stand_back : (b : Bool) (us vs : List Piece) (r : List ℕ) → ends_quiet us ≡ true → StandBefore b (us ++ vs) r → StandBefore false vs r
+stand_back : (b : Bool) (us vs : List Piece) (r : List ℕ) → ends_quiet us ≡ true → StandBefore b (us ++ vs) r
+    → StandBefore false vs r
 stand_back b [] vs r e h = absurd (both_ways false refl e)
 stand_back b (x ∷ []) vs r e h = h.1
 stand_back b (x ∷ (y ∷ us)) vs r e h = stand_back false (y ∷ us) vs r e h.1
@@ -42,14 +45,16 @@ stand_later ((Close c, p) ∷ ps) r e h = h
 stand_later ((Leaf t, p) ∷ ps) r e h = h
 
 -- pieces, a line's end, and pieces
-line_between : (at : ℕ) (s : Forest) (us vs : List Piece) (v : List ℕ) → MayBreak us v → StandBefore true us v → StandBefore false vs []
+line_between : (at : ℕ) (s : Forest) (us vs : List Piece) (v : List ℕ) → MayBreak us v → StandBefore true us v
+    → StandBefore false vs []
     → said us ++ said vs ≡ bare (flattening s) → Gives at (onto us (10 ∷ onto vs [])) s
 line_between at s us vs v may front back says =
     let line : List Piece = (Gap, 10 ∷ []) ∷ vs in
     let x = same_from_said at s (us ++ line) (said-append us line ∙ says) in
     let covers : IsCover (us ++ line) (onto us (10 ∷ onto vs [])) = record {
       whole = sym (onto-append us line []);
-      stand = stand-append true us line [] (stand_cut true us v (onto vs []) may front) (λ c. (inl (10, refl, refl), back));
+      stand = stand-append true us line [] (stand_cut true us v (onto vs []) may front)
+          (λ c. (inl (10, refl, refl), back));
     } in
     record { parsed = x.0; parses = record { pieces = us ++ line; covers = covers; expands = x.1 }; same = x.2 }
 
@@ -69,6 +74,7 @@ pub broken_line : (base first : ℕ) (source : List ℕ) (s : Forest) (us vs : L
     → IsCover (us ++ vs) source → ends_quiet us ≡ true → Gives base (onto us (10 ∷ onto vs [])) s
 broken_line base first source s us vs h cover quiet =
     let says : said us ++ said vs ≡ bare (flattening s) =
-    sym (said-append us vs) ∙ (ap said (one_cover source (us ++ vs) h.pieces cover h.covers) ∙ said_parsed first source s h) in
+    sym (said-append us vs) ∙ (ap said (one_cover source (us ++ vs) h.pieces cover h.covers)
+    ∙ said_parsed first source s h) in
     line_between base s us vs (onto vs []) (inr quiet)
     (stand_front true us vs [] cover.stand) (stand_back true us vs [] quiet cover.stand) says

@@ -18,7 +18,8 @@ use Rattle.lexical.specs.Literal as literals
 use Rattle.lexical.specs.Literal.{AnyLiteral}
 use Rattle.lexical.specs.Piece.{Kind, FrontMark, Gap, Doc, Open, Close, Leaf, Stands, IsPiece}
 use Rattle.lexical.proofs.ClassLemmas.{any_of, ident_start_ascii, ident_continue_ascii}
-use Rattle.grammar_laws.proofs.LeafLaws.{comment_first, identifier_before_stop, mark_before_stop, stop_alone, quote_next}
+use Rattle.grammar_laws.proofs.LeafLaws.{comment_first, identifier_before_stop, mark_before_stop, stop_alone}
+use Rattle.grammar_laws.proofs.LeafLaws.{quote_next}
 use Rattle.grammar_laws.proofs.LeafLaws.{literal_before_stop, literal_first, literal_plain, literal_quoted, stops}
 use Rattle.lexical.proofs.PieceFacts.{open_is, close_is, stands_mark, start_continues, name_continues, none_begins}
 use Rattle.pm_token.specs.Built.{IsBuiltToken}
@@ -26,7 +27,8 @@ use Rattle.pm_token.specs.Built.{IsBuiltToken}
 -- ---- characters
 
 -- what holds of the characters of an ASCII list
-in_list : (ds : List ℕ) (g : ℕ → Bool) → list_all (λ d. nat_lt d 128 && not (g d)) ds ≡ true → (c : ℕ) → list_any (λ d. d == c) ds ≡ true
+in_list : (ds : List ℕ) (g : ℕ → Bool) → list_all (λ d. nat_lt d 128 && not (g d)) ds ≡ true → (c : ℕ)
+    → list_any (λ d. d == c) ds ≡ true
     → (c < 128) × (g c ≡ false)
 in_list [] g all c any = absurd (both_ways _ refl any)
 in_list (d ∷ ds) g all c any =
@@ -61,7 +63,8 @@ closer_no_mark c h = any_of (λ d. is_mark d ≡ false) (codes ")]}") c (refl, (
 -- ---- comments
 
 -- a first character with a property
-begins_as : (f : ℕ → Bool) (b : Bool) {p q : List ℕ} {c : ℕ} (r : List ℕ) → p ≡ c ∷ q → f c ≡ b → first_passes f (p ++ r) ≡ b
+begins_as : (f : ℕ → Bool) (b : Bool) {p q : List ℕ} {c : ℕ} (r : List ℕ) → p ≡ c ∷ q → f c ≡ b
+    → first_passes f (p ++ r) ≡ b
 begins_as f b r e h = ap (λ x. first_passes f (x ++ r)) e ∙ h
 
 -- neither front begins where `/` doesn't
@@ -72,14 +75,16 @@ no_slash c r other = or_from _ _ (and_left (47 == c) _ other) (or_from _ _ (and_
 pub no_mark_plain : (r : List ℕ) → first_passes is_mark r ≡ false → begins_any comment_fronts r ≡ false
 no_mark_plain [] h = refl
 no_mark_plain (c ∷ r) h =
-    no_slash c r (false_from_ne_true (47 == c) (λ same. both_ways (is_mark c) h (ap is_mark (sym (eqb-true 47 c same)))))
+    no_slash c r (false_from_ne_true (47 == c)
+    (λ same. both_ways (is_mark c) h (ap is_mark (sym (eqb-true 47 c same)))))
 
 -- one character is no comment
 mark_ends : (c : ℕ) → begins_any comment_fronts (c ∷ []) ≡ false
 mark_ends c = or_from _ _ (and_right (47 == c) false refl) (or_from _ _ (and_right (47 == c) false refl) refl)
 
 -- a mark before `'` begins none
-pub tick_comment : (c : ℕ) (p r : List ℕ) → first_passes (λ x. x == 39) p ≡ true → begins_any comment_fronts (c ∷ (p ++ r)) ≡ false
+pub tick_comment : (c : ℕ) (p r : List ℕ) → first_passes (λ x. x == 39) p ≡ true
+    → begins_any comment_fronts (c ∷ (p ++ r)) ≡ false
 tick_comment c [] r h = absurd (both_ways false refl h)
 tick_comment c (d ∷ p) r h = subst (λ x. begins_any comment_fronts (c ∷ x ∷ (p ++ r)) ≡ false) (sym (eqb-true d 39 h))
     (or_from _ _ (and_right (47 == c) false refl) (or_from _ _ (and_right (47 == c) false refl) refl))
@@ -118,7 +123,8 @@ is_gap (Close c) = false
 is_gap (Leaf token) = false
 
 -- a plain name begins with a start
-plain_first : (name r : List ℕ) → Stands (Name false name) r → (c : ℕ) × (q : List ℕ) × (name ≡ c ∷ q) × (is_ident_start c ≡ true)
+plain_first : (name r : List ℕ) → Stands (Name false name) r
+    → (c : ℕ) × (q : List ℕ) × (name ≡ c ∷ q) × (is_ident_start c ≡ true)
 plain_first name r h = let n = h.0.0 in (n.first.0, n.back, n.whole ∙ ap (λ x. x ++ n.back) n.first.1, n.first.2)
 
 -- where a mark stands no comment begins
@@ -127,7 +133,8 @@ mark_plain c joint r (inl mark) = mark.0.1
 mark_plain c joint r (inr quote) = let is : c ≡ 39 = cc in ap (λ x. begins_any comment_fronts (x ∷ r)) is
 
 -- what begins with a piece that is no gap begins no comment
-pub no_comment : (b : Bool) (k : Kind) (p r : List ℕ) → is_gap k ≡ false → IsPiece b k p r → begins_any comment_fronts (p ++ r) ≡ false
+pub no_comment : (b : Bool) (k : Kind) (p r : List ℕ) → is_gap k ≡ false → IsPiece b k p r
+    → begins_any comment_fronts (p ++ r) ≡ false
 no_comment b FrontMark p r g h = ap (λ x. begins_any comment_fronts (x ++ r)) h.1
 no_comment b Gap p r g h = absurd (both_ways true g refl)
 no_comment b (Doc inner text) p r g h = absurd (both_ways true g refl)
@@ -142,7 +149,8 @@ no_comment b (Leaf (Name false name)) p r g h =
     let f = plain_first name r h.1 in
     no_mark_plain (p ++ r) (begins_as is_mark false r (h.0 ∙ f.2) (start_no_mark f.0 f.3))
 no_comment b (Leaf (Mark c joint)) p r g h = ap (λ x. begins_any comment_fronts (x ++ r)) h.0 ∙ mark_plain c joint r h.1
-no_comment b (Leaf (Literal text)) p r g h = ap (λ x. begins_any comment_fronts (x ++ r)) h.0 ∙ literal_plain text r r h.1
+no_comment b (Leaf (Literal text)) p r g h = ap (λ x. begins_any comment_fronts (x ++ r)) h.0
+    ∙ literal_plain text r r h.1
 
 -- ---- before which pieces a mark is Joint
 
@@ -150,11 +158,14 @@ alone_before : (r : List ℕ) → first_passes is_mark r ≡ false → joint_bef
 alone_before r h = and_left (first_passes is_mark r) (not (begins_any comment_fronts r)) h
 
 alone_comment : (r : List ℕ) → begins_any comment_fronts r ≡ true → joint_before r ≡ false
-alone_comment r h = and_right (first_passes is_mark r) (not (begins_any comment_fronts r)) (not_from_true (begins_any comment_fronts r) h)
+alone_comment r h = and_right (first_passes is_mark r) (not (begins_any comment_fronts r))
+    (not_from_true (begins_any comment_fronts r) h)
 
-joins_before : (r : List ℕ) → first_passes is_mark r ≡ true → begins_any comment_fronts r ≡ false → joint_before r ≡ true
+joins_before : (r : List ℕ) → first_passes is_mark r ≡ true → begins_any comment_fronts r ≡ false
+    → joint_before r ≡ true
 joins_before r h plain =
-    and_from (first_passes is_mark r) (not (begins_any comment_fronts r)) h (not_from_false (begins_any comment_fronts r) plain)
+    and_from (first_passes is_mark r) (not (begins_any comment_fronts r)) h
+    (not_from_false (begins_any comment_fronts r) plain)
 
 literal_joint : (p r : List ℕ) → AnyLiteral p r → joint_before (p ++ r) ≡ first_passes (λ x. x == 39) p
 literal_joint p r h =
@@ -174,14 +185,17 @@ joint_by b FrontMark p r h = alone_before (p ++ r) (begins_as is_mark false r h.
 joint_by b Gap p r (inl h) = alone_before (p ++ r) (begins_as is_mark false r h.1 (white_no_mark h.0 h.2))
 joint_by b Gap p r (inr h) = alone_comment (p ++ r) ((comment_first p r h.0).2 r)
 joint_by b (Doc inner text) p r h = alone_comment (p ++ r) ((comment_first p r h.comment.0).2 r)
-joint_by b (Open c) p r h = let o = open_is b c p r h in alone_before (p ++ r) (begins_as is_mark false r o.0 (opener_no_mark c o.1))
-joint_by b (Close c) p r h = let o = close_is b c p r h in alone_before (p ++ r) (begins_as is_mark false r o.0 (closer_no_mark c o.1))
+joint_by b (Open c) p r h = let o = open_is b c p r h in
+    alone_before (p ++ r) (begins_as is_mark false r o.0 (opener_no_mark c o.1))
+joint_by b (Close c) p r h = let o = close_is b c p r h in
+    alone_before (p ++ r) (begins_as is_mark false r o.0 (closer_no_mark c o.1))
 joint_by b (Leaf (Name true name)) p r h = alone_before (p ++ r) (begins_as is_mark false r h.0 refl)
 joint_by b (Leaf (Name false name)) p r h =
     let f = plain_first name r h.1 in
     alone_before (p ++ r) (begins_as is_mark false r (h.0 ∙ f.2) (start_no_mark f.0 f.3))
 joint_by b (Leaf (Mark c joint)) p r h =
-    joins_before (p ++ r) (begins_as is_mark true r h.0 (stands_mark c joint r h.1)) (no_comment b (Leaf (Mark c joint)) p r refl h)
+    joins_before (p ++ r) (begins_as is_mark true r h.0 (stands_mark c joint r h.1))
+    (no_comment b (Leaf (Mark c joint)) p r refl h)
 joint_by b (Leaf (Literal text)) p r h = ap (λ x. joint_before (x ++ r)) h.0 ∙ literal_joint text r h.1
 
 -- what stands after `'`
@@ -201,16 +215,19 @@ no_sign c = not (c == 34) && (not (c == 35) && not (c == 39))
 
 sign_ends : (c d : ℕ) → is_ident_continue c ≡ true → is_ident_continue d ≡ false → not (c == d) ≡ true
 sign_ends c d s n = not_from_false (c == d)
-    (false_from_ne_true (c == d) (λ same. both_ways (is_ident_continue d) n (ap is_ident_continue (sym (eqb-true c d same)) ∙ s)))
+    (false_from_ne_true (c == d)
+    (λ same. both_ways (is_ident_continue d) n (ap is_ident_continue (sym (eqb-true c d same)) ∙ s)))
 
 continue_no_sign : (c : ℕ) → is_ident_continue c ≡ true → no_sign c ≡ true
 continue_no_sign c s =
     and_from _ _ (sign_ends c 34 s (ident_continue_ascii 34 (omega arith)))
-    (and_from _ _ (sign_ends c 35 s (ident_continue_ascii 35 (omega arith))) (sign_ends c 39 s (ident_continue_ascii 39 (omega arith))))
+    (and_from _ _ (sign_ends c 35 s (ident_continue_ascii 35 (omega arith)))
+    (sign_ends c 39 s (ident_continue_ascii 39 (omega arith))))
 
 no_signs : (text : List ℕ) → list_all is_ident_continue text ≡ true → list_all no_sign text ≡ true
 no_signs [] all = refl
-no_signs (c ∷ text) all = let parts = and_parts _ _ all in and_from _ _ (continue_no_sign c parts.0) (no_signs text parts.1)
+no_signs (c ∷ text) all = let parts = and_parts _ _ all in
+    and_from _ _ (continue_no_sign c parts.0) (no_signs text parts.1)
 
 -- no literal begins with `r#` and a name
 raw_plain : (c : ℕ) (rest : List ℕ) → no_sign c ≡ true → begins_any literal_prefixes (114 ∷ 35 ∷ c ∷ rest) ≡ false
@@ -221,12 +238,14 @@ raw_plain c rest s =
     rw other (rw more refl)
   where
     turned : (c d : ℕ) → not (c == d) ≡ true → (d == c) ≡ false
-    turned c d h = false_from_ne_true (d == c) (λ same. both_ways (c == d) (not-true _ h) (eq-eqb c d (sym (eqb-true d c same))))
+    turned c d h = false_from_ne_true (d == c)
+        (λ same. both_ways (c == d) (not-true _ h) (eq-eqb c d (sym (eqb-true d c same))))
 
 built_identifier : (raw : Bool) (name : List ℕ) → IsBuiltToken (Name raw name) → Identifier raw name []
 built_identifier true name h =
     let n = h.0 in
-    let text : name ++ [] ≡ n.first.0 ∷ (n.back ++ []) = ap (λ x. x ++ []) (n.whole ∙ ap (λ x. x ++ n.back) n.first.1) in
+    let text : name ++ [] ≡ n.first.0 ∷ (n.back ++ []) =
+    ap (λ x. x ++ []) (n.whole ∙ ap (λ x. x ++ n.back) n.first.1) in
     let sign = continue_no_sign n.first.0 (start_continues n.first.0 n.first.2) in
     ((h.0, h.1), ap (λ x. begins_any literal_prefixes (codes "r#" ++ x)) text ∙ raw_plain n.first.0 (n.back ++ []) sign)
 built_identifier false name h =
@@ -235,7 +254,8 @@ built_identifier false name h =
       ap (begins_any literal_prefixes) (append-nil name) ∙ none_begins no_sign literal_prefixes name refl all,
     )
 
-pub name_stands : (raw : Bool) (name s : List ℕ) → IsBuiltToken (Name raw name) → stops s ≡ true → Stands (Name raw name) s
+pub name_stands : (raw : Bool) (name s : List ℕ) → IsBuiltToken (Name raw name) → stops s ≡ true
+    → Stands (Name raw name) s
 name_stands raw name s h e = identifier_before_stop raw name [] s e (built_identifier raw name h)
 
 -- the mark c is no `'`
@@ -243,10 +263,12 @@ plain_mark : (c : ℕ) → is_mark c ≡ true → c ≢ 39 → IsTrue (is_mark c
 plain_mark c m other = and_from (is_mark c) (not (c == 39)) m (not_from_false (c == 39) (ne_eqb c 39 other))
 
 pub alone_stands : (c : ℕ) (s : List ℕ) → is_mark c ≡ true → c ≢ 39 → stops s ≡ true → Stands (Mark c false) s
-alone_stands c s m other e = inl (mark_before_stop c [] s e ((c, refl, plain_mark c m other), mark_ends c), sym (stop_alone s e))
+alone_stands c s m other e = inl
+    (mark_before_stop c [] s e ((c, refl, plain_mark c m other), mark_ends c), sym (stop_alone s e))
 
 -- a Joint mark before a piece
-pub joint_stands : (c : ℕ) (b : Bool) (k : Kind) (p r : List ℕ) → is_mark c ≡ true → c ≢ 39 → IsPiece b k p r → joins k ≡ true
+pub joint_stands : (c : ℕ) (b : Bool) (k : Kind) (p r : List ℕ) → is_mark c ≡ true → c ≢ 39 → IsPiece b k p r
+    → joins k ≡ true
     → begins_any comment_fronts (c ∷ (p ++ r)) ≡ false → Stands (Mark c true) (p ++ r)
 joint_stands c b k p r m other h j plain = inl (((c, refl, plain_mark c m other), plain), sym (joint_by b k p r h ∙ j))
 

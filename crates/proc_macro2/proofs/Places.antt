@@ -87,7 +87,8 @@ closes_like (Opens c lo ∷ es) d fs h = absurd (cc)
 closes_like (Closes c hi ∷ es) d fs h = (hi, es, (let e : c ≡ d = cc in ap (λ x. Closes x hi ∷ es) e), cc)
 
 group_flat : (d : Delimiter) (lo hi : ℕ) (f k : Forest) (es inside rest more ms : List Event) → es ≡ Opens d lo ∷ inside
-    → inside ≡ flat_onto f rest → rest ≡ Closes d hi ∷ more → more ≡ flat_onto k ms → es ≡ flat_onto (group d lo hi f k) ms
+    → inside ≡ flat_onto f rest → rest ≡ Closes d hi ∷ more → more ≡ flat_onto k ms
+    → es ≡ flat_onto (group d lo hi f k) ms
 group_flat d lo hi f k es inside rest more ms opens deep closes later =
     opens ∙ ap (λ xs. Opens d lo ∷ xs) (deep ∙ ap (flat_onto f) (closes ∙ ap (λ xs. Closes d hi ∷ xs) later))
 
@@ -124,5 +125,6 @@ same_from_said base s ps h =
     (x.0, ap (flat_onto x.0) (sym (none_like x.1 x.3)) ∙ sym x.2, sym x.4)
 
 -- what a parsed stream says
-pub said_parsed : (base : ℕ) (source : List ℕ) (s : Forest) (h : ParsesTo base source s) → said h.pieces ≡ bare (flattening s)
+pub said_parsed : (base : ℕ) (source : List ℕ) (s : Forest) (h : ParsesTo base source s)
+    → said h.pieces ≡ bare (flattening s)
 said_parsed base source s h = sym (bare-expansion base h.pieces) ∙ ap bare (sym h.expands)

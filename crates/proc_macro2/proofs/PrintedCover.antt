@@ -55,7 +55,8 @@ abbrev pub pieces_onto : Bool → Forest → List Piece → List Piece
 pieces_onto gap nil ps = ps
 pieces_onto gap (leaf t lo hi f) ps = gap_then gap (token_piece t ∷ pieces_onto (parts t) f ps)
 pieces_onto gap (group d lo hi f k) ps =
-    gap_then gap (open_piece d ∷ pieces_onto (is_brace d) f (gap_then (is_brace d) (close_piece d ∷ pieces_onto true k ps)))
+    gap_then gap (open_piece d ∷ pieces_onto (is_brace d) f
+    (gap_then (is_brace d) (close_piece d ∷ pieces_onto true k ps)))
 
 onto_gap : (gap : Bool) (ps : List Piece) (r : List ℕ) → onto (gap_then gap ps) r ≡ space gap ++ onto ps r
 onto_gap true ps r = refl
@@ -80,26 +81,30 @@ onto_printed gap (group d lo hi f k) ps r =
 
 -- ---- each piece stands
 
-stand_gap : (gap b : Bool) (ps : List Piece) (r : List ℕ) → ((c : Bool) → StandBefore c ps r) → StandBefore b (gap_then gap ps) r
+stand_gap : (gap b : Bool) (ps : List Piece) (r : List ℕ) → ((c : Bool) → StandBefore c ps r)
+    → StandBefore b (gap_then gap ps) r
 stand_gap true b ps r h = (inl (32, refl, refl), h false)
 stand_gap false b ps r h = h b
 
 -- a delimiter that is shown stands
-stand_open : (d : Delimiter) (b : Bool) (r : List ℕ) → is_shown d ≡ true → (d ≡ Parenthesis → begins_any comment_fronts r ≡ false)
+stand_open : (d : Delimiter) (b : Bool) (r : List ℕ) → is_shown d ≡ true
+    → (d ≡ Parenthesis → begins_any comment_fronts r ≡ false)
     → IsPiece b (Open (opener_of d)) (opening d) r
 stand_open Parenthesis b r h plain = ((40, refl, refl), no_error r (plain refl))
 stand_open Brace b r h plain = ((123, refl, refl), refl)
 stand_open Bracket b r h plain = ((91, refl, refl), refl)
 stand_open None b r h plain = absurd (both_ways false refl h)
 
-stand_close : (d : Delimiter) (b : Bool) (r : List ℕ) → is_shown d ≡ true → IsPiece b (Close (closer_of d)) (closing d) r
+stand_close : (d : Delimiter) (b : Bool) (r : List ℕ) → is_shown d ≡ true
+    → IsPiece b (Close (closer_of d)) (closing d) r
 stand_close Parenthesis b r h = (41, refl, refl)
 stand_close Brace b r h = (125, refl, refl)
 stand_close Bracket b r h = (93, refl, refl)
 stand_close None b r h = absurd (both_ways false refl h)
 
 -- what is printed after a tree that parts from the next
-stops_after : (f : Forest) (ps : List Piece) (r : List ℕ) → stops (onto ps r) ≡ true → stops (onto (pieces_onto true f ps) r) ≡ true
+stops_after : (f : Forest) (ps : List Piece) (r : List ℕ) → stops (onto ps r) ≡ true
+    → stops (onto (pieces_onto true f ps) r) ≡ true
 stops_after nil ps r h = h
 stops_after (leaf t lo hi f) ps r h = refl
 stops_after (group d lo hi f k) ps r h = refl
@@ -112,7 +117,8 @@ stops_closing Bracket ps r h = refl
 stops_closing None ps r h = absurd (both_ways false refl h)
 
 -- no comment begins right after `(`
-plain_inside : (f : Forest) (ps : List Piece) (r : List ℕ) → StandBefore false (pieces_onto false f (close_piece Parenthesis ∷ ps)) r
+plain_inside : (f : Forest) (ps : List Piece) (r : List ℕ)
+    → StandBefore false (pieces_onto false f (close_piece Parenthesis ∷ ps)) r
     → begins_any comment_fronts (onto (pieces_onto false f (close_piece Parenthesis ∷ ps)) r) ≡ false
 plain_inside nil ps r h = refl
 plain_inside (leaf t lo hi f) ps r h =
@@ -123,7 +129,8 @@ plain_inside (group d lo hi f k) ps r h =
 
 plain_behind : (d : Delimiter) (f : Forest) (ps : List Piece) (r : List ℕ)
     → StandBefore false (pieces_onto (is_brace d) f (gap_then (is_brace d) (close_piece d ∷ ps))) r → d ≡ Parenthesis
-    → begins_any comment_fronts (onto (pieces_onto (is_brace d) f (gap_then (is_brace d) (close_piece d ∷ ps))) r) ≡ false
+    → begins_any comment_fronts (onto (pieces_onto (is_brace d) f (gap_then (is_brace d) (close_piece d ∷ ps))) r)
+    ≡ false
 plain_behind Parenthesis f ps r h is = plain_inside f ps r h
 plain_behind Brace f ps r h is = absurd (cc)
 plain_behind Bracket f ps r h is = absurd (cc)
@@ -157,12 +164,14 @@ quoted (leaf (Mark d joint) lo hi f) ps r e s h = absurd (both_ways false refl e
 quoted (leaf (Literal text) lo hi f) ps r e s h = prefixed_follows text (onto (pieces_onto true f ps) r) e
 quoted (group d lo hi f k) ps r e s h = absurd (both_ways false refl e)
 
-joined : (c : ℕ) (f : Forest) (ps : List Piece) (r : List ℕ) → is_mark c ≡ true → c ≢ 39 → follows_joint c (next_token f) ≡ true
+joined : (c : ℕ) (f : Forest) (ps : List Piece) (r : List ℕ) → is_mark c ≡ true → c ≢ 39
+    → follows_joint c (next_token f) ≡ true
     → StandBefore false (pieces_onto false f ps) r → Stands (Mark c true) (onto (pieces_onto false f ps) r)
 joined c nil ps r m other e h = absurd (both_ways false refl e)
 joined c (leaf (Name raw name) lo hi f) ps r m other e h = absurd (both_ways false refl e)
 joined c (leaf (Mark d joint) lo hi f) ps r m other e h =
-    joint_stands c false (Leaf (Mark d joint)) (d ∷ []) (onto (pieces_onto (parts (Mark d joint)) f ps) r) m other h.0 refl
+    joint_stands c false (Leaf (Mark d joint)) (d ∷ []) (onto (pieces_onto (parts (Mark d joint)) f ps) r) m other h.0
+    refl
     (not-true (begins_any comment_fronts (c ∷ d ∷ [])) e)
 joined c (leaf (Literal text) lo hi f) ps r m other e h =
     joint_stands c false (Leaf (Literal text)) text (onto (pieces_onto true f ps) r) m other h.0 e
@@ -170,8 +179,10 @@ joined c (leaf (Literal text) lo hi f) ps r m other e h =
 joined c (group d lo hi f k) ps r m other e h = absurd (both_ways false refl e)
 
 -- the Joint mark c stands before the tokens that fit it
-joint_fits : (c : ℕ) (f : Forest) (ps : List Piece) (r : List ℕ) → is_mark c ≡ true → fits (Mark c true) (next_token f) ≡ true
-    → stops (onto ps r) ≡ true → StandBefore false (pieces_onto false f ps) r → Stands (Mark c true) (onto (pieces_onto false f ps) r)
+joint_fits : (c : ℕ) (f : Forest) (ps : List Piece) (r : List ℕ) → is_mark c ≡ true
+    → fits (Mark c true) (next_token f) ≡ true
+    → stops (onto ps r) ≡ true → StandBefore false (pieces_onto false f ps) r
+    → Stands (Mark c true) (onto (pieces_onto false f ps) r)
 joint_fits c f ps r m fit s h = elim (cases_Bool (c == 39)) [
   | inl same ↦
       subst (λ x. Stands (Mark x true) (onto (pieces_onto false f ps) r)) (sym (eqb-true c 39 same))
@@ -180,7 +191,8 @@ joint_fits c f ps r m fit s h = elim (cases_Bool (c == 39)) [
 ]
 
 token_stands : (t : Token) (f : Forest) (ps : List Piece) (r : List ℕ) → IsBuiltToken t → fits t (next_token f) ≡ true
-    → stops (onto ps r) ≡ true → StandBefore false (pieces_onto (parts t) f ps) r → Stands t (onto (pieces_onto (parts t) f ps) r)
+    → stops (onto ps r) ≡ true → StandBefore false (pieces_onto (parts t) f ps) r
+    → Stands t (onto (pieces_onto (parts t) f ps) r)
 token_stands (Name raw name) f ps r built fit s h = name_stands raw name _ built (stops_after f ps r s)
 token_stands (Mark c false) f ps r built fit s h =
     alone_stands c _ built (eqb-false c 39 (not-true (c == 39) fit)) (stops_after f ps r s)
@@ -194,8 +206,10 @@ pub stand_printed : (gap b : Bool) (f : Forest) (ps : List Piece) (r : List ℕ)
 stand_printed gap b nil ps r built w s h = h b
 stand_printed gap b (leaf t lo hi f) ps r built w s h =
     let both = and_parts (fits t (next_token f)) (well_spaced f) w in
-    let more : StandBefore false (pieces_onto (parts t) f ps) r = stand_printed (parts t) false f ps r built.2 both.1 s h in
-    stand_gap gap b (token_piece t ∷ pieces_onto (parts t) f ps) r (λ c. ((refl, token_stands t f ps r built.0 both.0 s more), more))
+    let more : StandBefore false (pieces_onto (parts t) f ps) r =
+    stand_printed (parts t) false f ps r built.2 both.1 s h in
+    stand_gap gap b (token_piece t ∷ pieces_onto (parts t) f ps) r
+    (λ c. ((refl, token_stands t f ps r built.0 both.0 s more), more))
 stand_printed gap b (group d lo hi f k) ps r built w s h =
     let both = and_parts (is_shown d) (well_spaced f && well_spaced k) w in
     let deep = and_parts (well_spaced f) (well_spaced k) both.1 in
@@ -228,18 +242,21 @@ said_close Bracket ps h = refl
 said_close None ps h = absurd (both_ways false refl h)
 
 -- the printed text says what the trees say
-pub said_printed : (gap : Bool) (f : Forest) (ps : List Piece) (es : List Event) → well_spaced f ≡ true → said ps ≡ bare es
+pub said_printed : (gap : Bool) (f : Forest) (ps : List Piece) (es : List Event) → well_spaced f ≡ true
+    → said ps ≡ bare es
     → said (pieces_onto gap f ps) ≡ bare (flat_onto f es)
 said_printed gap nil ps es w h = h
 said_printed gap (leaf t lo hi f) ps es w h =
     said_gap gap (token_piece t ∷ pieces_onto (parts t) f ps)
-    ∙ ap (λ xs. One t 0 0 ∷ xs) (said_printed (parts t) f ps es (and_parts (fits t (next_token f)) (well_spaced f) w).1 h)
+    ∙ ap (λ xs. One t 0 0 ∷ xs)
+    (said_printed (parts t) f ps es (and_parts (fits t (next_token f)) (well_spaced f) w).1 h)
 said_printed gap (group d lo hi f k) ps es w h =
     let both = and_parts (is_shown d) (well_spaced f && well_spaced k) w in
     let deep = and_parts (well_spaced f) (well_spaced k) both.1 in
     let last = close_piece d ∷ pieces_onto true k ps in
     said_gap gap (open_piece d ∷ pieces_onto (is_brace d) f (gap_then (is_brace d) last))
     ∙ (said_open d (pieces_onto (is_brace d) f (gap_then (is_brace d) last)) both.0
-    ∙ ap (λ xs. Opens d 0 ∷ xs) (said_printed (is_brace d) f (gap_then (is_brace d) last) (Closes d hi ∷ flat_onto k es) deep.0
+    ∙ ap (λ xs. Opens d 0 ∷ xs)
+    (said_printed (is_brace d) f (gap_then (is_brace d) last) (Closes d hi ∷ flat_onto k es) deep.0
     (said_gap (is_brace d) last ∙ (said_close d (pieces_onto true k ps) both.0
     ∙ ap (λ xs. Closes d 0 ∷ xs) (said_printed true k ps es deep.1 h)))))

@@ -73,10 +73,12 @@ and_assoc : (a b c : Bool) → (a && (b && c)) ≡ ((a && b) && c)
 and_assoc true b c = refl
 and_assoc false b c = refl
 
-spaced-flat : (f : Forest) (es : List Event) → next_event es ≡ Nothing → spaced (flat_onto f es) ≡ (well_spaced f && spaced es)
+spaced-flat : (f : Forest) (es : List Event) → next_event es ≡ Nothing
+    → spaced (flat_onto f es) ≡ (well_spaced f && spaced es)
 spaced-flat nil es h = refl
 spaced-flat (leaf t lo hi f) es h =
-    ap₂ (λ n b. fits t n && b) (next-flat f es h) (spaced-flat f es h) ∙ and_assoc (fits t (next_token f)) (well_spaced f) (spaced es)
+    ap₂ (λ n b. fits t n && b) (next-flat f es h) (spaced-flat f es h)
+    ∙ and_assoc (fits t (next_token f)) (well_spaced f) (spaced es)
 spaced-flat (group d lo hi f k) es h =
     ap (λ b. is_shown d && b)
     (spaced-flat f (Closes d hi ∷ flat_onto k es) refl
@@ -93,7 +95,8 @@ joint_next c (Open d) p r es h j plain = j
 joint_next c (Close d) p r es h j plain = j
 joint_next c (Leaf (Name raw name)) p r es h j plain = j
 joint_next c (Leaf (Mark d joint)) p r es h j plain =
-    not_from_false (begins_any comment_fronts (c ∷ d ∷ [])) (ap (λ x. begins_any comment_fronts (c ∷ (x ++ r))) (sym h.0) ∙ plain)
+    not_from_false (begins_any comment_fronts (c ∷ d ∷ []))
+    (ap (λ x. begins_any comment_fronts (c ∷ (x ++ r))) (sym h.0) ∙ plain)
 joint_next c (Leaf (Literal text)) p r es h j plain = j
 
 quote_next : (k : Kind) (es : List Event) → quotes k ≡ true → follows_quote (next_event (said_onto k es)) ≡ true
@@ -106,7 +109,8 @@ quote_next (Leaf (Name raw name)) es h = h
 quote_next (Leaf (Mark d joint)) es h = h
 quote_next (Leaf (Literal text)) es h = h
 
-fits_next : (t : Token) (ps : List Piece) → Stands t (onto ps []) → StandBefore false ps [] → fits t (next_event (said ps)) ≡ true
+fits_next : (t : Token) (ps : List Piece) → Stands t (onto ps []) → StandBefore false ps []
+    → fits t (next_event (said ps)) ≡ true
 fits_next (Name raw name) ps h s = refl
 fits_next (Literal text) ps h s = refl
 fits_next (Mark c false) ps (inl h) s = not_from_false (c == 39) (mark_is c (onto ps []) h.0).1
@@ -135,7 +139,8 @@ spaced_said b ((FrontMark, p) ∷ ps) h = spaced_said false ps h.1
 spaced_said b ((Gap, p) ∷ ps) h = spaced_said false ps h.1
 spaced_said b ((Doc true text, p) ∷ ps) h = spaced_said false ps h.1
 spaced_said b ((Doc false text, p) ∷ ps) h = spaced_said false ps h.1
-spaced_said b ((Open c, p) ∷ ps) h = and_from (is_shown (delimiter_of c)) (spaced (said ps)) (shown_of c) (spaced_said false ps h.1)
+spaced_said b ((Open c, p) ∷ ps) h =
+    and_from (is_shown (delimiter_of c)) (spaced (said ps)) (shown_of c) (spaced_said false ps h.1)
 spaced_said b ((Close c, p) ∷ ps) h = spaced_said false ps h.1
 spaced_said b ((Leaf t, p) ∷ ps) h =
     and_from (fits t (next_event (said ps))) (spaced (said ps)) (fits_next t ps h.0.1 h.1) (spaced_said false ps h.1)
@@ -144,7 +149,8 @@ pub parsed_spaced : (base : ℕ) (source : List ℕ) (t : Forest) → ParsesTo b
 parsed_spaced base source t h =
     (and_parts (well_spaced t) true
     (sym (spaced-flat t [] refl) ∙ (sym (spaced-bare (flattening t))
-    ∙ (ap (λ es. spaced (bare es)) h.expands ∙ (ap spaced (bare-expansion base h.pieces) ∙ spaced_said true h.pieces h.covers.stand))))).0
+    ∙ (ap (λ es. spaced (bare es)) h.expands
+    ∙ (ap spaced (bare-expansion base h.pieces) ∙ spaced_said true h.pieces h.covers.stand))))).0
 
 -- ---- streams that are the same
 
@@ -173,7 +179,8 @@ same_printed s t e = sym (printed-erased false s) ∙ (ap printed e ∙ printed-
 
 -- ---- one text for the same tokens
 
-pub one_text : (s t : Forest) → IsBuilt s → IsBuilt t → IsWellSpaced s → IsWellSpaced t → printed s ≡ printed t → Same s t
+pub one_text : (s t : Forest) → IsBuilt s → IsBuilt t → IsWellSpaced s → IsWellSpaced t → printed s ≡ printed t
+    → Same s t
 one_text s t bs bt ws wt e =
     let x = comes_back 0 s bs ws in
     let y = comes_back 0 t bt wt in

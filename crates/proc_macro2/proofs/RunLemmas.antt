@@ -246,7 +246,8 @@ later at x ps f h =
     each_map (StandsOn (at + length x.1) ps) (StandsOn at (x ∷ ps)) (in_order f) (λ tree. stands_later at x ps tree) h
 
 cut_token : (at : ℕ) (token : Token) (p : List ℕ) (ps : List Piece) (f : Forest) (es : List Event)
-    → p ≡ token_text token → Cut (at + length p) ps f es → Cut at ((Leaf token, p) ∷ ps) (leaf token at (at + length p) f) es
+    → p ≡ token_text token → Cut (at + length p) ps f es
+    → Cut at ((Leaf token, p) ∷ ps) (leaf token at (at + length p) f) es
 cut_token at token p ps f es e h =
     cut_more at (Leaf token, p) ps (leaf token at (at + length p) f) f es h refl
     (token_stands at token p h.front e, later at (Leaf token, p) h.front f h.each)

@@ -1,5 +1,5 @@
 -- Trees that may be put into a stream stand in it whole.
-use Rattle.std.proofs.Common.{◌≡◌, ◌==◌, ℕ, Bool, true, false, List, [], ◌∷◌, inl, inr, refl, sym, ap, ◌∙◌, eqb-true}
+use Rattle.std.proofs.Common.{◌≡◌, ◌==◌, ℕ, false, List, [], ◌∷◌, inl, inr, refl, sym, ap, ◌∙◌, eqb-true}
 use Rattle.std.proofs.Common.{if◌then◌else◌}
 use Rattle.std.proofs.lemmas.Bool.{both_ways, false_from_ne_true}
 use Rattle.lexical.specs.Literal as literals
@@ -19,7 +19,8 @@ no_minus (c ∷ text) (inl literal) =
     let at = literal_front (c ∷ text) [] literal in
     let head : c ≡ at.0 = cc in
     false_from_ne_true (c == 45) (λ minus.
-    both_ways (is_one_of literal_fronts 45) refl (ap (is_one_of literal_fronts) (sym (eqb-true c 45 minus) ∙ head) ∙ at.3))
+    both_ways (is_one_of literal_fronts 45) refl
+    (ap (is_one_of literal_fronts) (sym (eqb-true c 45 minus) ∙ head) ∙ at.3))
 no_minus (c ∷ text) (inr error) = ap has_minus error
 
 pub stands_whole : (tree : TokenTree) → GoesInside tree → split tree ≡ alone tree

@@ -1,10 +1,9 @@
 -- How the spans of a parsed stream give back its source. A tree stands on a run of the pieces that cover the source.
-use Rattle.std.specs.Prelude.{ℕ, Bool, ◌+◌, ◌-◌, ◌<◌, ◌≡◌, ◌⊎◌, ◌↔◌, List, [], ◌∷◌, ◌++◌, All, Contains, length}
-use Rattle.std.specs.Prelude.{slice_index_or, take, drop}
+use Rattle.std.specs.Prelude.{ℕ, Bool, ◌+◌, ◌<◌, ◌≡◌, ◌⊎◌, ◌↔◌, List, [], ◌∷◌, ◌++◌, All, Contains, length}
+use Rattle.std.specs.Prelude.{slice_index_or}
 use Rattle.lexical.specs.Token.{Token, token_text}
 use Rattle.lexical.specs.Piece.{Piece, Doc, Open, Close, Leaf}
 use Rattle.lexical.specs.Cover.{onto, width}
-use Rattle.pm_span.specs.Extent.{Extent}
 use Rattle.pm_span.specs.Files.{Files, next_lo, with_file, Extends}
 use Rattle.pm_span.specs.Lookup.{IsTextOf}
 use Rattle.pm_token.specs.Leaf.{name_token, mark_token, text_token}

@@ -28,7 +28,12 @@ stream::TokenStream::drop-loop-init t c =
     let same = ap count (ap held (sym c.in-Some.is) ∙ c.self.view_is) in
     let taken = count-taken _ _ c.in-Some-take_last.last c.in-Some-take_last.ensures in
     let into = ap count c.into_inside-outer.ensures in
-    record { here = omega (arith, same, taken, into); outer = omega (arith, same, taken, into); both = omega (arith, same, taken, into) }
+    record {
+      here = omega (arith, same, taken, into);
+      outer = omega (arith, same, taken, into);
+      both =
+          omega (arith, same, taken, into);
+    }
 
 pub stream::TokenStream::drop-drop-inside-requires : goal.stream::TokenStream::drop-drop-inside-requires
 stream::TokenStream::drop-drop-inside-requires t c =
@@ -36,14 +41,16 @@ stream::TokenStream::drop-drop-inside-requires t c =
     let into = ap (λ tree. count (inside tree)) c.in-Group.is in
     (omega (arith, taken, into, c.loop.invariant.here, c.decreases), tt)
 
-pub stream::TokenStream::drop-drop-inside-requires-in-Err-1 : goal.stream::TokenStream::drop-drop-inside-requires-in-Err-1
+pub stream::TokenStream::drop-drop-inside-requires-in-Err-1 :
+    goal.stream::TokenStream::drop-drop-inside-requires-in-Err-1
 stream::TokenStream::drop-drop-inside-requires-in-Err-1 t c =
     let taken = count-taken _ _ c.in-Some-take_last-2.tree c.in-Some-take_last-2.ensures in
     let into = ap (λ tree. count (inside tree)) c.in-Group.is in
     (omega (arith, taken, into, c.loop.invariant.here, c.decreases), tt)
 
 -- the walk goes back to the group's list
-pub stream::TokenStream::drop-loop-preserved-in_default-take_last-2 : goal.stream::TokenStream::drop-loop-preserved-in_default-take_last-2
+pub stream::TokenStream::drop-loop-preserved-in_default-take_last-2 :
+    goal.stream::TokenStream::drop-loop-preserved-in_default-take_last-2
 stream::TokenStream::drop-loop-preserved-in_default-take_last-2 t c =
     let was = c.loop.invariant in
     let taken = count-taken _ _ c.in-Some-take_last-3.way c.in-Some-take_last-3.ensures in
@@ -55,7 +62,8 @@ stream::TokenStream::drop-loop-preserved-in_default-take_last-2 t c =
     }
 
 -- the tree is a token
-pub stream::TokenStream::drop-loop-preserved-in_default-tree : goal.stream::TokenStream::drop-loop-preserved-in_default-tree
+pub stream::TokenStream::drop-loop-preserved-in_default-tree :
+    goal.stream::TokenStream::drop-loop-preserved-in_default-tree
 stream::TokenStream::drop-loop-preserved-in_default-tree t c =
     let was = c.loop.invariant in
     let taken = count-taken _ _ c.in-Some-take_last-2.tree c.in-Some-take_last-2.ensures in

@@ -61,7 +61,11 @@ pub loop-tree-preserved-in_default-tree : goal.loop-tree-preserved-in_default-tr
 loop-tree-preserved-in_default-tree g t c =
     let whole = c.in-Some.ensures.cases.0 in
     record {
-      within = omega (arith, c.loop-tree.invariant.within, leaf_less _ _ _ c.loop-tree.outer.items whole c.in_default-tree.not-Group);
+      within = omega (
+        arith,
+        c.loop-tree.invariant.within,
+        leaf_less _ _ _ c.loop-tree.outer.items whole c.in_default-tree.not-Group,
+      );
       written = λ plain.
           let now = c.loop-tree.invariant.written plain in
           let spaced = c.in_ok-print_space.ensures now.1.plain (refl {a = true}) in
@@ -78,10 +82,15 @@ loop-tree-smaller g t c = end_less _ _ _ _ c.in-Some-pop.ensures.items
 pub loop-tree-preserved : goal.loop-tree-preserved
 loop-tree-preserved g t c =
     record {
-      within = omega (arith, c.loop-tree.invariant.within, end_less c.loop-tree.left.now _ _ _ c.in-Some-pop.ensures.items);
+      within = omega (
+        arith,
+        c.loop-tree.invariant.within,
+        end_less c.loop-tree.left.now _ _ _ c.in-Some-pop.ensures.items,
+      );
       written = λ plain.
           let now = c.loop-tree.invariant.written plain in
           let ended = c.in_ok-print_ending-2.ensures now.1.plain (refl {a = true}) in
           written_more _ _ _ _ _ _ _ _ now.1 ended
-          (ap (λ l. now.0 ++ l) (end_more c.loop-tree.gap _ _ _ _ c.in_default.ensures.cases c.in-Some-pop.ensures.items) ∙ now.2);
+          (ap (λ l. now.0 ++ l)
+          (end_more c.loop-tree.gap _ _ _ _ c.in_default.ensures.cases c.in-Some-pop.ensures.items) ∙ now.2);
     }

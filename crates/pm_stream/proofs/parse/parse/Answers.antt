@@ -10,7 +10,8 @@ use Rattle.pm_stream.proofs.parse.parse.Goals as goal
 pub returns-in_err-take-clause-lex : goal.returns-in_err-take-clause-lex
 returns-in_err-take-clause-lex c =
     let p = err_from_is_err_and c.from_residual.result c.from_residual.ensures.1 in
-    rw (p.1, p.2) (fault_stray c.args.base (chars c.args.text.now) _ _ _ _ _ c.in-Some.piece _ c.loop-piece.invariant.reads
+    rw (p.1, p.2) (fault_stray c.args.base
+    (chars c.args.text.now) _ _ _ _ _ c.in-Some.piece _ c.loop-piece.invariant.reads
     c.in-Some.ensures.found c.in_err-take.ensures.stray)
 
 pub range_from-behind-requires : goal.range_from-behind-requires
@@ -49,13 +50,16 @@ loop-piece-preserved c =
     let shorter =
     left_shorter _ c.loop-piece.rest.now _ _ _ c.in-Some.piece c.loop-piece.invariant.utf8 found
     c.range_from-behind.ensures.value c.past_white-white.ensures.passed in
-    let behind = ap chars c.range_from-behind.ensures.value ∙ piece_rest _ c.loop-piece.rest.now c.in-Some.piece c.loop-piece.invariant.utf8 found in
+    let behind = ap chars c.range_from-behind.ensures.value
+    ∙ piece_rest _ c.loop-piece.rest.now c.in-Some.piece c.loop-piece.invariant.utf8 found in
     record {
       utf8 = c.past_white-white.ensures.utf8;
       left = omega (arith, c.loop-piece.invariant.left);
       built = built_later (groups c.take.new.self) (trees c.take.new.self) _ _ (omega arith) c.in_ok-take.ensures.built;
-      reads = reads_on c.args.base (chars c.args.text.now) _ _ _ _ _ _ _ _ _ _ c.in-Some.piece c.loop-piece.invariant.reads
-          found behind (c.in_ok-take.ensures.ok found.front found.rest found.whole found.chars) c.past_white-white.ensures.passed;
+      reads = reads_on c.args.base (chars c.args.text.now) _ _ _ _ _ _ _ _ _ _ c.in-Some.piece
+          c.loop-piece.invariant.reads
+          found behind (c.in_ok-take.ensures.ok found.front found.rest found.whole found.chars)
+          c.past_white-white.ensures.passed;
     }
 
 pub end-requires : goal.end-requires

@@ -10,14 +10,16 @@ pub loop-piece-init : goal.loop-piece-init
 loop-piece-init c = record {
   utf8 = c.utf8.text;
   left = refl;
-  reads = printed_none c.args.base (chars c.args.text.now) _ c.in_ok-printing.ensures.groups c.in_ok-printing.ensures.draft
+  reads = printed_none c.args.base (chars c.args.text.now) _ c.in_ok-printing.ensures.groups
+      c.in_ok-printing.ensures.draft
       c.in_ok-printing.ensures.gap;
 }
 
 pub returns-in_err-take-clause-lex : goal.returns-in_err-take-clause-lex
 returns-in_err-take-clause-lex c =
     let p = err_from_is_err_and c.from_residual-in_err-take.result c.from_residual-in_err-take.ensures.1 in
-    rw (p.1, p.2) (printed_stray c.args.base (chars c.args.text.now) _ _ _ _ c.in-Some.piece _ c.loop-piece.invariant.reads
+    rw (p.1, p.2) (printed_stray c.args.base
+    (chars c.args.text.now) _ _ _ _ c.in-Some.piece _ c.loop-piece.invariant.reads
     c.in-Some.ensures.found c.in_err-take.ensures.stray)
 
 pub range_from-tail-requires : goal.range_from-tail-requires
@@ -56,12 +58,15 @@ loop-piece-preserved c =
     let shorter =
     left_shorter _ c.loop-piece.rest.now _ _ _ c.in-Some.piece c.loop-piece.invariant.utf8 found
     c.range_from-tail.ensures.value c.past_white-white.ensures.passed in
-    let tail = ap chars c.range_from-tail.ensures.value ∙ piece_rest _ c.loop-piece.rest.now c.in-Some.piece c.loop-piece.invariant.utf8 found in
+    let tail = ap chars c.range_from-tail.ensures.value
+    ∙ piece_rest _ c.loop-piece.rest.now c.in-Some.piece c.loop-piece.invariant.utf8 found in
     record {
       utf8 = c.past_white-white.ensures.utf8;
       left = omega (arith, c.loop-piece.invariant.left);
-      reads = printed_on c.args.base (chars c.args.text.now) _ _ _ _ _ _ _ _ c.in-Some.piece c.loop-piece.invariant.reads
-          found tail (c.in_ok-take.ensures.ok found.front found.rest found.whole found.chars) c.past_white-white.ensures.passed;
+      reads = printed_on c.args.base
+          (chars c.args.text.now) _ _ _ _ _ _ _ _ c.in-Some.piece c.loop-piece.invariant.reads
+          found tail (c.in_ok-take.ensures.ok found.front found.rest found.whole found.chars)
+          c.past_white-white.ensures.passed;
     }
 
 pub returns-clause-ok : goal.returns-clause-ok

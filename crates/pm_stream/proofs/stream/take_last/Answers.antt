@@ -6,5 +6,6 @@ use Rattle.pm_stream.proofs.stream.take_last.Goals as goal
 
 pub returns-in-Some : goal.returns-in-Some
 returns-in-Some c =
-    subst (λ (f : Forest). TakesLast f c.pop.result (forest c.pop.new.self.items)) (ap (λ v. forest v.items) c.in-Some.ensures.value)
+    subst (λ (f : Forest). TakesLast f c.pop.result (forest c.pop.new.self.items))
+    (ap (λ v. forest v.items) c.in-Some.ensures.value)
     (takes_last _ _ c.pop.result c.pop.ensures.items)

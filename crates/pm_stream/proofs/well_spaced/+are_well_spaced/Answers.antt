@@ -24,7 +24,8 @@ loop-tree-preserved-then-is_ok t c =
     let more = pushed_ok _ _ _ _ _ c.is_ok.ensures.value c.if-is_ok.true c.push.ensures.items in
     record {
       spaced =
-          sym (inside_spaced _ _ _ _ _ _ c.in-Some.ensures.cases.0 (sym c.fits.ensures ∙ c.if-not-fits.false) c.inside-inside.ensures more)
+          sym (inside_spaced _ _ _ _ _ _ c.in-Some.ensures.cases.0
+          (sym c.fits.ensures ∙ c.if-not-fits.false) c.inside-inside.ensures more)
           ∙ was.spaced;
       within =
           omega (arith, was.within, inside_less _ _ _ _ _ _ c.in-Some.ensures.cases.0 c.inside-inside.ensures more);

@@ -21,19 +21,25 @@ grown : (c : goal.In_ok-push)
     → c.push.new.self.items ≡ with_closed c.args.delimiter c.in-Some.frame c.args.self.now.trees.items c.args.hi
 grown c =
     let inside = c.in_ok-stream.ensures.ok ∙ ap forest c.in_ok-trees.ensures.tail in
-    let whole = c.from_parts-group.ensures ∙ ap₂ (λ s w. record { delimiter = c.args.delimiter; stream = s; span = w }) inside c.span_of.ensures in
-    c.in_ok-push.ensures.items ∙ ap₂ (λ (ts : List TokenTree) (g : Grouped). ts ++ Group g ∷ []) c.in_ok-trees.ensures.items whole
+    let whole = c.from_parts-group.ensures
+    ∙ ap₂ (λ s w. record { delimiter = c.args.delimiter; stream = s; span = w }) inside c.span_of.ensures in
+    c.in_ok-push.ensures.items ∙ ap₂ (λ (ts : List TokenTree) (g : Grouped). ts ++ Group g ∷ [])
+    c.in_ok-trees.ensures.items whole
 
 pub returns-clause-ok : goal.returns-clause-ok
 returns-clause-ok c = λ events.
     let frame = c.in-Some.frame in
     let same : frame.delimiter ≡ c.args.delimiter = search rules in
     ap (λ ts. written_in (reverse c.pop.new.self.items) ts events) (grown c)
-    ∙ (written-close (reverse c.pop.new.self.items) frame c.args.self.now.trees.items c.args.delimiter c.args.hi events (nested c) same
-    ∙ sym (ap (λ fs. written_in fs c.args.self.now.trees.items (Closes c.args.delimiter c.args.hi ∷ events)) (popped c)))
+    ∙ (written-close (reverse c.pop.new.self.items) frame c.args.self.now.trees.items c.args.delimiter c.args.hi events
+    (nested c) same
+    ∙ sym (ap (λ fs. written_in fs c.args.self.now.trees.items (Closes c.args.delimiter c.args.hi ∷ events))
+    (popped c)))
 
 pub returns-clause-built : goal.returns-clause-built
 returns-clause-built c =
     subst (IsBuiltIn c.args.hi (reverse c.pop.new.self.items)) (sym (grown c))
-    (built_close c.args.lo c.args.hi (reverse c.pop.new.self.items) c.in-Some.frame c.args.self.now.trees.items c.args.delimiter
-    c.requires.ordered (nested c) (subst (λ fs. IsBuiltIn c.args.lo fs c.args.self.now.trees.items) (popped c) c.requires.built))
+    (built_close c.args.lo c.args.hi (reverse c.pop.new.self.items) c.in-Some.frame c.args.self.now.trees.items
+    c.args.delimiter
+    c.requires.ordered (nested c)
+    (subst (λ fs. IsBuiltIn c.args.lo fs c.args.self.now.trees.items) (popped c) c.requires.built))

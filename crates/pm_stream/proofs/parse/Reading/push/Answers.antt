@@ -3,7 +3,10 @@ use Rattle.pm_stream.proofs.WrittenLemmas.{written_in, written-push, IsBuiltIn, 
 use Rattle.pm_stream.proofs.parse.Reading.push.Goals as goal
 
 pub invariant_of-self : goal.invariant_of-self
-invariant_of-self c = record { nested = nested_more (reverse c.args.self.now.frames.items) _ _ (grind (arith, c.push.ensures.len)) c.args.self.now.nested }
+invariant_of-self c = record {
+  nested =
+      nested_more (reverse c.args.self.now.frames.items) _ _ (grind (arith, c.push.ensures.len)) c.args.self.now.nested;
+}
 
 pub returns-clause-ok : goal.returns-clause-ok
 returns-clause-ok c = λ events.
@@ -15,4 +18,5 @@ pub returns-clause-built : goal.returns-clause-built
 returns-clause-built c = λ at h.
     let frames = reverse c.args.self.now.frames.items in
     subst (IsBuiltIn at frames) (sym c.in_ok-push.ensures.items)
-    (built_push at frames c.args.self.now.trees.items c.args.tree c.args.self.now.nested h (c.span.ensures.built c.requires))
+    (built_push at frames c.args.self.now.trees.items c.args.tree c.args.self.now.nested h
+    (c.span.ensures.built c.requires))

@@ -41,31 +41,41 @@ written_by old made new events kind is lo front same grown e gives =
 
 pub returns-clause-ok : goal.returns-clause-ok
 returns-clause-ok c = λ front rest whole e.
-    let quiet = λ (k : PieceKind) (h : c.args.piece.kind ≡ k). ap (λ x. written c.args.self.now (events_onto c.args.lo (kind_of x front) front [])) h in
+    let quiet = λ (k : PieceKind)
+    (h : c.args.piece.kind ≡ k).
+    ap (λ x. written c.args.self.now (events_onto c.args.lo (kind_of x front) front [])) h in
     elim c.match-piece.branch [
       | in-Opener+in_ok-open-in-Opener w ↦
-          written_by c.args.self.now _ _ _ _ _ c.args.lo front w.self-is (w.in_ok-open-in-Opener.ensures.ok []) w.in-Opener.is
+          written_by c.args.self.now _ _ _ _ _ c.args.lo front w.self-is
+          (w.in_ok-open-in-Opener.ensures.ok []) w.in-Opener.is
           (ap (λ d. Opens d c.args.lo ∷ []) w.delimiter.ensures)
       | in-Closer+in_ok-close-in-Closer w ↦
-          written_by c.args.self.now _ _ _ _ _ c.args.lo front w.self-is (w.in_ok-close-in-Closer.ensures.ok []) w.in-Closer.is
+          written_by c.args.self.now _ _ _ _ _ c.args.lo front w.self-is
+          (w.in_ok-close-in-Closer.ensures.ok []) w.in-Closer.is
           (ap₂ (λ d n. Closes d (c.args.lo + n) ∷ []) w.delimiter-in-Closer.ensures e)
       | in-Doc+in_ok-push_doc-in-Doc w ↦
-          written_by c.args.self.now _ _ _ _ _ c.args.lo front w.self-is (w.in_ok-push_doc-in-Doc.ensures.ok []) w.in-Doc.is
+          written_by c.args.self.now _ _ _ _ _ c.args.lo front w.self-is
+          (w.in_ok-push_doc-in-Doc.ensures.ok []) w.in-Doc.is
           (ap (λ (x : Extent). doc_onto x.lo x.hi w.in-Doc.inner (chars w.in-Doc.text.now) [])
           (w.span_of.ensures ∙ ap (λ n. record { lo = c.args.lo; hi = c.args.lo + n }) e))
       | in-Mark+in_ok-push_mark-in-Mark w ↦
-          written_by c.args.self.now _ _ _ _ _ c.args.lo front w.self-is (w.in_ok-push_mark-in-Mark.ensures.ok []) w.in-Mark.is
+          written_by c.args.self.now _ _ _ _ _ c.args.lo front w.self-is
+          (w.in_ok-push_mark-in-Mark.ensures.ok []) w.in-Mark.is
           (ap (λ (x : Extent). One (Mark w.in-Mark.mark w.in-Mark.joint) x.lo x.hi ∷ [])
           (w.span_of-in-Mark.ensures ∙ ap (λ n. record { lo = c.args.lo; hi = c.args.lo + n }) e))
       | in-Name+in_ok-name-in-Name+in_ok-push-in-Name w ↦
-          written_by c.args.self.now _ _ _ _ _ c.args.lo front w.self-is (w.in_ok-push-in-Name.ensures.ok []) w.in-Name.is
-          (name_events w.in_ok-name-in-Name.name (chars w.in-Name.name.now) w.in-Name.raw w.span_of-in-Name.result c.args.lo
+          written_by c.args.self.now _ _ _ _ _ c.args.lo front w.self-is
+          (w.in_ok-push-in-Name.ensures.ok []) w.in-Name.is
+          (name_events w.in_ok-name-in-Name.name (chars w.in-Name.name.now) w.in-Name.raw w.span_of-in-Name.result
+          c.args.lo
           (c.args.lo + length front) w.in_ok-name-in-Name.ensures.ok
           (w.span_of-in-Name.ensures ∙ ap (λ n. record { lo = c.args.lo; hi = c.args.lo + n }) e))
       | in-Literal+in_ok-push_literal-in-Literal w ↦
-          written_by c.args.self.now _ _ _ _ _ c.args.lo front w.self-is (w.in_ok-push_literal-in-Literal.ensures.ok []) w.in-Literal.is
+          written_by c.args.self.now _ _ _ _ _ c.args.lo front w.self-is
+          (w.in_ok-push_literal-in-Literal.ensures.ok []) w.in-Literal.is
           (ap₂ (λ q (x : Extent). One (Literal q) x.lo x.hi ∷ [])
-          (front_is _ c.args.text.now w.range.result.now front rest c.args.piece c.utf8.text c.requires.stands.1 w.range.ensures.value whole e)
+          (front_is _ c.args.text.now w.range.result.now front rest c.args.piece c.utf8.text c.requires.stands.1
+          w.range.ensures.value whole e)
           (w.span_of-in-Literal.ensures ∙ ap (λ n. record { lo = c.args.lo; hi = c.args.lo + n }) e))
       | in-FrontMark w ↦ ap (λ r. written r []) w.self-is ∙ sym (elim w.in-FrontMark.is [
         | inl mark ↦ quiet FrontMark mark
@@ -79,15 +89,24 @@ returns-clause-built c =
     let later : (reading : Reading) → IsBuiltTo c.args.lo reading → IsBuiltTo at reading =
     λ reading h. built_later (groups reading) (trees reading) c.args.lo at (omega arith) h in
     elim c.match-piece.branch [
-      | in-Opener+in_ok-open-in-Opener w ↦ later c.match-piece.self (subst (IsBuiltTo c.args.lo) (sym w.self-is) w.in_ok-open-in-Opener.ensures.built)
+      | in-Opener+in_ok-open-in-Opener w ↦
+          later c.match-piece.self (subst (IsBuiltTo c.args.lo) (sym w.self-is) w.in_ok-open-in-Opener.ensures.built)
       | in-Closer+in_ok-close-in-Closer w ↦ subst (IsBuiltTo at) (sym w.self-is) w.in_ok-close-in-Closer.ensures.built
       | in-Doc+in_ok-push_doc-in-Doc w ↦
-          later c.match-piece.self (subst (IsBuiltTo c.args.lo) (sym w.self-is) (w.in_ok-push_doc-in-Doc.ensures.built c.args.lo c.requires.built))
+          later c.match-piece.self
+          (subst (IsBuiltTo c.args.lo) (sym w.self-is)
+          (w.in_ok-push_doc-in-Doc.ensures.built c.args.lo c.requires.built))
       | in-Mark+in_ok-push_mark-in-Mark w ↦
-          later c.match-piece.self (subst (IsBuiltTo c.args.lo) (sym w.self-is) (w.in_ok-push_mark-in-Mark.ensures.built c.args.lo c.requires.built))
+          later c.match-piece.self
+          (subst (IsBuiltTo c.args.lo) (sym w.self-is)
+          (w.in_ok-push_mark-in-Mark.ensures.built c.args.lo c.requires.built))
       | in-Name+in_ok-name-in-Name+in_ok-push-in-Name w ↦
-          later c.match-piece.self (subst (IsBuiltTo c.args.lo) (sym w.self-is) (w.in_ok-push-in-Name.ensures.built c.args.lo c.requires.built))
+          later c.match-piece.self
+          (subst (IsBuiltTo c.args.lo) (sym w.self-is)
+          (w.in_ok-push-in-Name.ensures.built c.args.lo c.requires.built))
       | in-Literal+in_ok-push_literal-in-Literal w ↦
-          later c.match-piece.self (subst (IsBuiltTo c.args.lo) (sym w.self-is) (w.in_ok-push_literal-in-Literal.ensures.built c.args.lo c.requires.built))
+          later c.match-piece.self
+          (subst (IsBuiltTo c.args.lo) (sym w.self-is)
+          (w.in_ok-push_literal-in-Literal.ensures.built c.args.lo c.requires.built))
       | in-FrontMark w ↦ later c.match-piece.self (subst (IsBuiltTo c.args.lo) (sym w.self-is) c.requires.built)
     ]

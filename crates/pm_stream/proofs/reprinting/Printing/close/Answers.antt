@@ -8,8 +8,10 @@ pub returns-clause-ok : goal.returns-clause-ok
 returns-clause-ok c = λ hi.
     let old = c.args.self.now in
     let same : c.in-Some.group.delimiter ≡ c.args.delimiter = search rules in
-    prints_close old (record { groups = c.pop.new.self; draft = c.push_text.new.self; gap = _ }) c.args.delimiter hi c.in-Some.group
+    prints_close old (record { groups = c.pop.new.self; draft = c.push_text.new.self; gap = _ }) c.args.delimiter hi
+    c.in-Some.group
     (ap reverse c.in-Some.ensures.items ∙ reverse-append c.pop.new.self.items (c.in-Some.group ∷ []))
     same
-    (c.in_ok-push_text.ensures.ok ∙ ap (λ x. old.draft ++ x) (ap chars c.closer.ensures ∙ chars_ending c.args.delimiter))
+    (c.in_ok-push_text.ensures.ok
+    ∙ ap (λ x. old.draft ++ x) (ap chars c.closer.ensures ∙ chars_ending c.args.delimiter))
     refl

@@ -13,10 +13,12 @@ returns-then-not-is_empty-clause-stays_open c = λ none.
 
 pub returns-in-Some-clause-stuck : goal.returns-in-Some-clause-stuck
 returns-in-Some-clause-stuck c = λ more.
-    absurd (more (ap chars (nil_from_length c.args.rest.now (eqb-true _ _ (sym c.if-not-is_empty.ensures))) ∙ chars-nil))
+    absurd (more (ap chars (nil_from_length c.args.rest.now (eqb-true _ _ (sym c.if-not-is_empty.ensures)))
+    ∙ chars-nil))
 
 pub returns-clause-ok : goal.returns-clause-ok
 returns-clause-ok c =
-    let done : chars c.args.rest.now ≡ [] = ap chars (nil_from_length c.args.rest.now (eqb-true _ _ (sym c.if-not-is_empty.ensures))) ∙ chars-nil in
+    let done : chars c.args.rest.now ≡ [] =
+    ap chars (nil_from_length c.args.rest.now (eqb-true _ _ (sym c.if-not-is_empty.ensures))) ∙ chars-nil in
     let none : c.args.self.groups.items ≡ [] = search rules in
     (done, λ groups trees h. end_printed c.args.self groups trees _ none c.into_string.ensures h)

@@ -11,8 +11,17 @@ returns c =
     let frame : OpenGroup = record { delimiter = c.args.delimiter; lo = c.args.lo } in
     let old = c.args.self.now in
     record {
-      ok = prints_open old (record { groups = c.push.new.self; draft = c.write.new.self.draft; gap = c.is_brace-self.result }) c.args.delimiter c.args.lo
-          (ap reverse c.in_ok-push.ensures.items ∙ (reverse-append c.write.new.self.groups.items (frame ∷ []) ∙ ap (λ v. frame ∷ reverse v.items) c.write.ensures.kept))
-          (c.in_ok-write.ensures.ok ∙ ap (λ x. old.draft ++ (space old.gap ++ x)) (ap chars c.opener.ensures ∙ chars_opening c.args.delimiter))
+      ok = prints_open old (record {
+        groups = c.push.new.self;
+        draft = c.write.new.self.draft;
+        gap =
+            c.is_brace-self.result;
+      }) c.args.delimiter c.args.lo
+          (ap reverse c.in_ok-push.ensures.items
+          ∙ (reverse-append c.write.new.self.groups.items (frame ∷ [])
+          ∙ ap (λ v. frame ∷ reverse v.items) c.write.ensures.kept))
+          (c.in_ok-write.ensures.ok
+          ∙ ap (λ x. old.draft ++ (space old.gap ++ x))
+          (ap chars c.opener.ensures ∙ chars_opening c.args.delimiter))
           c.is_brace-self.ensures;
     }

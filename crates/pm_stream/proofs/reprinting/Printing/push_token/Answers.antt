@@ -6,6 +6,7 @@ use Rattle.pm_stream.proofs.reprinting.Printing.push_token.Goals as goal
 pub returns : goal.returns
 returns c = record {
   ok = λ token lo hi is parted.
-      prints_leaf c.args.self.now (record { groups = c.write.new.self.groups; draft = c.write.new.self.draft; gap = c.args.gap })
+      prints_leaf c.args.self.now
+      (record { groups = c.write.new.self.groups; draft = c.write.new.self.draft; gap = c.args.gap })
       token lo hi (chars c.args.text.now) c.args.gap c.write.ensures.kept c.in_ok-write.ensures.ok refl is parted;
 }

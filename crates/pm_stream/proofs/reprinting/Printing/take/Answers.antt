@@ -1,17 +1,16 @@
-use Rattle.std.proofs.Common.{◌≡◌, ◌+◌, not, [], ◌∷◌, length, refl, sym, ap, ◌∙◌, subst, inl, inr}
+use Rattle.std.proofs.Common.{◌+◌, [], ◌∷◌, length, refl, ap, inl, inr}
 use Rattle.std.specs.Str.{chars}
-use Rattle.lexical.specs.Found.{kind_of}
 use Rattle.lexical.specs.Token.{Name, Mark, Literal}
-use Rattle.lexical.specs.declared.piece.PieceKind.{PieceKind}
 use Rattle.lexical.specs.declared.piece.PieceKind.TheVariants as kinds
 use Rattle.lexical.proofs.PieceFacts.{piece_boundary}
-use Rattle.pm_stream.specs.Events.{One, Opens, Closes, doc_onto, events_onto}
-use Rattle.pm_stream.specs.ReprintSoFar.{PrintsEvents}
+use Rattle.pm_stream.specs.Events.{Opens, Closes}
 use Rattle.pm_stream.proofs.ReprintLemmas.{prints_by, prints_nothing, token_found}
 use Rattle.pm_stream.proofs.PieceLemmas.{front_is}
 use Rattle.pm_stream.proofs.reprinting.Printing.take.Goals as goal
-use Rattle.pm_stream.proofs.reprinting.Printing.take.Goals.{in-Opener+in_ok-open-in-Opener, in-Closer+in_ok-close-in-Closer}
-use Rattle.pm_stream.proofs.reprinting.Printing.take.Goals.{in-Doc+in_ok-push_doc-in-Doc, in-Mark+in_ok-push_token-in-Mark}
+use Rattle.pm_stream.proofs.reprinting.Printing.take.Goals.{in-Opener+in_ok-open-in-Opener}
+use Rattle.pm_stream.proofs.reprinting.Printing.take.Goals.{in-Closer+in_ok-close-in-Closer}
+use Rattle.pm_stream.proofs.reprinting.Printing.take.Goals.{in-Doc+in_ok-push_doc-in-Doc}
+use Rattle.pm_stream.proofs.reprinting.Printing.take.Goals.{in-Mark+in_ok-push_token-in-Mark}
 use Rattle.pm_stream.proofs.reprinting.Printing.take.Goals.{in-Name+in_ok-push_token-in-Name}
 use Rattle.pm_stream.proofs.reprinting.Printing.take.Goals.{in-Literal+in_ok-push_token-in-Literal, in-FrontMark}
 
@@ -19,10 +18,12 @@ pub range-requires-clause-end_boundary : goal.range-requires-clause-end_boundary
 range-requires-clause-end_boundary c = piece_boundary _ c.args.text.now c.args.piece c.utf8.text c.requires.stands.1
 
 pub range-requires-in-Name-clause-end_boundary : goal.range-requires-in-Name-clause-end_boundary
-range-requires-in-Name-clause-end_boundary c = piece_boundary _ c.args.text.now c.args.piece c.utf8.text c.requires.stands.1
+range-requires-in-Name-clause-end_boundary c =
+    piece_boundary _ c.args.text.now c.args.piece c.utf8.text c.requires.stands.1
 
 pub range-requires-in-Literal-clause-end_boundary : goal.range-requires-in-Literal-clause-end_boundary
-range-requires-in-Literal-clause-end_boundary c = piece_boundary _ c.args.text.now c.args.piece c.utf8.text c.requires.stands.1
+range-requires-in-Literal-clause-end_boundary c =
+    piece_boundary _ c.args.text.now c.args.piece c.utf8.text c.requires.stands.1
 
 pub returns-clause-ok : goal.returns-clause-ok
 returns-clause-ok c = λ front rest whole e.
@@ -48,17 +49,20 @@ returns-clause-ok c = λ front rest whole e.
       | in-Name+in_ok-push_token-in-Name w ↦
           prints_by old _ _ _ _ _ lo front w.self-is
           (w.in_ok-push_token-in-Name.ensures.ok (Name w.in-Name.raw (chars w.in-Name.name.now)) lo hi
-          (token_found _ c.args.text.now w.range-in-Name.result.now c.args.piece (Name w.in-Name.raw (chars w.in-Name.name.now))
+          (token_found _ c.args.text.now w.range-in-Name.result.now c.args.piece
+          (Name w.in-Name.raw (chars w.in-Name.name.now))
           (kinds.Name w.in-Name.raw w.in-Name.name) c.utf8.text found w.range-in-Name.ensures.value w.in-Name.is refl)
           refl) w.in-Name.is refl
       | in-Literal+in_ok-push_token-in-Literal w ↦
           prints_by old _ _ _ _ _ lo front w.self-is
           (w.in_ok-push_token-in-Literal.ensures.ok (Literal front) lo hi
-          (front_is _ c.args.text.now w.range-in-Literal.result.now front rest c.args.piece c.utf8.text found w.range-in-Literal.ensures.value whole e)
+          (front_is _ c.args.text.now w.range-in-Literal.result.now front rest c.args.piece c.utf8.text found
+          w.range-in-Literal.ensures.value whole e)
           refl) w.in-Literal.is refl
       | in-FrontMark w ↦
           elim w.in-FrontMark.is [
-            | inl mark ↦ prints_by old _ _ _ _ kinds.FrontMark lo front w.self-is (prints_nothing old old refl) mark refl
+            | inl mark ↦ prints_by old _ _ _ _ kinds.FrontMark lo front w.self-is
+                (prints_nothing old old refl) mark refl
             | inr gap ↦ prints_by old _ _ _ _ kinds.Gap lo front w.self-is (prints_nothing old old refl) gap refl
           ]
     ]

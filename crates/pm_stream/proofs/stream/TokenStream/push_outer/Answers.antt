@@ -14,4 +14,9 @@ invariant_of-self-2 c =
 pub returns-clause-ok : goal.returns-clause-ok
 returns-clause-ok c =
     let same = ap count (ap held (sym c.in-Some.is) ∙ c.self.view_is) in
-    omega (arith, same, count-put _ _ record { delimiter = _; stream = c.args.outer; span = c.call_site.result } c.in_default-put_last.ensures.ok)
+    omega (
+      arith,
+      same,
+      count-put _ _ record { delimiter = _; stream = c.args.outer; span = c.call_site.result }
+          c.in_default-put_last.ensures.ok,
+    )

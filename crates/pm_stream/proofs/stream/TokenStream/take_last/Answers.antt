@@ -8,4 +8,5 @@ pub invariant_of-self : goal.invariant_of-self
 invariant_of-self c = c.self.invariant
 
 pub invariant_of-self-2 : goal.invariant_of-self-2
-invariant_of-self-2 c = IsBuilt-taken _ _ c.take_last.result c.take_last.ensures (subst IsBuilt (ap held c.in-Some.is) c.self.invariant)
+invariant_of-self-2 c = IsBuilt-taken _ _ c.take_last.result c.take_last.ensures
+    (subst IsBuilt (ap held c.in-Some.is) c.self.invariant)
