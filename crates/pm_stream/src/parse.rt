@@ -129,7 +129,7 @@ struct Reading {
     /// The trees of all of them and those outside every group, the innermost group's last.
     trees: Vec<TokenTree>,
     // Each group's trees come after those before it.
-    ghost nested: { IsNested (reverse frames.items) (length trees.items) } by { IsNested-prop (reverse frames.items) (length trees.items) },
+    ghost nested: { IsNested (reverse frames.items) (length trees.items) } by { IsNested-prop _ _ },
 }
 
 /// A group whose closer is still to come.
