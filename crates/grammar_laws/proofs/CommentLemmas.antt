@@ -1,13 +1,16 @@
 -- What comments give to the laws of texts.
-use Rattle.std.proofs.Common.{◌≡◌, ℕ, Bool, true, false, not, ◌&&◌, ◌==◌, List, [], ◌∷◌, ◌++◌, codes, Some, inl, inr, refl, sym, ap, ◌∙◌, subst, append-nil, eqb-true}
+use Rattle.std.proofs.Common.{◌≡◌, ℕ, Bool, true, false, not, ◌&&◌, ◌==◌, List, [], ◌∷◌, ◌++◌, codes, Some, inl, inr}
+use Rattle.std.proofs.Common.{refl, sym, ap, ◌∙◌, subst, append-nil, eqb-true}
 use Rattle.std.specs.Prelude.{if◌then◌else◌}
-use Rattle.std.proofs.lemmas.Bool.{both_ways, and_right, and_left, and_from, or_left, or_right, not-false, false_from_ne_true, not_from_true}
+use Rattle.std.proofs.lemmas.Bool.{both_ways, and_right, and_left, and_from, or_left, or_right, not-false}
+use Rattle.std.proofs.lemmas.Bool.{false_from_ne_true, not_from_true}
 use Rattle.lexical.specs.Text.{begins_with, begins_any, ends_with, first_passes}
 use Rattle.lexical.specs.Block.{block_signs, BlockBody, Empty, Nested, Single}
 use Rattle.lexical.specs.Comment.{comment, Comment, closing, has_bare_return, Doc, PlainComment}
 use Rattle.lexical.specs.Piece as pieces
 use Rattle.lexical.proofs.RuleLemmas.{one_split}
-use Rattle.lexical.proofs.CommentKindLemmas.{clear_comment, front_is, doc_front, doc_said, doc_kind, closing_block, closing_none}
+use Rattle.lexical.proofs.CommentKindLemmas.{clear_comment, front_is, doc_front, doc_said, doc_kind, closing_block}
+use Rattle.lexical.proofs.CommentKindLemmas.{closing_none}
 
 -- ---- at most one comment stands
 
@@ -27,23 +30,35 @@ plain_or_doc i t p r s h k = both_ways _ (not_from_true _ k.comment.1) h.1
 -- ---- before another text
 
 -- a body asks for one character of what follows it
-sign_cut : (k c : ℕ) (more x y : List ℕ) → begins_any block_signs (k ∷ (more ++ (c ∷ x))) ≡ begins_any block_signs (k ∷ (more ++ (c ∷ y)))
+sign_cut : (k c : ℕ) (more x y : List ℕ)
+    → begins_any block_signs (k ∷ (more ++ (c ∷ x))) ≡ begins_any block_signs (k ∷ (more ++ (c ∷ y)))
 sign_cut k c [] x y = refl
 sign_cut k c (m ∷ more) x y = refl
 
 body_cut : {body : List ℕ} (c : ℕ) (x y : List ℕ) → BlockBody body (c ∷ x) → BlockBody body (c ∷ y)
 body_cut c x y (Empty e) = Empty e
-body_cut c x y (Nested inner more e nested h) = Nested inner more e (body_cut 42 (47 ∷ (more ++ (c ∷ x))) (47 ∷ (more ++ (c ∷ y))) nested) (body_cut c x y h)
+body_cut c x y (Nested inner more e nested h) =
+    Nested inner more e (body_cut 42 (47 ∷ (more ++ (c ∷ x))) (47 ∷ (more ++ (c ∷ y))) nested) (body_cut c x y h)
 body_cut c x y (Single k more e plain h) = Single k more e (sign_cut k c more y x ∙ plain) (body_cut c x y h)
 
 -- a line comment stands at its end or before LF, and a block comment whatever follows it
-comment_stays : (p r s : List ℕ) → (first_passes (λ c. not (c == 10)) r ≡ false → first_passes (λ c. not (c == 10)) s ≡ false) → Comment p r → Comment p s
+comment_stays : (p r s : List ℕ)
+    → (first_passes (λ c. not (c == 10)) r ≡ false → first_passes (λ c. not (c == 10)) s ≡ false) → Comment p r
+    → Comment p s
 comment_stays p r s stops (inl h) =
     let run = h.second in
-    inl (record { front = h.front; back = h.back; whole = h.whole; first = h.first; second = record { each = run.each; stops = stops run.stops } })
+    inl (record {
+      front = h.front;
+      back = h.back;
+      whole = h.whole;
+      first = h.first;
+      second =
+          record { each = run.each; stops = stops run.stops };
+    })
 comment_stays p r s stops (inr h) =
     let ends = h.second in
-    let body = subst (λ z. BlockBody ends.front (z ++ s)) (sym ends.second) (body_cut 42 (47 ∷ r) (47 ∷ s) (rw ends.second at ends.first)) in
+    let body = subst (λ z. BlockBody ends.front (z ++ s)) (sym ends.second)
+    (body_cut 42 (47 ∷ r) (47 ∷ s) (rw ends.second at ends.first)) in
     inr (record {
       front = h.front;
       back = h.back;
@@ -94,11 +109,13 @@ closing_stays i t p [] w (inl line) h =
     let none = closing_none p [] is (and_right (ends_with 13 p) _ refl) in
     none ∙ sym (closing_none p (10 ∷ w) is (and_left _ _ (doc_at_end i t p none h)))
 closing_stays i t p (c ∷ r) w (inl line) h = ap (λ d. closing p (d ∷ r)) (eqb-true c 10 (not-false _ line.second.stops))
-closing_stays i t p r w (inr block) h = let is = ap (begins_with (codes "/*")) (front_is block) in closing_block p r is ∙ sym (closing_block p (10 ∷ w) is)
+closing_stays i t p r w (inr block) h = let is = ap (begins_with (codes "/*")) (front_is block) in closing_block p r is
+    ∙ sym (closing_block p (10 ∷ w) is)
 
 -- and so does what it says
 pub doc_line : (i : Bool) (t p r w : List ℕ) → Doc i t p r → Doc i t p (10 ∷ w)
-doc_line i t p r w h = doc_stays i t p r (10 ∷ w) (comment_line p r w h.comment.0) (closing_stays i t p r w h.comment.0 h) h
+doc_line i t p r w h = doc_stays i t p r (10 ∷ w) (comment_line p r w h.comment.0)
+    (closing_stays i t p r w h.comment.0 h) h
 
 -- ---- comments before a text with the same first character
 
@@ -109,7 +126,8 @@ feed_first : (r : List ℕ) → begins_with (codes "\n") r ≡ first_passes (λ 
 feed_first [] = refl
 feed_first (c ∷ r) = refl
 
-pub doc_cut : (i : Bool) (t p r s : List ℕ) → ((f : ℕ → Bool) → first_passes f r ≡ first_passes f s) → Doc i t p r → Doc i t p s
+pub doc_cut : (i : Bool) (t p r s : List ℕ) → ((f : ℕ → Bool) → first_passes f r ≡ first_passes f s) → Doc i t p r
+    → Doc i t p s
 doc_cut i t p r s same h =
     let feed : begins_with (codes "\n") r ≡ begins_with (codes "\n") s = feed_first r ∙ (same _ ∙ sym (feed_first s)) in
     doc_stays i t p r s (comment_cut p r s same h.comment.0)

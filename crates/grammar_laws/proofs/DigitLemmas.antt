@@ -1,5 +1,6 @@
 -- Pieces that begin with a digit, and how the pieces end that a float with a dot is cut into.
-use Rattle.std.proofs.Common.{◌≡◌, ℕ, ◌<◌, Bool, true, false, not, List, [], ◌∷◌, ◌++◌, length, Some, refl, sym, ap, ◌∙◌, inl, inr, arith, length-append}
+use Rattle.std.proofs.Common.{◌≡◌, ℕ, ◌<◌, Bool, true, false, not, List, [], ◌∷◌, ◌++◌, length, Some, refl, sym, ap}
+use Rattle.std.proofs.Common.{◌∙◌, inl, inr, arith, length-append}
 use Rattle.std.specs.List.{list_all}
 use Rattle.std.specs.Char.{is_ascii_digit}
 use Rattle.std.proofs.lemmas.Bool.{both_ways}
@@ -30,7 +31,8 @@ use Rattle.grammar_laws.proofs.IntegerLemmas.{on_integer_end, number_ends}
 -- ---- digits
 
 -- a piece that begins with a digit is a number
-pub digit_piece : (first : Bool) (k : Kind) (p r : List ℕ) → IsPiece first k p r → first_passes is_ascii_digit (p ++ r) ≡ true
+pub digit_piece : (first : Bool) (k : Kind) (p r : List ℕ) → IsPiece first k p r
+    → first_passes is_ascii_digit (p ++ r) ≡ true
     → (k ≡ Leaf (tokens.Literal p)) × Number p r
 digit_piece first k p r h digit = by_text (p ++ r) digit (found_complete first k p r h)
   where
@@ -43,7 +45,8 @@ digit_piece first k p r h digit = by_text (p ++ r) digit (found_complete first k
         (is.0, (found_is (find number) Number finds_number (c ∷ text) p r is.1).1)
 
 -- pieces of which the last is such add to the length
-pub quiet_longer : (us : List Piece) (v : List ℕ) → StandBefore false us v → ends_quiet us ≡ true → length v < length (onto us v)
+pub quiet_longer : (us : List Piece) (v : List ℕ) → StandBefore false us v → ends_quiet us ≡ true
+    → length v < length (onto us v)
 quiet_longer [] v stand quiet = absurd (both_ways _ refl quiet)
 quiet_longer (u ∷ []) v stand quiet = piece_shortens false u.0 u.1 v stand.0
 quiet_longer (u ∷ (w ∷ us)) v stand quiet =
@@ -52,21 +55,26 @@ quiet_longer (u ∷ (w ∷ us)) v stand quiet =
 -- ---- digits, a dot, and digits and letters
 
 -- where digits and letters stand, a number takes them all
-pub number_last : (W v : List ℕ) (us : List Piece) → list_all is_ident_continue W ≡ true → first_passes is_ascii_digit W ≡ true
+pub number_last : (W v : List ℕ) (us : List Piece) → list_all is_ident_continue W ≡ true
+    → first_passes is_ascii_digit W ≡ true
     → StandBefore false us v → ends_quiet us ≡ true → onto us v ≡ W ++ v → ⊥
 number_last W v [] each digit stand quiet e = both_ways _ refl quiet
 number_last W v (y ∷ us) each digit stand quiet e =
-    let number = digit_piece false y.0 y.1 (onto us v) stand.0 (ap (first_passes is_ascii_digit) e ∙ first_more is_ascii_digit W v digit) in
+    let number = digit_piece false y.0 y.1 (onto us v) stand.0
+    (ap (first_passes is_ascii_digit) e ∙ first_more is_ascii_digit W v digit) in
     elim (fronts_compared y.1 (onto us v) W v e) [
       | inl past ↦ by_rest us past.0 stand.1 quiet number.0 past.1 past.2
-      | inr within ↦ both_ways _ (ap (first_passes is_ident_continue) (sym within.3) ∙ number_ends y.1 (onto us v) number.1)
+      | inr within ↦ both_ways _
+          (ap (first_passes is_ident_continue) (sym within.3) ∙ number_ends y.1 (onto us v) number.1)
           (passes_at is_ident_continue W y.1 within.0 within.1 each within.2)
     ]
   where
-    by_rest : (us : List Piece) (m : List ℕ) → StandBefore false us v → ends_quiet (y ∷ us) ≡ true → y.0 ≡ Leaf (tokens.Literal y.1)
+    by_rest : (us : List Piece) (m : List ℕ) → StandBefore false us v → ends_quiet (y ∷ us) ≡ true
+        → y.0 ≡ Leaf (tokens.Literal y.1)
         → y.1 ≡ W ++ m → v ≡ m ++ onto us v → ⊥
     by_rest [] m stand quiet kind text rest =
-        both_ways _ (ap not (ap (first_passes is_ascii_digit) text ∙ first_more is_ascii_digit W m digit)) (sym (ap is_quiet kind) ∙ quiet)
+        both_ways _ (ap not (ap (first_passes is_ascii_digit) text ∙ first_more is_ascii_digit W m digit))
+        (sym (ap is_quiet kind) ∙ quiet)
     by_rest (z ∷ us) m stand quiet kind text rest =
         omega (arith, ap length rest, length-append m (onto (z ∷ us) v), quiet_longer (z ∷ us) v stand quiet)
 
@@ -74,13 +82,16 @@ dot_stands : (r : List ℕ) → IsPiece false (Leaf (tokens.Mark 46 (joint_befor
 dot_stands r = (refl, inl (((46, refl, refl), refl), refl))
 
 -- an integer and a dot: the pieces behind the dot
-pub behind_dot : (p D W v : List ℕ) (us : List Piece) → Stands (Then integer end) p (onto us v) → list_all is_ident_continue D ≡ true
+pub behind_dot : (p D W v : List ℕ) (us : List Piece) → Stands (Then integer end) p (onto us v)
+    → list_all is_ident_continue D ≡ true
     → StandBefore false us v → ends_quiet us ≡ true → p ++ onto us v ≡ D ++ (46 ∷ (W ++ v))
     → (later : List Piece) × StandBefore false later v × (ends_quiet later ≡ true) × (onto later v ≡ W ++ v)
 unfolding unicode_ident
 behind_dot p D W v us int first stand quiet e =
-    let same = one_split (find_run is_ident_continue) (Run is_ident_continue) (finds_run is_ident_continue) p D (onto us v) (46 ∷ (W ++ v))
-    (record { each = on_integer_end p (onto us v) int; stops = int.second.1 }) (record { each = first; stops = refl }) e in
+    let same = one_split (find_run is_ident_continue) (Run is_ident_continue) (finds_run is_ident_continue) p D
+    (onto us v) (46 ∷ (W ++ v))
+    (record { each = on_integer_end p (onto us v) int; stops = int.second.1 })
+    (record { each = first; stops = refl }) e in
     by_pieces us stand quiet same.1
   where
     dot : Kind

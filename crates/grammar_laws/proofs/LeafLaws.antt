@@ -10,10 +10,12 @@ pub use Rattle.lexical.proofs.NameFinderLemmas.{named_start}
 -- ---- before a stop, and as a whole text
 pub use Rattle.lexical.proofs.QuotedLemmas.{stops}
 pub use Rattle.grammar_laws.proofs.LiteralLemmas.{literal_before_stop, literal_whole}
-pub use Rattle.grammar_laws.proofs.NameLemmas.{identifier_alone, named_before_stop, identifier_before_stop, mark_before_stop, stop_alone}
+pub use Rattle.grammar_laws.proofs.NameLemmas.{identifier_alone, named_before_stop, identifier_before_stop}
+pub use Rattle.grammar_laws.proofs.NameLemmas.{mark_before_stop, stop_alone}
 -- ---- next to a lone quote
 pub use Rattle.grammar_laws.proofs.QuotableLemmas.{prefixed_follows, literal_quoted}
-pub use Rattle.grammar_laws.proofs.NameLemmas.{stop_unbarred, quote_unbarred, follows_start, follows_something, IsNameOrLiteral, quote_next}
+pub use Rattle.grammar_laws.proofs.NameLemmas.{stop_unbarred, quote_unbarred, follows_start, follows_something}
+pub use Rattle.grammar_laws.proofs.NameLemmas.{IsNameOrLiteral, quote_next}
 -- ---- where a line ends that did not, right after them or after other pieces
 pub use Rattle.grammar_laws.proofs.CommentLemmas.{comment_line, plain_line, doc_line, comment_cut, doc_cut}
 pub use Rattle.grammar_laws.proofs.QuietLemmas.{onto_split}

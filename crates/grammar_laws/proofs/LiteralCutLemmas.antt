@@ -1,5 +1,6 @@
 -- Literals in a line that is broken after pieces.
-use Rattle.std.proofs.Common.{◌≡◌, ◌⊎◌, ℕ, Bool, true, false, ◌==◌, List, [], ◌∷◌, ◌++◌, refl, sym, ap, ◌∙◌, subst, inl, inr, append_assoc, append-nil, length, arith}
+use Rattle.std.proofs.Common.{◌≡◌, ◌⊎◌, ℕ, Bool, true, false, ◌==◌, List, [], ◌∷◌, ◌++◌, refl, sym, ap, ◌∙◌, subst, inl}
+use Rattle.std.proofs.Common.{inr, append_assoc, append-nil, length, arith}
 use Rattle.std.specs.List.{list_all}
 use Rattle.std.specs.Char.{is_ascii_digit}
 use Rattle.std.proofs.lemmas.Bool.{both_ways, and_cases, and_parts, or_cases}
@@ -10,14 +11,18 @@ use Rattle.lexical.specs.Form.{Form, HasNone, Run}
 use Rattle.lexical.specs.Rule as rules
 use Rattle.lexical.specs.Rule.{Then, Stands}
 use Rattle.lexical.specs.Number as rule
-use Rattle.lexical.specs.Number.{is_underscore, is_digit_or_underscore, Digits, bars_dot, is_exponent_letter, Number, number}
+use Rattle.lexical.specs.Number.{is_underscore, is_digit_or_underscore, Digits, bars_dot, is_exponent_letter, Number}
+use Rattle.lexical.specs.Number.{number}
 use Rattle.lexical.specs.Literal.{QuotedLiteral, Literal, AnyLiteral}
 use Rattle.lexical.specs.Piece.{Piece}
 use Rattle.lexical.specs.Cover.{onto, StandBefore}
 use Rattle.lexical.specs.Quiet.{ends_quiet}
 use Rattle.lexical.proofs.QuotedLemmas.{stops, stop_ends}
-use Rattle.grammar_laws.proofs.StableLemmas.{sub_one, sub_either, anew, Stable, stops_within, fronts_compared, all_append, all_in, stable}
-use Rattle.grammar_laws.proofs.NumberLemmas.{goes_on, continue_goes_on, digits_continue, letter_continues, stable_end, on_digits, stable_digits, stable_exponent, Dotted, exponent_front, none_moved, float_moved}
+use Rattle.grammar_laws.proofs.StableLemmas.{sub_one, sub_either, anew, Stable, stops_within, fronts_compared}
+use Rattle.grammar_laws.proofs.StableLemmas.{all_append, all_in, stable}
+use Rattle.grammar_laws.proofs.NumberLemmas.{goes_on, continue_goes_on, digits_continue, letter_continues, stable_end}
+use Rattle.grammar_laws.proofs.NumberLemmas.{on_digits, stable_digits, stable_exponent, Dotted, exponent_front}
+use Rattle.grammar_laws.proofs.NumberLemmas.{none_moved, float_moved}
 use Rattle.grammar_laws.proofs.IntegerLemmas.{number_moved, number_cut, stop_is_calm}
 use Rattle.grammar_laws.proofs.LiteralLemmas.{quoted_stable}
 use Rattle.grammar_laws.proofs.QuietLemmas.{HasDead, onto_split, quiet_end}
@@ -26,9 +31,11 @@ use Rattle.grammar_laws.proofs.DigitLemmas.{quiet_longer, number_last, behind_do
 -- ---- no float stands newly
 
 -- what stands before one text stands before another that goes on with no identifier
-moved : (A : Form) → Stable is_ident_continue A → (x y d r s : List ℕ) → first_passes is_ident_continue s ≡ false → A x (y ++ (d ++ r))
+moved : (A : Form) → Stable is_ident_continue A → (x y d r s : List ℕ) → first_passes is_ident_continue s ≡ false
+    → A x (y ++ (d ++ r))
     → A x (y ++ (d ++ s))
-moved A stable x y d r s ends is = subst (A x) (append_assoc y d s) (stable x (y ++ d) r s ends (subst (A x) (sym (append_assoc y d r)) is))
+moved A stable x y d r s ends is =
+    subst (A x) (append_assoc y d s) (stable x (y ++ d) r s ends (subst (A x) (sym (append_assoc y d r)) is))
 
 -- a dot with something after it stands there
 dot_still : (y d r s : List ℕ) → (y ++ d ≡ [] → ⊥) → first_passes bars_dot (y ++ (d ++ r)) ≡ false
@@ -44,32 +51,39 @@ first_front passes [] z h = refl
 first_front passes (c ∷ w) z h = h
 
 -- a digit, where an exponent that goes past a character begins after the digits
-first_after : (F Y m : List ℕ) (c : ℕ) → list_all is_digit_or_underscore F ≡ true → first_passes is_exponent_letter (Y ++ (c ∷ m)) ≡ true
+first_after : (F Y m : List ℕ) (c : ℕ) → list_all is_digit_or_underscore F ≡ true
+    → first_passes is_exponent_letter (Y ++ (c ∷ m)) ≡ true
     → is_ident_continue c ≡ false
     → first_passes bars_dot (F ++ Y) ≡ false → first_passes is_ascii_digit (F ++ Y) ≡ true
 unfolding unicode_ident
-first_after (f ∷ F) Y m c each letter out dot = elim (or_cases (is_ascii_digit f) (is_underscore f) (and_parts _ _ each).0) [
-  | inl digit ↦ digit
-  | inr line ↦ absurd (both_ways _ dot (sub_one bars_dot 95 refl f line))
-]
+first_after (f ∷ F) Y m c each letter out dot =
+    elim (or_cases (is_ascii_digit f) (is_underscore f) (and_parts _ _ each).0) [
+      | inl digit ↦ digit
+      | inr line ↦ absurd (both_ways _ dot (sub_one bars_dot 95 refl f line))
+    ]
 first_after [] [] m c each letter out dot = absurd (both_ways _ out (letter_continues c letter))
 first_after [] (k ∷ Y) m c each letter out dot =
-    absurd (both_ways _ dot (sub_either (λ c. c == 101) (λ c. c == 69) bars_dot (sub_one bars_dot 101 refl) (sub_one bars_dot 69 refl) k letter))
+    absurd (both_ways _ dot (sub_either (λ c. c == 101) (λ c. c == 69) bars_dot (sub_one bars_dot 101 refl)
+    (sub_one bars_dot 69 refl) k letter))
 
 -- ---- no float stands newly
 
-module _ (p v s : List ℕ) (us : List Piece) (int : Stands (Then rule.integer rule.end) p (onto us [] ++ v)) (stand : StandBefore false us v)
+module _ (p v s : List ℕ) (us : List Piece) (int : Stands (Then rule.integer rule.end) p (onto us [] ++ v))
+    (stand : StandBefore false us v)
     (quiet : ends_quiet us ≡ true)
     (stops : first_passes is_ident_continue v ≡ false) (calm : first_passes is_ident_continue s ≡ false) where
   -- the pieces behind the dot of a float
   after_dot : (q d : List ℕ) (h : Dotted q (d ++ s)) → p ++ onto us [] ≡ q ++ d
-      → (later : List Piece) × StandBefore false later v × (ends_quiet later ≡ true) × (onto later v ≡ (h.second.back ++ d) ++ v)
+      → (later : List Piece) × StandBefore false later v × (ends_quiet later ≡ true)
+      × (onto later v ≡ (h.second.back ++ d) ++ v)
   after_dot q d h whole =
       let dotted : q ≡ h.front ++ (46 ∷ h.second.back) =
       h.whole ∙ ap (λ x. h.front ++ x) (h.second.whole ∙ ap (λ x. x ++ h.second.back) h.second.first.0) in
       let front : p ++ onto us [] ≡ h.front ++ (46 ∷ (h.second.back ++ d)) =
       whole ∙ (ap (λ z. z ++ d) dotted ∙ append_assoc h.front (46 ∷ h.second.back) d) in
-      behind_dot p h.front (h.second.back ++ d) v us (subst (Stands (Then rule.integer rule.end) p) (sym (onto_split us v)) int) (on_digits h.front (h.back ++ (d ++ s)) h.first) stand quiet
+      behind_dot p h.front (h.second.back ++ d) v us
+      (subst (Stands (Then rule.integer rule.end) p) (sym (onto_split us v)) int)
+      (on_digits h.front (h.back ++ (d ++ s)) h.first) stand quiet
       (ap (λ z. p ++ z) (onto_split us v) ∙ (sym (append_assoc p (onto us []) v)
       ∙ (ap (λ z. z ++ v) front ∙ append_assoc h.front (46 ∷ (h.second.back ++ d)) v)))
 
@@ -80,33 +94,40 @@ module _ (p v s : List ℕ) (us : List Piece) (int : Stands (Then rule.integer r
       omega (arith, ap length (at.3 ∙ ap (λ z. z ++ v) none), quiet_longer at.0 v at.1 at.2)
 
   -- no exponent goes past the pieces, as a number would
-  none_past : (q d : List ℕ) (h : Dotted q (d ++ s)) → p ++ onto us [] ≡ q ++ d → (x t m : List ℕ) (c : ℕ) → Stands rule.exponent x t
+  none_past : (q d : List ℕ) (h : Dotted q (d ++ s)) → p ++ onto us [] ≡ q ++ d → (x t m : List ℕ) (c : ℕ)
+      → Stands rule.exponent x t
       → x ≡ (h.second.second.back ++ d) ++ (c ∷ m) → v ≡ c ∷ (m ++ t) → ⊥
   none_past q d h whole x t m c is text rest =
       let after = h.second.second in
       let W = h.second.back ++ d in
-      let parts : W ≡ after.front ++ (after.back ++ d) = ap (λ z. z ++ d) after.whole ∙ append_assoc after.front after.back d in
+      let parts : W ≡ after.front ++ (after.back ++ d) = ap (λ z. z ++ d) after.whole
+      ∙ append_assoc after.front after.back d in
       let out : is_ident_continue c ≡ false = ap (first_passes is_ident_continue) (sym rest) ∙ stops in
       let each : list_all is_ident_continue W ≡ true =
       ap (list_all is_ident_continue) parts
       ∙ all_append is_ident_continue after.front (after.back ++ d)
-      (all_in is_ident_continue (rules.Run is_digit_or_underscore) digits_continue after.front (after.back ++ (d ++ s)) after.first)
+      (all_in is_ident_continue (rules.Run is_digit_or_underscore) digits_continue after.front
+      (after.back ++ (d ++ s)) after.first)
       (exponent_front x t (after.back ++ d) m c is out text) in
       let letter : first_passes is_exponent_letter ((after.back ++ d) ++ (c ∷ m)) ≡ true =
       ap (first_passes is_exponent_letter) (sym text ∙ (is.whole ∙ ap (λ z. z ++ is.back) is.first.1)) ∙ is.first.2 in
-      let dot = first_front bars_dot W s (ap (first_passes bars_dot) (append_assoc h.second.back d s) ∙ h.second.first.1) in
+      let dot = first_front bars_dot W s
+      (ap (first_passes bars_dot) (append_assoc h.second.back d s) ∙ h.second.first.1) in
       let digit : first_passes is_ascii_digit W ≡ true =
       ap (first_passes is_ascii_digit) parts
-      ∙ first_after after.front (after.back ++ d) m c after.first.each letter out (ap (first_passes bars_dot) (sym parts) ∙ dot) in
+      ∙ first_after after.front (after.back ++ d) m c after.first.each letter out
+      (ap (first_passes bars_dot) (sym parts) ∙ dot) in
       let at = after_dot q d h whole in
       number_last W v at.0 each digit at.1 at.2 at.3
 
-  exponent_still : (q d : List ℕ) (h : Dotted q (d ++ s)) → p ++ onto us [] ≡ q ++ d → HasNone (Stands rule.exponent) (h.second.second.back ++ (d ++ s))
+  exponent_still : (q d : List ℕ) (h : Dotted q (d ++ s)) → p ++ onto us [] ≡ q ++ d
+      → HasNone (Stands rule.exponent) (h.second.second.back ++ (d ++ s))
       → HasNone (Stands rule.exponent) (h.second.second.back ++ (d ++ v))
   exponent_still q d h whole none x t e is =
       let y = h.second.second.back in
       elim (fronts_compared (y ++ d) v x t (append_assoc y d v ∙ e)) [
-        | inl within ↦ none x (within.0 ++ s) (sym (append_assoc y d s) ∙ (ap (λ z. z ++ s) within.1 ∙ append_assoc x within.0 s))
+        | inl within ↦ none x (within.0 ++ s)
+            (sym (append_assoc y d s) ∙ (ap (λ z. z ++ s) within.1 ∙ append_assoc x within.0 s))
             (stable_exponent x within.0 v s calm (subst (Stands rule.exponent x) within.2 is))
         | inr past ↦ none_past q d h whole x t past.1 past.0 is past.2 past.3
       ]
@@ -127,7 +148,9 @@ module _ (p v s : List ℕ) (us : List Piece) (int : Stands (Then rule.integer r
         | inl is ↦ inl (moved (Stands rule.exponent) stable_exponent tail.front tail.back d s v stops is)
         | inr none ↦ inr (
           subst (HasNone (Stands rule.exponent)) (text tail.front tail.back after.back v tail.whole)
-              (exponent_still q d h whole (subst (HasNone (Stands rule.exponent)) (sym (text tail.front tail.back after.back s tail.whole)) none.0)),
+              (exponent_still q d h whole
+              (subst (HasNone (Stands rule.exponent)) (sym (text tail.front tail.back after.back s tail.whole))
+              none.0)),
           none.1,
         )
       ])
@@ -162,11 +185,14 @@ number_broken p us v s e at is stand = subst (Number p) (sym (onto_split us s)) 
     ends : first_passes goes_on s ≡ false
     ends = stop_is_calm s e
 
-    by_cut : (front back : List ℕ) → text ≡ front ++ back → first_passes goes_on (back ++ v) ≡ false → first_passes goes_on (back ++ s) ≡ false
+    by_cut : (front back : List ℕ) → text ≡ front ++ back → first_passes goes_on (back ++ v) ≡ false
+        → first_passes goes_on (back ++ s) ≡ false
         → Number p (text ++ s)
     by_cut front back whole old new =
-        let split : (r : List ℕ) → text ++ r ≡ front ++ (back ++ r) = λ r. ap (λ z. z ++ r) whole ∙ append_assoc front back r in
-        subst (Number p) (sym (split s)) (number_cut p front (back ++ v) (back ++ s) old new (subst (Number p) (split v) is_before))
+        let split : (r : List ℕ)
+        → text ++ r ≡ front ++ (back ++ r) = λ r. ap (λ z. z ++ r) whole ∙ append_assoc front back r in
+        subst (Number p) (sym (split s))
+        (number_cut p front (back ++ v) (back ++ s) old new (subst (Number p) (split v) is_before))
 
     by_dead : HasDead text → Number p (text ++ s)
     by_dead h = let at = first_out goes_on text h in by_cut at.0 (at.1 ∷ at.2) at.3 at.4 at.4

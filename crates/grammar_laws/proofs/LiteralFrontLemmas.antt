@@ -48,8 +48,19 @@ literal_first p r (inl literal) =
       first = at.0;
       rest = at.1;
       whole = at.2;
-      mark = any_of (λ d. is_mark d ≡ (d == 39)) literal_fronts at.0
-          (refl, (refl, (refl, (refl, (refl, (refl, (refl, (refl, (refl, (refl, (refl, (refl, (refl, (refl, (refl, tt))))))))))))))) at.3;
+      mark = any_of (λ d. is_mark d ≡ (d == 39)) literal_fronts at.0 (
+        refl,
+        (
+          refl,
+          (
+            refl,
+            (
+              refl,
+              (refl, (refl, (refl, (refl, (refl, (refl, (refl, (refl, (refl, (refl, (refl, tt))))))))))),
+            ),
+          ),
+        ),
+      ) at.3;
       slash = none_passes (λ d. 47 == d) at.0 refl at.3;
       closer = none_passes is_closer at.0 refl at.3;
       white = none_passes is_white at.0 refl at.3;
@@ -61,4 +72,5 @@ literal_first p r (inl literal) =
 pub literal_plain : (p r s : List ℕ) → AnyLiteral p r → begins_any comment_fronts (p ++ s) ≡ false
 literal_plain p r s h =
     let at = literal_first p r h in
-    ap (λ x. begins_any comment_fronts (x ++ s)) at.whole ∙ or_from _ _ (and_left _ _ at.slash) (or_from _ _ (and_left _ _ at.slash) refl)
+    ap (λ x. begins_any comment_fronts (x ++ s)) at.whole
+    ∙ or_from _ _ (and_left _ _ at.slash) (or_from _ _ (and_left _ _ at.slash) refl)

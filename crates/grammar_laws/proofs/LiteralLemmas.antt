@@ -32,7 +32,8 @@ looks_raw kind = (
   tt,
   λ hashes.
       let quoted = 34 ∷ hashes in
-      let opens = ends_after is_ident_continue (0 + least (raw_quotes (is_raw kind) hashes)) (λ c. c == 35) (omega arith) in
+      let opens = ends_after is_ident_continue (0 + least (raw_quotes (is_raw kind) hashes)) (λ c. c == 35)
+      (omega arith) in
       let past = 0 + least (close quoted) + 1 in
       let closing = ap (λ rest. list_all is_ident_continue rest && true) (drop_all past quoted (omega arith)) in
       (opens, (tt, ((closing, (tt, tt)), looks_close quoted))),
@@ -41,10 +42,12 @@ looks_raw kind = (
 looks_string : (kind : StringKind) → Looks is_ident_continue 0 (string kind)
 looks_string kind = ((tt, ((tt, (tt, (tt, ((tt, tt), looks_escape kind)))), looks_close (codes "\""))), looks_raw kind)
 
-looks_single : (kind : StringKind) → Looks is_ident_continue 0 (Then (single.unit (single.is_plain kind) (escape kind)) (close (codes "'")))
+looks_single : (kind : StringKind)
+    → Looks is_ident_continue 0 (Then (single.unit (single.is_plain kind) (escape kind)) (close (codes "'")))
 looks_single kind = ((tt, (tt, looks_escape kind)), looks_close (codes "'"))
 
--- one between quotes stays one where a text that goes on with no identifier takes the place of what follows, near or far
+-- one between quotes stays one where a text that goes on with no identifier takes the place of what follows, near or
+-- far
 pub quoted_stable : Stable is_ident_continue QuotedLiteral
 unfolding Str
 quoted_stable = stable is_ident_continue quoted_literal

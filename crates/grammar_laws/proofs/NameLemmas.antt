@@ -1,5 +1,6 @@
 -- What identifiers and marks give to the laws of texts.
-use Rattle.std.proofs.Common.{◌≡◌, ℕ, Bool, true, false, not, ◌==◌, ◌⊎◌, List, [], ◌∷◌, ◌++◌, Some, None, IsTrue, inl, inr, codes, refl, sym, ap, ◌∙◌}
+use Rattle.std.proofs.Common.{◌≡◌, ℕ, Bool, true, false, not, ◌==◌, ◌⊎◌, List, [], ◌∷◌, ◌++◌, Some, None, IsTrue, inl}
+use Rattle.std.proofs.Common.{inr, codes, refl, sym, ap, ◌∙◌}
 use Rattle.std.specs.List.{list_any}
 use Rattle.std.proofs.lemmas.Bool.{both_ways, and_left, not-true}
 use Rattle.lexical.specs.Class.{is_ident_start, is_ident_continue}
@@ -33,11 +34,13 @@ stop_first s = stop_out goes_on s refl
 -- ---- identifiers before another text
 
 -- a name stands before every text that does not go on with it
-pub name_before : (p r s : List ℕ) → first_passes is_ident_continue s ≡ false → identifiers.Name p r → identifiers.Name p s
+pub name_before : (p r s : List ℕ) → first_passes is_ident_continue s ≡ false → identifiers.Name p r
+    → identifiers.Name p s
 name_before p r s ends h = stable is_ident_continue identifiers.name (tt, λ c is. is) p [] r s ends h
 
 -- the name of an identifier is a name before nothing, and is allowed
-pub identifier_alone : (raw : Bool) (name r : List ℕ) → Identifier raw name r → identifiers.Name name [] × IsTrue (is_allowed raw name)
+pub identifier_alone : (raw : Bool) (name r : List ℕ) → Identifier raw name r
+    → identifiers.Name name [] × IsTrue (is_allowed raw name)
 identifier_alone true name r h = (name_before name r [] refl h.0.0, h.0.1)
 identifier_alone false name r h = (name_before name r [] refl h.0.0, refl)
 
@@ -50,12 +53,14 @@ named_before_stop false name r s e h = (
 )
 
 -- and where no literal begins
-pub identifier_before_stop : (raw : Bool) (name r s : List ℕ) → stops s ≡ true → Identifier raw name r → Identifier raw name s
+pub identifier_before_stop : (raw : Bool) (name r s : List ℕ) → stops s ≡ true → Identifier raw name r
+    → Identifier raw name s
 identifier_before_stop true name r s e h = (
   named_before_stop true name r s e h.0,
   any_cut goes_on literal_prefixes (codes "r#" ++ name) r s refl (stop_first s e) h.1,
 )
-identifier_before_stop false name r s e h = (named_before_stop false name r s e h.0, any_cut goes_on literal_prefixes name r s refl (stop_first s e) h.1)
+identifier_before_stop false name r s e h =
+    (named_before_stop false name r s e h.0, any_cut goes_on literal_prefixes name r s refl (stop_first s e) h.1)
 
 -- ---- lone quotes
 
@@ -67,7 +72,8 @@ stop_unbarred false s = stop_out (bars_quote false) s refl
 -- where a lone quote stands before an identifier, no character follows that which bars it
 pub quote_unbarred : (raw : Bool) (name r : List ℕ) → Named raw name r
     → FollowsQuote (raw_front raw ++ (name ++ r)) → first_passes (bars_quote raw) r ≡ false
-quote_unbarred raw name r h follows = not-true _ (sym (follows_at raw name r h) ∙ follows_complete (raw_front raw ++ (name ++ r)) follows)
+quote_unbarred raw name r h follows =
+    not-true _ (sym (follows_at raw name r h) ∙ follows_complete (raw_front raw ++ (name ++ r)) follows)
 
 -- what follows it begins as identifiers do
 pub follows_start : (r : List ℕ) → FollowsQuote r → first_passes is_ident_start r ≡ true
@@ -78,7 +84,8 @@ follows_something h = both_ways _ refl (follows_start [] h)
 
 -- an identifier, or else a literal
 abbrev pub IsNameOrLiteral : Kind → Type 0
-IsNameOrLiteral kind = ((raw : Bool) × (name : List ℕ) × (kind ≡ Leaf (Name raw name))) ⊎ ((text : List ℕ) × (kind ≡ Leaf (Literal text)))
+IsNameOrLiteral kind = ((raw : Bool) × (name : List ℕ) × (kind ≡ Leaf (Name raw name)))
+    ⊎ ((text : List ℕ) × (kind ≡ Leaf (Literal text)))
 
 -- what was found with a kind has it
 pub tagged_is : (kind : List ℕ → List ℕ → Kind) (o : Answer) (k : Kind) (p r : List ℕ) → tagged kind o ≡ Some (k, p, r)
@@ -90,11 +97,14 @@ tagged_is kind (Some x) k p r e =
     (sym (ap (λ y. y.0) same) ∙ ap (λ y. kind y.0 y.1) piece, ap Some piece)
 
 -- the piece that follows it is one of these
-pub quote_next : (first : Bool) (k : Kind) (p r : List ℕ) → IsPiece first k p r → FollowsQuote (p ++ r) → IsNameOrLiteral k
+pub quote_next : (first : Bool) (k : Kind) (p r : List ℕ) → IsPiece first k p r → FollowsQuote (p ++ r)
+    → IsNameOrLiteral k
 quote_next first k p r h follows =
-    by_cases (found_identifier (p ++ r)) refl (sym (letter_start first (p ++ r) (follows_start (p ++ r) follows)) ∙ found_complete first k p r h)
+    by_cases (found_identifier (p ++ r)) refl
+    (sym (letter_start first (p ++ r) (follows_start (p ++ r) follows)) ∙ found_complete first k p r h)
   where
-    by_cases : (o : Found) → found_identifier (p ++ r) ≡ o → or_found o (found_literal quoted_literal (p ++ r)) ≡ Some (k, p, r) → IsNameOrLiteral k
+    by_cases : (o : Found) → found_identifier (p ++ r) ≡ o
+        → or_found o (found_literal quoted_literal (p ++ r)) ≡ Some (k, p, r) → IsNameOrLiteral k
     by_cases None is e = inr (p, (tagged_is literal_kind (find quoted_literal (p ++ r)) k p r e).0)
     by_cases (Some x) is e =
         let raw = begins_with (codes "r#") (p ++ r) in

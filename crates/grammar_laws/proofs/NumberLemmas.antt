@@ -1,5 +1,6 @@
 -- The parts of a number, and floats, stay what they are where something follows that doesn't go on with them.
-use Rattle.std.proofs.Common.{◌≡◌, ℕ, ◌≤◌, Bool, true, false, ◌||◌, ◌==◌, List, [], ◌∷◌, ◌++◌, length, length-append, arith, refl, sym, ap, ◌∙◌, subst, inl, inr, append_assoc, append-nil}
+use Rattle.std.proofs.Common.{◌≡◌, ℕ, ◌≤◌, Bool, true, false, ◌||◌, ◌==◌, List, [], ◌∷◌, ◌++◌, length, length-append}
+use Rattle.std.proofs.Common.{arith, refl, sym, ap, ◌∙◌, subst, inl, inr, append_assoc, append-nil}
 use Rattle.std.specs.List.{list_all}
 use Rattle.std.specs.Char.{is_ascii_digit}
 use Rattle.std.proofs.lemmas.Bool.{both_ways, and_parts, or_left, or_right}
@@ -17,7 +18,9 @@ use Rattle.lexical.specs.Number as rule
 use Rattle.lexical.specs.Number.{is_underscore, is_digit_or_underscore, Digits, bars_dot, is_exponent_letter, is_sign}
 use Rattle.lexical.proofs.ClassLemmas.{Sub, sub_digits}
 use Rattle.lexical.proofs.PieceFacts.{start_continues}
-use Rattle.grammar_laws.proofs.StableLemmas.{sub_one, sub_either, none, Stable, KeepsNone, AllIn, anew, Looks, Within, stable, fronts_compared, passes_at, all_append, inside, none_extended, none_one, all_in}
+use Rattle.grammar_laws.proofs.StableLemmas.{sub_one, sub_either, none, Stable, KeepsNone, AllIn, anew, Looks, Within}
+use Rattle.grammar_laws.proofs.StableLemmas.{stable, fronts_compared, passes_at, all_append, inside, none_extended}
+use Rattle.grammar_laws.proofs.StableLemmas.{none_one, all_in}
 
 -- ---- classes
 
@@ -41,14 +44,16 @@ digits_continue = sub_either is_ascii_digit is_underscore is_ident_continue digi
 
 pub letter_continues : Sub is_exponent_letter is_ident_continue
 unfolding unicode_ident
-letter_continues = sub_either (λ c. c == 101) (λ c. c == 69) is_ident_continue (sub_one is_ident_continue 101 refl) (sub_one is_ident_continue 69 refl)
+letter_continues = sub_either (λ c. c == 101) (λ c. c == 69) is_ident_continue (sub_one is_ident_continue 101 refl)
+    (sub_one is_ident_continue 69 refl)
 
 sign_goes_on : Sub is_sign goes_on
 sign_goes_on c is = or_right (is_ident_continue c) _ (or_right (c == 46) _ is)
 
 dot_goes_on : Sub bars_dot goes_on
 unfolding unicode_ident
-dot_goes_on = sub_either (λ c. c == 46) is_ident_start goes_on (sub_one goes_on 46 refl) (λ c start. or_left _ _ (start_continues c start))
+dot_goes_on = sub_either (λ c. c == 46) is_ident_start goes_on (sub_one goes_on 46 refl)
+    (λ c start. or_left _ _ (start_continues c start))
 
 -- ---- the parts of a number
 
@@ -99,38 +104,48 @@ pub on_digits : AllIn is_ident_continue Digits
 on_digits = all_in is_ident_continue rule.digits (within_digits is_ident_continue (λ c is. is))
 
 pub on_exponent_digits : AllIn is_ident_continue (Stands rule.exponent_digits)
-on_exponent_digits = all_in is_ident_continue rule.exponent_digits (within_exponent_digits is_ident_continue (λ c is. is))
+on_exponent_digits = all_in is_ident_continue rule.exponent_digits
+    (within_exponent_digits is_ident_continue (λ c is. is))
 
 on_exponent : Within goes_on rule.exponent
 on_exponent = within_exponent goes_on continue_goes_on sign_goes_on
 
 exponent_none : KeepsNone goes_on 0 (Stands rule.exponent)
-exponent_none = none_extended goes_on rule.exponent on_exponent (tt, (tt, ((tt, tt, none_one none is_sign), (tt, (tt, tt)))))
+exponent_none = none_extended goes_on rule.exponent on_exponent
+    (tt, (tt, ((tt, tt, none_one none is_sign), (tt, (tt, tt)))))
 
 -- up to a character that goes on with no identifier, its sign, an exponent is made of others
-pub exponent_front : (x t y m : List ℕ) (c : ℕ) → Stands rule.exponent x t → is_ident_continue c ≡ false → x ≡ y ++ (c ∷ m)
+pub exponent_front : (x t y m : List ℕ) (c : ℕ) → Stands rule.exponent x t → is_ident_continue c ≡ false
+    → x ≡ y ++ (c ∷ m)
     → list_all is_ident_continue y ≡ true
 exponent_front x t y m c is out e =
     let lines = is.second in
     let signed = lines.second in
     let letters = is.front ++ lines.front in
     let whole : letters ++ (signed.front ++ signed.back) ≡ x =
-    append_assoc is.front lines.front (signed.front ++ signed.back) ∙ (ap (λ z. is.front ++ (lines.front ++ z)) (sym signed.whole)
+    append_assoc is.front lines.front (signed.front ++ signed.back)
+    ∙ (ap (λ z. is.front ++ (lines.front ++ z)) (sym signed.whole)
     ∙ (ap (λ z. is.front ++ z) (sym lines.whole) ∙ sym is.whole)) in
     let all : list_all is_ident_continue letters ≡ true =
     all_append is_ident_continue is.front lines.front
     (all_in is_ident_continue (rules.One is_exponent_letter) letter_continues is.front (is.back ++ t) is.first)
-    (all_in is_ident_continue (rules.Run is_underscore) underscore_continues lines.front (lines.back ++ t) lines.first) in
-    let sign : length signed.front ≤ 1 = elim signed.first [ inl one ↦ omega (arith, ap length one.1) | inr none ↦ omega (arith, ap length none.1) ] in
+    (all_in is_ident_continue (rules.Run is_underscore) underscore_continues lines.front (lines.back ++ t) lines.first)
+    in
+    let sign : length signed.front ≤ 1 =
+    elim signed.first [ inl one ↦ omega (arith, ap length one.1) | inr none ↦ omega (arith, ap length none.1) ] in
     elim (fronts_compared y (c ∷ m) letters (signed.front ++ signed.back) (sym e ∙ sym whole)) [
       | inl past ↦ elim (fronts_compared past.0 (c ∷ m) signed.front signed.back (sym past.2)) [
-        | inl later ↦ absurd (both_ways _ out (passes_at is_ident_continue signed.back later.0 c m (on_exponent_digits signed.back t signed.second) later.2))
+        | inl later ↦ absurd (both_ways _ out
+            (passes_at is_ident_continue signed.back later.0 c m
+            (on_exponent_digits signed.back t signed.second) later.2))
         | inr here ↦
-            let none = nil_from_length past.0 (omega (arith, sign, ap length here.2, length-append past.0 (here.0 ∷ here.1))) in
+            let none = nil_from_length past.0
+            (omega (arith, sign, ap length here.2, length-append past.0 (here.0 ∷ here.1))) in
             ap (list_all is_ident_continue) (past.1 ∙ (ap (λ z. letters ++ z) none ∙ append-nil letters)) ∙ all
       ]
       | inr within ↦
-          (and_parts _ _ (sym (ap (list_all is_ident_continue) within.2 ∙ list_all-append is_ident_continue y (within.0 ∷ within.1)) ∙ all)).0
+          (and_parts _ _ (sym (ap (list_all is_ident_continue) within.2
+          ∙ list_all-append is_ident_continue y (within.0 ∷ within.1)) ∙ all)).0
     ]
 
 -- ---- floats
@@ -179,7 +194,8 @@ none_moved p b r s ends moves none q t e is =
     (moves q within.0 within.1 (subst (Stands rule.float q) within.2 is))
 
 -- one without a dot does, where nothing that goes on with an identifier follows
-pub float_moved : (q d r s : List ℕ) → first_passes is_ident_continue r ≡ false → (Dotted q (d ++ s) → Dotted q (d ++ r))
+pub float_moved : (q d r s : List ℕ) → first_passes is_ident_continue r ≡ false
+    → (Dotted q (d ++ s) → Dotted q (d ++ r))
     → Stands rule.float q (d ++ s) → Stands rule.float q (d ++ r)
 float_moved q d r s calm moves is = elim is.second [
   | inl dotted ↦

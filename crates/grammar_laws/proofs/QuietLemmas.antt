@@ -1,5 +1,6 @@
 -- What pieces end with that are neither marks nor numbers.
-use Rattle.std.proofs.Common.{◌≡◌, ◌⊎◌, ℕ, Bool, true, false, not, ◌||◌, ◌==◌, List, [], ◌∷◌, ◌++◌, codes, refl, sym, ap, ◌∙◌, subst, inl, inr, append_assoc, append-nil}
+use Rattle.std.proofs.Common.{◌≡◌, ◌⊎◌, ℕ, Bool, true, false, not, ◌||◌, ◌==◌, List, [], ◌∷◌, ◌++◌, codes, refl, sym}
+use Rattle.std.proofs.Common.{ap, ◌∙◌, subst, inl, inr, append_assoc, append-nil}
 use Rattle.std.specs.List.{list_all}
 use Rattle.std.specs.Char.{is_ascii_digit}
 use Rattle.std.proofs.lemmas.Bool.{both_ways, and_left, and_right, not-true}
@@ -51,20 +52,27 @@ white_dead =
 quoted_dead : (p r : List ℕ) → literals.QuotedLiteral p r → HasDead p
 unfolding Str unicode_ident
 quoted_dead =
-    misses goes_on literals.quoted_literal
-    ((inl refl, inr (λ hashes. inl refl)), (inl refl, ((inl refl, inr (λ hashes. inl refl)), (inl refl, (inl refl, inr (λ hashes. inl refl))))))
+    misses goes_on literals.quoted_literal (
+      (inl refl, inr (λ hashes. inl refl)),
+      (inl refl, ((inl refl, inr (λ hashes. inl refl)), (inl refl, (inl refl, inr (λ hashes. inl refl))))),
+    )
 
 -- ---- quiet pieces
 
--- a piece that is neither a mark nor a number has such a character, or nothing follows it that goes on with an identifier
-quiet_piece : (k : Kind) (p r : List ℕ) → IsPiece false k p r → is_quiet k ≡ true → HasDead p ⊎ (first_passes is_ident_continue r ≡ false)
+-- a piece that is neither a mark nor a number has such a character, or nothing follows it that goes on with an
+-- identifier
+quiet_piece : (k : Kind) (p r : List ℕ) → IsPiece false k p r → is_quiet k ≡ true
+    → HasDead p ⊎ (first_passes is_ident_continue r ≡ false)
 unfolding unicode_ident literals.Literal
 quiet_piece FrontMark p r h quiet = absurd (both_ways _ refl h.0)
 quiet_piece Gap p r (inl h) quiet = inl (dead_first p [] h.0 h.1 (white_dead h.0 h.2))
 quiet_piece Gap p r (inr h) quiet = let at = comment_first p r h.0 in inl (dead_first p at.0 47 at.1 refl)
-quiet_piece (Doc inner text) p r h quiet = let at = comment_first p r h.comment.0 in inl (dead_first p at.0 47 at.1 refl)
-quiet_piece (Open c) p r h quiet = let is = open_is false c p r h in inl (dead_first p [] c is.0 (sub_listed dead (codes "([{") refl c is.1))
-quiet_piece (Close c) p r h quiet = let is = close_is false c p r h in inl (dead_first p [] c is.0 (sub_listed dead (codes ")]}") refl c is.1))
+quiet_piece (Doc inner text) p r h quiet = let at = comment_first p r h.comment.0 in
+    inl (dead_first p at.0 47 at.1 refl)
+quiet_piece (Open c) p r h quiet = let is = open_is false c p r h in
+    inl (dead_first p [] c is.0 (sub_listed dead (codes "([{") refl c is.1))
+quiet_piece (Close c) p r h quiet = let is = close_is false c p r h in
+    inl (dead_first p [] c is.0 (sub_listed dead (codes ")]}") refl c is.1))
 quiet_piece (Leaf (Name true name)) p r h quiet = inl (ap (list_all goes_on) h.0)
 quiet_piece (Leaf (Name false name)) p r h quiet = inr h.1.0.0.second.stops
 quiet_piece (Leaf (Mark c joint)) p r h quiet = absurd (both_ways _ refl quiet)
@@ -74,7 +82,8 @@ quiet_piece (Leaf (Literal text)) p r h quiet = elim h.1 [
     | inl quoted ↦ inl (subst HasDead (sym h.0) (quoted_dead text r quoted))
     | inr number ↦
         let at = number_first text r number in
-        absurd (both_ways (first_passes is_ascii_digit text) (not-true _ quiet) (ap (first_passes is_ascii_digit) at.2 ∙ at.3))
+        absurd (both_ways (first_passes is_ascii_digit text) (not-true _ quiet)
+        (ap (first_passes is_ascii_digit) at.2 ∙ at.3))
   ]
 ]
 

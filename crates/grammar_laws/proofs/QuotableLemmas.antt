@@ -31,8 +31,13 @@ use Rattle.grammar_laws.proofs.NameLemmas.{follows_start}
 pub prefixed_follows : (p r : List ℕ) → begins_any quotable_fronts p ≡ true → FollowsQuote (p ++ r)
 unfolding unicode_ident find
 prefixed_follows p r h =
-    begins_each (λ t. FollowsQuote (t ++ r)) quotable_fronts p h
-    (λ t. follows_sound _ refl, (λ t. follows_sound _ refl, (λ t. follows_sound _ refl, (λ t. follows_sound _ refl, (λ t. follows_sound _ refl, tt)))))
+    begins_each (λ t. FollowsQuote (t ++ r)) quotable_fronts p h (
+      λ t. follows_sound _ refl,
+      (
+        λ t. follows_sound _ refl,
+        (λ t. follows_sound _ refl, (λ t. follows_sound _ refl, (λ t. follows_sound _ refl, tt))),
+      ),
+    )
 
 -- ---- no others may
 
@@ -41,21 +46,25 @@ not_followed text out h = absurd (both_ways _ out (follows_complete text h))
 
 -- a text that begins with what no identifier begins with
 no_start : (c : ℕ) (text rest : List ℕ) → text ≡ c ∷ rest → is_ident_start c ≡ false → FollowsQuote text → ⊥
-no_start c text rest e out h = both_ways (is_ident_start c) out (sym (ap (first_passes is_ident_start) e) ∙ follows_start text h)
+no_start c text rest e out h = both_ways (is_ident_start c) out
+    (sym (ap (first_passes is_ident_start) e) ∙ follows_start text h)
 
 -- if a lone quote may stand before the piece, it begins with one of the five
 abbrev Quotable : List ℕ → List ℕ → Type 0
 Quotable p r = FollowsQuote (p ++ r) → begins_any quotable_fronts p ≡ true
 
-front_bars : (front : List ℕ) (A : Form) (p r : List ℕ) → Then (Exactly front) A p r → ((tail : List ℕ) → follows_quote (front ++ tail) ≡ false) → Quotable p r
-front_bars front A p r h out follows = (not_followed (p ++ r) (ap follows_quote (front_whole front A p r h) ∙ out (h.back ++ r)) follows)
+front_bars : (front : List ℕ) (A : Form) (p r : List ℕ) → Then (Exactly front) A p r
+    → ((tail : List ℕ) → follows_quote (front ++ tail) ≡ false) → Quotable p r
+front_bars front A p r h out follows =
+    (not_followed (p ++ r) (ap follows_quote (front_whole front A p r h) ∙ out (h.back ++ r)) follows)
 
 -- a raw string without hash signs may, and none with them
 raw_quotable : (kind : StringKind) (p r : List ℕ) → Stands (raw_string kind) p r → Quotable p r
 unfolding unicode_ident find
 raw_quotable kind p r h =
     let at = raw_text (raw_front kind) (is_raw kind) p r h in
-    rw at.2 (begins_each (λ t. Quotable (raw_front kind ++ t) r) raw_fronts (at.0 ++ (34 ∷ at.1)) (hashes_begin at.0 at.1 at.3)
+    rw at.2 (begins_each (λ t. Quotable (raw_front kind ++ t) r) raw_fronts (at.0 ++ (34 ∷ at.1))
+    (hashes_begin at.0 at.1 at.3)
     (each_kind (λ k. AllByRecursion (λ f. (tail : List ℕ) → Quotable (raw_front k ++ (f ++ tail)) r) raw_fronts)
     (λ t no. refl, (λ t. not_followed _ refl, (λ t. not_followed _ refl, tt)))
     (λ t no. refl, (λ t. not_followed _ refl, (λ t. not_followed _ refl, tt)))
@@ -87,4 +96,5 @@ literal_quoted p r (inl literal) follows = elim literal [
       let at = number_first p r number in
       absurd (no_start at.0 (p ++ r) (at.1 ++ r) (ap (λ x. x ++ r) at.2) (digit_no_start at.0 at.3) follows)
 ]
-literal_quoted p r (inr error) follows = absurd (no_start 40 (p ++ r) (codes "/*ERROR*/)" ++ r) (ap (λ x. x ++ r) error) refl follows)
+literal_quoted p r (inr error) follows =
+    absurd (no_start 40 (p ++ r) (codes "/*ERROR*/)" ++ r) (ap (λ x. x ++ r) error) refl follows)

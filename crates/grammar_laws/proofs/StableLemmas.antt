@@ -1,8 +1,11 @@
 -- Rules that keep their pieces where what follows them becomes something else.
-use Rattle.std.proofs.Common.{◌≡◌, ◌⊎◌, ℕ, ◌≤◌, ◌+◌, zero, suc, min, Bool, true, false, ◌||◌, ◌&&◌, ◌==◌, ◌<◌, ◌-◌, nat_lt, ltb-true, List, [], ◌∷◌, ◌++◌, length, drop, refl, sym, ap, ap₂, ◌∙◌, subst, arith, inl, inr, append_assoc, length-append, eqb-true}
+use Rattle.std.proofs.Common.{◌≡◌, ◌⊎◌, ℕ, ◌≤◌, ◌+◌, zero, suc, min, Bool, true, false, ◌||◌, ◌&&◌, ◌==◌, ◌<◌, ◌-◌}
+use Rattle.std.proofs.Common.{nat_lt, ltb-true, List, [], ◌∷◌, ◌++◌, length, drop, refl, sym, ap, ap₂, ◌∙◌, subst}
+use Rattle.std.proofs.Common.{arith, inl, inr, append_assoc, length-append, eqb-true}
 use Rattle.std.specs.List.{list_all, concat}
 use Rattle.std.proofs.Math.Nat.{min-le_left, min-le_right}
-use Rattle.std.proofs.lemmas.Bool.{both_ways, and_parts, and_from, and_left, and_right, or_cases, false_from_ne_true, agree_below, agree_below_at}
+use Rattle.std.proofs.lemmas.Bool.{both_ways, and_parts, and_from, and_left, and_right, or_cases, false_from_ne_true}
+use Rattle.std.proofs.lemmas.Bool.{agree_below, agree_below_at}
 use Rattle.std.proofs.lemmas.List.Folds.{list_all-append}
 use Rattle.lexical.specs.Text.{begins_any, first_passes}
 use Rattle.lexical.specs.Form.{Form, HasNone, Next, Many, Each}
@@ -18,20 +21,25 @@ use Rattle.lexical.proofs.FinderLemmas.{finds_run}
 pub sub_one : (class : ℕ → Bool) (n : ℕ) → class n ≡ true → Sub (λ c. c == n) class
 sub_one class n is c e = ap class (eqb-true c n e) ∙ is
 
-pub sub_either : (passes others class : ℕ → Bool) → Sub passes class → Sub others class → Sub (λ c. passes c || others c) class
-sub_either passes others class one other c is = elim (or_cases (passes c) (others c) is) [ inl x ↦ one c x | inr y ↦ other c y ]
+pub sub_either : (passes others class : ℕ → Bool) → Sub passes class → Sub others class
+    → Sub (λ c. passes c || others c) class
+sub_either passes others class one other c is =
+    elim (or_cases (passes c) (others c) is) [ inl x ↦ one c x | inr y ↦ other c y ]
 
 -- a range of characters
-pub sub_between : (class : ℕ → Bool) (low high : ℕ) → agree_below (λ k. class (1 + low + k)) (λ k. true) (high - (1 + low)) ≡ true
+pub sub_between : (class : ℕ → Bool) (low high : ℕ)
+    → agree_below (λ k. class (1 + low + k)) (λ k. true) (high - (1 + low)) ≡ true
     → Sub (λ c. nat_lt low c && nat_lt c high) class
 sub_between class low high all c is =
     let parts = and_parts (nat_lt low c) (nat_lt c high) is in
     let above : low < c = ltb-true low c parts.0 in
     let below : c < high = ltb-true c high parts.1 in
     let same : 1 + low + (c - (1 + low)) ≡ c = omega arith in
-    subst (λ x. class x ≡ true) same (agree_below_at (λ k. class (1 + low + k)) (λ k. true) (high - (1 + low)) (c - (1 + low)) all (omega arith))
+    subst (λ x. class x ≡ true) same
+    (agree_below_at (λ k. class (1 + low + k)) (λ k. true) (high - (1 + low)) (c - (1 + low)) all (omega arith))
 
-pub stops_within : (passes class : ℕ → Bool) → Sub passes class → (s : List ℕ) → first_passes class s ≡ false → first_passes passes s ≡ false
+pub stops_within : (passes class : ℕ → Bool) → Sub passes class → (s : List ℕ) → first_passes class s ≡ false
+    → first_passes passes s ≡ false
 stops_within passes class within [] ends = refl
 stops_within passes class within (c ∷ s) ends = false_from_ne_true _ (λ is. both_ways _ ends (within c is))
 
@@ -54,10 +62,17 @@ pub least_holds : (rule : Rule) (p r : List ℕ) → Stands rule p r → least r
 least_holds (rules.One passes) p r is = omega (arith, ap length is.1)
 least_holds (rules.Exactly text) p r is = omega (arith, ap length is)
 least_holds (rules.Then a b) p r is =
-    omega (arith, ap length is.whole, length-append is.front is.back, least_holds a is.front (is.back ++ r) is.first, least_holds b is.back r is.second)
+    omega (
+      arith,
+      ap length is.whole,
+      length-append is.front is.back,
+      least_holds a is.front (is.back ++ r) is.first,
+      least_holds b is.back r is.second,
+    )
 least_holds (rules.Next a b) p r is =
     omega (arith, ap length is.whole, length-append is.front is.back, least_holds a is.front (is.back ++ r) is.first)
-least_holds (rules.UpTo a b) p r is = omega (arith, ap length is.whole, length-append is.front is.back, least_holds b is.back r is.second)
+least_holds (rules.UpTo a b) p r is =
+    omega (arith, ap length is.whole, length-append is.front is.back, least_holds b is.back r is.second)
 least_holds (rules.Either a b) p r is = elim is [
   | inl x ↦ omega (arith, min-le_left (least a) (least b), least_holds a p r x)
   | inr y ↦ omega (arith, min-le_right (least a) (least b), least_holds b p r y)
@@ -76,7 +91,8 @@ Keeps class n A = (p b r s : List ℕ) → n ≤ length b → first_passes class
 
 -- and where none of the form stands, none does then
 abbrev pub KeepsNone : (ℕ → Bool) → ℕ → Form → Type 0
-KeepsNone class n A = (b r s : List ℕ) → n ≤ length b → first_passes class s ≡ false → HasNone A (b ++ r) → HasNone A (b ++ s)
+KeepsNone class n A = (b r s : List ℕ) → n ≤ length b → first_passes class s ≡ false → HasNone A (b ++ r)
+    → HasNone A (b ++ s)
 
 -- the same, however many follow
 abbrev pub Stable : (ℕ → Bool) → Form → Type 0
@@ -101,28 +117,34 @@ Looks class n (rules.Next a b) = (front : List ℕ) → Looks class (n + least (
 Looks class n (rules.UpTo a b) = Looks class (n + least b) a × Looks class n b
 Looks class n (rules.Either a b) = Looks class n a × Looks class n b
 Looks class n (rules.Else a b) = Looks class n a × Looks class n b × KeepsNone class n (Stands a)
-Looks class n (rules.NotAt fronts a) = (list_all (λ front. list_all class (drop (n + least a) front)) fronts ≡ true) × Looks class n a
+Looks class n (rules.NotAt fronts a) = (list_all (λ front. list_all class (drop (n + least a) front)) fronts ≡ true)
+    × Looks class n a
 Looks class n (rules.NotBefore passes a) = Ends class n passes × Looks class n a
 Looks class n (rules.Where test a) = Looks class n a
 Looks class n (rules.Ends depth) = Keeps class n (Stands (rules.Ends depth))
 
 -- the two pieces before another text, or the second of another form
-pub anew : (A : Form) (B C : List ℕ → Form) (p r s : List ℕ) (h : Next A B p r) → A h.front (h.back ++ s) → C h.front h.back s → Next A C p s
-anew A B C p r s h first second = record { front = h.front; back = h.back; whole = h.whole; first = first; second = second }
+pub anew : (A : Form) (B C : List ℕ → Form) (p r s : List ℕ) (h : Next A B p r) → A h.front (h.back ++ s)
+    → C h.front h.back s → Next A C p s
+anew A B C p r s h first second =
+    record { front = h.front; back = h.back; whole = h.whole; first = first; second = second }
 
 module _ (class : ℕ → Bool) where
-  keeps_ends : (n : ℕ) (passes : ℕ → Bool) → Ends class n passes → (b r s : List ℕ) → n ≤ length b → first_passes class s ≡ false
+  keeps_ends : (n : ℕ) (passes : ℕ → Bool) → Ends class n passes → (b r s : List ℕ) → n ≤ length b
+      → first_passes class s ≡ false
       → first_passes passes (b ++ r) ≡ false → first_passes passes (b ++ s) ≡ false
   keeps_ends n passes within (c ∷ b) r s long ends stops = stops
   keeps_ends zero passes within [] r s long ends stops = stops_within passes class within s ends
   keeps_ends (suc n) passes within [] r s long ends stops = absurd (omega (arith, long))
 
   -- what follows a piece may be in two parts
-  pub keeps_before : (n : ℕ) (A : Form) → Keeps class n A → (front back b r s : List ℕ) → n ≤ length back + length b → first_passes class s ≡ false
+  pub keeps_before : (n : ℕ) (A : Form) → Keeps class n A → (front back b r s : List ℕ) → n ≤ length back + length b
+      → first_passes class s ≡ false
       → A front (back ++ (b ++ r)) → A front (back ++ (b ++ s))
   keeps_before n A keeps front back b r s long ends is =
       subst (A front) (append_assoc back b s)
-      (keeps front (back ++ b) r s (omega (arith, long, length-append back b)) ends (subst (A front) (sym (append_assoc back b r)) is))
+      (keeps front (back ++ b) r s (omega (arith, long, length-append back b)) ends
+      (subst (A front) (sym (append_assoc back b r)) is))
 
   keeps_next : (n : ℕ) (A : Form) (B : List ℕ → Rule) → ((front : List ℕ) → Keeps class (n + least (B front)) A)
       → ((front : List ℕ) → Keeps class n (Stands (B front))) → Keeps class n (Next A (λ front. Stands (B front)))
@@ -133,11 +155,14 @@ module _ (class : ℕ → Bool) where
       (omega (arith, long, least_holds (B is.front) is.back (b ++ r) is.second)) ends is.first)
       (other is.front is.back b r s long ends is.second)
 
-  keeps_each : (n : ℕ) (A : Form) → Keeps class n A → (units : List (List ℕ)) (b r s : List ℕ) → n ≤ length b → first_passes class s ≡ false
+  keeps_each : (n : ℕ) (A : Form) → Keeps class n A → (units : List (List ℕ)) (b r s : List ℕ) → n ≤ length b
+      → first_passes class s ≡ false
       → Each A units (b ++ r) → Each A units (b ++ s)
   keeps_each n A keeps [] b r s long ends each = tt
-  keeps_each n A keeps (unit ∷ units) b r s long ends each =
-      (keeps_before n A keeps unit (concat units) b r s (omega (arith, long)) ends each.0, keeps_each n A keeps units b r s long ends each.1)
+  keeps_each n A keeps (unit ∷ units) b r s long ends each = (
+    keeps_before n A keeps unit (concat units) b r s (omega (arith, long)) ends each.0,
+    keeps_each n A keeps units b r s long ends each.1,
+  )
 
   keeps_many : (n : ℕ) (A : Form) → Keeps class n A → Keeps class n (Many A)
   keeps_many n A keeps p b r s long ends is =
@@ -145,14 +170,17 @@ module _ (class : ℕ → Bool) where
 
   pub keeps : (rule : Rule) (n : ℕ) → Looks class n rule → Keeps class n (Stands rule)
   keeps (rules.One passes) n looks = λ p b r s long ends is. is
-  keeps (rules.Run passes) n looks = λ p b r s long ends is. record { each = is.each; stops = keeps_ends n passes looks b r s long ends is.stops }
+  keeps (rules.Run passes) n looks =
+      λ p b r s long ends is. record { each = is.each; stops = keeps_ends n passes looks b r s long ends is.stops }
   keeps (rules.Exactly text) n looks = λ p b r s long ends is. is
   keeps (rules.Then a b) n looks =
       keeps_next n (Stands a) (λ front. b) (λ front. keeps a (n + least b) looks.0) (λ front. keeps b n looks.1)
   keeps (rules.Next a b) n looks =
-      keeps_next n (Stands a) b (λ front. keeps a (n + least (b front)) (looks front).0) (λ front. keeps (b front) n (looks front).1)
+      keeps_next n (Stands a) b (λ front. keeps a (n + least (b front)) (looks front).0)
+      (λ front. keeps (b front) n (looks front).1)
   keeps (rules.UpTo a b) n looks =
-      keeps_next n (Many (Stands a)) (λ front. b) (λ front. keeps_many (n + least b) (Stands a) (keeps a (n + least b) looks.0))
+      keeps_next n (Many (Stands a)) (λ front. b)
+      (λ front. keeps_many (n + least b) (Stands a) (keeps a (n + least b) looks.0))
       (λ front. keeps b n looks.1)
   keeps (rules.Either a b) n looks = λ p between r s long ends is. elim is [
     | inl x ↦ inl (keeps a n looks.0 p between r s long ends x)
@@ -202,7 +230,8 @@ Within class (rules.Where test a) = Within class a
 Within class rule = AllIn class (Stands rule)
 
 module _ (class : ℕ → Bool) where
-  pub all_append : (xs ys : List ℕ) → list_all class xs ≡ true → list_all class ys ≡ true → list_all class (xs ++ ys) ≡ true
+  pub all_append : (xs ys : List ℕ) → list_all class xs ≡ true → list_all class ys ≡ true
+      → list_all class (xs ++ ys) ≡ true
   all_append xs ys h j = list_all-append class xs ys ∙ and_from _ _ h j
 
   pub all_in : (rule : Rule) → Within class rule → AllIn class (Stands rule)
@@ -211,9 +240,12 @@ module _ (class : ℕ → Bool) where
   all_in (rules.Exactly text) within = λ p r is. ap (list_all class) is ∙ within
   all_in (rules.Then a b) within = λ p r is.
       ap (list_all class) is.whole
-      ∙ all_append is.front is.back (all_in a within.0 is.front (is.back ++ r) is.first) (all_in b within.1 is.back r is.second)
-  all_in (rules.Either a b) within = λ p r is. elim is [ inl x ↦ all_in a within.0 p r x | inr y ↦ all_in b within.1 p r y ]
-  all_in (rules.Else a b) within = λ p r is. elim is [ inl x ↦ all_in a within.0 p r x | inr y ↦ all_in b within.1 p r y.1 ]
+      ∙ all_append is.front is.back (all_in a within.0 is.front (is.back ++ r) is.first)
+      (all_in b within.1 is.back r is.second)
+  all_in (rules.Either a b) within =
+      λ p r is. elim is [ inl x ↦ all_in a within.0 p r x | inr y ↦ all_in b within.1 p r y ]
+  all_in (rules.Else a b) within =
+      λ p r is. elim is [ inl x ↦ all_in a within.0 p r x | inr y ↦ all_in b within.1 p r y.1 ]
   all_in (rules.NotAt fronts a) within = λ p r is. all_in a within p r is.0
   all_in (rules.NotBefore passes a) within = λ p r is. all_in a within p r is.0
   all_in (rules.Where test a) within = λ p r is. all_in a within p r is.0
@@ -227,7 +259,8 @@ Misses class (rules.Next a b) = (front : List ℕ) → Misses class (b front)
 Misses class (rules.Either a b) = Misses class a × Misses class b
 Misses class rule = (p r : List ℕ) → Stands rule p r → list_all class p ≡ false
 
-pub misses : (class : ℕ → Bool) (rule : Rule) → Misses class rule → (p r : List ℕ) → Stands rule p r → list_all class p ≡ false
+pub misses : (class : ℕ → Bool) (rule : Rule) → Misses class rule → (p r : List ℕ) → Stands rule p r
+    → list_all class p ≡ false
 misses class (rules.Exactly text) out = λ p r is. ap (list_all class) is ∙ out
 misses class (rules.Then a b) out = λ p r is.
     ap (list_all class) is.whole ∙ (list_all-append class is.front is.back ∙ elim out [
@@ -236,8 +269,10 @@ misses class (rules.Then a b) out = λ p r is.
     ])
 misses class (rules.Next a b) out = λ p r is.
     ap (list_all class) is.whole
-    ∙ (list_all-append class is.front is.back ∙ and_right _ _ (misses class (b is.front) (out is.front) is.back r is.second))
-misses class (rules.Either a b) out = λ p r is. elim is [ inl x ↦ misses class a out.0 p r x | inr y ↦ misses class b out.1 p r y ]
+    ∙ (list_all-append class is.front is.back
+    ∙ and_right _ _ (misses class (b is.front) (out is.front) is.back r is.second))
+misses class (rules.Either a b) out =
+    λ p r is. elim is [ inl x ↦ misses class a out.0 p r x | inr y ↦ misses class b out.1 p r y ]
 misses class rule out = out
 
 -- ---- where none stands
@@ -276,14 +311,17 @@ extends (rules.Then a b) grows = λ p r s is.
     let more = extends b grows.1 is.back r s is.second in (
       is.front ++ more.0,
       more.1,
-      ap (λ x. x ++ s) is.whole ∙ (append_assoc is.front is.back s ∙ (ap (λ x. is.front ++ x) more.2 ∙ sym (append_assoc is.front more.0 more.1))),
+      ap (λ x. x ++ s) is.whole
+          ∙ (append_assoc is.front is.back s
+          ∙ (ap (λ x. is.front ++ x) more.2 ∙ sym (append_assoc is.front more.0 more.1))),
       record {
         front = is.front;
         back = more.0;
         whole = refl;
         first =
             subst (Stands a is.front) more.2
-            (keeps none a (least b) grows.0 is.front is.back r s (least_holds b is.back r is.second) (no_first s) is.first);
+            (keeps none a (least b) grows.0 is.front is.back r s (least_holds b is.back r is.second)
+            (no_first s) is.first);
         second = more.3;
       },
     )
@@ -304,16 +342,20 @@ fronts_compared (a ∷ y) v (c ∷ x) t e =
 
 module _ (class : ℕ → Bool) where
   -- each character of a text of the class is of it
-  pub passes_at : (p front : List ℕ) (c : ℕ) (back : List ℕ) → list_all class p ≡ true → p ≡ front ++ (c ∷ back) → class c ≡ true
+  pub passes_at : (p front : List ℕ) (c : ℕ) (back : List ℕ) → list_all class p ≡ true → p ≡ front ++ (c ∷ back)
+      → class c ≡ true
   passes_at p front c back all e =
-      let parts = and_parts (list_all class front) _ (sym (ap (list_all class) e ∙ list_all-append class front (c ∷ back)) ∙ all) in
+      let parts = and_parts (list_all class front) _
+      (sym (ap (list_all class) e ∙ list_all-append class front (c ∷ back)) ∙ all) in
       (and_parts _ _ parts.1).0
 
   -- a piece whose characters are of the class lies before a text that begins with none
-  pub inside : (b s q t : List ℕ) → first_passes class s ≡ false → list_all class q ≡ true → b ++ s ≡ q ++ t → (d : List ℕ) × (b ≡ q ++ d) × (t ≡ d ++ s)
+  pub inside : (b s q t : List ℕ) → first_passes class s ≡ false → list_all class q ≡ true → b ++ s ≡ q ++ t
+      → (d : List ℕ) × (b ≡ q ++ d) × (t ≡ d ++ s)
   inside b s q t ends on e = elim (fronts_compared b s q t e) [
     | inl within ↦ within
-    | inr past ↦ absurd (both_ways _ (ap (first_passes class) (sym past.3) ∙ ends) (passes_at q b past.0 past.1 on past.2))
+    | inr past ↦ absurd (both_ways _ (ap (first_passes class) (sym past.3) ∙ ends)
+        (passes_at q b past.0 past.1 on past.2))
   ]
 
   pub none_extended : (rule : Rule) → Within class rule → Grows rule → KeepsNone class 0 (Stands rule)

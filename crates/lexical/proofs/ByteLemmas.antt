@@ -1,8 +1,10 @@
 -- Classes of characters among the bytes of a text.
-use Rattle.std.proofs.Common.{◌≡◌, ℕ, ◌+◌, ◌<◌, ◌≤◌, Bool, true, false, List, [], ◌∷◌, ◌++◌, length, take, drop, refl, sym, ap, ◌∙◌, subst, arith, length-append, Some, None}
+use Rattle.std.proofs.Common.{◌≡◌, ℕ, ◌+◌, ◌<◌, ◌≤◌, Bool, true, false, List, [], ◌∷◌, ◌++◌, length, take, drop, refl}
+use Rattle.std.proofs.Common.{sym, ap, ◌∙◌, subst, arith, length-append, Some, None}
 use Rattle.std.specs.List.{list_all}
 use Rattle.std.specs.Str.{chars, IsUtf8, IsCharBoundary}
-use Rattle.std.proofs.lemmas.Bool.{agree_below_at, agree_below, and_left, and_parts, and_from, false_from_ne_true, le-ltb, cond-true}
+use Rattle.std.proofs.lemmas.Bool.{agree_below_at, agree_below, and_left, and_parts, and_from, false_from_ne_true}
+use Rattle.std.proofs.lemmas.Bool.{le-ltb, cond-true}
 use Rattle.lexical.specs.Ascii.{all_ascii}
 use Rattle.lexical.specs.Bytes.{ascii_in, has_kind, is_in}
 use Rattle.lexical.specs.Text.{first_passes}
@@ -19,7 +21,8 @@ use Rattle.lexical.proofs.Scan.{run_boundary, run_front, bytes_of, run_over}
 use Rattle.lexical.proofs.TextLemmas.{all_pass, ascii_bytes}
 
 -- kinds that are those of the class at each byte
-pub same_class : {given class : Class} (kinds : ℕ) → given ≡ class → agree_below (has_kind kinds) (ascii_in class) 256 ≡ true
+pub same_class : {given class : Class} (kinds : ℕ) → given ≡ class
+    → agree_below (has_kind kinds) (ascii_in class) 256 ≡ true
     → (byte : ℕ) → byte < 256 → has_kind kinds byte ≡ ascii_in given byte
 same_class {given} {class} kinds is h byte low =
     agree_below_at (has_kind kinds) (ascii_in class) 256 byte h low ∙ ap (λ x. ascii_in x byte) (sym is)
@@ -55,29 +58,41 @@ module _ (class : Class) (at : Cursor) (bytes : List ℕ) (same : bytes ≡ at.r
   pub ascii_whole : n + length (chars (drop n at.rest.now)) ≡ length (chars at.rest.now)
   ascii_whole = omega (arith, ascii_count, chars_cut at.rest.now n text_utf8 ascii_boundary)
 
-  pub ascii_run : (to : Cursor) → to.rest.now ≡ drop n at.rest.now → to.chars_before ≡ at.chars_before + n → Passes (Run (ascii_in class)) at to
+  pub ascii_run : (to : Cursor) → to.rest.now ≡ drop n at.rest.now → to.chars_before ≡ at.chars_before + n
+      → Passes (Run (ascii_in class)) at to
   ascii_run to rest count =
       run_over (ascii_in class) false (ascii_past class) at to text_utf8 n size rest (omega (arith, count, ascii_count))
 
 -- ---- a run that goes on
 
-goes_past : (test : ℕ → Bool) (at end to : Cursor) (p : List ℕ) → GoesOn test at end → chars end.rest.now ≡ p ++ chars to.rest.now
+goes_past : (test : ℕ → Bool) (at end to : Cursor) (p : List ℕ) → GoesOn test at end
+    → chars end.rest.now ≡ p ++ chars to.rest.now
     → to.chars_before ≡ end.chars_before + length p → list_all test p ≡ true → GoesOn test at to
 goes_past test at end to p goes whole count all =
     let more = while_more test p (chars to.rest.now) all in (
       sym more.1 ∙ (ap (while_rest test) (sym whole) ∙ goes.0),
-      omega (arith, goes.1, count, ap length (ap (while_front test) whole ∙ more.0), length-append p (while_front test (chars to.rest.now))),
+      omega (
+        arith,
+        goes.1,
+        count,
+        ap length (ap (while_front test) whole ∙ more.0),
+        length-append p (while_front test (chars to.rest.now)),
+      ),
     )
 
-pub past_ascii : (class : Class) (at end to : Cursor) → GoesOn (is_in class) at end → Passes (Run (ascii_in class)) end to → GoesOn (is_in class) at to
+pub past_ascii : (class : Class) (at end to : Cursor) → GoesOn (is_in class) at end
+    → Passes (Run (ascii_in class)) end to → GoesOn (is_in class) at to
 past_ascii class at end to goes h =
     let is = passed (Run (ascii_in class)) tt end to h in
-    goes_past (is_in class) at end to h.front goes is.0 h.count (all_pass _ _ (λ c on. (and_parts _ _ on).1) h.front is.1.each)
+    goes_past (is_in class) at end to h.front goes is.0 h.count
+    (all_pass _ _ (λ c on. (and_parts _ _ on).1) h.front is.1.each)
 
-pub past_one : (class : Class) (at end to : Cursor) → GoesOn (is_in class) at end → Passes (One (is_in class)) end to → GoesOn (is_in class) at to
+pub past_one : (class : Class) (at end to : Cursor) → GoesOn (is_in class) at end → Passes (One (is_in class)) end to
+    → GoesOn (is_in class) at to
 past_one class at end to goes h =
     let is = passed (One (is_in class)) tt end to h in
-    goes_past (is_in class) at end to h.front goes is.0 h.count (ap (list_all (is_in class)) is.1.1 ∙ and_from _ _ is.1.2 refl)
+    goes_past (is_in class) at end to h.front goes is.0 h.count
+    (ap (list_all (is_in class)) is.1.1 ∙ and_from _ _ is.1.2 refl)
 
 -- where no character of the class stands, the run ends
 none_stands : (test : ℕ → Bool) (text : List ℕ) → find (One test) text ≡ None → first_passes test text ≡ false
@@ -86,11 +101,14 @@ none_stands test [] none = refl
 none_stands test (c ∷ text) none = false_from_ne_true _ (λ on.
     let clash : ◌≡◌ {A = Answer} (Some (c ∷ [], text)) None = sym (cond-true _ _ _ on) ∙ none in cc)
 
-pub past_all : (class : Class) (at end : Cursor) → GoesOn (is_in class) at end → find (One (is_in class)) (chars end.rest.now) ≡ None → Passes (Run (is_in class)) at end
-past_all class at end goes none = run_stop (is_in class) at end goes (none_stands (is_in class) (chars end.rest.now) none)
+pub past_all : (class : Class) (at end : Cursor) → GoesOn (is_in class) at end
+    → find (One (is_in class)) (chars end.rest.now) ≡ None → Passes (Run (is_in class)) at end
+past_all class at end goes none =
+    run_stop (is_in class) at end goes (none_stands (is_in class) (chars end.rest.now) none)
 
 -- past a character, and then past others, less is left
-pub less_left : (class : Class) (end mid to : Cursor) → Passes (One (is_in class)) end mid → Passes (Run (ascii_in class)) mid to
+pub less_left : (class : Class) (end mid to : Cursor) → Passes (One (is_in class)) end mid
+    → Passes (Run (ascii_in class)) mid to
     → length (chars to.rest.now) < length (chars end.rest.now)
 less_left class end mid to h j =
     let one = passed (One (is_in class)) tt end mid h in

@@ -1,9 +1,12 @@
 -- Classes of characters: on ASCII, and which are apart.
-use Rattle.std.proofs.Common.{◌≡◌, ℕ, ◌<◌, ◌⊎◌, Bool, true, false, not, cond, ◌||◌, ◌==◌, List, [], ◌∷◌, codes, refl, sym, ap, arith, ◌∙◌, subst, inl, inr, eqb-true}
+use Rattle.std.proofs.Common.{◌≡◌, ℕ, ◌<◌, ◌⊎◌, Bool, true, false, not, cond, ◌||◌, ◌==◌, List, [], ◌∷◌, codes, refl}
+use Rattle.std.proofs.Common.{sym, ap, arith, ◌∙◌, subst, inl, inr, eqb-true}
 use Rattle.std.specs.Prelude.{if◌then◌else◌}
 use Rattle.std.specs.List.{list_all, list_any, AllByRecursion}
 use Rattle.std.specs.Char.{is_ascii_alphabetic, is_ascii_alphanumeric, is_ascii_digit}
-use Rattle.std.proofs.lemmas.Bool.{both_ways, cases_Bool, and_parts, or_cases, or_parts, or_from, and_left, false_from_ne_true, not-true, agree_below, agree_below_at, cond-true, cond-false, cond_both}
+use Rattle.std.proofs.lemmas.Bool.{both_ways, cases_Bool, and_parts, or_cases, or_parts, or_from, and_left}
+use Rattle.std.proofs.lemmas.Bool.{false_from_ne_true, not-true, agree_below, agree_below_at, cond-true, cond-false}
+use Rattle.std.proofs.lemmas.Bool.{cond_both}
 use Rattle.unicode_ident.proofs.Computing.{unicode_ident}
 use Rattle.unicode_ident.proofs.IdentLemmas.{is_xid_continue-ascii}
 use Rattle.lexical.specs.Class.{is_white, is_ident_start, is_ident_continue}
@@ -38,11 +41,15 @@ abbrev pub Sub : (ℕ → Bool) → (ℕ → Bool) → Type 0
 Sub passes class = (c : ℕ) → passes c ≡ true → class c ≡ true
 
 -- the characters of a list
-pub sub_listed : (class : ℕ → Bool) (ds : List ℕ) → list_all class ds ≡ true → Sub (λ c. list_any (λ d. d == c) ds) class
+pub sub_listed : (class : ℕ → Bool) (ds : List ℕ) → list_all class ds ≡ true
+    → Sub (λ c. list_any (λ d. d == c) ds) class
 sub_listed class [] all c any = absurd (both_ways _ refl any)
 sub_listed class (d ∷ ds) all c any =
     let parts = and_parts _ _ all in
-    elim (or_cases _ _ any) [ inl here ↦ ap class (sym (eqb-true d c here)) ∙ parts.0 | inr there ↦ sub_listed class ds parts.1 c there ]
+    elim (or_cases _ _ any) [
+      | inl here ↦ ap class (sym (eqb-true d c here)) ∙ parts.0
+      | inr there ↦ sub_listed class ds parts.1 c there
+    ]
 
 -- ---- how a piece starts
 
@@ -70,7 +77,8 @@ unfolding unicode_ident
 start_digit c digit =
     let none = sub_digits (λ x. not (is_white x || is_ident_start x)) refl c digit in
     let parts = or_parts (is_white c) (is_ident_start c) (not-true _ none) in
-    cond-false (is_white c) _ _ parts.0 ∙ (cond-false (is_ident_start c) _ _ parts.1 ∙ cond-true (is_ascii_digit c) _ _ digit)
+    cond-false (is_white c) _ _ parts.0
+    ∙ (cond-false (is_ident_start c) _ _ parts.1 ∙ cond-true (is_ascii_digit c) _ _ digit)
 
 pub start_opener : (c : ℕ) → is_opener c ≡ true → start c ≡ starts.Opener
 unfolding unicode_ident
@@ -126,7 +134,8 @@ is_of starts.FrontMark c = c == 0xFEFF
 is_of starts.Mark c = is_mark c
 is_of starts.Other c = true
 
-of_choice : (c : ℕ) (b : Bool) (x y : Start) → (b ≡ true → is_of x c ≡ true) → is_of y c ≡ true → is_of (cond b x y) c ≡ true
+of_choice : (c : ℕ) (b : Bool) (x y : Start) → (b ≡ true → is_of x c ≡ true) → is_of y c ≡ true
+    → is_of (cond b x y) c ≡ true
 of_choice c b x y here there = cond_both b x y (λ s. is_of s c ≡ true) here (λ _. there)
 
 pub of_start : (s : Start) (c : ℕ) → s ≡ start c → is_of s c ≡ true
@@ -146,7 +155,8 @@ pub mark_not_quote : (c : ℕ) → starts.Mark ≡ start c → (c == 39) ≡ fal
 mark_not_quote c h = other_start starts.Mark starts.Quote c 39 h (sym start_quote) (λ e. cc)
 
 -- no comment begins with a mark that isn't `/`
-pub mark_plain : (c : ℕ) (text rest : List ℕ) → text ≡ c ∷ rest → starts.Mark ≡ start c → begins_any comment_fronts text ≡ false
+pub mark_plain : (c : ℕ) (text rest : List ℕ) → text ≡ c ∷ rest → starts.Mark ≡ start c
+    → begins_any comment_fronts text ≡ false
 mark_plain c text rest e h =
     let slash : (47 == c) ≡ false = other_start starts.Slash starts.Mark 47 c (sym start_slash) h (λ e. cc) in
     ap (begins_any comment_fronts) e ∙ or_from _ _ (and_left _ _ slash) (or_from _ _ (and_left _ _ slash) refl)

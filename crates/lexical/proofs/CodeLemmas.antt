@@ -1,5 +1,6 @@
 -- The code of a character, digit by digit.
-use Rattle.std.proofs.Common.{◌≡◌, ℕ, ◌+◌, ◌*◌, ◌<◌, ◌≤◌, ◌==◌, ◌&&◌, Bool, true, false, cond, nat_lt, List, [], ◌∷◌, length, refl, sym, ap, ◌∙◌, arith, ltb-true}
+use Rattle.std.proofs.Common.{◌≡◌, ℕ, ◌+◌, ◌*◌, ◌<◌, ◌≤◌, ◌==◌, ◌&&◌, Bool, true, false, cond, nat_lt, List, [], ◌∷◌}
+use Rattle.std.proofs.Common.{length, refl, sym, ap, ◌∙◌, arith, ltb-true}
 use Rattle.std.specs.Prelude.{filter}
 use Rattle.std.specs.Char.{is_ascii_hexdigit, digit_value}
 use Rattle.std.specs.List.{fold, list_all}
@@ -27,23 +28,28 @@ hex_no_line : (c : ℕ) → is_ascii_hexdigit c ≡ true → (c == 95) ≡ false
 hex_no_line c h = grind arith
 
 -- past a hex digit
-pub reads_digit : (value count new many d c : ℕ) (after rest text : List ℕ) → rest ≡ c ∷ after → is_code_digit c ≡ true → CountsTo value count rest text
-    → (digit_value c < 16) × (d ≡ digit_value c) → new ≡ 16 * value + d → many ≡ count + 1 → CountsTo new many after text
+pub reads_digit : (value count new many d c : ℕ) (after rest text : List ℕ) → rest ≡ c ∷ after → is_code_digit c ≡ true
+    → CountsTo value count rest text
+    → (digit_value c < 16) × (d ≡ digit_value c) → new ≡ 16 * value + d → many ≡ count + 1
+    → CountsTo new many after text
 reads_digit value count new many d c after rest text e is counts low value_is count_is =
     let hex : is_ascii_hexdigit c ≡ true = hex_is c is ∙ lt-ltb (digit_value c) 16 low.0 in
     let past = rw (e, hex_no_line c hex, hex) at counts in
     rw (value_is, low.1, count_is) (past.0, omega (arith, past.1))
 
 -- past another
-pub reads_line : (value count new many c : ℕ) (after rest text : List ℕ) → rest ≡ c ∷ after → is_code_digit c ≡ true → CountsTo value count rest text
+pub reads_line : (value count new many c : ℕ) (after rest text : List ℕ) → rest ≡ c ∷ after → is_code_digit c ≡ true
+    → CountsTo value count rest text
     → (digit_value c < 16 → ⊥) → new ≡ value → many ≡ count → CountsTo new many after text
 reads_line value count new many c after rest text e is counts high value_is count_is =
-    let other : is_ascii_hexdigit c ≡ false = hex_is c is ∙ false_from_ne_true _ (λ low. high (ltb-true (digit_value c) 16 low)) in
+    let other : is_ascii_hexdigit c ≡ false = hex_is c is
+    ∙ false_from_ne_true _ (λ low. high (ltb-true (digit_value c) 16 low)) in
     rw (value_is, count_is) (rw (e, (rw other at is), other) at counts)
 
 pub digits_tail : (c : ℕ) (after rest : List ℕ) → rest ≡ c ∷ after → list_all is_code_digit rest ≡ true
     → (is_code_digit c ≡ true) × (list_all is_code_digit after ≡ true)
-digits_tail c after rest e all = and_parts (is_code_digit c) (list_all is_code_digit after) (ap (list_all is_code_digit) (sym e) ∙ all)
+digits_tail c after rest e all =
+    and_parts (is_code_digit c) (list_all is_code_digit after) (ap (list_all is_code_digit) (sym e) ∙ all)
 
 -- ---- no code
 
@@ -52,10 +58,12 @@ fold_grows n [] = omega arith
 fold_grows n (c ∷ text) = grind (arith, fold_grows (value_step n c) text)
 
 -- too many digits
-pub no_code_long : (allowed : ℕ → Bool) (value count : ℕ) (rest text : List ℕ) → CountsTo value count rest text → 6 < count → is_code allowed text ≡ false
+pub no_code_long : (allowed : ℕ → Bool) (value count : ℕ) (rest text : List ℕ) → CountsTo value count rest text
+    → 6 < count → is_code allowed text ≡ false
 no_code_long allowed value count rest text counts long = grind (arith, counts.1)
 
 -- too great a value
 pub no_code_great : (allowed : ℕ → Bool) (value count : ℕ) (rest text : List ℕ) → CountsTo value count rest text
     → 0x10_FFFF < value → is_code allowed text ≡ false
-no_code_great allowed value count rest text counts great = let grown = fold_grows value rest in grind (arith, counts.0, grown)
+no_code_great allowed value count rest text counts great = let grown = fold_grows value rest in
+    grind (arith, counts.0, grown)

@@ -1,5 +1,6 @@
 -- The characters of a text are counted among its bytes.
-use Rattle.std.proofs.Common.{◌≡◌, ℕ, ◌+◌, ◌-◌, nat_lt, nat_le, Bool, ◌||◌, List, [], ◌∷◌, length, take, drop, refl, sym, ap, ◌∙◌, arith, length-append}
+use Rattle.std.proofs.Common.{◌≡◌, ℕ, ◌+◌, ◌-◌, nat_lt, nat_le, Bool, ◌||◌, List, [], ◌∷◌, length, take, drop, refl}
+use Rattle.std.proofs.Common.{sym, ap, ◌∙◌, arith, length-append}
 use Rattle.std.specs.Char.{encode_utf8}
 use Rattle.std.specs.List.{count_by, slice_range}
 use Rattle.std.specs.Str.{chars, IsUtf8, IsCharBoundary, encode_utf8_all}
@@ -32,7 +33,8 @@ chars_counted text utf8 = ap (count_by is_first_byte) (sym (encodes-chars text u
 pub chars_cut : (text : List ℕ) (n : ℕ) → IsUtf8 text → IsCharBoundary text n
     → length (chars (take n text)) + length (chars (drop n text)) ≡ length (chars text)
 chars_cut text n utf8 cut =
-    sym (ap length (ap chars (sym (take-append-drop n text)) ∙ chars-append (take n text) (drop n text) (IsUtf8-take text n utf8 cut))
+    sym (ap length (ap chars (sym (take-append-drop n text))
+    ∙ chars-append (take n text) (drop n text) (IsUtf8-take text n utf8 cut))
     ∙ length-append (chars (take n text)) (chars (drop n text)))
 
 -- a front of the text, as a range gives it

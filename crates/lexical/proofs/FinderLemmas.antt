@@ -1,11 +1,14 @@
 -- Each word on forms has a finder.
-use Rattle.std.proofs.Common.{◌≡◌, ℕ, Bool, true, false, not, ◌==◌, List, [], ◌∷◌, ◌++◌, Some, None, IfSome, IsTrue, refl, sym, ap, ap₂, ◌∙◌, subst, arith, append_assoc, append-nil, eqb-true, eq-eqb}
+use Rattle.std.proofs.Common.{◌≡◌, ℕ, Bool, true, false, not, ◌==◌, List, [], ◌∷◌, ◌++◌, Some, None, IfSome, IsTrue}
+use Rattle.std.proofs.Common.{refl, sym, ap, ap₂, ◌∙◌, subst, arith, append_assoc, append-nil, eqb-true, eq-eqb}
 use Rattle.std.specs.List.{list_all}
 use Rattle.std.proofs.lemmas.Bool.{both_ways, cond-true, cond-false, cond_both, not-true, not_from_false}
 use Rattle.std.proofs.lemmas.Option.{IfSome_then, some_pair_parts}
 use Rattle.lexical.specs.Text.{begins_any, first_passes}
 use Rattle.lexical.specs.Form.{Form, HasNone, Then, Next, NotAt, NotBefore, Exactly, One, Run}
-use Rattle.lexical.specs.Finder.{Answer, Finder, Finds, while_front, while_rest, behind, and_next, if_passes, find_next, find_then, find_if, find_not_at, find_not_before, find_where, find_one, find_run, find_text}
+use Rattle.lexical.specs.Finder.{Answer, Finder, Finds, while_front, while_rest, behind, and_next, if_passes, find_next}
+use Rattle.lexical.specs.Finder.{find_then, find_if, find_not_at, find_not_before, find_where, find_one, find_run}
+use Rattle.lexical.specs.Finder.{find_text}
 
 -- what was found is of the form
 abbrev pub IsSplit : Form → List ℕ → List ℕ × List ℕ → Type 0
@@ -13,7 +16,8 @@ IsSplit A text x = (text ≡ x.0 ++ x.1) × A x.0 x.1
 
 -- ---- what every finder gives
 
-pub found_is : (f : Finder) (A : Form) → Finds f A → (text p r : List ℕ) → f text ≡ Some (p, r) → (text ≡ p ++ r) × A p r
+pub found_is : (f : Finder) (A : Form) → Finds f A → (text p r : List ℕ) → f text ≡ Some (p, r)
+    → (text ≡ p ++ r) × A p r
 found_is f A h text p r e = subst (λ o. IfSome o (IsSplit A text)) e (h.sound text)
 
 pub none_is : (f : Finder) (A : Form) → Finds f A → (text : List ℕ) → f text ≡ None → HasNone A text
@@ -23,11 +27,13 @@ pub none_found : (f : Finder) (A : Form) → Finds f A → (text : List ℕ) →
 none_found f A h text none = grind (arith, h.sound text, none)
 
 -- at most one split of a text is a piece of the form
-pub one_split : (f : Finder) (A : Form) → Finds f A → (p q r s : List ℕ) → A p r → A q s → p ++ r ≡ q ++ s → (p ≡ q) × (r ≡ s)
+pub one_split : (f : Finder) (A : Form) → Finds f A → (p q r s : List ℕ) → A p r → A q s → p ++ r ≡ q ++ s
+    → (p ≡ q) × (r ≡ s)
 one_split f A h p q r s is other e = some_pair_parts p q r s (sym (h.complete p r is) ∙ (ap f e ∙ h.complete q s other))
 
 -- forms with the same pieces
-pub finds_same : (f : Finder) (A B : Form) → Finds f A → ((p r : List ℕ) → A p r → B p r) → ((p r : List ℕ) → B p r → A p r) → Finds f B
+pub finds_same : (f : Finder) (A B : Form) → Finds f A → ((p r : List ℕ) → A p r → B p r)
+    → ((p r : List ℕ) → B p r → A p r) → Finds f B
 finds_same f A B h to from = record {
   sound = λ text. IfSome_then (f text) (h.sound text) (λ x is. (is.0, to x.0 x.1 is.1));
   complete = λ p r is. h.complete p r (from p r is);
@@ -65,13 +71,15 @@ finds_then f g A B h j = finds_next f (λ front. g) A (λ front. B) h (λ front.
 
 -- ---- a form where this holds
 
-pub finds_if : (holds : Bool) (f : Finder) (A : Form) → Finds f A → Finds (find_if holds f) (λ p r. IsTrue holds × A p r)
+pub finds_if : (holds : Bool) (f : Finder) (A : Form) → Finds f A
+    → Finds (find_if holds f) (λ p r. IsTrue holds × A p r)
 finds_if true f A h = finds_same f A _ h (λ p r is. (refl, is)) (λ p r is. is.1)
 finds_if false f A h = record { sound = λ text. tt; complete = λ p r is. absurd (both_ways _ refl is.0) }
 
 -- ---- `NotAt`
 
-pub finds_not_at : (fronts : List (List ℕ)) (f : Finder) (A : Form) → Finds f A → Finds (find_not_at fronts f) (NotAt fronts A)
+pub finds_not_at : (fronts : List (List ℕ)) (f : Finder) (A : Form) → Finds f A
+    → Finds (find_not_at fronts f) (NotAt fronts A)
 finds_not_at fronts f A h = record {
   sound =
       λ text. cond_both (begins_any fronts text) None (f text) (λ o. IfSome o (IsSplit (NotAt fronts A) text))
@@ -86,13 +94,15 @@ where_sound : (test : List ℕ → List ℕ → Bool) (A : Form) (text : List �
 where_sound test A text None is = tt
 where_sound test A text (Some x) is = grind (arith, is)
 
-pub finds_where : (test : List ℕ → List ℕ → Bool) (f : Finder) (A : Form) → Finds f A → Finds (find_where test f) (λ p r. A p r × IsTrue (test p r))
+pub finds_where : (test : List ℕ → List ℕ → Bool) (f : Finder) (A : Form) → Finds f A
+    → Finds (find_where test f) (λ p r. A p r × IsTrue (test p r))
 finds_where test f A h = record {
   sound = λ text. where_sound test A text (f text) (h.sound text);
   complete = λ p r is. ap (if_passes test) (h.complete p r is.0) ∙ cond-true _ _ _ is.1;
 }
 
-pub finds_not_before : (passes : ℕ → Bool) (f : Finder) (A : Form) → Finds f A → Finds (find_not_before passes f) (NotBefore passes A)
+pub finds_not_before : (passes : ℕ → Bool) (f : Finder) (A : Form) → Finds f A
+    → Finds (find_not_before passes f) (NotBefore passes A)
 finds_not_before passes f A h = finds_same _ _ _ (finds_where (λ p r. not (first_passes passes r)) f A h)
     (λ p r is. (is.0, not-true _ is.1)) (λ p r is. (is.0, not_from_false _ is.1))
 
@@ -110,7 +120,8 @@ while_stops : (passes : ℕ → Bool) (text : List ℕ) → first_passes passes 
 while_stops passes [] = refl
 while_stops passes (c ∷ text) = grind (arith, while_stops passes text)
 
-pub while_rest_none : (passes : ℕ → Bool) (r : List ℕ) → first_passes passes r ≡ false → (while_front passes r ≡ []) × (while_rest passes r ≡ r)
+pub while_rest_none : (passes : ℕ → Bool) (r : List ℕ) → first_passes passes r ≡ false
+    → (while_front passes r ≡ []) × (while_rest passes r ≡ r)
 while_rest_none passes [] stops = (refl, refl)
 while_rest_none passes (c ∷ r) stops = (cond-false _ _ _ stops, cond-false _ _ _ stops)
 
@@ -122,7 +133,10 @@ while_more passes (c ∷ q) r all = grind (arith, all, while_more passes q r)
 
 pub finds_run : (passes : ℕ → Bool) → Finds (find_run passes) (Run passes)
 finds_run passes = record {
-  sound = λ text. (sym (while_whole passes text), record { each = while_passes passes text; stops = while_stops passes text });
+  sound = λ text. (
+    sym (while_whole passes text),
+    record { each = while_passes passes text; stops = while_stops passes text },
+  );
   complete = λ q r is.
       let more = while_more passes q r is.each in
       let none = while_rest_none passes r is.stops in
@@ -142,9 +156,15 @@ finds_one passes = record {
 }
 
 pub finds_text : (front : List ℕ) → Finds (find_text front) (Exactly front)
-finds_text [] = record { sound = λ text. (refl, refl); complete = λ p r is. subst (λ q. find_text [] (q ++ r) ≡ Some (q, r)) (sym is) refl }
+finds_text [] = record {
+  sound = λ text. (refl, refl);
+  complete =
+      λ p r is. subst (λ q. find_text [] (q ++ r) ≡ Some (q, r)) (sym is) refl;
+}
 -- its first character and then the others
-finds_text (c ∷ front) = finds_same (find_text (c ∷ front)) (Then (One (λ d. d == c)) (Exactly front)) (Exactly (c ∷ front))
-    (finds_then (find_one (λ d. d == c)) (find_text front) (One (λ d. d == c)) (Exactly front) (finds_one (λ d. d == c)) (finds_text front))
+finds_text (c ∷ front) = finds_same (find_text (c ∷ front)) (Then (One (λ d. d == c)) (Exactly front))
+    (Exactly (c ∷ front))
+    (finds_then (find_one (λ d. d == c)) (find_text front) (One (λ d. d == c)) (Exactly front) (finds_one (λ d. d == c))
+    (finds_text front))
     (λ p r h. h.whole ∙ ap₂ ◌++◌ (h.first.1 ∙ ap (λ x. x ∷ []) (eqb-true h.first.0 c h.first.2)) h.second)
     (λ p r is. record { front = c ∷ []; back = front; whole = is; first = (c, refl, eq-eqb c c refl); second = refl })

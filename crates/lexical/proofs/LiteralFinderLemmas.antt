@@ -1,5 +1,6 @@
 -- Literals are found, and how they start.
-use Rattle.std.proofs.Common.{◌≡◌, ℕ, Bool, true, false, not, ◌==◌, ◌⊎◌, List, [], ◌∷◌, ◌++◌, codes, is_some, Some, None, refl, sym, ap, ◌∙◌, inl, inr, eqb-true}
+use Rattle.std.proofs.Common.{◌≡◌, ℕ, Bool, true, false, not, ◌==◌, ◌⊎◌, List, [], ◌∷◌, ◌++◌, codes, is_some, Some}
+use Rattle.std.proofs.Common.{None, refl, sym, ap, ◌∙◌, inl, inr, eqb-true}
 use Rattle.std.specs.List.{list_all, AllByRecursion}
 use Rattle.std.proofs.lemmas.Bool.{and_parts, and_right, cond-false, cond_both, or_from}
 use Rattle.unicode_ident.proofs.Computing.{unicode_ident}
@@ -47,12 +48,15 @@ prefixed_starts text h =
     let at = first_cons is_ident_start text (any_first is_ident_start literal_prefixes text refl h) in
     record { first = at.0; rest = at.1; whole = at.2; starts = start_letter at.0 at.3; prefixed = h }
 
-rule_starts : (rule : Rule) → begins (begins_any literal_prefixes) rule ≡ true → (p r : List ℕ) → Stands rule p r → StartsLetter (p ++ r)
-rule_starts rule h p r is = prefixed_starts (p ++ r) (any_begins_more literal_prefixes p r (begins_one literal_prefixes rule h p r is))
+rule_starts : (rule : Rule) → begins (begins_any literal_prefixes) rule ≡ true → (p r : List ℕ) → Stands rule p r
+    → StartsLetter (p ++ r)
+rule_starts rule h p r is = prefixed_starts (p ++ r)
+    (any_begins_more literal_prefixes p r (begins_one literal_prefixes rule h p r is))
 
 -- what opens a raw string, hash signs, a quote and more
 pub raw_text : (front : List ℕ) (allowed : ℕ → Bool) (p r : List ℕ) → Raw front allowed p r
-    → (hashes : List ℕ) × (tail : List ℕ) × (p ≡ front ++ (hashes ++ (34 ∷ tail))) × (list_all (λ c. c == 35) hashes ≡ true)
+    → (hashes : List ℕ) × (tail : List ℕ) × (p ≡ front ++ (hashes ++ (34 ∷ tail)))
+    × (list_all (λ c. c == 35) hashes ≡ true)
 raw_text front allowed p r h =
     let inner = h.second in
     let quotes = inner.second in
@@ -63,17 +67,20 @@ raw_text front allowed p r h =
 abbrev pub raw_fronts : List (List ℕ)
 raw_fronts = codes "\"" ∷ codes "#\"" ∷ codes "##" ∷ []
 
-pub hashes_begin : (hashes tail : List ℕ) → list_all (λ c. c == 35) hashes ≡ true → begins_any raw_fronts (hashes ++ (34 ∷ tail)) ≡ true
+pub hashes_begin : (hashes tail : List ℕ) → list_all (λ c. c == 35) hashes ≡ true
+    → begins_any raw_fronts (hashes ++ (34 ∷ tail)) ≡ true
 hashes_begin [] tail each = refl
 hashes_begin (c ∷ []) tail each = rw (eqb-true c 35 (and_parts _ _ each).0) refl
 hashes_begin (c ∷ d ∷ hashes) tail each =
     let parts = and_parts _ _ each in
     rw (eqb-true c 35 parts.0, eqb-true d 35 (and_parts _ _ parts.1).0) refl
 
-raw_prefixed : (kind : StringKind) (text : List ℕ) → begins_any raw_fronts text ≡ true → begins_any literal_prefixes (raw_front kind ++ text) ≡ true
+raw_prefixed : (kind : StringKind) (text : List ℕ) → begins_any raw_fronts text ≡ true
+    → begins_any literal_prefixes (raw_front kind ++ text) ≡ true
 raw_prefixed kind text h =
     begins_each (λ t. begins_any literal_prefixes (raw_front kind ++ t) ≡ true) raw_fronts text h
-    (each_kind (λ k. AllByRecursion (λ f. (rest : List ℕ) → begins_any literal_prefixes (raw_front k ++ (f ++ rest)) ≡ true) raw_fronts)
+    (each_kind (λ k. AllByRecursion
+    (λ f. (rest : List ℕ) → begins_any literal_prefixes (raw_front k ++ (f ++ rest)) ≡ true) raw_fronts)
     (assumption) (assumption) (assumption) kind)
 
 raw_starts : (kind : StringKind) (p r : List ℕ) → Stands (raw_string kind) p r → StartsLetter (p ++ r)
@@ -106,8 +113,10 @@ QuotedStarts p r = ((rest : List ℕ) × (p ++ r ≡ 34 ∷ rest)) ⊎ (Characte
 pub quoted_starts : (p r : List ℕ) → QuotedLiteral p r → QuotedStarts p r
 quoted_starts p r =
     quoted_cases (QuotedStarts p r) p r
-    (each_kind (λ k. Stands (cooked k) p r → QuotedStarts p r) (λ is. inl (is.back ++ r, front_whole (codes "\"") _ p r is))
-    (λ is. inr (inr (rule_starts (cooked kinds.Byte) refl p r is))) (λ is. inr (inr (rule_starts (cooked kinds.C) refl p r is))))
+    (each_kind (λ k. Stands (cooked k) p r → QuotedStarts p r)
+    (λ is. inl (is.back ++ r, front_whole (codes "\"") _ p r is))
+    (λ is. inr (inr (rule_starts (cooked kinds.Byte) refl p r is)))
+    (λ is. inr (inr (rule_starts (cooked kinds.C) refl p r is))))
     (λ kind is. inr (inr (raw_starts kind p r is)))
     (λ is. inr (inl is))
     (λ is. inr (inr (rule_starts byte refl p r is)))

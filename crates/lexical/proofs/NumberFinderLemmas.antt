@@ -1,11 +1,13 @@
 -- Numbers are found, by how their text begins.
-use Rattle.std.proofs.Common.{◌≡◌, ℕ, true, false, ◌==◌, List, [], ◌∷◌, Option, Some, None, refl, sym, ap, ap₂, ◌∙◌, eqb-true}
+use Rattle.std.proofs.Common.{◌≡◌, ℕ, true, false, ◌==◌, List, [], ◌∷◌, Option, Some, None, refl, sym, ap, ap₂, ◌∙◌}
+use Rattle.std.proofs.Common.{eqb-true}
 use Rattle.std.specs.Char.{is_ascii_digit}
 use Rattle.std.specs.Str.{chars}
 use Rattle.std.proofs.lemmas.Bool.{cond-true, cond-false, both_ways, false_from_ne_true, true_from_ne_false}
 use Rattle.lexical.specs.Text.{begins_any}
 use Rattle.lexical.specs.Rule.{Then, find}
-use Rattle.lexical.specs.Number.{Digits, Number, digits, end, float_tail, float, base_prefixes, based, integer, number, tail}
+use Rattle.lexical.specs.Number.{Digits, Number, digits, end, float_tail, float, base_prefixes, based, integer, number}
+use Rattle.lexical.specs.Number.{tail}
 use Rattle.lexical.specs.Finder.{Answer, Finder, Finds, and_find, behind, or_find}
 use Rattle.lexical.specs.Step.{Reads}
 use Rattle.lexical.specs.declared.cursor.Cursor.{Cursor}
@@ -28,24 +30,28 @@ finds_number = exact number clear_number
 -- no float begins as the numbers of other bases do
 no_float : (text : List ℕ) → begins_any base_prefixes text ≡ true → find float text ≡ None
 unfolding find
-no_float text h = begins_each (λ t. find float t ≡ None) base_prefixes text h (λ rest. refl, (λ rest. refl, (λ rest. refl, tt)))
+no_float text h = begins_each (λ t. find float t ≡ None) base_prefixes text h
+    (λ rest. refl, (λ rest. refl, (λ rest. refl, tt)))
 
 number_based : (text : List ℕ) → begins_any base_prefixes text ≡ true → find number text ≡ find (Then based end) text
 unfolding number find
-number_based text h = ap₂ or_find (no_float text h) (ap (λ o. and_find (find end) (or_find o (find based text))) (cond-true _ _ _ h))
+number_based text h = ap₂ or_find (no_float text h)
+    (ap (λ o. and_find (find end) (or_find o (find based text))) (cond-true _ _ _ h))
 
 -- and where no prefix does there is none of another base
 no_based : (text : List ℕ) → begins_any base_prefixes text ≡ false → find based text ≡ None
 no_based text h =
     none_found based (assumption) text
-    (λ p r e is. both_ways _ h (ap (begins_any base_prefixes) e ∙ any_begins_more base_prefixes p r (begins_one base_prefixes based refl p r is)))
+    (λ p r e is. both_ways _ h (ap (begins_any base_prefixes) e
+    ∙ any_begins_more base_prefixes p r (begins_one base_prefixes based refl p r is)))
 
 or_nothing : (o : Answer) → or_find o None ≡ o
 or_nothing None = refl
 or_nothing (Some x) = refl
 
 -- what stands before a choice may stand before each
-and_either : (f g : Finder) (o : Answer) → or_find (and_find f o) (and_find g o) ≡ and_find (λ text. or_find (f text) (g text)) o
+and_either : (f g : Finder) (o : Answer)
+    → or_find (and_find f o) (and_find g o) ≡ and_find (λ text. or_find (f text) (g text)) o
 and_either f g None = refl
 and_either f g (Some x) =
     elim (f x.1) as (λ u. or_find (behind x.0 u) (behind x.0 (g x.1)) ≡ behind x.0 (or_find u (g x.1))) [
@@ -53,11 +59,14 @@ and_either f g (Some x) =
       | Some y ↦ refl
     ]
 
-pub number_decimal : (text : List ℕ) → begins_any base_prefixes text ≡ false → find number text ≡ find (Then digits tail) text
+pub number_decimal : (text : List ℕ) → begins_any base_prefixes text ≡ false
+    → find number text ≡ find (Then digits tail) text
 unfolding number find
 number_decimal text h =
-    let plain : find integer text ≡ find digits text = ap₂ or_find (cond-false _ _ _ h) (no_based text h) ∙ or_nothing (find digits text) in
-    ap (λ o. or_find (find float text) (and_find (find end) o)) plain ∙ and_either (find float_tail) (find end) (find digits text)
+    let plain : find integer text ≡ find digits text = ap₂ or_find (cond-false _ _ _ h) (no_based text h)
+    ∙ or_nothing (find digits text) in
+    ap (λ o. or_find (find float text) (and_find (find end) o)) plain
+    ∙ and_either (find float_tail) (find end) (find digits text)
 
 pub reads_based : (at : Cursor) (result : Option Cursor) → begins_any base_prefixes (chars at.rest.now) ≡ true
     → Reads (Then based end) at result → Reads number at result
@@ -77,5 +86,9 @@ number_first p r is =
   where
     others_barred : (c : ℕ) → is_ascii_digit c ≡ false → bars (c ∷ []) number ≡ true
     others_barred c out =
-        let zero : (48 == c) ≡ false = false_from_ne_true _ (λ e. both_ways _ out (ap is_ascii_digit (sym (eqb-true 48 c e)))) in
+        let zero : (48 == c) ≡ false =
+        false_from_ne_true _ (λ e. both_ways _ out (ap is_ascii_digit (sym (eqb-true 48 c e)))) in
         simp (out, zero)
+
+-- which kind of number is read, by how the text begins
+pub ruleset read_numbers = (reads_based, reads_decimal)

@@ -1,5 +1,6 @@
 -- What a piece that stands somewhere gives to the crates above.
-use Rattle.std.proofs.Common.{◌≡◌, ℕ, ◌<◌, inl, inr, Bool, true, false, not, List, [], ◌∷◌, ◌++◌, codes, length, take, drop, refl, sym, ap, ◌∙◌, subst, arith, eqb-true, length-append}
+use Rattle.std.proofs.Common.{◌≡◌, ℕ, ◌<◌, inl, inr, Bool, true, false, not, List, [], ◌∷◌, ◌++◌, codes, length, take}
+use Rattle.std.proofs.Common.{drop, refl, sym, ap, ◌∙◌, subst, arith, eqb-true, length-append}
 use Rattle.std.specs.List.{list_all}
 use Rattle.std.specs.Str.{chars, IsUtf8, IsCharBoundary}
 use Rattle.std.proofs.lemmas.Bool.{both_ways, and_parts, and_from, or_cases, not-true, false_from_ne_true}
@@ -23,7 +24,8 @@ use Rattle.lexical.proofs.LiteralFinderLemmas.{literal_front}
 
 -- ---- a piece isn't empty
 
-pub piece_not_empty : (first : Bool) (k : Kind) (p r : List ℕ) → IsPiece first k p r → (c : ℕ) × (q : List ℕ) × (p ≡ c ∷ q)
+pub piece_not_empty : (first : Bool) (k : Kind) (p r : List ℕ) → IsPiece first k p r
+    → (c : ℕ) × (q : List ℕ) × (p ≡ c ∷ q)
 piece_not_empty first FrontMark p r h = (0xFEFF, [], h.1)
 piece_not_empty first Gap p r (inl h) = (h.0, [], h.1)
 piece_not_empty first Gap p r (inr h) = let begins = comment_first p r h.0 in (47, begins.0, begins.1)
@@ -48,7 +50,8 @@ piece_shortens first k p r h =
 
 -- ---- a text is cut at a piece
 
-pub piece_boundary : (first : Bool) (text : List ℕ) (piece : Piece) → IsUtf8 text → IsPieceAt first (chars text) piece → IsCharBoundary text piece.bytes
+pub piece_boundary : (first : Bool) (text : List ℕ) (piece : Piece) → IsUtf8 text → IsPieceAt first (chars text) piece
+    → IsCharBoundary text piece.bytes
 piece_boundary first text piece utf8 at = seam_boundary text at.front at.rest piece.bytes utf8 at.whole at.bytes
 
 pub piece_front : (first : Bool) (text : List ℕ) (piece : Piece) → IsUtf8 text
@@ -85,10 +88,12 @@ start_continues c h = elim (or_cases _ _ (and_parts _ _ (and_parts _ _ h).0).0) 
 -- a name is made of characters that an identifier may go on with
 pub name_continues : (p r : List ℕ) → identifiers.Name p r → list_all is_ident_continue p ≡ true
 name_continues p r h =
-    ap (list_all is_ident_continue) (h.whole ∙ ap (λ x. x ++ h.back) h.first.1) ∙ and_from _ _ (start_continues h.first.0 h.first.2) h.second.each
+    ap (list_all is_ident_continue) (h.whole ∙ ap (λ x. x ++ h.back) h.first.1)
+    ∙ and_from _ _ (start_continues h.first.0 h.first.2) h.second.each
 
 -- a text that begins another passes where it does
-all_front : (passes : ℕ → Bool) (front text : List ℕ) → begins_with front text ≡ true → list_all passes text ≡ true → list_all passes front ≡ true
+all_front : (passes : ℕ → Bool) (front text : List ℕ) → begins_with front text ≡ true → list_all passes text ≡ true
+    → list_all passes front ≡ true
 all_front passes front text is all =
     let split = begins_splits front text is in
     (and_parts _ _ (sym (list_all-append passes front split.0) ∙ (ap (list_all passes) (sym split.1) ∙ all))).0
@@ -100,5 +105,6 @@ pub none_begins : (passes : ℕ → Bool) (fronts : List (List ℕ)) (text : Lis
 none_begins passes [] text fail all = refl
 none_begins passes (front ∷ fronts) text fail all =
     let parts = and_parts _ _ fail in
-    let plain : begins_with front text ≡ false = false_from_ne_true _ (λ is. both_ways _ (not-true _ parts.0) (all_front passes front text is all)) in
+    let plain : begins_with front text ≡ false =
+    false_from_ne_true _ (λ is. both_ways _ (not-true _ parts.0) (all_front passes front text is all)) in
     rw plain (none_begins passes fronts text parts.1 all)

@@ -1,6 +1,8 @@
 -- What the lexer finds is the piece that stands there, and no other.
-use Rattle.std.proofs.Common.{◌≡◌, ℕ, Bool, true, false, ◌&&◌, ◌==◌, List, [], ◌∷◌, ◌++◌, Some, None, IfSome, inl, inr, codes, refl, sym, ap, ◌∙◌, subst, eqb-true, eq-eqb, append_assoc}
-use Rattle.std.proofs.lemmas.Bool.{both_ways, and_parts, and_from, cond-true, cond-false, cond_both, not-true, not_from_false}
+use Rattle.std.proofs.Common.{◌≡◌, ℕ, Bool, true, false, ◌&&◌, ◌==◌, List, [], ◌∷◌, ◌++◌, Some, None, IfSome, inl, inr}
+use Rattle.std.proofs.Common.{codes, refl, sym, ap, ◌∙◌, subst, eqb-true, eq-eqb, append_assoc}
+use Rattle.std.proofs.lemmas.Bool.{both_ways, and_parts, and_from, cond-true, cond-false, cond_both, not-true}
+use Rattle.std.proofs.lemmas.Bool.{not_from_false}
 use Rattle.lexical.specs.Text.{begins_with, begins_any, first_of, first_passes}
 use Rattle.lexical.specs.Class.{is_white, is_ident_start}
 use Rattle.lexical.specs.Form.{Form, NotAt, One}
@@ -18,19 +20,23 @@ use Rattle.lexical.specs.FrontMark as fronts
 use Rattle.lexical.specs.Comment.{comment, Comment, is_doc, has_bare_return}
 use Rattle.lexical.specs.Piece.{Kind, FrontMark, Gap, Doc, Open, Close, Leaf, IsPiece, HasNoPiece}
 use Rattle.lexical.specs.Finder.{Answer, Finds}
-use Rattle.lexical.specs.PieceFinder.{Found, find_front_mark, front_mark_kind, gap_kind, literal_kind, tagged, or_found, with_kind, comment_found, start, found_identifier, found_from, found, opener_kind, closer_kind, name_kind, mark_kind, quote_kind, found_literal}
+use Rattle.lexical.specs.PieceFinder.{Found, find_front_mark, front_mark_kind, gap_kind, literal_kind, tagged, or_found}
+use Rattle.lexical.specs.PieceFinder.{with_kind, comment_found, start, found_identifier, found_from, found, opener_kind}
+use Rattle.lexical.specs.PieceFinder.{closer_kind, name_kind, mark_kind, quote_kind, found_literal}
 use Rattle.lexical.specs.CommentKind.{comment_kind, doc_text}
 use Rattle.lexical.specs.declared.class.Start.{Start}
 use Rattle.lexical.specs.declared.class.Start.TheVariants as starts
 use Rattle.lexical.proofs.FinderLemmas.{IsSplit, finds_if}
 use Rattle.lexical.proofs.RuleLemmas.{Clear, exact}
-use Rattle.lexical.proofs.NameFinderLemmas.{clear_written, written_named, named_written, named_begins, named_start, finds_lone_quote}
+use Rattle.lexical.proofs.NameFinderLemmas.{clear_written, written_named, named_written, named_begins, named_start}
+use Rattle.lexical.proofs.NameFinderLemmas.{finds_lone_quote}
 use Rattle.lexical.proofs.WordLemmas.{none_apart, front_whole}
 use Rattle.lexical.proofs.LiteralFinderLemmas.{quoted_starts, quote_apart}
 use Rattle.lexical.proofs.QuotedFinderLemmas.{finds_quoted}
 use Rattle.lexical.proofs.NumberFinderLemmas.{finds_number, number_first}
 use Rattle.lexical.proofs.CommentKindLemmas.{finds_comment, comment_first, plain_kind, doc_kind, doc_from}
-use Rattle.lexical.proofs.ClassLemmas.{start_white, start_letter, start_digit, start_opener, start_closer, start_mark, start_slash, start_quote, start_double_quote, start_front_mark}
+use Rattle.lexical.proofs.ClassLemmas.{start_white, start_letter, start_digit, start_opener, start_closer, start_mark}
+use Rattle.lexical.proofs.ClassLemmas.{start_slash, start_quote, start_double_quote, start_front_mark}
 
 -- ---- what is found is a piece
 
@@ -48,7 +54,8 @@ tagged_sound first A kind to text None is = tt
 tagged_sound first A kind to text (Some x) is = (is.0, to x.0 x.1 is.1)
 
 -- one character that passes, by its first
-one_of_kind : (passes : ℕ → Bool) (p r : List ℕ) → One passes p r → (p ≡ first_of p ∷ []) × One (λ d. passes d && (d == first_of p)) p r
+one_of_kind : (passes : ℕ → Bool) (p r : List ℕ) → One passes p r
+    → (p ≡ first_of p ∷ []) × One (λ d. passes d && (d == first_of p)) p r
 one_of_kind passes p r (c, e, h) =
     let is : first_of p ≡ c = ap first_of e in
     (e ∙ ap (λ x. x ∷ []) (sym is), (c, e, and_from _ _ h (eq-eqb c (first_of p) (sym is))))
@@ -63,7 +70,8 @@ name_piece first true p r h =
 name_piece first false p r h = (refl, h)
 
 -- a comment with its kind
-comment_found_sound : (first : Bool) (text : List ℕ) (o : Answer) → IfSome o (IsSplit Comment text) → IfSome (comment_found o) (IsTagged first text)
+comment_found_sound : (first : Bool) (text : List ℕ) (o : Answer) → IfSome o (IsSplit Comment text)
+    → IfSome (comment_found o) (IsTagged first text)
 comment_found_sound first text None is = tt
 comment_found_sound first text (Some x) is =
     cond_both (is_doc x.0) _ _ (λ o. IfSome (with_kind x o) (IsTagged first text))
@@ -76,7 +84,8 @@ comment_found_sound first text (Some x) is =
 rule_sound : (first : Bool) (rule : Rule) → Clear rule → (kind : List ℕ → List ℕ → Kind)
     → ((p r : List ℕ) → Stands rule p r → IsPiece first (kind p r) p r) → (text : List ℕ)
     → IfSome (tagged kind (find rule text)) (IsTagged first text)
-rule_sound first rule clear kind to text = tagged_sound first (Stands rule) kind to text (find rule text) ((exact rule clear).sound text)
+rule_sound first rule clear kind to text =
+    tagged_sound first (Stands rule) kind to text (find rule text) ((exact rule clear).sound text)
 
 mark_sound : (first : Bool) (text : List ℕ) → IfSome (tagged mark_kind (find marks.mark text)) (IsTagged first text)
 mark_sound first = rule_sound first marks.mark tt mark_kind (mark_piece first)
@@ -89,23 +98,29 @@ or_sound first text (Some x) u one other = one
 
 quoted_sound : (first : Bool) (text : List ℕ) → IfSome (found_literal quoted_literal text) (IsTagged first text)
 unfolding literals.Literal
-quoted_sound first text = tagged_sound first literals.QuotedLiteral literal_kind (λ p r h. (refl, inl (inl h))) text _ (finds_quoted.sound text)
+quoted_sound first text = tagged_sound first literals.QuotedLiteral literal_kind (λ p r h. (refl, inl (inl h))) text _
+    (finds_quoted.sound text)
 
 number_sound : (first : Bool) (text : List ℕ) → IfSome (found_literal number text) (IsTagged first text)
 unfolding literals.Literal
-number_sound first text = tagged_sound first Number literal_kind (λ p r h. (refl, inl (inr h))) text _ (finds_number.sound text)
+number_sound first text = tagged_sound first Number literal_kind (λ p r h. (refl, inl (inr h))) text _
+    (finds_number.sound text)
 
 start_sound : (first : Bool) (s : Start) (text : List ℕ) → IfSome (found_from first s text) (IsTagged first text)
 start_sound first starts.White text = rule_sound first (rules.One is_white) tt gap_kind (λ p r h. inl h) text
 start_sound first starts.Letter text =
     let raw = begins_with (codes "r#") text in
-    or_sound first text _ _ (rule_sound first (identifier raw) (clear_written raw) (name_kind raw) (name_piece first raw) text) (quoted_sound first text)
+    or_sound first text _ _ (rule_sound first (identifier raw) (clear_written raw) (name_kind raw)
+    (name_piece first raw) text) (quoted_sound first text)
 start_sound first starts.Digit text = number_sound first text
 start_sound first starts.Opener text =
-    or_sound first text _ _ (rule_sound first opener tt opener_kind (λ p r h. ((one_of_kind is_opener p r h.0).1, h.1)) text)
+    or_sound first text _ _ (rule_sound first opener tt opener_kind
+    (λ p r h. ((one_of_kind is_opener p r h.0).1, h.1)) text)
     (rule_sound first (rules.Exactly error_literal) tt literal_kind (λ p r h. (refl, inr h)) text)
-start_sound first starts.Closer text = rule_sound first closer tt closer_kind (λ p r h. (one_of_kind is_closer p r h).1) text
-start_sound first starts.Slash text = cond_both (begins_any marks.comment_fronts text) _ _ (λ o. IfSome o (IsTagged first text))
+start_sound first starts.Closer text =
+    rule_sound first closer tt closer_kind (λ p r h. (one_of_kind is_closer p r h).1) text
+start_sound first starts.Slash text =
+    cond_both (begins_any marks.comment_fronts text) _ _ (λ o. IfSome o (IsTagged first text))
     (λ e. comment_found_sound first text (find comment text) (finds_comment.sound text)) (λ e. mark_sound first text)
 start_sound first starts.Quote text =
     or_sound first text _ _
@@ -113,7 +128,8 @@ start_sound first starts.Quote text =
     (finds_lone_quote.sound text))
     (quoted_sound first text)
 start_sound first starts.DoubleQuote text = quoted_sound first text
-start_sound first starts.FrontMark text = tagged_sound first _ front_mark_kind (λ p r h. h) text _ ((finds_front_mark first).sound text)
+start_sound first starts.FrontMark text =
+    tagged_sound first _ front_mark_kind (λ p r h. h) text _ ((finds_front_mark first).sound text)
 start_sound first starts.Mark text = mark_sound first text
 start_sound first starts.Other text = tt
 
@@ -133,14 +149,17 @@ found_end first text e = ap (found first) e
 pub from_start : (first : Bool) (text : List ℕ) (c : ℕ) (rest : List ℕ) (s : Start) → text ≡ c ∷ rest → start c ≡ s
     → found first text ≡ found_from first s text
 unfolding found
-from_start first text c rest s e is = ap (found first) e ∙ (ap (λ t. found_from first t (c ∷ rest)) is ∙ ap (found_from first s) (sym e))
+from_start first text c rest s e is = ap (found first) e
+    ∙ (ap (λ t. found_from first t (c ∷ rest)) is ∙ ap (found_from first s) (sym e))
 
-pub letter_start : (first : Bool) (text : List ℕ) → first_passes is_ident_start text ≡ true → found first text ≡ found_from first starts.Letter text
+pub letter_start : (first : Bool) (text : List ℕ) → first_passes is_ident_start text ≡ true
+    → found first text ≡ found_from first starts.Letter text
 letter_start first [] begins = absurd (both_ways _ refl begins)
 letter_start first (c ∷ text) begins = from_start first (c ∷ text) c text starts.Letter refl (start_letter c begins)
 
 -- a comment is found, with its kind
-found_comment : (first : Bool) (k : Kind) (p r : List ℕ) → Comment p r → comment_kind p r ≡ Some k → found first (p ++ r) ≡ Some (k, p, r)
+found_comment : (first : Bool) (k : Kind) (p r : List ℕ) → Comment p r → comment_kind p r ≡ Some k
+    → found first (p ++ r) ≡ Some (k, p, r)
 found_comment first k p r h kind =
     let begins = comment_first p r h in
     from_start first (p ++ r) 47 (begins.0 ++ r) starts.Slash (ap (λ x. x ++ r) begins.1) start_slash
@@ -160,7 +179,8 @@ one_front : (c : ℕ) (p r : List ℕ) → p ≡ c ∷ [] → p ++ r ≡ c ∷ r
 one_front c p r e = ap (λ q. q ++ r) e
 
 -- a character that passes and is c
-pub passes_of : (passes : ℕ → Bool) (c : ℕ) (p r : List ℕ) → One (λ d. passes d && (d == c)) p r → (p ≡ c ∷ []) × (passes c ≡ true)
+pub passes_of : (passes : ℕ → Bool) (c : ℕ) (p r : List ℕ) → One (λ d. passes d && (d == c)) p r
+    → (p ≡ c ∷ []) × (passes c ≡ true)
 passes_of passes c p r (d, e, h) =
     let parts = and_parts _ _ h in
     let same = eqb-true d c parts.1 in
@@ -182,26 +202,32 @@ no_identifier text h = ap (tagged (name_kind (begins_with (codes "r#") text))) (
 identifier_found : (raw : Bool) (name r : List ℕ) → identifiers.Identifier raw name r
     → found_identifier (raw_front raw ++ (name ++ r)) ≡ Some (Leaf (Name raw name), raw_front raw ++ name, r)
 identifier_found true name r h =
-    ap (tagged (name_kind true)) ((exact (identifier true) (clear_written true)).complete (codes "r#" ++ name) r (named_written true name r h.0, h.1))
+    ap (tagged (name_kind true))
+    ((exact (identifier true) (clear_written true)).complete (codes "r#" ++ name) r
+    (named_written true name r h.0, h.1))
 identifier_found false name r h =
     ap (λ b. tagged (name_kind b) (find (identifier b) (name ++ r))) (named_begins false name r h.0)
     ∙ ap (tagged (name_kind false)) ((exact (identifier false) (clear_written false)).complete name r h)
 
 -- a literal is found
-found_quoted_at : (p r : List ℕ) → literals.QuotedLiteral p r → found_literal quoted_literal (p ++ r) ≡ Some (Leaf (Literal p), p, r)
+found_quoted_at : (p r : List ℕ) → literals.QuotedLiteral p r
+    → found_literal quoted_literal (p ++ r) ≡ Some (Leaf (Literal p), p, r)
 found_quoted_at p r h = ap (tagged literal_kind) (finds_quoted.complete p r h)
 
-quoted_complete : (first : Bool) (p r : List ℕ) → literals.QuotedLiteral p r → found first (p ++ r) ≡ Some (Leaf (Literal p), p, r)
+quoted_complete : (first : Bool) (p r : List ℕ) → literals.QuotedLiteral p r
+    → found first (p ++ r) ≡ Some (Leaf (Literal p), p, r)
 quoted_complete first p r h = elim (quoted_starts p r h) [
   | inl text ↦ from_start first (p ++ r) 34 text.0 starts.DoubleQuote text.1 start_double_quote ∙ found_quoted_at p r h
   | inr more ↦ elim more [
     | inl character ↦
-        from_start first (p ++ r) 39 (character.back ++ r) starts.Quote (front_whole (codes "'") _ p r character) start_quote
+        from_start first (p ++ r) 39 (character.back ++ r) starts.Quote
+        (front_whole (codes "'") _ p r character) start_quote
         ∙ (ap (λ o. or_found (tagged quote_kind o) (found_literal quoted_literal (p ++ r)))
         (none_apart _ _ _ finds_lone_quote quote_apart p r character) ∙ found_quoted_at p r h)
     | inr letter ↦
         from_start first (p ++ r) letter.first letter.rest starts.Letter letter.whole letter.starts
-        ∙ (ap (λ o. or_found o (found_literal quoted_literal (p ++ r))) (no_identifier (p ++ r) letter.prefixed) ∙ found_quoted_at p r h)
+        ∙ (ap (λ o. or_found o (found_literal quoted_literal (p ++ r))) (no_identifier (p ++ r) letter.prefixed)
+        ∙ found_quoted_at p r h)
   ]
 ]
 
@@ -211,35 +237,45 @@ number_complete first p r h =
     from_start first (p ++ r) at.0 (at.1 ++ r) starts.Digit (ap (λ q. q ++ r) at.2) (start_digit at.0 at.3)
     ∙ ap (tagged literal_kind) (finds_number.complete p r h)
 
-literal_complete : (first : Bool) (p r : List ℕ) → literals.Literal p r → found first (p ++ r) ≡ Some (Leaf (Literal p), p, r)
+literal_complete : (first : Bool) (p r : List ℕ) → literals.Literal p r
+    → found first (p ++ r) ≡ Some (Leaf (Literal p), p, r)
 unfolding literals.Literal
-literal_complete first p r h = elim h [ inl quoted ↦ quoted_complete first p r quoted | inr number ↦ number_complete first p r number ]
+literal_complete first p r h = elim h [
+  | inl quoted ↦ quoted_complete first p r quoted
+  | inr number ↦ number_complete first p r number
+]
 
-error_complete : (first : Bool) (p r : List ℕ) → literals.ErrorLiteral p r → found first (p ++ r) ≡ Some (Leaf (Literal p), p, r)
+error_complete : (first : Bool) (p r : List ℕ) → literals.ErrorLiteral p r
+    → found first (p ++ r) ≡ Some (Leaf (Literal p), p, r)
 unfolding find
 error_complete first p r h =
     let text = error_literal ++ r in
     rw h (from_start first text 40 (codes "/*ERROR*/)" ++ r) starts.Opener refl (start_opener 40 refl)
     ∙ ap (tagged literal_kind) ((exact (rules.Exactly error_literal) tt).complete error_literal r refl))
 
-pub found_complete : (first : Bool) (k : Kind) (p r : List ℕ) → IsPiece first k p r → found first (p ++ r) ≡ Some (k, p, r)
+pub found_complete : (first : Bool) (k : Kind) (p r : List ℕ) → IsPiece first k p r
+    → found first (p ++ r) ≡ Some (k, p, r)
 found_complete first FrontMark p r h =
     from_start first (p ++ r) 0xFEFF r starts.FrontMark (one_front 0xFEFF p r h.1) start_front_mark
     ∙ ap (tagged front_mark_kind) ((finds_front_mark first).complete p r h)
 found_complete first Gap p r (inl h) =
-    from_start first (p ++ r) h.0 r starts.White (one_front h.0 p r h.1) (start_white h.0 h.2) ∙ ap (tagged gap_kind) ((exact (rules.One is_white) tt).complete p r h)
+    from_start first (p ++ r) h.0 r starts.White (one_front h.0 p r h.1) (start_white h.0 h.2)
+    ∙ ap (tagged gap_kind) ((exact (rules.One is_white) tt).complete p r h)
 found_complete first Gap p r (inr h) = found_comment first Gap p r h.0 (plain_kind p r h)
-found_complete first (Doc inner text) p r h = found_comment first (Doc inner text) p r h.comment.0 (doc_kind inner text p r h)
+found_complete first (Doc inner text) p r h =
+    found_comment first (Doc inner text) p r h.comment.0 (doc_kind inner text p r h)
 found_complete first (Open c) p r h =
     let one = passes_of is_opener c p r h.0 in
     let opens : NotAt (error_literal ∷ []) (One is_opener) p r = ((c, one.0, one.1), h.1) in
     from_start first (p ++ r) c r starts.Opener (one_front c p r one.0) (start_opener c one.1)
-    ∙ (ap (λ o. or_found (tagged opener_kind o) (found_literal (rules.Exactly error_literal) (p ++ r))) ((exact opener tt).complete p r opens)
+    ∙ (ap (λ o. or_found (tagged opener_kind o) (found_literal (rules.Exactly error_literal) (p ++ r)))
+    ((exact opener tt).complete p r opens)
     ∙ ap (λ d. Some (Open d, p, r)) (ap first_of one.0))
 found_complete first (Close c) p r h =
     let one = passes_of is_closer c p r h in
     from_start first (p ++ r) c r starts.Closer (one_front c p r one.0) (start_closer c one.1)
-    ∙ (ap (tagged closer_kind) ((exact closer tt).complete p r (c, one.0, one.1)) ∙ ap (λ d. Some (Close d, p, r)) (ap first_of one.0))
+    ∙ (ap (tagged closer_kind) ((exact closer tt).complete p r (c, one.0, one.1))
+    ∙ ap (λ d. Some (Close d, p, r)) (ap first_of one.0))
 found_complete first (Leaf (Name raw name)) p r h =
     let text = raw_front raw ++ (name ++ r) in
     rw (h.0, append_assoc) (letter_start first text (named_start raw name r h.1.0)
@@ -248,11 +284,13 @@ found_complete first (Leaf (Mark c joint)) p r h = rw h.0 (elim h.1 [
   | inl mark ↦
       let is = mark_is c r mark.0 in
       found_mark first (c ∷ r) c r refl is.0 is.1 mark.0.1
-      ∙ (ap (tagged mark_kind) ((exact marks.mark tt).complete (c ∷ []) r mark.0) ∙ ap (λ b. Some (Leaf (Mark c b), c ∷ [], r)) (sym mark.1))
+      ∙ (ap (tagged mark_kind) ((exact marks.mark tt).complete (c ∷ []) r mark.0)
+      ∙ ap (λ b. Some (Leaf (Mark c b), c ∷ [], r)) (sym mark.1))
   | inr quote ↦
       let is : c ≡ 39 = cc in
       rw (is, quote.1) (from_start first (39 ∷ r) 39 r starts.Quote refl start_quote
-      ∙ ap (λ o. or_found (tagged quote_kind o) (found_literal quoted_literal (39 ∷ r))) (finds_lone_quote.complete (39 ∷ []) r (refl, quote.0.1)))
+      ∙ ap (λ o. or_found (tagged quote_kind o) (found_literal quoted_literal (39 ∷ r)))
+      (finds_lone_quote.complete (39 ∷ []) r (refl, quote.0.1)))
 ])
 found_complete first (Leaf (Literal text)) p r h = rw h.0 (elim h.1 [
   | inl literal ↦ literal_complete first text r literal
@@ -262,7 +300,8 @@ found_complete first (Leaf (Literal text)) p r h = rw h.0 (elim h.1 [
 -- ---- the laws
 
 -- at most one piece stands at a place
-pub one_piece : (first : Bool) (k l : Kind) (p q r s : List ℕ) → IsPiece first k p r → IsPiece first l q s → p ++ r ≡ q ++ s → (k ≡ l) × (p ≡ q) × (r ≡ s)
+pub one_piece : (first : Bool) (k l : Kind) (p q r s : List ℕ) → IsPiece first k p r → IsPiece first l q s
+    → p ++ r ≡ q ++ s → (k ≡ l) × (p ≡ q) × (r ≡ s)
 one_piece first k l p q r s h j e =
     let same : ◌≡◌ {A = Found} (Some (k, p, r)) (Some (l, q, s)) =
     sym (found_complete first k p r h) ∙ (ap (found first) e ∙ found_complete first l q s j) in
@@ -270,11 +309,13 @@ one_piece first k l p q r s h j e =
     (ap (λ x. x.0) parts, ap (λ x. x.1) parts, ap (λ x. x.2) parts)
 
 -- what was found stands there
-pub piece_from_found : (first : Bool) (text p r : List ℕ) (k : Kind) → found first text ≡ Some (k, p, r) → (text ≡ p ++ r) × IsPiece first k p r
+pub piece_from_found : (first : Bool) (text p r : List ℕ) (k : Kind) → found first text ≡ Some (k, p, r)
+    → (text ≡ p ++ r) × IsPiece first k p r
 piece_from_found first text p r k e = subst (λ o. IfSome o (IsTagged first text)) e (found_sound first text)
 
 -- where nothing was found no piece stands
 pub none_from_found : (first : Bool) (text : List ℕ) → found first text ≡ None → HasNoPiece first text
 none_from_found first text e k p r whole h =
-    let clash : ◌≡◌ {A = Found} None (Some (k, p, r)) = sym e ∙ (ap (found first) whole ∙ found_complete first k p r h) in
+    let clash : ◌≡◌ {A = Found} None (Some (k, p, r)) = sym e
+    ∙ (ap (found first) whole ∙ found_complete first k p r h) in
     cc

@@ -26,7 +26,8 @@ digits_whole at to h = (passed code_digits (assumption) at to h).0
 pub digits_all : (at to : Cursor) (h : Passes code_digits at to) → list_all is_code_digit h.front ≡ true
 digits_all at to h =
     let is = (passed code_digits (assumption) at to h).1 in
-    let all : list_all is_code_digit (is.first.0 ∷ is.back) ≡ true = and_from _ _ (ap (λ b. b || (is.first.0 == 95)) is.first.2) is.second.each in
+    let all : list_all is_code_digit (is.first.0 ∷ is.back) ≡ true =
+    and_from _ _ (ap (λ b. b || (is.first.0 == 95)) is.first.2) is.second.each in
     ap (list_all is_code_digit) (is.whole ∙ ap (λ x. x ++ is.back) is.first.1) ∙ all
 
 -- what holds of each kind of string
@@ -67,7 +68,8 @@ finds_quoted = exact quoted_literal clear_quoted
 
 -- a literal between quotes is a string of some kind, a character or a byte
 module _ (P : Type 0) (p r : List ℕ) (text : (kind : StringKind) → Stands (cooked kind) p r → P)
-    (raw : (kind : StringKind) → Stands (raw_string kind) p r → P) (one : Stands character p r → P) (single : Stands byte p r → P) where
+    (raw : (kind : StringKind) → Stands (raw_string kind) p r → P) (one : Stands character p r → P)
+    (single : Stands byte p r → P) where
   string_cases : (kind : StringKind) → Stands (string kind) p r → P
   string_cases kind (inl is) = text kind is
   string_cases kind (inr is) = raw kind is

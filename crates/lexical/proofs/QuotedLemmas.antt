@@ -14,7 +14,8 @@ use Rattle.lexical.proofs.ClassLemmas.{sub_listed}
 -- where no identifier starts, no name stands
 pub no_name : (r : List ℕ) → first_passes is_ident_start r ≡ false → HasNone Name r
 no_name r none p q whole is =
-    both_ways _ none (ap (first_passes is_ident_start) (whole ∙ ap (λ xs. xs ++ q) (is.whole ∙ ap (λ xs. xs ++ is.back) is.first.1)) ∙ is.first.2)
+    both_ways _ none (ap (first_passes is_ident_start)
+    (whole ∙ ap (λ xs. xs ++ q) (is.whole ∙ ap (λ xs. xs ++ is.back) is.first.1)) ∙ is.first.2)
 
 -- nothing that goes on with a suffix stands at the front
 pub record EndsSuffix (r : List ℕ) : Type 0 where

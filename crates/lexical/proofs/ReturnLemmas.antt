@@ -1,5 +1,6 @@
 -- A CR that no LF follows is looked for from one CR to the next.
-use Rattle.std.proofs.Common.{◌≡◌, ℕ, ◌==◌, Bool, true, false, not, ◌||◌, List, [], ◌∷◌, ◌++◌, codes, refl, sym, ap, ◌∙◌, arith}
+use Rattle.std.proofs.Common.{◌≡◌, ℕ, ◌==◌, Bool, true, false, not, ◌||◌, List, [], ◌∷◌, ◌++◌, codes, refl, sym, ap}
+use Rattle.std.proofs.Common.{◌∙◌, arith}
 use Rattle.std.specs.List.{list_all}
 use Rattle.std.specs.Str.{chars}
 use Rattle.std.proofs.lemmas.Bool.{not-false}
@@ -24,10 +25,15 @@ pub record AtReturn (text : List ℕ) (at : Cursor) : Type 0 where
   pub same : has_bare_return (chars at.rest.now) ≡ has_bare_return text
   pub stands : first_passes other (chars at.rest.now) ≡ false
 
-pub at_next : (text : List ℕ) (at to : Cursor) → has_bare_return (chars at.rest.now) ≡ has_bare_return text → Passes (Run other) at to → AtReturn text to
+pub at_next : (text : List ℕ) (at to : Cursor) → has_bare_return (chars at.rest.now) ≡ has_bare_return text
+    → Passes (Run other) at to → AtReturn text to
 at_next text at to same h =
     let is = passed (Run other) tt at to h in
-    record { same = sym (none_in h.front (chars to.rest.now) is.1.each) ∙ (ap has_bare_return (sym is.0) ∙ same); stands = is.1.stops }
+    record {
+      same = sym (none_in h.front (chars to.rest.now) is.1.each)
+          ∙ (ap has_bare_return (sym is.0) ∙ same);
+      stands = is.1.stops;
+    }
 
 -- of a text that begins with a CR
 pub at_return : (c : ℕ) (rest text : List ℕ) → text ≡ c ∷ rest → first_passes other text ≡ false

@@ -1,15 +1,19 @@
 -- What is found by a rule is what the rule says, where its choices stand apart, which computes.
-use Rattle.std.proofs.Common.{◌≡◌, ◌⊎◌, ℕ, Bool, true, false, not, ◌&&◌, ◌||◌, IsTrue, List, [], ◌∷◌, ◌++◌, length, None, inl, inr, refl, sym, ap, ◌∙◌, arith, append_assoc, append-nil}
+use Rattle.std.proofs.Common.{◌≡◌, ◌⊎◌, ℕ, Bool, true, false, not, ◌&&◌, ◌||◌, IsTrue, List, [], ◌∷◌, ◌++◌, length}
+use Rattle.std.proofs.Common.{None, inl, inr, refl, sym, ap, ◌∙◌, arith, append_assoc, append-nil}
 use Rattle.std.proofs.lemmas.Bool.{both_ways, and_parts, or_cases, not-true, false_from_ne_true}
 use Rattle.lexical.specs.Text.{begins_any, first_passes}
 use Rattle.lexical.specs.Form.{HasNone}
 use Rattle.lexical.specs.Finder.{Finds}
-use Rattle.lexical.specs.Rule.{Rule, One, Run, Exactly, Then, Next, UpTo, Either, Else, NotAt, NotBefore, Where, Stands, find, Ends}
+use Rattle.lexical.specs.Rule.{Rule, One, Run, Exactly, Then, Next, UpTo, Either, Else, NotAt, NotBefore, Where, Stands}
+use Rattle.lexical.specs.Rule.{find, Ends}
 use Rattle.lexical.proofs.TextLemmas.{first_more, first_cons, any_begins_more}
 use Rattle.lexical.proofs.BlockLemmas.{finds_ends}
 use Rattle.lexical.proofs.FinderLemmas as finders
-use Rattle.lexical.proofs.FinderLemmas.{finds_then, finds_next, finds_not_at, finds_not_before, finds_where, finds_one, finds_run, finds_text}
-use Rattle.lexical.proofs.WordLemmas.{Disjoint, NotEmpty, differ, texts_differ, finds_apart, finds_else, finds_many_then}
+use Rattle.lexical.proofs.FinderLemmas.{finds_then, finds_next, finds_not_at, finds_not_before, finds_where, finds_one}
+use Rattle.lexical.proofs.FinderLemmas.{finds_run, finds_text}
+use Rattle.lexical.proofs.WordLemmas.{Disjoint, NotEmpty, differ, texts_differ, finds_apart, finds_else}
+use Rattle.lexical.proofs.WordLemmas.{finds_many_then}
 
 -- ---- how the pieces of a rule begin
 
@@ -38,8 +42,10 @@ module _ (class : (ℕ → Bool) → Bool) (exact : List ℕ → Bool) (none : L
       ⊎ ((fronts : List (List ℕ)) × (none fronts ≡ true) × (begins_any fronts (p ++ r) ≡ false)))
 
   -- a piece of the rule, and more behind it
-  led_more : (rule : Rule) → leads rule ≡ true → (p q back r : List ℕ) → q ≡ p ++ back → Stands rule p (back ++ r) → Led q r
-  led_more (One passes) h p q back r e is = inl (passes, h, ap (first_passes passes) (e ∙ ap (λ x. x ++ back) is.1) ∙ is.2)
+  led_more : (rule : Rule) → leads rule ≡ true → (p q back r : List ℕ) → q ≡ p ++ back → Stands rule p (back ++ r)
+      → Led q r
+  led_more (One passes) h p q back r e is =
+      inl (passes, h, ap (first_passes passes) (e ∙ ap (λ x. x ++ back) is.1) ∙ is.2)
   led_more (Run passes) h p q back r e is = absurd (both_ways _ refl h)
   led_more (Exactly front) h p q back r e is = inr (inl (front, back, h, e ∙ ap (λ x. x ++ back) is))
   led_more (Then a b) h p q back r e is =
@@ -75,14 +81,16 @@ begins_holds test rule h p r is = elim (led (λ passes. false) test (λ fronts. 
 ]
 
 -- so with one of some texts, where each of those does
-pub begins_one : (fronts : List (List ℕ)) (rule : Rule) → begins (begins_any fronts) rule ≡ true → (p r : List ℕ) → Stands rule p r
+pub begins_one : (fronts : List (List ℕ)) (rule : Rule) → begins (begins_any fronts) rule ≡ true → (p r : List ℕ)
+    → Stands rule p r
     → begins_any fronts p ≡ true
 begins_one fronts rule h p r is =
     let at = begins_holds (begins_any fronts) rule h p r is in
     ap (begins_any fronts) at.3 ∙ any_begins_more fronts at.0 at.1 at.2
 
 -- where each class that counts has only characters that pass, and each text begins with one, so does each piece
-first_led : (class : (ℕ → Bool) → Bool) (passes : ℕ → Bool) (rule : Rule) → leads class (first_passes passes) (λ fronts. false) rule ≡ true
+first_led : (class : (ℕ → Bool) → Bool) (passes : ℕ → Bool) (rule : Rule)
+    → leads class (first_passes passes) (λ fronts. false) rule ≡ true
     → ((k : ℕ → Bool) (c : ℕ) → class k ≡ true → k c ≡ true → passes c ≡ true) → (p r : List ℕ) → Stands rule p r
     → (c : ℕ) × (q : List ℕ) × (p ≡ c ∷ q) × (passes c ≡ true)
 first_led class passes rule h part p r is = elim (led class (first_passes passes) (λ fronts. false) rule h p r is) [
@@ -91,7 +99,8 @@ first_led class passes rule h part p r is = elim (led class (first_passes passes
   | inr (inr none) ↦ absurd (both_ways _ refl none.1)
 ]
 
-pub first_one : (passes : ℕ → Bool) (rule : Rule) → begins (first_passes passes) rule ≡ true → (p r : List ℕ) → Stands rule p r
+pub first_one : (passes : ℕ → Bool) (rule : Rule) → begins (first_passes passes) rule ≡ true → (p r : List ℕ)
+    → Stands rule p r
     → (c : ℕ) × (q : List ℕ) × (p ≡ c ∷ q) × (passes c ≡ true)
 first_one passes rule h = first_led (λ k. false) passes rule h (λ k c no is. absurd (both_ways _ refl no))
 
@@ -106,9 +115,11 @@ some_holds rule h p r is =
 
 -- whether no text that begins with this one begins with a piece of the rule
 abbrev pub bars : List ℕ → Rule → Bool
-bars front = leads (λ passes. first_passes (λ c. not (passes c)) front) (λ text. differ text front) (λ fronts. begins_any fronts front)
+bars front = leads (λ passes. first_passes (λ c. not (passes c)) front) (λ text. differ text front)
+    (λ fronts. begins_any fronts front)
 
-pub barred : (front : List ℕ) (rule : Rule) → bars front rule ≡ true → (rest p r : List ℕ) → Stands rule p r → p ++ r ≡ front ++ rest → ⊥
+pub barred : (front : List ℕ) (rule : Rule) → bars front rule ≡ true → (rest p r : List ℕ) → Stands rule p r
+    → p ++ r ≡ front ++ rest → ⊥
 barred front rule h rest p r is e = elim (led _ _ _ rule h p r is) [
   | inl one ↦
       never one.0 (p ++ r) (first_more one.0 p r one.2) (rw e (first_more (λ c. not (one.0 c)) front rest one.1))
@@ -125,8 +136,13 @@ barred front rule h rest p r is e = elim (led _ _ _ rule h p r is) [
 pub first_unbarred : (rule : Rule) → some rule ≡ true → (p r : List ℕ) → Stands rule p r
     → (c : ℕ) × (q : List ℕ) × (p ≡ c ∷ q) × (bars (c ∷ []) rule ≡ false)
 first_unbarred rule h p r is =
-    let at = first_led (λ passes. true) (λ c. true) rule h (λ k c yes is. refl) p r is in
-    (at.0, at.1, at.2, false_from_ne_true _ (λ out. barred (at.0 ∷ []) rule out (at.1 ++ r) p r is (ap (λ q. q ++ r) at.2)))
+    let at = first_led (λ passes. true) (λ c. true) rule h (λ k c yes is. refl) p r is in (
+      at.0,
+      at.1,
+      at.2,
+      false_from_ne_true _
+          (λ out. barred (at.0 ∷ []) rule out (at.1 ++ r) p r is (ap (λ q. q ++ r) at.2)),
+    )
 
 -- ---- rules that stand apart
 
@@ -147,7 +163,8 @@ apart_holds a b h = elim (or_cases _ _ h) [
 
 -- ---- clear rules
 
--- the rules of each `Either` in the rule stand apart, and so do what each `UpTo` repeats, which is not empty, and what ends it.
+-- the rules of each `Either` in the rule stand apart, and so do what each `UpTo` repeats, which is not empty, and what
+-- ends it.
 -- For a rule without variables that holds by `assumption`
 abbrev pub Clear : Rule → Type 0
 Clear (One passes) = Unit {0}
@@ -170,7 +187,8 @@ exact (Run passes) clear = finds_run passes
 exact (Exactly text) clear = finds_text text
 exact (Then a b) clear = finds_then _ _ _ _ (exact a clear.0) (exact b clear.1)
 exact (Next a b) clear = finds_next _ _ _ _ (exact a clear.0) (λ front. exact (b front) (clear.1 front))
-exact (UpTo a b) clear = finds_many_then _ _ (exact a clear.0) (some_holds a clear.2) _ _ (exact b clear.1) (apart_holds a b clear.3)
+exact (UpTo a b) clear = finds_many_then _ _ (exact a clear.0) (some_holds a clear.2) _ _ (exact b clear.1)
+    (apart_holds a b clear.3)
 exact (Either a b) clear = finds_apart _ _ _ _ (exact a clear.0) (exact b clear.1) (apart_holds a b clear.2)
 exact (Else a b) clear = finds_else _ _ _ _ (exact a clear.0) (exact b clear.1)
 exact (NotAt fronts a) clear = finds_not_at fronts _ _ (exact a clear)
@@ -184,5 +202,6 @@ pub none_found : (rule : Rule) → Clear rule → (text : List ℕ) → HasNone 
 none_found rule clear = finders.none_found (find rule) (Stands rule) (exact rule clear)
 
 -- at most one split of a text is a piece of the rule
-pub one_split : (rule : Rule) → Clear rule → (p q r s : List ℕ) → Stands rule p r → Stands rule q s → p ++ r ≡ q ++ s → (p ≡ q) × (r ≡ s)
+pub one_split : (rule : Rule) → Clear rule → (p q r s : List ℕ) → Stands rule p r → Stands rule q s → p ++ r ≡ q ++ s
+    → (p ≡ q) × (r ≡ s)
 one_split rule clear = finders.one_split (find rule) (Stands rule) (exact rule clear)

@@ -1,10 +1,12 @@
 -- Steps that follow one another, one lemma for each word that rules are made of.
-use Rattle.std.proofs.Common.{◌≡◌, ℕ, ◌+◌, ◌≤◌, Bool, true, false, not, cond, List, [], ◌∷◌, ◌++◌, length, Option, Some, None, refl, sym, ap, ◌∙◌, subst, arith, length-append}
+use Rattle.std.proofs.Common.{◌≡◌, ℕ, ◌+◌, ◌≤◌, Bool, true, false, not, cond, List, [], ◌∷◌, ◌++◌, length, Option, Some}
+use Rattle.std.proofs.Common.{None, refl, sym, ap, ◌∙◌, subst, arith, length-append}
 use Rattle.std.specs.Str.{chars}
 use Rattle.std.proofs.lemmas.Bool.{both_ways, cond-true, cond-false, cond_both, or_from}
 use Rattle.lexical.specs.Text.{begins_with, begins_any, first_passes}
 use Rattle.lexical.specs.Finder.{and_find, or_find, if_passes, find_one}
-use Rattle.lexical.specs.Rule.{Rule, One, Run, Exactly, Then, Either, Else, NotAt, NotBefore, Where, Stands, find, nothing, perhaps}
+use Rattle.lexical.specs.Rule.{Rule, One, Run, Exactly, Then, Either, Else, NotAt, NotBefore, Where, Stands, find}
+use Rattle.lexical.specs.Rule.{nothing, perhaps}
 use Rattle.lexical.specs.Step.{Passes, Reads}
 use Rattle.lexical.specs.declared.cursor.Cursor.{Cursor}
 use Rattle.lexical.proofs.TextLemmas.{begins_splits, begins_front}
@@ -25,11 +27,13 @@ pub find_other : (a b : Rule) (text : List ℕ) → find (Else a b) text ≡ or_
 unfolding find
 find_other a b text = refl
 
-pub find_not_before : (passes : ℕ → Bool) (a : Rule) (text : List ℕ) → find (NotBefore passes a) text ≡ if_passes (λ p r. not (first_passes passes r)) (find a text)
+pub find_not_before : (passes : ℕ → Bool) (a : Rule) (text : List ℕ)
+    → find (NotBefore passes a) text ≡ if_passes (λ p r. not (first_passes passes r)) (find a text)
 unfolding find
 find_not_before passes a text = refl
 
-pub find_where : (test : List ℕ → Bool) (a : Rule) (text : List ℕ) → find (Where test a) text ≡ if_passes (λ p r. test p) (find a text)
+pub find_where : (test : List ℕ → Bool) (a : Rule) (text : List ℕ)
+    → find (Where test a) text ≡ if_passes (λ p r. test p) (find a text)
 unfolding find
 find_where test a text = refl
 
@@ -45,23 +49,29 @@ pub passed : (rule : Rule) → Clear rule → (at to : Cursor) (h : Passes rule 
 passed rule clear at to h = found_is _ _ (exact rule clear) _ h.front _ h.found
 
 -- a run leads no way back
-pub run_goes_on : (plain : ℕ → Bool) (at to : Cursor) → Passes (Run plain) at to → length (chars to.rest.now) ≤ length (chars at.rest.now)
-run_goes_on plain at to h = omega (arith, length-append h.front (chars to.rest.now), ap length (passed (Run plain) tt at to h).0)
+pub run_goes_on : (plain : ℕ → Bool) (at to : Cursor) → Passes (Run plain) at to
+    → length (chars to.rest.now) ≤ length (chars at.rest.now)
+run_goes_on plain at to h = omega
+    (arith, length-append h.front (chars to.rest.now), ap length (passed (Run plain) tt at to h).0)
 
-pub passes_whole : (rule : Rule) → Clear rule → (at to : Cursor) → Passes rule at to → (front : List ℕ) × (chars at.rest.now ≡ front ++ chars to.rest.now)
+pub passes_whole : (rule : Rule) → Clear rule → (at to : Cursor) → Passes rule at to
+    → (front : List ℕ) × (chars at.rest.now ≡ front ++ chars to.rest.now)
 passes_whole rule clear at to h = (h.front, (passed rule clear at to h).0)
 
 -- ---- `One`
 
-pub one_found : (passes : ℕ → Bool) (c : ℕ) (text rest : List ℕ) → text ≡ c ∷ rest → passes c ≡ true → find (One passes) text ≡ Some (c ∷ [], rest)
+pub one_found : (passes : ℕ → Bool) (c : ℕ) (text rest : List ℕ) → text ≡ c ∷ rest → passes c ≡ true
+    → find (One passes) text ≡ Some (c ∷ [], rest)
 unfolding find
 one_found passes c text rest split e = ap (find_one passes) split ∙ cond-true _ _ _ e
 
 pub one_passes : (passes : ℕ → Bool) (c : ℕ) (at to : Cursor) → chars at.rest.now ≡ c ∷ chars to.rest.now
     → to.chars_before ≡ at.chars_before + 1 → passes c ≡ true → Passes (One passes) at to
-one_passes passes c at to split count e = record { front = c ∷ []; found = one_found passes c _ _ split e; count = count }
+one_passes passes c at to split count e =
+    record { front = c ∷ []; found = one_found passes c _ _ split e; count = count }
 
-pub one_lacks : (passes : ℕ → Bool) (c : ℕ) (text rest : List ℕ) → text ≡ c ∷ rest → passes c ≡ false → find (One passes) text ≡ None
+pub one_lacks : (passes : ℕ → Bool) (c : ℕ) (text rest : List ℕ) → text ≡ c ∷ rest → passes c ≡ false
+    → find (One passes) text ≡ None
 unfolding find
 one_lacks passes c text rest split e = ap (find_one passes) split ∙ cond-false _ _ _ e
 
@@ -99,7 +109,8 @@ then_passes a b at mid to h j =
     let long = length-append h.front j.front in
     record { front = h.front ++ j.front; found = rw (find_then, h.found, j.found); count = omega arith }
 
-pub then_reads : (a b : Rule) (at mid : Cursor) (result : Option Cursor) → Passes a at mid → Reads b mid result → Reads (Then a b) at result
+pub then_reads : (a b : Rule) (at mid : Cursor) (result : Option Cursor) → Passes a at mid → Reads b mid result
+    → Reads (Then a b) at result
 then_reads a b at mid None h none = rw (find_then, h.found, none)
 then_reads a b at mid (Some to) h j = then_passes a b at mid to h j
 
@@ -109,10 +120,12 @@ then_lacks a b text none = rw (find_then, none)
 -- ---- `Either`, `Else`
 
 -- a rule that finds the same
-pub passes_same : (a b : Rule) (at to : Cursor) → find b (chars at.rest.now) ≡ find a (chars at.rest.now) → Passes a at to → Passes b at to
+pub passes_same : (a b : Rule) (at to : Cursor) → find b (chars at.rest.now) ≡ find a (chars at.rest.now)
+    → Passes a at to → Passes b at to
 passes_same a b at to e h = record { front = h.front; found = e ∙ h.found; count = h.count }
 
-pub reads_same : (a b : Rule) (at : Cursor) (result : Option Cursor) → find b (chars at.rest.now) ≡ find a (chars at.rest.now)
+pub reads_same : (a b : Rule) (at : Cursor) (result : Option Cursor)
+    → find b (chars at.rest.now) ≡ find a (chars at.rest.now)
     → Reads a at result → Reads b at result
 reads_same a b at None e h = e ∙ h
 reads_same a b at (Some to) e h = passes_same a b at to e h
@@ -120,13 +133,15 @@ reads_same a b at (Some to) e h = passes_same a b at to e h
 pub either_first : (a b : Rule) (at to : Cursor) → Passes a at to → Passes (Either a b) at to
 either_first a b at to h = record { front = h.front; found = rw (find_either, h.found); count = h.count }
 
-pub either_reads : (a b : Rule) (at : Cursor) (result : Option Cursor) → find a (chars at.rest.now) ≡ None → Reads b at result → Reads (Either a b) at result
+pub either_reads : (a b : Rule) (at : Cursor) (result : Option Cursor) → find a (chars at.rest.now) ≡ None
+    → Reads b at result → Reads (Either a b) at result
 either_reads a b at result none h = reads_same b (Either a b) at result (rw (find_either, none)) h
 
 pub else_first : (a b : Rule) (at to : Cursor) → Passes a at to → Passes (Else a b) at to
 else_first a b at to h = record { front = h.front; found = rw (find_other, h.found); count = h.count }
 
-pub else_reads : (a b : Rule) (at : Cursor) (result : Option Cursor) → find a (chars at.rest.now) ≡ None → Reads b at result → Reads (Else a b) at result
+pub else_reads : (a b : Rule) (at : Cursor) (result : Option Cursor) → find a (chars at.rest.now) ≡ None
+    → Reads b at result → Reads (Else a b) at result
 else_reads a b at result none h = reads_same b (Else a b) at result (rw (find_other, none)) h
 
 -- the place itself, where there may be nothing
@@ -135,31 +150,38 @@ perhaps_stays a at none = record { front = []; found = rw (find_other, none, fin
 
 -- ---- `NotAt`
 
-pub not_at_passes : (fronts : List (List ℕ)) (a : Rule) (at to : Cursor) → begins_any fronts (chars at.rest.now) ≡ false → Passes a at to
+pub not_at_passes : (fronts : List (List ℕ)) (a : Rule) (at to : Cursor) → begins_any fronts (chars at.rest.now) ≡ false
+    → Passes a at to
     → Passes (NotAt fronts a) at to
 unfolding find
 not_at_passes fronts a at to e h = record { front = h.front; found = cond-false _ _ _ e ∙ h.found; count = h.count }
 
-pub not_at_stops : (fronts : List (List ℕ)) (a : Rule) (text : List ℕ) → begins_any fronts text ≡ true → find (NotAt fronts a) text ≡ None
+pub not_at_stops : (fronts : List (List ℕ)) (a : Rule) (text : List ℕ) → begins_any fronts text ≡ true
+    → find (NotAt fronts a) text ≡ None
 unfolding find
 not_at_stops fronts a text e = cond-true _ _ _ e
 
-pub not_at_lacks : (fronts : List (List ℕ)) (a : Rule) (text : List ℕ) → find a text ≡ None → find (NotAt fronts a) text ≡ None
+pub not_at_lacks : (fronts : List (List ℕ)) (a : Rule) (text : List ℕ) → find a text ≡ None
+    → find (NotAt fronts a) text ≡ None
 unfolding find
-not_at_lacks fronts a text none = cond_both (begins_any fronts text) None (find a text) (λ o. o ≡ None) (λ e. refl) (λ e. none)
+not_at_lacks fronts a text none =
+    cond_both (begins_any fronts text) None (find a text) (λ o. o ≡ None) (λ e. refl) (λ e. none)
 
 -- with one front
-pub apart_passes : (front : List ℕ) (a : Rule) (at to : Cursor) → begins_with front (chars at.rest.now) ≡ false → Passes a at to
+pub apart_passes : (front : List ℕ) (a : Rule) (at to : Cursor) → begins_with front (chars at.rest.now) ≡ false
+    → Passes a at to
     → Passes (NotAt (front ∷ []) a) at to
 apart_passes front a at to e h = not_at_passes (front ∷ []) a at to (or_from _ _ e refl) h
 
 -- ---- `NotBefore`
 
-pub before_passes : (passes : ℕ → Bool) (a : Rule) (at to : Cursor) → Passes a at to → first_passes passes (chars to.rest.now) ≡ false
+pub before_passes : (passes : ℕ → Bool) (a : Rule) (at to : Cursor) → Passes a at to
+    → first_passes passes (chars to.rest.now) ≡ false
     → Passes (NotBefore passes a) at to
 before_passes passes a at to h e = record { front = h.front; found = rw (find_not_before, h.found, e); count = h.count }
 
-pub before_lacks : (passes : ℕ → Bool) (a : Rule) (at to : Cursor) → Passes a at to → first_passes passes (chars to.rest.now) ≡ true
+pub before_lacks : (passes : ℕ → Bool) (a : Rule) (at to : Cursor) → Passes a at to
+    → first_passes passes (chars to.rest.now) ≡ true
     → find (NotBefore passes a) (chars at.rest.now) ≡ None
 before_lacks passes a at to h e = rw (find_not_before, h.found, e)
 
@@ -181,4 +203,29 @@ where_lacks test a clear at to text h same e = rw (find_where, h.found, ← same
 
 -- ---- all of them
 
-pub ruleset steps = (find_then, find_either, find_other, find_not_before, find_where, find_nothing, length-append, one_passes, one_lacks, one_ends, then_passes, then_reads, then_lacks, either_first, either_reads, else_first, else_reads, perhaps_stays, apart_passes, not_at_passes, not_at_stops, not_at_lacks, before_passes, before_lacks)
+pub ruleset steps = (
+  find_then,
+  find_either,
+  find_other,
+  find_not_before,
+  find_where,
+  find_nothing,
+  length-append,
+  one_passes,
+  one_lacks,
+  one_ends,
+  then_passes,
+  then_reads,
+  then_lacks,
+  either_first,
+  either_reads,
+  else_first,
+  else_reads,
+  perhaps_stays,
+  apart_passes,
+  not_at_passes,
+  not_at_stops,
+  not_at_lacks,
+  before_passes,
+  before_lacks,
+)

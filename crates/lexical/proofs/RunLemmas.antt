@@ -1,5 +1,5 @@
 -- Lemmas on runs of characters.
-use Rattle.std.proofs.Common.{◌≡◌, ℕ, ◌+◌, Bool, false, List, [], ◌∷◌, length, ap, ◌∙◌, arith}
+use Rattle.std.proofs.Common.{◌≡◌, ℕ, ◌+◌, Bool, false, length, ap, arith}
 use Rattle.std.specs.Str.{chars}
 use Rattle.lexical.specs.Text.{first_passes}
 use Rattle.lexical.specs.Finder.{while_front, while_rest}
@@ -11,7 +11,8 @@ use Rattle.lexical.proofs.FinderLemmas.{while_rest_none}
 -- the run from one place goes on at the other
 abbrev pub GoesOn : (ℕ → Bool) → Cursor → Cursor → Type 0
 GoesOn test at end = (while_rest test (chars end.rest.now) ≡ while_rest test (chars at.rest.now))
-    × (end.chars_before + length (while_front test (chars end.rest.now)) ≡ at.chars_before + length (while_front test (chars at.rest.now)))
+    × (end.chars_before + length (while_front test (chars end.rest.now))
+    ≡ at.chars_before + length (while_front test (chars at.rest.now)))
 
 -- at a character that doesn't, or the end
 pub run_stop : (test : ℕ → Bool) (at end : Cursor) → GoesOn test at end
@@ -24,9 +25,3 @@ run_stop test at end goes stops =
       found = rw (← goes.0, none.1);
       count = omega (arith, goes.1, ap length none.0);
     }
-
-pub stops_at_end : (test : ℕ → Bool) (text : List ℕ) → text ≡ [] → first_passes test text ≡ false
-stops_at_end test text e = ap (first_passes test) e
-
-pub stops_at : (test : ℕ → Bool) (text rest : List ℕ) (c : ℕ) → text ≡ c ∷ rest → test c ≡ false → first_passes test text ≡ false
-stops_at test text rest c e h = ap (first_passes test) e ∙ h

@@ -1,5 +1,6 @@
 -- A run over characters is a run over bytes, where the characters past ASCII all pass, or none does.
-use Rattle.std.proofs.Common.{◌≡◌, ℕ, suc, ◌+◌, ◌<◌, ◌≤◌, Bool, true, false, inl, inr, List, [], ◌∷◌, ◌++◌, length, get_or, take, drop, refl, sym, ap, ◌∙◌, arith, append-nil}
+use Rattle.std.proofs.Common.{◌≡◌, ℕ, suc, ◌+◌, ◌<◌, ◌≤◌, Bool, true, false, inl, inr, List, [], ◌∷◌, ◌++◌, length}
+use Rattle.std.proofs.Common.{get_or, take, drop, refl, sym, ap, ◌∙◌, arith, append-nil}
 use Rattle.std.specs.Prelude.{encode_utf8}
 use Rattle.std.specs.List.{list_all}
 use Rattle.std.specs.Str.{chars, IsUtf8, IsCharBoundary, encode_utf8_all}
@@ -17,9 +18,11 @@ use Rattle.lexical.proofs.TextLemmas.{first_byte, seam_boundary, seam_take, seam
 byte_high : (c : ℕ) → 128 ≤ c → (k : ℕ) → k < length (encode_utf8 c) → 128 ≤ get_or (encode_utf8 c) k 0
 byte_high c h k within = grind (arith, inside_one c [] (encode_utf8 c) k (sym (append-nil (encode_utf8 c))) within)
 
-all_from : (test : ℕ → Bool) (bs : List ℕ) → ((b : ℕ) → 128 ≤ b → test b ≡ true) → ((k : ℕ) → k < length bs → 128 ≤ get_or bs k 0) → list_all test bs ≡ true
+all_from : (test : ℕ → Bool) (bs : List ℕ) → ((b : ℕ) → 128 ≤ b → test b ≡ true)
+    → ((k : ℕ) → k < length bs → 128 ≤ get_or bs k 0) → list_all test bs ≡ true
 all_from test [] each high = refl
-all_from test (b ∷ bs) each high = and_from _ _ (each b (high 0 (omega arith))) (all_from test bs each (λ k within. high (suc k) (omega arith)))
+all_from test (b ∷ bs) each high =
+    and_from _ _ (each b (high 0 (omega arith))) (all_from test bs each (λ k within. high (suc k) (omega arith)))
 
 -- one test for characters and bytes, which gives one answer past ASCII
 module _ (test : ℕ → Bool) (beyond : Bool) (high : (c : ℕ) → 128 ≤ c → test c ≡ beyond) where
@@ -62,7 +65,8 @@ module _ (test : ℕ → Bool) (beyond : Bool) (high : (c : ℕ) → 128 ≤ c �
     run_rest = seam_drop text _ _ n utf8 whole bytes_of
 
   -- and the place after them is that after the run
-  pub run_over : (at to : Cursor) → IsUtf8 at.rest.now → (n : ℕ) → n ≡ length (while_front test at.rest.now) → to.rest.now ≡ drop n at.rest.now
+  pub run_over : (at to : Cursor) → IsUtf8 at.rest.now → (n : ℕ) → n ≡ length (while_front test at.rest.now)
+      → to.rest.now ≡ drop n at.rest.now
       → to.chars_before ≡ at.chars_before + length (chars (take n at.rest.now)) → Passes (Run test) at to
   unfolding find
   run_over at to utf8 n size rest count =

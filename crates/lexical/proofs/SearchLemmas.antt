@@ -1,14 +1,21 @@
 -- A search for a byte finds where a run ends.
-use Rattle.std.proofs.Common.{◌≡◌, ℕ, zero, suc, ◌+◌, ◌<◌, ◌≤◌, Bool, true, false, not, List, [], ◌∷◌, length, Some, None, Option, unwrap_or, take, drop, subst, sym, ap, ◌∙◌, arith}
-use Rattle.std.specs.Str.{chars, IsUtf8}
-use Rattle.std.proofs.lemmas.Bool.{cond-true, cond-false, false_from_ne_true, not_from_true, not_from_false}
-use Rattle.memchr.specs.Find.{IsFirstByte, IsFirst, Nowhere, NoneBefore, is_byte, is_byte2, is_byte3}
+use Rattle.std.proofs.Common.{◌≡◌, ℕ, zero, suc, ◌+◌, ◌<◌, ◌≤◌, Bool, true, false, not, ◌&&◌, inl, inr, List, [], ◌∷◌}
+use Rattle.std.proofs.Common.{length, Some, None, Option, unwrap_or, take, drop, refl, subst, sym, ap, ◌∙◌, arith}
+use Rattle.std.specs.Char.{is_ascii}
+use Rattle.std.specs.Str.{chars, IsAscii, IsUtf8, IsCharBoundary}
+use Rattle.std.proofs.lemmas.Bool.{cases_Bool, cond-true, cond-false, false_from_ne_true, lt-ltb, not_from_true}
+use Rattle.std.proofs.lemmas.Bool.{not_from_false}
+use Rattle.memchr.specs.Find.{IsFirstByte, is_byte3}
 use Rattle.memchr.specs.Find as bytes
 use Rattle.lexical.specs.Finder.{while_front}
+use Rattle.lexical.specs.Quoted.{is_plain}
+use Rattle.lexical.specs.RawString.{is_raw}
 use Rattle.lexical.specs.Rule.{Run}
 use Rattle.lexical.specs.Step.{Passes}
 use Rattle.lexical.specs.declared.cursor.Cursor.{Cursor}
-use Rattle.lexical.proofs.Scan.{run_over}
+use Rattle.lexical.specs.declared.quoted.StringKind.{StringKind}
+use Rattle.lexical.specs.declared.quoted.StringKind.TheVariants as kinds
+use Rattle.lexical.proofs.Scan.{run_boundary, run_over}
 
 module _ (test : ℕ → Bool) where
   -- the byte at k is the first that passes, or the bytes end there
@@ -21,7 +28,8 @@ module _ (test : ℕ → Bool) where
       ∙ ap suc (run_to bs k (omega arith) (λ i before at. none (suc i) (omega arith) at) (λ more. hit (omega arith)))
 
   -- what the search answers, or the end of the bytes
-  found_end : (bs : List ℕ) (r : Option ℕ) → IsFirstByte test bs r → length (while_front (λ b. not (test b)) bs) ≡ unwrap_or r (length bs)
+  pub found_end : (bs : List ℕ) (r : Option ℕ) → IsFirstByte test bs r
+      → length (while_front (λ b. not (test b)) bs) ≡ unwrap_or r (length bs)
   found_end bs None none =
       run_to bs (length bs) (omega arith) (λ k within hit. none k (omega arith) within hit)
       (λ more. absurd (omega arith))
@@ -29,9 +37,69 @@ module _ (test : ℕ → Bool) where
       run_to bs k (omega (arith, h.0.high)) (λ i before hit. h.0.before i (omega arith) before hit) (λ more. h.1)
 
   -- the place where the search ends is that after the run
-  pub found_run : ((c : ℕ) → 128 ≤ c → test c ≡ false) → (at to : Cursor) (bs : List ℕ) (r : Option ℕ) (n : ℕ) → IsUtf8 bs → bs ≡ at.rest.now
+  pub found_run : ((c : ℕ) → 128 ≤ c → test c ≡ false) → (at to : Cursor) (bs : List ℕ) (r : Option ℕ) (n : ℕ)
+      → IsUtf8 bs → bs ≡ at.rest.now
       → IsFirstByte test bs r → n ≡ unwrap_or r (length bs) → to.rest.now ≡ drop n at.rest.now
       → to.chars_before ≡ at.chars_before + length (chars (take n at.rest.now)) → Passes (Run (λ c. not (test c))) at to
   found_run past at to bs r n utf8 same found e rest count =
       run_over (λ c. not (test c)) true (λ c high. not_from_false _ (past c high)) at to (subst IsUtf8 same utf8) n
       (e ∙ (sym (found_end bs r found) ∙ ap (λ x. length (while_front (λ c. not (test c)) x)) same)) rest count
+
+-- a stretch that is checked: what passes both may stand in it and ends it not
+module _ (test allowed both : ℕ → Bool) (same : (c : ℕ) → both c ≡ (allowed c && not (test c))) where
+  -- up to what may not stand there, as much as is of the run
+  count_both : (bs : List ℕ)
+      → length (while_front allowed (take (length (while_front (λ b. not (test b)) bs)) bs))
+      ≡ length (while_front both bs)
+  count_both [] = refl
+  count_both (b ∷ bs) = elim (cases_Bool (test b)) [
+    | inl stops ↦ grind (arith, same b, stops)
+    | inr goes ↦ elim (cases_Bool (allowed b)) [
+      | inl may ↦ rw (same b, goes, may) (ap suc (count_both bs))
+      | inr bars ↦ rw (same b, goes, bars) refl
+    ]
+  ]
+
+  module _ (past : (c : ℕ) → 128 ≤ c → test c ≡ false) (beyond : Bool) (high : (c : ℕ) → 128 ≤ c → allowed c ≡ beyond)
+      (at : Cursor) (bs : List ℕ) (r : Option ℕ) (m n : ℕ) (utf8 : IsUtf8 bs) (whole : bs ≡ at.rest.now)
+      (found : IsFirstByte test bs r) (end : m ≡ unwrap_or r (length bs))
+      (counted : n ≡ length (while_front allowed (take m bs))) where
+    both_high : (c : ℕ) → 128 ≤ c → both c ≡ beyond
+    both_high c h = grind (arith, same c, past c h, high c h)
+
+    size : n ≡ length (while_front both at.rest.now)
+    size =
+        counted ∙ (ap (λ k. length (while_front allowed (take k bs))) (end ∙ sym (found_end test bs r found))
+        ∙ (count_both bs ∙ ap (λ x. length (while_front both x)) whole))
+
+    pub allowed_boundary : IsCharBoundary at.rest.now n
+    allowed_boundary = run_boundary both beyond both_high at.rest.now (subst IsUtf8 whole utf8) n size
+
+    pub allowed_run : (to : Cursor) → to.rest.now ≡ drop n at.rest.now
+        → to.chars_before ≡ at.chars_before + length (chars (take n at.rest.now)) → Passes (Run both) at to
+    allowed_run to rest count = run_over both beyond both_high at to (subst IsUtf8 whole utf8) n size rest count
+
+-- what a string forbids is told by ASCII: it may have each character past that, or none
+pub raw_past : (kind : StringKind) (c : ℕ) → 128 ≤ c → is_raw kind c ≡ is_raw kind 128
+raw_past kinds.Plain c h = refl
+raw_past kinds.Byte c h = grind arith
+raw_past kinds.C c h = grind arith
+
+-- ---- what a string may have, among the bytes of a stretch
+
+-- all of them, where nothing is forbidden
+pub allowed_plain : (bs : List ℕ) → length bs ≡ length (while_front (is_raw kinds.Plain) bs)
+allowed_plain [] = refl
+allowed_plain (b ∷ bs) = ap suc (allowed_plain bs)
+
+-- and where all are ASCII
+pub allowed_ascii : (bs : List ℕ) → IsAscii bs → length bs ≡ length (while_front is_ascii bs)
+allowed_ascii [] low = refl
+allowed_ascii (b ∷ bs) low =
+    ap suc (allowed_ascii bs (λ i. low (suc i))) ∙ sym (ap length (cond-true _ _ _ (lt-ltb b 128 (low 0))))
+
+-- the characters that stand for themselves in a string with escapes
+pub plain_allowed : (kind : StringKind) (c : ℕ) → is_plain kind c ≡ (is_raw kind c && not (is_byte3 34 92 13 c))
+plain_allowed kinds.Plain c = grind arith
+plain_allowed kinds.Byte c = grind arith
+plain_allowed kinds.C c = grind arith

@@ -1,14 +1,19 @@
 -- Lemmas on the characters of a text.
-use Rattle.std.proofs.Common.{◌≡◌, ℕ, ◌+◌, ◌<◌, ◌≤◌, ◌-◌, inl, inr, Bool, true, false, ◌&&◌, eqb, List, [], ◌∷◌, ◌++◌, length, take, length-append, drop, refl, sym, ap, ap₂, ◌∙◌, subst, arith, ltb-true, ne_eqb, eqb-true, eq-eqb, append_assoc, append-nil, ◌==◌, zero, suc}
+use Rattle.std.proofs.Common.{◌≡◌, ℕ, ◌+◌, ◌<◌, ◌≤◌, ◌-◌, inl, inr, Bool, true, false, ◌&&◌, eqb, List, [], ◌∷◌, ◌++◌}
+use Rattle.std.proofs.Common.{length, take, length-append, drop, refl, sym, ap, ap₂, ◌∙◌, subst, arith, ltb-true}
+use Rattle.std.proofs.Common.{ne_eqb, eqb-true, eq-eqb, append_assoc, append-nil, ◌==◌, zero, suc}
 use Rattle.std.specs.List.{starts_with, list_all, AllByRecursion}
 use Rattle.std.specs.Str.{chars, IsUtf8, IsAscii, encode_utf8_all, IsCharBoundary}
 use Rattle.std.specs.Bool.{one_answer}
 use Rattle.std.specs.Cmp.Lexicographic.{pointwise}
 use Rattle.std.specs.Prelude.{nat_eq, nat_lt, encode_utf8}
 use Rattle.std.specs.Str.{all_scalars as scalars}
-use Rattle.std.proofs.lemmas.Bool.{both_ways, cases_lt, and_parts, and_from, and_cases, and_left, and_right, or_cases, or_parts, or_from, or_left, or_right, false_from_ne_true}
+use Rattle.std.proofs.lemmas.Bool.{both_ways, cases_lt, and_parts, and_from, and_cases, and_left, and_right, or_cases}
+use Rattle.std.proofs.lemmas.Bool.{or_parts, or_from, or_left, or_right, false_from_ne_true}
 use Rattle.std.proofs.lemmas.List.{take_at, drop_at}
-use Rattle.std.proofs.lemmas.Str.{chars-encodes, encodes-append, encodes_same, encodes-IsAscii, IsCharBoundary-at_seam, scalars-chars, encode_ascii, encodes-chars, char_from_byte, length-encode, len_utf8_bounds, length-le-encodes}
+use Rattle.std.proofs.lemmas.Str.{chars-encodes, encodes-append, encodes_same, encodes-IsAscii, IsCharBoundary-at_seam}
+use Rattle.std.proofs.lemmas.Str.{scalars-chars, encode_ascii, encodes-chars, char_from_byte, length-encode}
+use Rattle.std.proofs.lemmas.Str.{len_utf8_bounds, length-le-encodes}
 use Rattle.std.proofs.lemmas.Str.Ascii.{IsAscii-nil, IsAscii-cons}
 use Rattle.std.proofs.lemmas.Slice.Eq.{bytes_eq-Decides}
 use Rattle.lexical.specs.Text.{begins_with, begins_any, first_passes, ends_with}
@@ -21,9 +26,11 @@ starts_with_is [] (c ∷ front) = refl
 starts_with_is (d ∷ bytes) (c ∷ front) = ap (λ b. (c == d) && b) (starts_with_is bytes front)
 
 -- where one test passes what another does
-pub all_pass : (test other : ℕ → Bool) → ((c : ℕ) → test c ≡ true → other c ≡ true) → (text : List ℕ) → list_all test text ≡ true → list_all other text ≡ true
+pub all_pass : (test other : ℕ → Bool) → ((c : ℕ) → test c ≡ true → other c ≡ true) → (text : List ℕ)
+    → list_all test text ≡ true → list_all other text ≡ true
 all_pass test other part [] h = refl
-all_pass test other part (c ∷ text) h = let parts = and_parts _ _ h in and_from _ _ (part c parts.0) (all_pass test other part text parts.1)
+all_pass test other part (c ∷ text) h = let parts = and_parts _ _ h in
+    and_from _ _ (part c parts.0) (all_pass test other part text parts.1)
 
 -- a character past ASCII begins with a byte past ASCII
 pub first_byte : (d : ℕ) → 128 ≤ d → (b : ℕ) × (more : List ℕ) × (encode_utf8 d ≡ b ∷ more) × (128 ≤ b)
@@ -48,7 +55,8 @@ apart : (c d : ℕ) (x y : Bool) → c < 128 → 128 ≤ d → ((c == d) && x) �
 apart c d x y h k = ap (λ b. b && x) (ne_eqb c d (λ e. omega arith))
 
 -- an ASCII text begins the bytes where it begins the characters
-begins_encodes : (front cs : List ℕ) → all_ascii front ≡ true → begins_with front (encode_utf8_all cs) ≡ begins_with front cs
+begins_encodes : (front cs : List ℕ) → all_ascii front ≡ true
+    → begins_with front (encode_utf8_all cs) ≡ begins_with front cs
 begins_encodes [] cs h = refl
 begins_encodes (c ∷ front) [] h = refl
 begins_encodes (c ∷ front) (d ∷ cs) h =
@@ -62,12 +70,15 @@ begins_encodes (c ∷ front) (d ∷ cs) h =
           ∙ sym (apart c d (begins_with front cs) false low past))
     ]
 
-pub begins_chars : (front bytes : List ℕ) → IsUtf8 bytes → all_ascii front ≡ true → begins_with front bytes ≡ begins_with front (chars bytes)
-begins_chars front bytes utf8 h = ap (begins_with front) (sym (encodes-chars bytes utf8)) ∙ begins_encodes front (chars bytes) h
+pub begins_chars : (front bytes : List ℕ) → IsUtf8 bytes → all_ascii front ≡ true
+    → begins_with front bytes ≡ begins_with front (chars bytes)
+begins_chars front bytes utf8 h = ap (begins_with front) (sym (encodes-chars bytes utf8))
+    ∙ begins_encodes front (chars bytes) h
 
 pub is_ascii : (front : List ℕ) → all_ascii front ≡ true → IsAscii front
 is_ascii [] h = IsAscii-nil
-is_ascii (c ∷ front) h = let parts = and_parts _ _ h in IsAscii-cons c front (ltb-true c 128 parts.0) (is_ascii front parts.1)
+is_ascii (c ∷ front) h = let parts = and_parts _ _ h in
+    IsAscii-cons c front (ltb-true c 128 parts.0) (is_ascii front parts.1)
 
 -- an ASCII text is its own encoding
 pub encode_all_ascii : (text : List ℕ) → all_ascii text ≡ true → encode_utf8_all text ≡ text
@@ -77,7 +88,8 @@ pub ascii_bytes : (front : List ℕ) → all_ascii front ≡ true → length (en
 ascii_bytes front h = ap length (encode_all_ascii front h)
 
 -- a text is an ASCII one in bytes where it is in characters
-pub ascii_same : (text ascii : List ℕ) → IsUtf8 text → all_ascii ascii ≡ true → pointwise nat_eq text ascii ≡ pointwise nat_eq (chars text) ascii
+pub ascii_same : (text ascii : List ℕ) → IsUtf8 text → all_ascii ascii ≡ true
+    → pointwise nat_eq text ascii ≡ pointwise nat_eq (chars text) ascii
 ascii_same text ascii utf8 h =
     let bytes = bytes_eq-Decides text ascii in
     let points = bytes_eq-Decides (chars text) ascii in
@@ -107,17 +119,20 @@ seam_front text p r t e = chars-encodes p (split_scalars p r (ap scalars (sym e)
 pub seam_bytes : (text p r : List ℕ) → IsUtf8 text → chars text ≡ p ++ r → text ≡ encode_utf8_all p ++ encode_utf8_all r
 seam_bytes text p r t e = sym (encodes-chars text t) ∙ (ap encode_utf8_all e ∙ encodes-append p r)
 
-pub seam_boundary : (text p r : List ℕ) (n : ℕ) → IsUtf8 text → chars text ≡ p ++ r → n ≡ length (encode_utf8_all p) → IsCharBoundary text n
+pub seam_boundary : (text p r : List ℕ) (n : ℕ) → IsUtf8 text → chars text ≡ p ++ r → n ≡ length (encode_utf8_all p)
+    → IsCharBoundary text n
 seam_boundary text p r n t e is =
     subst (IsCharBoundary text) (sym is) (IsCharBoundary-at_seam text (encode_utf8_all p) (encode_utf8_all r)
     (seam_bytes text p r t e) (seam_utf8 text p r t e))
 
-pub seam_take : (text p r : List ℕ) (n : ℕ) → IsUtf8 text → chars text ≡ p ++ r → n ≡ length (encode_utf8_all p) → chars (take n text) ≡ p
+pub seam_take : (text p r : List ℕ) (n : ℕ) → IsUtf8 text → chars text ≡ p ++ r → n ≡ length (encode_utf8_all p)
+    → chars (take n text) ≡ p
 seam_take text p r n t e is =
     ap chars (ap (take n) (seam_bytes text p r t e) ∙ take_at (encode_utf8_all p) (encode_utf8_all r) n (sym is))
     ∙ seam_front text p r t e
 
-pub seam_drop : (text p r : List ℕ) (n : ℕ) → IsUtf8 text → chars text ≡ p ++ r → n ≡ length (encode_utf8_all p) → chars (drop n text) ≡ r
+pub seam_drop : (text p r : List ℕ) (n : ℕ) → IsUtf8 text → chars text ≡ p ++ r → n ≡ length (encode_utf8_all p)
+    → chars (drop n text) ≡ r
 seam_drop text p r n t e is =
     ap chars (ap (drop n) (seam_bytes text p r t e) ∙ drop_at (encode_utf8_all p) (encode_utf8_all r) n (sym is))
     ∙ seam_rest text p r t e
@@ -147,7 +162,8 @@ bytes_from_no_chars text t e = ap length (sym (encodes-chars text t) ∙ ap enco
 
 -- a text has no more characters than bytes
 pub chars_within : (text : List ℕ) → IsUtf8 text → length (chars text) ≤ length text
-chars_within text t = subst (λ n. length (chars text) ≤ n) (ap length (encodes-chars text t)) (length-le-encodes (chars text))
+chars_within text t = subst (λ n. length (chars text) ≤ n) (ap length (encodes-chars text t))
+    (length-le-encodes (chars text))
 
 -- ---- how a text begins and ends
 
@@ -169,11 +185,13 @@ pub begins_self : (text : List ℕ) → begins_with text text ≡ true
 begins_self text = ap (begins_with text) (sym (append-nil text)) ∙ begins_front text []
 
 -- a text that begins so goes on
-pub first_more : (passes : ℕ → Bool) (text rest : List ℕ) → first_passes passes text ≡ true → first_passes passes (text ++ rest) ≡ true
+pub first_more : (passes : ℕ → Bool) (text rest : List ℕ) → first_passes passes text ≡ true
+    → first_passes passes (text ++ rest) ≡ true
 first_more passes [] rest h = absurd (both_ways _ refl h)
 first_more passes (c ∷ text) rest h = h
 
-pub first_cons : (passes : ℕ → Bool) (text : List ℕ) → first_passes passes text ≡ true → (c : ℕ) × (rest : List ℕ) × (text ≡ c ∷ rest) × (passes c ≡ true)
+pub first_cons : (passes : ℕ → Bool) (text : List ℕ) → first_passes passes text ≡ true
+    → (c : ℕ) × (rest : List ℕ) × (text ≡ c ∷ rest) × (passes c ≡ true)
 first_cons passes [] h = absurd (both_ways _ refl h)
 first_cons passes (c ∷ text) h = (c, text, refl, h)
 
@@ -190,9 +208,11 @@ begins_each P (front ∷ fronts) text h each = elim (or_cases _ _ h) [
 pub begins_more : (front text rest : List ℕ) → begins_with front text ≡ true → begins_with front (text ++ rest) ≡ true
 begins_more front text rest h =
     let split = begins_splits front text h in
-    ap (begins_with front) (ap (λ x. x ++ rest) split.1 ∙ append_assoc front split.0 rest) ∙ begins_front front (split.0 ++ rest)
+    ap (begins_with front) (ap (λ x. x ++ rest) split.1 ∙ append_assoc front split.0 rest)
+    ∙ begins_front front (split.0 ++ rest)
 
-pub any_begins_more : (fronts : List (List ℕ)) (text rest : List ℕ) → begins_any fronts text ≡ true → begins_any fronts (text ++ rest) ≡ true
+pub any_begins_more : (fronts : List (List ℕ)) (text rest : List ℕ) → begins_any fronts text ≡ true
+    → begins_any fronts (text ++ rest) ≡ true
 any_begins_more [] text rest h = h
 any_begins_more (front ∷ fronts) text rest h = elim (or_cases _ _ h) [
   | inl here ↦ or_left _ _ (begins_more front text rest here)
@@ -200,13 +220,15 @@ any_begins_more (front ∷ fronts) text rest h = elim (or_cases _ _ h) [
 ]
 
 -- where each of these begins with a character that passes, so does a text that begins with one
-pub any_first : (passes : ℕ → Bool) (fronts : List (List ℕ)) (text : List ℕ) → list_all (first_passes passes) fronts ≡ true
+pub any_first : (passes : ℕ → Bool) (fronts : List (List ℕ)) (text : List ℕ)
+    → list_all (first_passes passes) fronts ≡ true
     → begins_any fronts text ≡ true → first_passes passes text ≡ true
 any_first passes [] text all h = absurd (both_ways _ refl h)
 any_first passes (front ∷ fronts) text all h =
     let parts = and_parts _ _ all in
     elim (or_cases _ _ h) [
-      | inl here ↦ let split = begins_splits front text here in ap (first_passes passes) split.1 ∙ first_more passes front split.0 parts.0
+      | inl here ↦ let split = begins_splits front text here in ap (first_passes passes) split.1
+          ∙ first_more passes front split.0 parts.0
       | inr there ↦ any_first passes fronts text parts.1 there
     ]
 
@@ -225,7 +247,8 @@ ends_back c (d ∷ []) = eq-eqb c c refl
 ends_back c (d ∷ (e ∷ front)) = ends_back c (e ∷ front)
 
 -- past a front that ends otherwise
-pub ends_over : (c : ℕ) (front text : List ℕ) → ends_with c front ≡ false → ends_with c (front ++ text) ≡ ends_with c text
+pub ends_over : (c : ℕ) (front text : List ℕ) → ends_with c front ≡ false
+    → ends_with c (front ++ text) ≡ ends_with c text
 ends_over c [] text h = refl
 ends_over c (d ∷ []) [] h = h
 ends_over c (d ∷ []) (e ∷ text) h = refl
@@ -233,7 +256,8 @@ ends_over c (d ∷ (e ∷ front)) text h = ends_over c (e ∷ front) text h
 
 -- ---- a text before another
 
-begins_cut : (passes : ℕ → Bool) (front w v s : List ℕ) → list_all passes (drop (length w) front) ≡ true → first_passes passes s ≡ false
+begins_cut : (passes : ℕ → Bool) (front w v s : List ℕ) → list_all passes (drop (length w) front) ≡ true
+    → first_passes passes s ≡ false
     → begins_with front (w ++ v) ≡ false → begins_with front (w ++ s) ≡ false
 begins_cut passes [] w v s all ends h = h
 begins_cut passes (c ∷ front) [] v [] all ends h = refl
@@ -246,7 +270,8 @@ begins_cut passes (c ∷ front) (d ∷ w) v s all ends h = elim (and_cases (c ==
   | inr there ↦ and_right (c == d) (begins_with front (w ++ s)) (begins_cut passes front w v s all ends there)
 ]
 
-all_drop : (passes : ℕ → Bool) (n m : ℕ) (xs : List ℕ) → n ≤ m → list_all passes (drop n xs) ≡ true → list_all passes (drop m xs) ≡ true
+all_drop : (passes : ℕ → Bool) (n m : ℕ) (xs : List ℕ) → n ≤ m → list_all passes (drop n xs) ≡ true
+    → list_all passes (drop m xs) ≡ true
 all_drop passes zero zero xs few all = all
 all_drop passes (suc n) zero xs few all = absurd (omega (arith, few))
 all_drop passes n (suc m) [] few all = refl

@@ -1,5 +1,6 @@
 -- Steps over the units of a string.
-use Rattle.std.proofs.Common.{◌≡◌, ℕ, ◌<◌, Bool, true, List, [], ◌∷◌, ◌++◌, length, Option, Some, None, refl, sym, ap, ◌∙◌, subst, arith, length-append}
+use Rattle.std.proofs.Common.{◌≡◌, ℕ, ◌<◌, Bool, true, List, [], ◌∷◌, ◌++◌, length, Option, Some, None, refl, sym, ap}
+use Rattle.std.proofs.Common.{◌∙◌, subst, arith, length-append}
 use Rattle.std.specs.Borrow.{Bor}
 use Rattle.std.specs.Str.{chars}
 use Rattle.std.specs.List.{list_all}
@@ -18,7 +19,8 @@ use Rattle.lexical.proofs.RuleLemmas.{some_holds, Clear, exact}
 use Rattle.lexical.proofs.HashLemmas.{raw_one}
 use Rattle.lexical.proofs.RuleSteps.{find_then, passed}
 
-pub leads_passes : (rule rest : Rule) (at mid to : Cursor) → Leads rule at rest mid → Passes rest mid to → Passes rule at to
+pub leads_passes : (rule rest : Rule) (at mid to : Cursor) → Leads rule at rest mid → Passes rest mid to
+    → Passes rule at to
 leads_passes rule rest at mid to h j =
     let long = length-append h.front j.front in
     record { front = h.front ++ j.front; found = rw (h.found, j.found); count = omega arith }
@@ -27,7 +29,8 @@ pub leads_fails : (rule rest : Rule) (at mid : Cursor) (result : Option Cursor) 
     → find rest (chars mid.rest.now) ≡ None → Reads rule at result
 leads_fails rule rest at mid result e h none = subst (Reads rule at) (sym e) (h.found ∙ ap (behind h.front) none)
 
-pub leads_far : (rule rest more : Rule) (at mid to : Cursor) → Leads rule at rest mid → Leads rest mid more to → Leads rule at more to
+pub leads_far : (rule rest more : Rule) (at mid to : Cursor) → Leads rule at rest mid → Leads rest mid more to
+    → Leads rule at more to
 leads_far rule rest more at mid to h j =
     let long = length-append h.front j.front in
     record { front = h.front ++ j.front; found = rw (h.found, j.found, behind_behind); count = omega arith }
@@ -43,11 +46,13 @@ leads_past rule clear a b at to h step =
 pub leads_then : (a b : Rule) (at mid : Cursor) → Passes a at mid → Leads (Then a b) at b mid
 leads_then a b at mid h = record { front = h.front; found = rw (find_then, h.found); count = h.count }
 
-pub leads_on : (rule a b : Rule) (at mid to : Cursor) → Leads rule at (Then a b) mid → Passes a mid to → Leads rule at b to
+pub leads_on : (rule a b : Rule) (at mid to : Cursor) → Leads rule at (Then a b) mid → Passes a mid to
+    → Leads rule at b to
 leads_on rule a b at mid to h j = leads_far rule (Then a b) b at mid to h (leads_then a b mid to j)
 
 -- where the other rule depends on it
-pub leads_next : (rule a : Rule) (b : List ℕ → Rule) (at mid : Cursor) (x : Bor (List ℕ) × Cursor) → Leads rule at (Next a b) mid
+pub leads_next : (rule a : Rule) (b : List ℕ → Rule) (at mid : Cursor) (x : Bor (List ℕ) × Cursor)
+    → Leads rule at (Next a b) mid
     → PassesText a mid x → Leads rule at (b x.0.now) x.1
 unfolding find
 leads_next rule a b at mid x h j =
@@ -59,13 +64,15 @@ unfolding find
 next_lacks a b text none = ap (and_next (λ front. find (b front))) none
 
 -- a text is its first character and then the others
-pub found_cons : (c : ℕ) (front text : List ℕ) → find (Exactly (c ∷ front)) text ≡ find (Then (Exactly (c ∷ [])) (Exactly front)) text
+pub found_cons : (c : ℕ) (front text : List ℕ)
+    → find (Exactly (c ∷ front)) text ≡ find (Then (Exactly (c ∷ [])) (Exactly front)) text
 unfolding find
 found_cons c front [] = refl
 found_cons c front (d ∷ text) = grind arith
 
 -- past a unit
-and_behind : (f : List ℕ → Answer) (front : List ℕ) (o : Answer) → and_find f (behind front o) ≡ behind front (and_find f o)
+and_behind : (f : List ℕ → Answer) (front : List ℕ) (o : Answer)
+    → and_find f (behind front o) ≡ behind front (and_find f o)
 and_behind f front None = refl
 and_behind f front (Some x) = sym (behind_behind front x.0 (f x.1))
 
@@ -77,12 +84,14 @@ module _ (unit after : Rule) (clear : Clear (UpTo unit after)) where
       ap (and_find (find after)) (many_found _ _ (exact unit clear.0) (some_holds unit clear.2) (p ++ r) p r one)
       ∙ and_behind (find after) p (find_many (find unit) r)
 
-  pub leads_unit : (rule : Rule) (at mid to : Cursor) → Leads rule at (UpTo unit after) mid → Passes unit mid to → Leads rule at (UpTo unit after) to
+  pub leads_unit : (rule : Rule) (at mid to : Cursor) → Leads rule at (UpTo unit after) mid → Passes unit mid to
+      → Leads rule at (UpTo unit after) to
   leads_unit rule at mid to h j =
       leads_far rule _ _ at mid to h (leads_past unit clear.0 (UpTo unit after) (UpTo unit after) mid to j one_more)
 
   -- past the last of them
-  pub leads_last : (rule : Rule) (at mid : Cursor) → Leads rule at (UpTo unit after) mid → find unit (chars mid.rest.now) ≡ None → Leads rule at after mid
+  pub leads_last : (rule : Rule) (at mid : Cursor) → Leads rule at (UpTo unit after) mid
+      → find unit (chars mid.rest.now) ≡ None → Leads rule at after mid
   unfolding find
   leads_last rule at mid h none =
       let ended = many_ends _ _ (exact unit clear.0) (some_holds unit clear.2) (chars mid.rest.now) none in
@@ -97,7 +106,8 @@ module _ (unit after : Rule) (clear : Clear (UpTo unit after)) where
       omega (arith, length-append h.front (chars to.rest.now), ap length is.0)
 
   -- past characters that are each a unit
-  module _ (plain : ℕ → Bool) (alone : (c : ℕ) (text : List ℕ) → plain c ≡ true → find unit (c ∷ text) ≡ Some (c ∷ [], text)) where
+  module _ (plain : ℕ → Bool) (alone : (c : ℕ) (text : List ℕ) → plain c ≡ true
+      → find unit (c ∷ text) ≡ Some (c ∷ [], text)) where
     units_over : (front rest : List ℕ) → list_all plain front ≡ true
         → find (UpTo unit after) (front ++ rest) ≡ behind front (find (UpTo unit after) rest)
     units_over [] rest all = sym (behind_nothing _)
@@ -112,7 +122,8 @@ module _ (unit after : Rule) (clear : Clear (UpTo unit after)) where
         (leads_past (Run plain) tt (UpTo unit after) (UpTo unit after) mid to run (λ p r is. units_over p r is.each))
 
 -- a plain character is a unit of a string
-pub plain_unit : (kind : StringKind) (c : ℕ) (text : List ℕ) → is_plain kind c ≡ true → find (unit_of kind) (c ∷ text) ≡ Some (c ∷ [], text)
+pub plain_unit : (kind : StringKind) (c : ℕ) (text : List ℕ) → is_plain kind c ≡ true
+    → find (unit_of kind) (c ∷ text) ≡ Some (c ∷ [], text)
 unfolding find
 plain_unit kind c text e = rw e
 

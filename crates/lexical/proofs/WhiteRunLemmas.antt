@@ -1,5 +1,6 @@
 -- Runs of white characters are found among the bytes of a text.
-use Rattle.std.proofs.Common.{Bool, append-nil, ◌≡◌, ℕ, ◌≤◌, ◌<◌, true, false, List, [], ◌∷◌, ◌++◌, length, get_or, take, drop, refl, sym, ap, subst, ◌∙◌, arith, length-drop}
+use Rattle.std.proofs.Common.{Bool, append-nil, ◌≡◌, ℕ, ◌≤◌, ◌<◌, true, false, List, [], ◌∷◌, ◌++◌, length, get_or}
+use Rattle.std.proofs.Common.{take, drop, refl, sym, ap, subst, ◌∙◌, arith, length-drop}
 use Rattle.std.specs.List.{list_all}
 use Rattle.std.specs.Str.{chars, IsUtf8, IsCharBoundary}
 use Rattle.std.proofs.lemmas.Bool.{and_parts}
@@ -24,9 +25,11 @@ white_ascii : (cs : List ℕ) → list_all ascii_white cs ≡ true → all_ascii
 white_ascii = all_pass _ _ (λ c is. (and_parts _ _ is).0)
 
 -- the text may be cut after its first n bytes, which are white
-pub white_boundary : (bytes : List ℕ) (n : ℕ) → IsUtf8 bytes → n ≤ length bytes → list_all ascii_white (take n bytes) ≡ true → IsCharBoundary bytes n
+pub white_boundary : (bytes : List ℕ) (n : ℕ) → IsUtf8 bytes → n ≤ length bytes
+    → list_all ascii_white (take n bytes) ≡ true → IsCharBoundary bytes n
 white_boundary bytes n utf8 within white =
-    IsCharBoundary-from_take bytes n utf8 within (IsUtf8-from_ascii (take n bytes) (is_ascii (take n bytes) (white_ascii (take n bytes) white)))
+    IsCharBoundary-from_take bytes n utf8 within
+    (IsUtf8-from_ascii (take n bytes) (is_ascii (take n bytes) (white_ascii (take n bytes) white)))
 
 -- a text whose first byte does not pass begins with none that does
 first_stops : (test : ℕ → Bool) (bytes : List ℕ) → (0 < length bytes → test (get_or bytes 0 0) ≡ false)

@@ -1,10 +1,14 @@
 -- More words on forms have finders, and forms that stand apart.
-use Rattle.std.proofs.Common.{◌≡◌, ℕ, zero, suc, ◌≤◌, Bool, true, false, not, ◌==◌, ◌||◌, List, [], ◌∷◌, ◌++◌, length, Some, None, IfSome, refl, sym, ap, ap₂, ◌∙◌, subst, arith, append_assoc, length-append, inl, inr}
+use Rattle.std.proofs.Common.{◌≡◌, ℕ, zero, suc, ◌≤◌, Bool, true, false, not, ◌==◌, ◌||◌, List, [], ◌∷◌, ◌++◌, length}
+use Rattle.std.proofs.Common.{Some, None, IfSome, refl, sym, ap, ap₂, ◌∙◌, subst, arith, append_assoc, length-append}
+use Rattle.std.proofs.Common.{inl, inr}
 use Rattle.std.specs.List.{concat}
 use Rattle.std.proofs.lemmas.Bool.{both_ways}
 use Rattle.lexical.specs.Form.{Form, HasNone, Then, Either, Else, Exactly, Each, Many}
-use Rattle.lexical.specs.Finder.{Answer, Finder, Finds, behind, or_find, find_else, find_then, some_of, or_stop, find_many}
-use Rattle.lexical.proofs.FinderLemmas.{IsSplit, found_is, none_is, none_found, one_split, finds_same, finds_then, next_whole}
+use Rattle.lexical.specs.Finder.{Answer, Finder, Finds, behind, or_find, find_else, find_then, some_of, or_stop}
+use Rattle.lexical.specs.Finder.{find_many}
+use Rattle.lexical.proofs.FinderLemmas.{IsSplit, found_is, none_is, none_found, one_split, finds_same, finds_then}
+use Rattle.lexical.proofs.FinderLemmas.{next_whole}
 
 -- ---- `Else`
 
@@ -30,7 +34,8 @@ Disjoint A B = (p q r s : List ℕ) → A p r → B q s → p ++ r ≡ q ++ s �
 pub none_apart : (f : Finder) (A B : Form) → Finds f A → Disjoint A B → (p r : List ℕ) → B p r → f (p ++ r) ≡ None
 none_apart f A B h apart p r b = none_found f A h (p ++ r) (λ q s e a. apart q p s r a b (sym e))
 
-pub finds_apart : (f g : Finder) (A B : Form) → Finds f A → Finds g B → Disjoint A B → Finds (find_else f g) (Either A B)
+pub finds_apart : (f g : Finder) (A B : Form) → Finds f A → Finds g B → Disjoint A B
+    → Finds (find_else f g) (Either A B)
 finds_apart f g A B h j apart = finds_same (find_else f g) (Else A B) (Either A B) (finds_else f g A B h j)
     (λ p r is. elim is [ inl a ↦ inl a | inr b ↦ inr b.1 ])
     (λ p r is. elim is [ inl a ↦ inl a | inr b ↦ inr (λ q s e a. apart q p s r a b (sym e), b) ])
@@ -50,7 +55,8 @@ none_at_end : (A : Form) → NotEmpty A → HasNone A []
 none_at_end A some p r e is = let long = some p r is in absurd (omega (arith, length-append p r, ap length e))
 
 module _ (f : Finder) (A : Form) (h : Finds f A) (some : NotEmpty A) where
-  many_more : (text : List ℕ) (x y : List ℕ × List ℕ) → IsSplit A text x → IsSplit (AllOf A) x.1 y → IsSplit (AllOf A) text (x.0 ++ y.0, y.1)
+  many_more : (text : List ℕ) (x y : List ℕ × List ℕ) → IsSplit A text x → IsSplit (AllOf A) x.1 y
+      → IsSplit (AllOf A) text (x.0 ++ y.0, y.1)
   many_more text x y is more =
       let rest = more.1.0 in
       let first = rw (more.0, rest.whole) at is.1 in
@@ -95,7 +101,8 @@ module _ (f : Finder) (A : Form) (h : Finds f A) (some : NotEmpty A) where
   }
 
   -- then something else, of which no piece begins as those do
-  pub finds_many_then : (g : Finder) (B : Form) → Finds g B → Disjoint A B → Finds (find_then (find_many f) g) (Then (Many A) B)
+  pub finds_many_then : (g : Finder) (B : Form) → Finds g B → Disjoint A B
+      → Finds (find_then (find_many f) g) (Then (Many A) B)
   finds_many_then g B j apart = finds_same (find_then (find_many f) g) (Then (AllOf A) B) (Then (Many A) B)
       (finds_then (find_many f) g (AllOf A) B finds_many j)
       (λ p r is. record { front = is.front; back = is.back; whole = is.whole; first = is.first.0; second = is.second })
@@ -104,11 +111,13 @@ module _ (f : Finder) (A : Form) (h : Finds f A) (some : NotEmpty A) where
       record { front = is.front; back = is.back; whole = is.whole; first = (is.first, stops); second = is.second })
 
   -- one piece more
-  pub many_found : (text unit rest : List ℕ) → f text ≡ Some (unit, rest) → find_many f text ≡ behind unit (find_many f rest)
+  pub many_found : (text unit rest : List ℕ) → f text ≡ Some (unit, rest)
+      → find_many f text ≡ behind unit (find_many f rest)
   unfolding find_many
   many_found text unit rest e =
       let x = some_of f (length rest) rest in
-      let all = many_more text (unit, rest) x (found_is f A h text unit rest e) (many_sound (length rest) rest (omega arith)) in
+      let all = many_more text (unit, rest) x (found_is f A h text unit rest e)
+      (many_sound (length rest) rest (omega arith)) in
       ap (find_many f) all.0 ∙ finds_many.complete (unit ++ x.0) x.1 all.1
 
   pub many_ends : (text : List ℕ) → f text ≡ None → find_many f text ≡ Some ([], text)
@@ -127,7 +136,8 @@ texts_differ [] q r s h e = absurd (both_ways _ refl h)
 texts_differ (c ∷ p) [] r s h e = absurd (both_ways _ refl h)
 texts_differ (c ∷ p) (d ∷ q) r s h e = grind (arith, h, e, texts_differ p q r s)
 
-pub front_whole : (front : List ℕ) (A : Form) (p r : List ℕ) (h : Then (Exactly front) A p r) → p ++ r ≡ front ++ (h.back ++ r)
+pub front_whole : (front : List ℕ) (A : Form) (p r : List ℕ) (h : Then (Exactly front) A p r)
+    → p ++ r ≡ front ++ (h.back ++ r)
 front_whole front A p r h = next_whole (Exactly front) (λ x. A) p r h ∙ ap (λ x. x ++ (h.back ++ r)) h.first
 
 pub apart_fronts : (f g : List ℕ) (A B : Form) → differ f g ≡ true → Disjoint (Then (Exactly f) A) (Then (Exactly g) B)

@@ -5,13 +5,15 @@ use Rattle.lexical.specs.Character.{hash_sign}
 use Rattle.lexical.specs.Class.{is_white, is_ident_start, is_ident_continue}
 use Rattle.lexical.specs.Delimiter.{is_opener, is_closer}
 use Rattle.lexical.specs.Mark.{is_mark}
-use Rattle.lexical.specs.Number.{bars_dot, is_digit_or_underscore, is_digit_or_underscore_in, is_exponent_letter, is_sign}
+use Rattle.lexical.specs.Number.{bars_dot, is_digit_or_underscore, is_digit_or_underscore_in, is_exponent_letter}
+use Rattle.lexical.specs.Number.{is_sign}
 use Rattle.lexical.specs.Number.{is_underscore}
 use Rattle.lexical.specs.Quoted.{is_code_digit}
 use Rattle.lexical.specs.declared.bytes.Base.{Base}
 use Rattle.lexical.specs.declared.bytes.Base.TheVariants.{Binary, Octal, Hexadecimal}
 use Rattle.lexical.specs.declared.bytes.Class.{Class}
-use Rattle.lexical.specs.declared.bytes.Class.TheVariants.{Digit, DigitOrUnderscore, Underscore, DigitOf, DigitOrUnderscoreOf}
+use Rattle.lexical.specs.declared.bytes.Class.TheVariants.{Digit, DigitOrUnderscore, Underscore, DigitOf}
+use Rattle.lexical.specs.declared.bytes.Class.TheVariants.{DigitOrUnderscoreOf}
 use Rattle.lexical.specs.declared.bytes.Class.TheVariants.{Sign, ExponentLetter, HexDigit, CodeDigit, Hash}
 use Rattle.lexical.specs.declared.bytes.Class.TheVariants.{IdentifierStart, IdentifierContinue, BarsDot}
 use Rattle.lexical.specs.declared.bytes.Class.TheVariants.{White, Opener, Closer, Mark}

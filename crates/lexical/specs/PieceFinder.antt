@@ -118,11 +118,13 @@ abbrev pub found_from : Bool → Start → List ℕ → Found
 found_from first starts.White text = tagged gap_kind (find (One is_white) text)
 found_from first starts.Letter text = or_found (found_identifier text) (found_literal quoted_literal text)
 found_from first starts.Digit text = found_literal number text
-found_from first starts.Opener text = or_found (tagged opener_kind (find opener text)) (found_literal (Exactly error_literal) text)
+found_from first starts.Opener text =
+    or_found (tagged opener_kind (find opener text)) (found_literal (Exactly error_literal) text)
 found_from first starts.Closer text = tagged closer_kind (find closer text)
 found_from first starts.Slash text =
     cond (begins_any comment_fronts text) (comment_found (find comment text)) (tagged mark_kind (find mark text))
-found_from first starts.Quote text = or_found (tagged quote_kind (find_lone_quote text)) (found_literal quoted_literal text)
+found_from first starts.Quote text =
+    or_found (tagged quote_kind (find_lone_quote text)) (found_literal quoted_literal text)
 found_from first starts.DoubleQuote text = found_literal quoted_literal text
 found_from first starts.FrontMark text = tagged front_mark_kind (find_front_mark first text)
 found_from first starts.Mark text = tagged mark_kind (find mark text)

@@ -64,6 +64,7 @@ pub fn continues_identifier(c: char) -> bool
 
 /// What the first character of a text says of the piece that may stand there.
 #[tactic(auto, using(crate::proofs::ClassLemmas::start_letter))]
+#[inline(always)]
 pub fn start_of(c: char) -> Start
     ensures { result ≡ start c }
 {

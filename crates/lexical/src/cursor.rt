@@ -25,6 +25,7 @@ impl<'a> Cursor<'a> {
     ghost use Rattle.lexical.specs.Step.{Reads};
 
     /// The front of a text.
+    #[inline(always)]
     pub fn new(text: &'a str) -> Self
         ensures rest { result.rest.now ≡ text.now }
         ensures chars { result.chars_before ≡ 0 }
@@ -38,6 +39,7 @@ impl<'a> Cursor<'a> {
     }
 
     /// The character after the place, and the place after that character.
+    #[inline(always)]
     pub fn advance(self) -> Option<(char, Self)>
         ensures { MatchOption result (chars self.entry.rest.now ≡ []) (λ x.
             (chars self.entry.rest.now ≡ x.0 ∷ chars x.1.rest.now)
@@ -52,6 +54,7 @@ impl<'a> Cursor<'a> {
     }
 
     /// The place after the ASCII text `front`, where that stands at the place.
+    #[inline(always)]
     pub fn past(self, front: &str) -> Option<Self>
         requires { IsTrue (all_ascii front.now) }
         ensures { Reads (Exactly front.now) self.entry result }
@@ -77,6 +80,7 @@ impl<'a> Cursor<'a> {
     }
 
     /// How many bytes of the text stand before the place, which lies in it.
+    #[inline(always)]
     pub fn bytes_in(self, text: &str) -> usize
         requires { (front : List ℕ) × (chars text.now ≡ front ++ chars self.rest.now) }
         ensures { (front : List ℕ) → chars text.now ≡ front ++ chars self.entry.rest.now

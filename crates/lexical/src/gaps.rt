@@ -10,6 +10,7 @@ use crate::bytes::{Class, holds_ascii};
 ///
 /// Where none stands, it is the whole text, after 0 characters. At two spaces and `a b` it answers
 /// `a b` and 2.
+#[inline(always)]
 pub fn past_white(text: &str) -> (&str, usize)
     ensures passed { IsPastWhite (chars text.now) (chars result.0.now) result.1 }
     ensures utf8 { IsUtf8 result.0.now }

@@ -26,6 +26,7 @@ pub fn name(at: Cursor<'_>) -> Option<Cursor<'_>>
 
 /// Whether the text begins as a literal with letters before its quote does, by the rule
 /// `reserved-prefix`.
+#[inline(always)]
 fn begins_literal(text: &str, first: char) -> bool
     requires { (rest : List ℕ) × (chars text.now ≡ first ∷ rest) }
     ensures { result ≡ begins_any literal_prefixes (chars text.now) }
@@ -54,6 +55,7 @@ pub fn is_reserved(name: &str) -> bool
 }
 
 /// The place after the name of a raw identifier that stands at the place, after `r#`.
+#[inline(never)]
 pub fn raw_name(at: Cursor<'_>) -> Option<Cursor<'_>>
     ensures { Reads rule.raw_name at.entry result }
 {
@@ -79,6 +81,7 @@ pub fn written(at: Cursor<'_>, raw: bool) -> Option<Cursor<'_>>
 
 /// The identifier that stands at the place, by the rule `identifier`: its kind, and the place after
 /// it. `first` is the character at the place, and `after` the place after that.
+#[inline(always)]
 pub fn identifier<'a>(
     at: Cursor<'a>,
     first: char,

@@ -23,14 +23,17 @@ use crate::numbers::number;
 use crate::piece::{Piece, PieceKind};
 
 /// A literal that was read, if one was, as a piece: its kind, and the place after it.
+#[inline(always)]
 fn as_literal(end: Option<Cursor<'_>>) -> Option<(PieceKind<'_>, Cursor<'_>)>
-    ensures { (rule : Rule) (at : Cursor) → Reads rule at end.entry → Answers (found_literal rule (chars at.rest.now)) at result }
+    ensures { (rule : Rule) (at : Cursor) → Reads rule at end.entry
+        → Answers (found_literal rule (chars at.rest.now)) at result }
 {
     Some((PieceKind::Literal, end?))
 }
 
 /// The piece that stands at the place, by its first character: its kind, and the place after it.
 /// `at_front` says whether that is place 0 of a source.
+#[inline(always)]
 fn read_piece(at: Cursor<'_>, at_front: bool) -> Option<(PieceKind<'_>, Cursor<'_>)>
     ensures { Answers (found at_front (chars at.entry.rest.now)) at.entry result }
 {
@@ -83,6 +86,7 @@ fn read_piece(at: Cursor<'_>, at_front: bool) -> Option<(PieceKind<'_>, Cursor<'
 /// stands at a place, as [`one_piece`](crate::laws::one_piece) says.
 /// At `+=` the mark `+` stands, Joint, of 1 byte and 1 character. At `/* /* */` none stands, as one
 /// comment is open at the end.
+#[inline(always)]
 pub fn piece_at(text: &str, first: bool) -> Option<Piece<'_>>
     ensures found { IfSome result (λ piece. IsPieceAt first (chars text.now) piece) }
     ensures none { IfNone result (HasNoPiece first (chars text.now)) }

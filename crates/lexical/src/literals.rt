@@ -17,6 +17,7 @@ use crate::single_quotes::single;
 
 /// The place after the literal between quotes that stands at the place, by the rule
 /// `quoted-literal`.
+#[inline(never)]
 pub fn quoted(at: Cursor<'_>) -> Option<Cursor<'_>>
     ensures { Reads rule.quoted_literal at.entry result }
 {

@@ -14,6 +14,7 @@ use crate::piece::PieceKind;
 use crate::text::{begins, split_first};
 
 /// Whether the character is one of the 22 marks, by the rule `marks`.
+#[inline(always)]
 pub fn is_mark(c: char) -> bool
     ensures { result ≡ is_one_of_marks c }
 {
@@ -21,6 +22,7 @@ pub fn is_mark(c: char) -> bool
 }
 
 /// Whether a comment begins the text.
+#[inline(always)]
 pub fn begins_comment(text: &str) -> bool
     ensures { result ≡ begins_any comment_fronts (chars text.now) }
 {
@@ -28,6 +30,7 @@ pub fn begins_comment(text: &str) -> bool
 }
 
 /// The kind of the mark that stands before `rest`, by the rules `mark` and `joint`.
+#[inline(always)]
 pub fn mark<'a>(mark: char, rest: &str) -> PieceKind<'a>
     ensures { result ≡ kinds.Mark (joint_before (chars rest.now)) mark }
 {
@@ -49,6 +52,7 @@ fn is_unbarred(end: Cursor<'_>, raw: bool) -> bool
 }
 
 /// Whether a lone quote may stand before the place, by the rule `lone-quote`.
+#[inline(never)]
 pub fn follows_quote(at: Cursor<'_>) -> bool
     ensures { result ≡ follows (chars at.entry.rest.now) }
 {

@@ -137,7 +137,8 @@ fn begins_based(text: &str) -> bool
 }
 
 /// The place after the number that stands at the place, by the rule `number`.
-#[tactic(auto, using(crate::proofs::NumberFinderLemmas::reads_based, crate::proofs::NumberFinderLemmas::reads_decimal, crate::proofs::RuleSteps::steps))]
+#[tactic(auto, using(crate::proofs::NumberFinderLemmas::read_numbers, crate::proofs::RuleSteps::steps))]
+#[inline(never)]
 pub fn number(at: Cursor<'_>) -> Option<Cursor<'_>>
     ensures { Reads rule.number at.entry result }
 {

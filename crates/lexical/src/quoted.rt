@@ -7,11 +7,12 @@ ghost use Rattle.lexical.specs.Quoted as rule;
 ghost use Rattle.lexical.specs.Rule.{Exactly, One, Run, Then};
 ghost use Rattle.lexical.specs.Step.{Passes, Reads};
 
+use crate::contents::{count_allowed, may_stand};
 use crate::cursor::Cursor;
 use crate::escapes::escape;
 use crate::identifiers::name;
-use crate::search::skip_to_any;
-use crate::skip::{one, skip_while};
+use crate::skip::one;
+use memchr::memchr3;
 
 /// What a string is made of.
 #[derive(Clone, Copy)]
@@ -40,11 +41,7 @@ fn stands_for_itself(c: char, kind: StringKind) -> bool
 {
     match c {
         '"' | '\\' | '\r' => false,
-        _ => match kind {
-            StringKind::Plain => true,
-            StringKind::Byte => c.is_ascii(),
-            StringKind::C => c != '\0',
-        },
+        _ => may_stand(c, kind),
     }
 }
 
@@ -55,14 +52,13 @@ fn plain(at: Cursor<'_>, kind: StringKind) -> Option<Cursor<'_>>
     one(at, |c| stands_for_itself(c, kind))
 }
 
-/// The place after all the characters that stand for themselves.
+/// The place after all the characters that stand for themselves, up to a quote, a backslash or a CR.
 fn skip_plain(at: Cursor<'_>, kind: StringKind) -> Cursor<'_>
     ensures { Passes (Run (rule.is_plain kind)) at.entry result }
 {
-    match kind {
-        StringKind::Plain => skip_to_any(at, b'"', b'\\', b'\r'),
-        _ => skip_while(at, |c| stands_for_itself(c, kind)),
-    }
+    let bytes = at.rest.as_bytes();
+    let size = memchr3(b'"', b'\\', b'\r', bytes).unwrap_or(bytes.len());
+    at.after_bytes(count_allowed(&bytes[..size], kind))
 }
 
 /// The place after what may stand after a backslash in a string.

@@ -11,11 +11,11 @@ ghost use Rattle.lexical.specs.Rule.{Run};
 ghost use Rattle.lexical.specs.Step.{Passes, Reads, ReadsText};
 
 use crate::bytes::{Class, skip};
+use crate::contents::{count_allowed, may_stand};
 use crate::cursor::Cursor;
 use crate::quoted::{StringKind, suffix};
-use crate::search::skip_to_either;
-use crate::skip::skip_while;
 use crate::text::{before, begins};
+use memchr::memchr2;
 
 /// How many hash signs a raw string may have at most.
 const MOST_HASHES: usize = 255;
@@ -33,25 +33,13 @@ fn hashes(at: Cursor<'_>) -> Option<(&str, Cursor<'_>)>
     Some((hashes, end))
 }
 
-/// Whether the character may stand in a raw string.
-fn may_stand(c: char, kind: StringKind) -> bool
-    ensures { result ≡ is_raw kind c }
-{
-    match kind {
-        StringKind::Plain => true,
-        StringKind::Byte => c.is_ascii(),
-        StringKind::C => c != '\0',
-    }
-}
-
 /// The place after all the characters that may stand in a raw string, up to a quote or a CR.
 fn skip_plain(at: Cursor<'_>, kind: StringKind) -> Cursor<'_>
     ensures { Passes (Run (rule.is_raw_plain kind)) at.entry result }
 {
-    match kind {
-        StringKind::Plain => skip_to_either(at, b'"', b'\r'),
-        _ => skip_while(at, |c| may_stand(c, kind) && !(c == '"' || c == '\r')),
-    }
+    let bytes = at.rest.as_bytes();
+    let size = memchr2(b'"', b'\r', bytes).unwrap_or(bytes.len());
+    at.after_bytes(count_allowed(&bytes[..size], kind))
 }
 
 /// The place after a unit of a raw string with these hash signs, by the rule `raw-unit`.

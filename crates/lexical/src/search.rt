@@ -7,7 +7,7 @@ ghost use Rattle.lexical.specs.Rule.{Run};
 ghost use Rattle.lexical.specs.Step.{Passes};
 
 use crate::cursor::Cursor;
-use memchr::{memchr, memchr2, memchr3};
+use memchr::{memchr, memchr2};
 
 /// The place before the first `stop`, an ASCII character, or at the end of the text where none stands.
 pub fn skip_to(at: Cursor<'_>, stop: u8) -> Cursor<'_>
@@ -27,17 +27,5 @@ pub fn skip_to_either(at: Cursor<'_>, a: u8, b: u8) -> Cursor<'_>
 {
     let bytes = at.rest.as_bytes();
     let size = memchr2(a, b, bytes).unwrap_or(bytes.len());
-    at.after_bytes(size)
-}
-
-/// The place before the first of the three ASCII characters, or at the end of the text where none stands.
-pub fn skip_to_any(at: Cursor<'_>, a: u8, b: u8, c: u8) -> Cursor<'_>
-    requires ascii_a { a < 128 }
-    requires ascii_b { b < 128 }
-    requires ascii_c { c < 128 }
-    ensures { Passes (Run (λ d. not (d == a || d == b || d == c))) at.entry result }
-{
-    let bytes = at.rest.as_bytes();
-    let size = memchr3(a, b, c, bytes).unwrap_or(bytes.len());
     at.after_bytes(size)
 }

@@ -1,4 +1,4 @@
-//! Runs of characters.
+//! One character, by a test of it.
 #![tactic(auto, using(crate::proofs::RuleSteps::steps))]
 
 ghost use Rattle.std.specs.Prelude.{◌≡◌, Bool, ℕ};
@@ -6,22 +6,6 @@ ghost use Rattle.lexical.specs.Rule.{One, Run};
 ghost use Rattle.lexical.specs.Step.{Passes, Reads};
 
 use crate::cursor::Cursor;
-
-/// The place after all the characters that pass, up to one that doesn't.
-pub fn skip_while<F: Fn(char) -> bool>(at: Cursor<'_>, passes: F) -> Cursor<'_>
-    requires { F.IsAlwaysCallable passes }
-    ensures { (test : ℕ → Bool) → ((c : ℕ) (b : Bool) → F.post passes c b → b ≡ test c)
-        → Passes (Run test) at.entry result }
-{
-    let mut end = at;
-    while let Some((c, after)) = end.advance() {
-        if !passes(c) {
-            break;
-        }
-        end = after;
-    }
-    end
-}
 
 /// The place after the character at the place, if it passes.
 pub fn one<F: Fn(char) -> bool>(at: Cursor<'_>, passes: F) -> Option<Cursor<'_>>

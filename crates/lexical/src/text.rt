@@ -23,6 +23,7 @@ ghost use Rattle.lexical.specs.Text.{begins_with, ends_with};
 
 /// The first character of a text, and the text after it.
 #[tactic(auto, using(std::proofs::lemmas::Str::chars_past_char))]
+#[inline(always)]
 pub fn split_first(text: &str) -> Option<(char, &str)>
     ensures split { MatchOption result (chars text.now ≡ []) (λ x. chars text.now ≡ x.0 ∷ chars x.1.now) }
     ensures utf8 { IfSome result (λ x. IsUtf8 x.1.now) }
@@ -49,6 +50,7 @@ pub fn char_count(text: &str) -> usize
 }
 
 /// Whether the text begins with the ASCII text `front`.
+#[inline(always)]
 pub fn begins(text: &str, front: &str) -> bool
     requires { IsTrue (all_ascii front.now) }
     ensures { result ≡ begins_with front.now (chars text.now) }
@@ -65,6 +67,7 @@ pub fn is_text(text: &str, ascii: &str) -> bool
 }
 
 /// What stands before `rest`, an end of the text.
+#[inline(always)]
 pub fn before<'a>(text: &'a str, rest: &str) -> &'a str
     requires { (front : List ℕ) × (chars text.now ≡ front ++ chars rest.now) }
     ensures { (front : List ℕ) → chars text.now ≡ front ++ chars rest.now → chars result.now ≡ front }
@@ -73,6 +76,7 @@ pub fn before<'a>(text: &'a str, rest: &str) -> &'a str
 }
 
 /// What follows the ASCII text `front`, if the text begins with it.
+#[inline(always)]
 pub fn strip<'a>(text: &'a str, front: &str) -> Option<&'a str>
     requires { IsTrue (all_ascii front.now) }
     ensures split { MatchOption result (begins_with front.now (chars text.now) ≡ false)

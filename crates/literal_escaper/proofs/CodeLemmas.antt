@@ -19,12 +19,15 @@ hex_step n c = 16 * n + digit_value c
 
 -- ---- the count tells whether there are more than six
 
-count_step : (n c : ℕ) (text : List ℕ) → n ≤ 7 → ((m : ℕ) → m ≤ 7 → fold count_with m text ≡ min 7 (m + length (filter is_hex text)))
+count_step : (n c : ℕ) (text : List ℕ) → n ≤ 7
+    → ((m : ℕ) → m ≤ 7 → fold count_with m text ≡ min 7 (m + length (filter is_hex text)))
     → fold count_with n (c ∷ text) ≡ min 7 (n + length (filter is_hex (c ∷ text)))
 count_step n c text h ih = step (is_hex c)
   where
-    step : (b : Bool) → fold count_with (cond b (next_count n) n) text ≡ min 7 (n + length (cond b (c ∷ filter is_hex text) (filter is_hex text)))
-    step true = cond_both (nat_lt n 7) (n + 1) n (λ m. fold count_with m text ≡ min 7 (n + suc (length (filter is_hex text))))
+    step : (b : Bool) → fold count_with (cond b (next_count n) n) text
+        ≡ min 7 (n + length (cond b (c ∷ filter is_hex text) (filter is_hex text)))
+    step true = cond_both (nat_lt n 7) (n + 1) n
+        (λ m. fold count_with m text ≡ min 7 (n + suc (length (filter is_hex text))))
         (λ e. let lt = ltb-true n 7 e in let more = ih (n + 1) (omega arith) in omega (arith, more))
         (λ e. let le = ltb-false n 7 e in let same = ih n h in omega (arith, same))
     step false = ih n h
@@ -42,8 +45,10 @@ grows n (c ∷ digits) = let more = grows (hex_step n c) digits in omega (arith,
 great : (n : ℕ) → 0x10_FFFF < n → character n ≡ Err OutOfRangeUnicodeEscape
 great n h = cond-true (nat_lt 0x10_FFFF n) _ _ (lt-ltb 0x10_FFFF n h)
 
-character_step : (n c : ℕ) (digits front : List ℕ) → ((m : ℕ) → character (fold number_with m front) ≡ character (fold hex_step m digits))
-    → character (fold number_with (next_number n (digit_value c)) front) ≡ character (fold hex_step (hex_step n c) digits)
+character_step : (n c : ℕ) (digits front : List ℕ)
+    → ((m : ℕ) → character (fold number_with m front) ≡ character (fold hex_step m digits))
+    → character (fold number_with (next_number n (digit_value c)) front)
+    ≡ character (fold hex_step (hex_step n c) digits)
 character_step n c digits front ih =
     cond_both (nat_le n 0x10_FFFF) (16 * n + digit_value c) n
     (λ m. character (fold number_with m front) ≡ character (fold hex_step (hex_step n c) digits))
@@ -51,15 +56,19 @@ character_step n c digits front ih =
     (λ e. let past = leb-false n 0x10_FFFF e in
     let less = grows n digits in
     let more = grows (hex_step n c) digits in
-    ih n ∙ (great (fold hex_step n digits) (omega arith) ∙ sym (great (fold hex_step (hex_step n c) digits) (omega arith))))
+    ih n ∙ (great (fold hex_step n digits) (omega arith)
+    ∙ sym (great (fold hex_step (hex_step n c) digits) (omega arith))))
 
-pub character_is : (n : ℕ) (text : List ℕ) → character (fold number_with n text) ≡ character (fold hex_step n (filter is_hex text))
+pub character_is : (n : ℕ) (text : List ℕ)
+    → character (fold number_with n text) ≡ character (fold hex_step n (filter is_hex text))
 character_is n [] = refl
 character_is n (c ∷ text) =
-    let ih : (m : ℕ) → character (fold number_with m text) ≡ character (fold hex_step m (filter is_hex text)) = λ m. character_is m text in
+    let ih : (m : ℕ) → character (fold number_with m text) ≡ character (fold hex_step m (filter is_hex text)) =
+    λ m. character_is m text in
     step (is_hex c) ih
   where
-    step : (b : Bool) → ((m : ℕ) → character (fold number_with m text) ≡ character (fold hex_step m (filter is_hex text)))
+    step : (b : Bool) → ((m : ℕ)
+        → character (fold number_with m text) ≡ character (fold hex_step m (filter is_hex text)))
         → character (fold number_with (cond b (next_number n (digit_value c)) n) text)
         ≡ character (fold hex_step n (cond b (c ∷ filter is_hex text) (filter is_hex text)))
     step true ih = character_step n c (filter is_hex text) text ih
@@ -72,15 +81,18 @@ same_test count many e = cases (nat_lt 6 many) refl
   where
     cases : (b : Bool) → nat_lt 6 many ≡ b → nat_lt 6 count ≡ b
     cases true long = let lt = ltb-true 6 many long in lt-ltb 6 count (omega arith)
-    cases false short = let le = ltb-false 6 many short in false_from_ne_true (nat_lt 6 count) (λ long. let lt = ltb-true 6 count long in omega arith)
+    cases false short = let le = ltb-false 6 many short in
+        false_from_ne_true (nat_lt 6 count) (λ long. let lt = ltb-true 6 count long in omega arith)
 
 pub code_unit_is : {U : Type 0} (kind : Kind U) (text : List ℕ)
-    → code_answer kind (digit_count text) (digit_number text) ≡ code_unit kind (filter is_hex (while_front is_code_character text))
+    → code_answer kind (digit_count text) (digit_number text)
+    ≡ code_unit kind (filter is_hex (while_front is_code_character text))
 code_unit_is kind text =
     ap₂ (λ long code. cond long (Err OverlongUnicodeEscape) (kind.of_code code))
     (same_test (digit_count text) (length (filter is_hex (while_front is_code_character text)))
     (count_is 0 (while_front is_code_character text) (omega arith) ∙ zeroed))
     (character_is 0 (while_front is_code_character text))
   where
-    zeroed : min 7 (0 + length (filter is_hex (while_front is_code_character text))) ≡ min 7 (length (filter is_hex (while_front is_code_character text)))
+    zeroed : min 7 (0 + length (filter is_hex (while_front is_code_character text)))
+        ≡ min 7 (length (filter is_hex (while_front is_code_character text)))
     zeroed = omega arith

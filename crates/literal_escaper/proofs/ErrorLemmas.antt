@@ -6,12 +6,14 @@ use Rattle.literal_escaper.specs.Errors.{errors_among}
 use Rattle.literal_escaper.specs.Items.{Item}
 
 -- no items, no errors
-pub errors_none : {U : Type 0} (items start : List (Item U)) → errors_among items ≡ errors_among start → items ≡ [] → errors_among start ≡ []
+pub errors_none : {U : Type 0} (items start : List (Item U)) → errors_among items ≡ errors_among start → items ≡ []
+    → errors_among start ≡ []
 unfolding errors_among
 errors_none items start same none = sym same ∙ ap errors_among none
 
 -- an item that is an error is the first
-pub errors_here : {U : Type 0} (items start rest : List (Item U)) (range : Range ℕ) (unit : Result U EscapeError) (e : EscapeError)
+pub errors_here : {U : Type 0} (items start rest : List (Item U)) (range : Range ℕ) (unit : Result U EscapeError)
+    (e : EscapeError)
     → errors_among items ≡ errors_among start → items ≡ (range, unit) ∷ rest → unit ≡ Err e
     → errors_among start ≡ (range, e) ∷ errors_among rest
 unfolding errors_among

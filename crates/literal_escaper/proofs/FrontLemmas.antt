@@ -40,7 +40,8 @@ while_end passes (c ∷ text) = cond_both (passes c) (while_rest passes text) (c
 closed_end : {U : Type 0} (kind : Kind U) (digits text : List ℕ) → IsEnd text (closed kind digits text).rest
 closed_end kind digits [] = end_whole []
 closed_end {U = U} kind digits (c ∷ text) =
-    cond_both (c == close_brace) _ _ (λ (read : Read U). IsEnd (c ∷ text) read.rest) (λ e. end_tail c text) (λ e. end_tail c text)
+    cond_both (c == close_brace) _ _ (λ (read : Read U). IsEnd (c ∷ text) read.rest) (λ e. end_tail c text)
+    (λ e. end_tail c text)
 
 coded_end : {U : Type 0} (kind : Kind U) (text : List ℕ) → IsEnd text (coded kind text).rest
 unfolding coded
@@ -53,7 +54,8 @@ braced_end kind [] = end_whole []
 braced_end {U = U} kind (c ∷ text) =
     cond_both (c == underscore) _ _ (λ (read : Read U). IsEnd (c ∷ text) read.rest) (λ e. end_tail c text)
     (λ e. cond_both (c == close_brace) _ _ (λ (read : Read U). IsEnd (c ∷ text) read.rest) (λ e. end_tail c text)
-    (λ e. cond_both (is_hex c) _ _ (λ (read : Read U). IsEnd (c ∷ text) read.rest) (λ e. coded_end kind (c ∷ text)) (λ e. end_tail c text)))
+    (λ e. cond_both (is_hex c) _ _ (λ (read : Read U). IsEnd (c ∷ text) read.rest) (λ e. coded_end kind (c ∷ text))
+    (λ e. end_tail c text)))
 
 unicode_end : {U : Type 0} (kind : Kind U) (text : List ℕ) → IsEnd text (unicode_escape kind text).rest
 unfolding unicode_escape
@@ -66,7 +68,8 @@ unicode_end {U = U} kind (c ∷ text) =
 second_end : {U : Type 0} (kind : Kind U) (high : ℕ) (text : List ℕ) → IsEnd text (second_digit kind high text).rest
 second_end kind high [] = end_whole []
 second_end {U = U} kind high (c ∷ text) =
-    cond_both (is_hex c) _ _ (λ (read : Read U). IsEnd (c ∷ text) read.rest) (λ e. end_tail c text) (λ e. end_tail c text)
+    cond_both (is_hex c) _ _ (λ (read : Read U). IsEnd (c ∷ text) read.rest) (λ e. end_tail c text)
+    (λ e. end_tail c text)
 
 hex_end : {U : Type 0} (kind : Kind U) (text : List ℕ) → IsEnd text (hex_escape kind text).rest
 unfolding hex_escape
@@ -88,7 +91,8 @@ escape_end {U = U} kind (c ∷ text) =
 
 pub unit_end : {U : Type 0} (kind : Kind U) (c : ℕ) (text : List ℕ) → IsEnd text (unit_front kind c text).rest
 unit_end {U = U} kind c text =
-    cond_both (c == backslash) _ _ (λ (read : Read U). IsEnd text read.rest) (λ e. escape_end kind text) (λ e. end_whole text)
+    cond_both (c == backslash) _ _ (λ (read : Read U). IsEnd text read.rest) (λ e. escape_end kind text)
+    (λ e. end_whole text)
 
 pub drop_end : (text : List ℕ) → IsEnd text (drop 1 text)
 drop_end [] = end_whole []
@@ -106,7 +110,9 @@ front_end {U = U} kind end c text =
     (λ e. unit_end kind c text)
 
 -- and has a character less at least
-pub front_shrinks : {U : Type 0} (kind : Kind U) (end : ℕ) (text : List ℕ) → length (front kind end text).rest ≤ length text - 1
+pub front_shrinks : {U : Type 0} (kind : Kind U) (end : ℕ) (text : List ℕ)
+    → length (front kind end text).rest ≤ length text - 1
 unfolding front
 front_shrinks kind end [] = omega arith
-front_shrinks kind end (c ∷ text) = let less = end_shorter text (front kind end (c ∷ text)).rest (front_end kind end c text) in omega arith
+front_shrinks kind end (c ∷ text) = let less =
+    end_shorter text (front kind end (c ∷ text)).rest (front_end kind end c text) in omega arith

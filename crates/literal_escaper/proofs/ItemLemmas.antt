@@ -27,7 +27,8 @@ within_same kind end (suc n) zero [] h k = items_none kind end (suc n)
 within_same kind end (suc n) zero (c ∷ text) h k = absurd (omega arith)
 within_same kind end (suc n) (suc m) text h k =
     let less = front_shrinks kind end text in
-    ap (λ items. (front kind end text).items ++ items) (within_same kind end n m (front kind end text).rest (omega arith) (omega arith))
+    ap (λ items. (front kind end text).items ++ items)
+    (within_same kind end n m (front kind end text).rest (omega arith) (omega arith))
 
 -- the items of a text
 pub items_past : {U : Type 0} (kind : Kind U) (end : ℕ) (text : List ℕ)
@@ -66,16 +67,19 @@ pub step_none : {U : Type 0} (kind : Kind U) (at after : Place) (item : Option (
     → GivesFront (front kind at.end (text_at at)) at item warning after → is_some item ≡ false
     → items_from kind at.end (text_at at) ≡ items_from kind after.end (text_at after)
 step_none kind at after item warning given none =
-    items_step kind at after item warning given ∙ ap (λ x. front_items x warning ++ items_from kind after.end (text_at after)) (none_from item none)
+    items_step kind at after item warning given
+    ∙ ap (λ x. front_items x warning ++ items_from kind after.end (text_at after)) (none_from item none)
 
 -- the end of a content has no items
 pub items_end : {U : Type 0} (kind : Kind U) (end : ℕ) (text : List ℕ) → text ≡ [] → items_from kind end text ≡ []
 items_end kind end text e = ap (items_from kind end) e ∙ items_none kind end 0
 
 -- a call that read up to the next item gives that, and leaves what follows
-pub next_left : {U : Type 0} (kind : Kind U) (old : Cooked) (item : Option (Item U)) (warning : Option (Range ℕ)) (after : Place)
+pub next_left : {U : Type 0} (kind : Kind U) (old : Cooked) (item : Option (Item U)) (warning : Option (Range ℕ))
+    (after : Place)
     → old.warning ≡ None
-    → items_from kind old.place.end (text_at old.place) ≡ front_items item warning ++ items_from kind after.end (text_at after)
+    → items_from kind old.place.end (text_at old.place)
+    ≡ front_items item warning ++ items_from kind after.end (text_at after)
     → IfNone item ((warning ≡ None) × (text_at after ≡ []))
     → YieldsFirst (cooked_left kind) old item (record { place = after; warning = warning })
 next_left kind old None warning after plain left none =

@@ -1,3 +1,4 @@
+pub mod ClassLemmas
 pub mod CodeLemmas
 pub mod FrontLemmas
 pub mod ItemLemmas

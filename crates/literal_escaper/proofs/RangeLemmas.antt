@@ -27,7 +27,8 @@ bytes-append p r = ap length (encodes-append p r) ∙ length-append (encode_utf8
 -- what stands before an end
 before_end : (content text : List ℕ) (e : EndsIn content text) → offset (bytes (chars content)) text ≡ bytes e.is_end.0
 before_end content text e =
-    let whole : bytes (chars content) ≡ bytes e.is_end.0 + bytes text = ap bytes e.is_end.1 ∙ bytes-append e.is_end.0 text in
+    let whole : bytes (chars content) ≡ bytes e.is_end.0 + bytes text = ap bytes e.is_end.1
+    ∙ bytes-append e.is_end.0 text in
     omega arith
 
 boundary : (content text : List ℕ) → EndsIn content text → IsCharBoundary content (offset (bytes (chars content)) text)
@@ -45,7 +46,8 @@ pub ends_further : (content text rest : List ℕ) → EndsIn content text → Is
 ends_further content text rest e f = record { utf8 = e.utf8; is_end = end_of_end (chars content) text rest e.is_end f }
 
 -- from one place to a later one
-pub range_between : (content text rest : List ℕ) → EndsIn content text → IsEnd text rest → IsRangeIn content (between (bytes (chars content)) text rest)
+pub range_between : (content text rest : List ℕ) → EndsIn content text → IsEnd text rest
+    → IsRangeIn content (between (bytes (chars content)) text rest)
 range_between content text rest e f =
     let later = ends_further content text rest e f in
     let longer : bytes text ≡ bytes f.0 + bytes rest = ap bytes f.1 ∙ bytes-append f.0 rest in

@@ -24,25 +24,32 @@ use Rattle.literal_escaper.proofs.FrontLemmas.{IsEnd, drop_end, end_of_end, end_
 use Rattle.literal_escaper.proofs.FrontLemmas.{line_end, unit_end}
 use Rattle.literal_escaper.proofs.RangeLemmas.{EndsIn, ends_further, range_between}
 
-one_within : {A : Type 0} (content : List ℕ) (item : Range ℕ × A) → IsRangeIn content item.0 → AreWithin content (item ∷ [])
-one_within {A = A} content item h = All-cons (λ (x : Range ℕ × A). IsRangeIn content x.0) item [] h (All-nil (λ (x : Range ℕ × A). IsRangeIn content x.0))
+one_within : {A : Type 0} (content : List ℕ) (item : Range ℕ × A) → IsRangeIn content item.0
+    → AreWithin content (item ∷ [])
+one_within {A = A} content item h =
+    All-cons (λ (x : Range ℕ × A). IsRangeIn content x.0) item [] h
+    (All-nil (λ (x : Range ℕ × A). IsRangeIn content x.0))
 
 none_within : {A : Type 0} (content : List ℕ) → AreWithin {A = A} content []
 none_within {A = A} content = All-nil (λ (x : Range ℕ × A). IsRangeIn content x.0)
 
-both_within : {A : Type 0} (content : List ℕ) (xs ys : List (Range ℕ × A)) → AreWithin content xs → AreWithin content ys → AreWithin content (xs ++ ys)
+both_within : {A : Type 0} (content : List ℕ) (xs ys : List (Range ℕ × A)) → AreWithin content xs → AreWithin content ys
+    → AreWithin content (xs ++ ys)
 both_within {A = A} content xs ys h k = All-append (λ (x : Range ℕ × A). IsRangeIn content x.0) xs ys h k
 
 lines_within : {U : Type 0} (content text blanks rest : List ℕ) → EndsIn content text → IsEnd text rest
-    → AreWithin {A = Result U EscapeError} content (warning_at MultipleSkippedLinesWarning (lines_range (bytes (chars content)) text blanks rest))
+    → AreWithin {A = Result U EscapeError} content
+    (warning_at MultipleSkippedLinesWarning (lines_range (bytes (chars content)) text blanks rest))
 lines_within {U = U} content text blanks rest e f =
     cond_both (list_any (λ c. c == line_feed) blanks) (Some (between (bytes (chars content)) text rest)) None
     (λ (r : Option (Range ℕ)). AreWithin {A = Result U EscapeError} content (warning_at MultipleSkippedLinesWarning r))
-    (λ _. one_within content (between (bytes (chars content)) text rest, Err MultipleSkippedLinesWarning) (range_between content text rest e f))
+    (λ _. one_within content (between (bytes (chars content)) text rest, Err MultipleSkippedLinesWarning)
+    (range_between content text rest e f))
     (λ _. none_within content)
 
 white_within : {U : Type 0} (content text rest : List ℕ) → EndsIn content text → IsEnd text rest
-    → AreWithin {A = Result U EscapeError} content (warning_at UnskippedWhitespaceWarning (white_range (bytes (chars content)) text rest))
+    → AreWithin {A = Result U EscapeError} content
+    (warning_at UnskippedWhitespaceWarning (white_range (bytes (chars content)) text rest))
 white_within content text [] e f = none_within content
 white_within {U = U} content text (c ∷ rest) e f =
     cond_both (is_whitespace c) (Some (between (bytes (chars content)) text rest)) None
@@ -56,7 +63,8 @@ line_within : {U : Type 0} (content text line : List ℕ) → EndsIn content tex
 unfolding line_skip
 line_within {U = U} content text line e f =
     let rest : List ℕ = while_rest is_blank line in
-    let behind : IsEnd text (while_rest is_blank line) = end_of_end text line (while_rest is_blank line) f (line_end line) in
+    let behind : IsEnd text (while_rest is_blank line) =
+    end_of_end text line (while_rest is_blank line) f (line_end line) in
     both_within content
     (warning_at MultipleSkippedLinesWarning (lines_range (bytes (chars content)) text (while_front is_blank line) rest))
     (warning_at UnskippedWhitespaceWarning (white_range (bytes (chars content)) text rest))
@@ -69,8 +77,12 @@ unfolding front
 front_within {U = U} kind content c text e =
     cond_both ((c == backslash) && first_is line_feed text) _ _ (λ (x : Front U). AreWithin content x.items)
     (λ _. line_within content (c ∷ text) (drop 1 text) e (end_past c text (drop 1 text) (drop_end text)))
-    (λ _. one_within content (between (bytes (chars content)) (c ∷ text) (unit_front kind c text).rest, (unit_front kind c text).unit)
-    (range_between content (c ∷ text) (unit_front kind c text).rest e (end_past c text (unit_front kind c text).rest (unit_end kind c text))))
+    (λ _. one_within content (
+      between (bytes (chars content)) (c ∷ text) (unit_front kind c text).rest,
+      (unit_front kind c text).unit,
+    )
+    (range_between content (c ∷ text) (unit_front kind c text).rest e
+    (end_past c text (unit_front kind c text).rest (unit_end kind c text))))
 
 within_items : {U : Type 0} (kind : Kind U) (content : List ℕ) (n : ℕ) (text : List ℕ) → EndsIn content text
     → AreWithin content (items_within kind (bytes (chars content)) n text)
@@ -82,13 +94,16 @@ within_items kind content (suc n) (c ∷ text) e =
     both_within content (front kind end (c ∷ text)).items (items_within kind end n (front kind end (c ∷ text)).rest)
     (front_within kind content c text e)
     (within_items kind content n (front kind end (c ∷ text)).rest
-    (ends_further content (c ∷ text) (front kind end (c ∷ text)).rest e (end_past c text (front kind end (c ∷ text)).rest (front_end kind end c text))))
+    (ends_further content (c ∷ text) (front kind end (c ∷ text)).rest e
+    (end_past c text (front kind end (c ∷ text)).rest (front_end kind end c text))))
 
 pub whole_content : (content : List ℕ) → IsUtf8 content → EndsIn content (chars content)
 whole_content content t = record { utf8 = t; is_end = end_whole (chars content) }
 
-pub items_are_within : {U : Type 0} (kind : Kind U) (content : List ℕ) → IsUtf8 content → AreWithin content (items kind (chars content))
-items_are_within kind content t = within_items kind content (length (chars content)) (chars content) (whole_content content t)
+pub items_are_within : {U : Type 0} (kind : Kind U) (content : List ℕ) → IsUtf8 content
+    → AreWithin content (items kind (chars content))
+items_are_within kind content t =
+    within_items kind content (length (chars content)) (chars content) (whole_content content t)
 
 within_raw : {U : Type 0} (of_char : ℕ → Result U EscapeError) (content text : List ℕ) → EndsIn content text
     → AreWithin content (raw_items_from of_char (bytes (chars content)) text)
@@ -111,7 +126,8 @@ pub cooked_within : {U : Type 0} (kind : Kind U) (content : List ℕ) (start : C
     → AreWithin content (cooked_left kind start)
 cooked_within {U = U} kind content start t text end warning =
     let whole : cooked_left kind start ≡ items kind (chars content) =
-    ap (λ w. white_items w ++ items_from kind start.place.end (text_at start.place)) warning ∙ ap₂ (items_from kind) end text
+    ap (λ w. white_items w ++ items_from kind start.place.end (text_at start.place)) warning
+    ∙ ap₂ (items_from kind) end text
     in
     subst (λ (xs : List (Item U)). AreWithin content xs) (sym whole) (items_are_within kind content t)
 

@@ -5,6 +5,7 @@ pub mod Character
 pub mod Text
 pub mod Kind
 pub mod Escape
+pub mod Class
 pub mod Items
 pub mod Single
 pub mod Errors

@@ -8,6 +8,7 @@ ghost use Rattle.literal_escaper.specs.Reading.{Gives, code_answer, digit_count,
 ghost use Rattle.literal_escaper.specs.Reading.{text_at};
 ghost use Rattle.literal_escaper.specs.Text.{while_rest};
 
+use crate::classes::{Class, holds};
 use crate::errors::EscapeError;
 use crate::kind::{Unescape, character_of};
 use crate::place::Place;
@@ -16,13 +17,15 @@ use crate::place::Place;
 fn simple_escape(c: char) -> Option<char>
     ensures { result ≡ letter c }
 {
+    if !holds(Class::SimpleEscape, c) {
+        return None;
+    }
     match c {
         '0' => Some('\0'),
         'n' => Some('\n'),
         'r' => Some('\r'),
         't' => Some('\t'),
-        '\\' | '\'' | '"' => Some(c),
-        _ => None,
+        _ => Some(c),
     }
 }
 
@@ -113,16 +116,12 @@ fn digits(at: Place<'_>) -> Code<'_>
     let mut number: u32 = 0;
     let mut after = at;
     while let Some((c, next)) = after.advance() {
-        match c.to_digit(16) {
-            Some(digit) => {
-                count = one_more(count);
-                number = extended(number, digit);
-            }
-            None => {
-                if c != '_' {
-                    break;
-                }
-            }
+        if !holds(Class::CodeCharacter, c) {
+            break;
+        }
+        if let Some(digit) = c.to_digit(16) {
+            count = one_more(count);
+            number = extended(number, digit);
         }
         after = next;
     }
@@ -169,7 +168,7 @@ fn braced_escape<K: Unescape>(at: Place<'_>) -> (Result<K::Unit, EscapeError>, P
     if c == '}' {
         return (Err(EscapeError::EmptyUnicodeEscape), after);
     }
-    if !c.is_digit(16) {
+    if !holds(Class::HexDigit, c) {
         return (Err(EscapeError::InvalidCharInUnicodeEscape), after);
     }
     rest_of_code::<K>(at)

@@ -6,6 +6,7 @@ ghost use Rattle.literal_escaper.specs.Items.{front, items_from, line_skip, unit
 ghost use Rattle.literal_escaper.specs.Reading.{Gives, GivesFront, front_items, skips_line, text_at};
 ghost use Rattle.literal_escaper.specs.Text.{first_is, while_rest};
 
+use crate::classes::{Class, holds};
 use crate::errors::EscapeError;
 use crate::escape::escape;
 use crate::kind::Unescape;
@@ -30,7 +31,7 @@ pub struct Front<'a, U: Copy> {
 fn is_blank(c: char) -> bool
     ensures { result ≡ blank c }
 {
-    matches!(c, ' ' | '\t' | '\n' | '\r')
+    holds(Class::Blank, c)
 }
 
 /// The place after the blanks, and whether a line end is among them.
@@ -57,7 +58,7 @@ fn unskipped_white(start: Place<'_>, after: Place<'_>) -> Option<Range<usize>>
     ensures { result ≡ white_range start.entry.end (text_at start.entry) (text_at after.entry) }
 {
     let (c, past) = after.advance()?;
-    if c.is_whitespace() {
+    if holds(Class::White, c) {
         Some(start.offset()..past.offset())
     } else {
         None
@@ -95,11 +96,13 @@ fn skip_line<'a, U: Copy>(at: Place<'a>, line: Place<'a>) -> Front<'a, U>
 fn read_unit<K: Unescape>(c: char, after: Place<'_>) -> (Result<K::Unit, EscapeError>, Place<'_>)
     ensures { Gives (unit_front K.kind c (text_at after.entry)) after.entry result }
 {
+    if !holds(Class::StringSpecial, c) {
+        return (K::of_char(c), after);
+    }
     match c {
         '\\' => escape::<K>(after),
         '"' => (Err(EscapeError::EscapeOnlyChar), after),
-        '\r' => (Err(EscapeError::BareCarriageReturn), after),
-        _ => (K::of_char(c), after),
+        _ => (Err(EscapeError::BareCarriageReturn), after),
     }
 }
 

@@ -5,6 +5,7 @@ ghost use Rattle.std.specs.Iterator.{YieldsFirst};
 ghost use Rattle.literal_escaper.specs.Items.{raw_unit};
 ghost use Rattle.literal_escaper.specs.Reading.{raw_left};
 
+use crate::classes::{Class, holds};
 use crate::errors::EscapeError;
 use crate::front::Item;
 use crate::kind::CheckRaw;
@@ -14,7 +15,7 @@ use crate::place::Place;
 fn unit<K: CheckRaw>(c: char) -> Result<K::Unit, EscapeError>
     ensures { result ≡ raw_unit K.unit_of c }
 {
-    if c == '\r' {
+    if holds(Class::RawSpecial, c) {
         Err(EscapeError::BareCarriageReturnInRawString)
     } else {
         K::of_char(c)

@@ -3,6 +3,7 @@
 ghost use Rattle.literal_escaper.specs.Reading.{Gives, text_at};
 ghost use Rattle.literal_escaper.specs.Single.{single, single_front};
 
+use crate::classes::{Class, holds};
 use crate::errors::EscapeError;
 use crate::escape::escape;
 use crate::kind::Unescape;
@@ -12,11 +13,13 @@ use crate::place::Place;
 fn first_unit<K: Unescape>(c: char, after: Place<'_>) -> (Result<K::Unit, EscapeError>, Place<'_>)
     ensures { Gives (single_front K.kind c (text_at after.entry)) after.entry result }
 {
+    if !holds(Class::CharSpecial, c) {
+        return (K::of_char(c), after);
+    }
     match c {
         '\\' => escape::<K>(after),
-        '\n' | '\t' | '\'' => (Err(EscapeError::EscapeOnlyChar), after),
         '\r' => (Err(EscapeError::BareCarriageReturn), after),
-        _ => (K::of_char(c), after),
+        _ => (Err(EscapeError::EscapeOnlyChar), after),
     }
 }
 

@@ -19,7 +19,12 @@ use Rattle.pm_c.specs.contracts.handle.Parts as Parts
 use Rattle.pm_c.specs.contracts.handle.SessionBox as Handle
 
 abbrev pub E : Bx
-E = record { row = Session.the_row; laws = session.the_row_laws; al = record { row = Heap.the_row; laws = heap.the_row_laws; g = ghosts; d = dict; drops = impl [] tnil dnil } }
+E = record {
+  row = Session.the_row;
+  laws = session.the_row_laws;
+  al =
+      record { row = Heap.the_row; laws = heap.the_row_laws; g = ghosts; d = dict; drops = impl [] tnil dnil };
+}
 
 abbrev pub FromParts : Slot 0
 FromParts = plain (λ _. Parts.the_row Session.the_row Heap.the_row ghosts)
@@ -37,4 +42,5 @@ module _ {M : Type 1} {𝓤 : Ura M} (𝓛 : Logic 𝓤) where
   pub live_box : (h : Handle.the_row.Denot) (vs : List Val) → h.live ≡ true
       → ent 𝓤 (sem 𝓛 (Handle.the_row.own_val h vs)) (sem 𝓛 ((B E).own_val (as_box h) vs))
   unfolding held_if
-  live_box h vs e = subst (λ (l : Bool). ent 𝓤 (sem 𝓛 (Handle.the_row.own_val (with_live h l) vs)) (sem 𝓛 ((B E).own_val (as_box h) vs))) (sym e) (id⊢ 𝓤 _)
+  live_box h vs e = subst (λ (l : Bool). ent 𝓤 (sem 𝓛 (Handle.the_row.own_val (with_live h l) vs))
+      (sem 𝓛 ((B E).own_val (as_box h) vs))) (sym e) (id⊢ 𝓤 _)

@@ -26,11 +26,13 @@ IsAscii-from_test (c ∷ text) h =
     let parts = and_parts (nat_lt c 128) (all_ascii text) h in
     IsAscii-cons c text (ltb-true c 128 parts.0) (IsAscii-from_test text parts.1)
 
-pub chars-parsed_name : (n : ℕ) → (n ≡ 0 → ⊥) → n < 2 ^ 64 → chars (codes "<parsed string " ++ (decimal n ++ codes ">")) ≡ file_name n
+pub chars-parsed_name : (n : ℕ) → (n ≡ 0 → ⊥) → n < 2 ^ 64
+    → chars (codes "<parsed string " ++ (decimal n ++ codes ">")) ≡ file_name n
 chars-parsed_name zero some fits = absurd (some refl)
 chars-parsed_name (suc n) some fits =
     chars-IsAscii (codes "<parsed string " ++ (decimal (suc n) ++ codes ">"))
-    (IsAscii-append (codes "<parsed string ") (decimal (suc n) ++ codes ">") (IsAscii-from_test (codes "<parsed string ") refl)
+    (IsAscii-append (codes "<parsed string ") (decimal (suc n) ++ codes ">")
+    (IsAscii-from_test (codes "<parsed string ") refl)
     (IsAscii-append (decimal (suc n)) (codes ">") (IsAscii-decimal (suc n) fits) (IsAscii-from_test (codes ">") refl)))
 
 pub chars-unspecified : chars (codes "<unspecified>") ≡ file_name 0

@@ -21,15 +21,19 @@ Known text entry = IsByteOffset text entry.0 entry.1
 
 -- the first entry of a range, and the last one
 pub first_known :
-    (p : ℕ × ℕ → Bool) {own text : List ℕ} (entries : List (ℕ × ℕ)) {found : List (ℕ × ℕ)} (rest : List (ℕ × ℕ)) {place bytes : ℕ} → own ≡ text
+    (p : ℕ × ℕ → Bool) {own text : List ℕ} (entries : List (ℕ × ℕ)) {found : List (ℕ × ℕ)}
+    (rest : List (ℕ × ℕ)) {place bytes : ℕ} → own ≡ text
     → All (Known own) entries → found ≡ filter p entries → found ≡ (place, bytes) ∷ rest → IsByteOffset text place bytes
 first_known p {own} {text} entries {found} rest {place} {bytes} same known is first =
     subst (λ t. IsByteOffset t place bytes) same
-    (All-head (Known own) (place, bytes) rest (subst (All (Known own)) (sym is ∙ first) (All-filter p (Known own) entries known)))
+    (All-head (Known own) (place, bytes) rest
+    (subst (All (Known own)) (sym is ∙ first) (All-filter p (Known own) entries known)))
 
 pub last_known :
-    (p : ℕ × ℕ → Bool) {own text : List ℕ} (entries : List (ℕ × ℕ)) {found : List (ℕ × ℕ)} (rest : List (ℕ × ℕ)) {place bytes : ℕ} → own ≡ text
-    → All (Known own) entries → found ≡ filter p entries → found ≡ rest ++ (place, bytes) ∷ [] → IsByteOffset text place bytes
+    (p : ℕ × ℕ → Bool) {own text : List ℕ} (entries : List (ℕ × ℕ)) {found : List (ℕ × ℕ)}
+    (rest : List (ℕ × ℕ)) {place bytes : ℕ} → own ≡ text
+    → All (Known own) entries → found ≡ filter p entries → found ≡ rest ++ (place, bytes) ∷ []
+    → IsByteOffset text place bytes
 last_known p {own} {text} entries {found} rest {place} {bytes} same known is last =
     subst (λ t. IsByteOffset t place bytes) same
     (All-last rest (subst (All (Known own)) (sym is ∙ last) (All-filter p (Known own) entries known)))
@@ -40,7 +44,8 @@ last_known p {own} {text} entries {found} rest {place} {bytes} same known is las
 
 -- an entry more
 pub All-insert :
-    {text : List ℕ} (place bytes : ℕ) (entries : List (ℕ × ℕ)) → IsByteOffset text place bytes → All (Known text) entries
+    {text : List ℕ} (place bytes : ℕ) (entries : List (ℕ × ℕ)) → IsByteOffset text place bytes
+    → All (Known text) entries
     → All (Known text) (insert_entry nat_cmp entries place bytes)
 All-insert {text} place bytes [] one known = All-cons (Known text) (place, bytes) [] one (All-nil (Known text))
 All-insert {text} place bytes (e ∷ entries) one known =
@@ -54,31 +59,41 @@ All-insert {text} place bytes (e ∷ entries) one known =
         → All (Known text) (match_ordering order ((place, bytes) ∷ e ∷ entries) ((e.0, bytes) ∷ entries)
         (e ∷ insert_entry nat_cmp entries place bytes))
     put more Less is = All-cons (Known text) (place, bytes) (e ∷ entries) one known
-    put more Equal is = All-cons (Known text) (e.0, bytes) entries (subst (λ k. IsByteOffset text k bytes) (exact_unsigned place e.0 is) one) (tail known)
-    put more Greater is = All-cons (Known text) e (insert_entry nat_cmp entries place bytes) (known 0 e (omega arith)) more
+    put more Equal is = All-cons (Known text) (e.0, bytes) entries
+        (subst (λ k. IsByteOffset text k bytes) (exact_unsigned place e.0 is) one) (tail known)
+    put more Greater is = All-cons (Known text) e (insert_entry nat_cmp entries place bytes)
+        (known 0 e (omega arith)) more
 
 -- the entries after a try to keep one
 pub All-tried :
-    {T E : Type 0} {text : List ℕ} (place bytes : ℕ) (old new : List (ℕ × ℕ)) (r : Result T E) → IsByteOffset text place bytes
-    → All (Known text) old → OnOk r (new ≡ insert_entry nat_cmp old place bytes) → OnErr r (new ≡ old) → All (Known text) new
-All-tried {text = text} place bytes old new (Ok x) one known ok err = subst (All (Known text)) (sym ok) (All-insert place bytes old one known)
+    {T E : Type 0} {text : List ℕ} (place bytes : ℕ) (old new : List (ℕ × ℕ)) (r : Result T E)
+    → IsByteOffset text place bytes
+    → All (Known text) old → OnOk r (new ≡ insert_entry nat_cmp old place bytes) → OnErr r (new ≡ old)
+    → All (Known text) new
+All-tried {text = text} place bytes old new (Ok x) one known ok err =
+    subst (All (Known text)) (sym ok) (All-insert place bytes old one known)
 All-tried {text = text} place bytes old new (Err e) one known ok err = subst (All (Known text)) (sym err) known
 
 -- the end of a text
-pub text_end : {bytes text : List ℕ} (k : ℕ) → IsUtf8 bytes → chars bytes ≡ text → k ≡ length text → IsByteOffset text k (length bytes)
+pub text_end : {bytes text : List ℕ} (k : ℕ) → IsUtf8 bytes → chars bytes ≡ text → k ≡ length text
+    → IsByteOffset text k (length bytes)
 text_end {bytes} k utf8 same is =
-    let none : drop k (chars bytes) ≡ [] = nil_from_length _ (omega (arith, length-drop k (chars bytes), ap length same)) in
+    let none : drop k (chars bytes) ≡ [] =
+    nil_from_length _ (omega (arith, length-drop k (chars bytes), ap length same)) in
     let size = rest_bytes bytes [] k utf8 IsUtf8-nil (chars-nil ∙ sym none) in
-    subst (λ t. IsByteOffset t k (length bytes)) same (record { within = omega (arith, ap length same); value = omega (arith, size) })
+    subst (λ t. IsByteOffset t k (length bytes)) same
+    (record { within = omega (arith, ap length same); value = omega (arith, size) })
 
 -- a text may be cut at a known place
-pub known_boundary : {bytes text : List ℕ} {k n : ℕ} → IsUtf8 bytes → chars bytes ≡ text → IsByteOffset text k n → IsCharBoundary bytes n
+pub known_boundary : {bytes text : List ℕ} {k n : ℕ} → IsUtf8 bytes → chars bytes ≡ text → IsByteOffset text k n
+    → IsCharBoundary bytes n
 known_boundary {bytes} {k = k} utf8 same known =
     subst (IsCharBoundary bytes) (ap (λ t. byte_offset t k) same ∙ sym known.value) (boundary_at bytes k utf8)
 
 -- what stands before it
 pub known_front :
-    {bytes text front : List ℕ} {k n : ℕ} → IsUtf8 bytes → chars bytes ≡ text → IsByteOffset text k n → front ≡ take n bytes
+    {bytes text front : List ℕ} {k n : ℕ} → IsUtf8 bytes → chars bytes ≡ text → IsByteOffset text k n
+    → front ≡ take n bytes
     → chars front ≡ take k text
 known_front {bytes} {k = k} utf8 same known cut =
     ap chars (cut ∙ ap (λ m. take m bytes) (known.value ∙ ap (λ t. byte_offset t k) (sym same)))
@@ -86,7 +101,8 @@ known_front {bytes} {k = k} utf8 same known cut =
 
 -- what stands after it
 pub known_rest :
-    {bytes text rest : List ℕ} {k n : ℕ} → IsUtf8 bytes → chars bytes ≡ text → IsByteOffset text k n → rest ≡ drop n bytes
+    {bytes text rest : List ℕ} {k n : ℕ} → IsUtf8 bytes → chars bytes ≡ text → IsByteOffset text k n
+    → rest ≡ drop n bytes
     → chars rest ≡ drop k text
 known_rest {bytes} {k = k} utf8 same known cut =
     ap chars (cut ∙ ap (λ m. drop m bytes) (known.value ∙ ap (λ t. byte_offset t k) (sym same)))
@@ -94,7 +110,8 @@ known_rest {bytes} {k = k} utf8 same known cut =
 
 -- characters are counted back from a known place
 pub back_from :
-    (text front back : List ℕ) (k place n : ℕ) → IsUtf8 back → chars front ≡ take k text → k ≤ length text → place + n ≡ k
+    (text front back : List ℕ) (k place n : ℕ) → IsUtf8 back → chars front ≡ take k text → k ≤ length text
+    → place + n ≡ k
     → chars back ≡ take (length (chars front) - n) (chars front) → length back ≡ byte_offset text place
 back_from text front back k place n utf8 is within sum cut =
     let size : length (chars front) - n ≡ place = omega (arith, ap length is, length-take-le k text within) in
@@ -104,7 +121,8 @@ back_from text front back k place n utf8 is within sum cut =
 
 -- and on from one
 pub on_from :
-    (bytes text rest left : List ℕ) (k place n : ℕ) → IsUtf8 bytes → IsUtf8 left → chars bytes ≡ text → chars rest ≡ drop k text
+    (bytes text rest left : List ℕ) (k place n : ℕ) → IsUtf8 bytes → IsUtf8 left → chars bytes ≡ text
+    → chars rest ≡ drop k text
     → k + n ≡ place → chars left ≡ drop n (chars rest) → byte_offset text place + length left ≡ length bytes
 on_from bytes text rest left k place n utf8 more same is sum cut =
     let here : chars left ≡ drop place (chars bytes) =
@@ -112,7 +130,8 @@ on_from bytes text rest left k place n utf8 more same is sum cut =
     ap (λ t. byte_offset t place + length left) (sym same) ∙ rest_bytes bytes left place utf8 more here
 
 -- each character takes a byte at least
-pub byte_offset-gap : (text : List ℕ) (j k : ℕ) → j ≤ k → k ≤ length text → byte_offset text j + (k - j) ≤ byte_offset text k
+pub byte_offset-gap : (text : List ℕ) (j k : ℕ) → j ≤ k → k ≤ length text
+    → byte_offset text j + (k - j) ≤ byte_offset text k
 byte_offset-gap text j k le within =
     let e : byte_offset text k ≡ byte_offset text (j + (k - j)) = ap (byte_offset text) (omega arith) in
     let rest = length-drop j text in

@@ -5,7 +5,8 @@ use Rattle.pm_span.specs.Extent.{Extent, nowhere}
 use Rattle.pm_span.specs.Files.{Files, positions, IsFile, Holds, with_file, Extends}
 use Rattle.pm_span.specs.Lookup.{AreInOneFile, joined}
 
-pub positions-cons : (text : List ℕ) (texts : List (List ℕ)) → positions (text ∷ texts) ≡ length text + 1 + positions texts
+pub positions-cons : (text : List ℕ) (texts : List (List ℕ))
+    → positions (text ∷ texts) ≡ length text + 1 + positions texts
 positions-cons text texts = sum_by-cons (λ t. length t + 1) text texts
 
 -- every map holds the span of what stands in no file
@@ -23,11 +24,13 @@ pub extends_with_file : (map : Files) (text : List ℕ) → Extends map (with_fi
 extends_with_file map text = (text ∷ [], refl)
 
 -- a file stays where it stands
-pub is_file_extends : (old new : Files) (text : List ℕ) (lo : ℕ) → Extends old new → IsFile old text lo → IsFile new text lo
+pub is_file_extends : (old new : Files) (text : List ℕ) (lo : ℕ) → Extends old new → IsFile old text lo
+    → IsFile new text lo
 is_file_extends old new text lo more file = record {
   before = file.before;
   after = file.after ++ more.0;
-  whole = ap (λ ts. [] ∷ ts) more.1 ∙ (ap (λ ts. ts ++ more.0) file.whole ∙ append_assoc file.before (text ∷ file.after) more.0);
+  whole = ap (λ ts. [] ∷ ts) more.1
+      ∙ (ap (λ ts. ts ++ more.0) file.whole ∙ append_assoc file.before (text ∷ file.after) more.0);
   begins = file.begins;
 }
 
@@ -54,7 +57,8 @@ holds_within span position held from to = record {
 }
 
 -- two spans are in one file exactly if the span of both is held
-pub held_joined : {map : Files} (first second : Extent) → Holds map (joined first second) → AreInOneFile map first second
+pub held_joined : {map : Files} (first second : Extent) → Holds map (joined first second)
+    → AreInOneFile map first second
 held_joined first second held = record {
   text = held.text;
   lo = held.lo;
@@ -65,7 +69,8 @@ held_joined first second held = record {
   second_to = omega (arith, held.to);
 }
 
-pub joined_held : {map : Files} (first second : Extent) → AreInOneFile map first second → Holds map (joined first second)
+pub joined_held : {map : Files} (first second : Extent) → AreInOneFile map first second
+    → Holds map (joined first second)
 joined_held first second both = record {
   text = both.text;
   lo = both.lo;

@@ -1,5 +1,5 @@
 -- Lemmas on the places after line feeds: they give the line and the column of a place.
-use Rattle.std.proofs.Common.{◌≡◌, ℕ, zero, suc, ◌+◌, ◌-◌, ◌<◌, ◌≤◌, true, false, cond, not, List, [], ◌∷◌, ◌++◌}
+use Rattle.std.proofs.Common.{◌≡◌, ℕ, zero, suc, ◌+◌, ◌-◌, ◌<◌, ◌≤◌, Bool, true, false, cond, not, List, [], ◌∷◌, ◌++◌}
 use Rattle.std.proofs.Common.{length, get_or, take, drop, reverse, refl, sym, ap, ap₂, leb, ◌∙◌, arith, length-append}
 use Rattle.std.proofs.Common.{length-drop, append-nil, inl, inr}
 use Rattle.std.specs.Prelude.{count_by, take_while}
@@ -19,8 +19,10 @@ pub after_line_feeds_from-append :
     → after_line_feeds_from k (xs ++ ys) ≡ after_line_feeds_from k xs ++ after_line_feeds_from (k + length xs) ys
 after_line_feeds_from-append k [] ys = ap (λ n. after_line_feeds_from n ys) (omega arith)
 after_line_feeds_from-append k (c ∷ xs) ys =
-    let more : after_line_feeds_from (k + 1) (xs ++ ys) ≡ after_line_feeds_from (k + 1) xs ++ after_line_feeds_from (k + length (c ∷ xs)) ys =
-    after_line_feeds_from-append (k + 1) xs ys ∙ ap (λ n. after_line_feeds_from (k + 1) xs ++ after_line_feeds_from n ys) (omega arith) in
+    let more : after_line_feeds_from (k + 1) (xs ++ ys) ≡ after_line_feeds_from (k + 1) xs
+    ++ after_line_feeds_from (k + length (c ∷ xs)) ys =
+    after_line_feeds_from-append (k + 1) xs ys
+    ∙ ap (λ n. after_line_feeds_from (k + 1) xs ++ after_line_feeds_from n ys) (omega arith) in
     elim (is_line_feed c) as
     (λ b. cond b ((k + 1) ∷ after_line_feeds_from (k + 1) (xs ++ ys))
     (after_line_feeds_from (k + 1) (xs ++ ys)) ≡ cond b ((k + 1) ∷ after_line_feeds_from (k + 1) xs)
@@ -34,7 +36,8 @@ pub after_line_feeds-push :
     (xs : List ℕ) (c : ℕ)
     → after_line_feeds (xs ++ c ∷ []) ≡ after_line_feeds xs ++ cond (is_line_feed c) ((length xs + 1) ∷ []) []
 after_line_feeds-push xs c =
-    after_line_feeds_from-append 0 xs (c ∷ []) ∙ ap (λ n. after_line_feeds xs ++ cond (is_line_feed c) ((n + 1) ∷ []) []) (omega arith)
+    after_line_feeds_from-append 0 xs (c ∷ [])
+    ∙ ap (λ n. after_line_feeds xs ++ cond (is_line_feed c) ((n + 1) ∷ []) []) (omega arith)
 
 -- past the place k, and at most n characters from it
 abbrev IsWithin : ℕ → ℕ → ℕ → Type 0
@@ -55,7 +58,8 @@ after_line_feeds_from-within k (c ∷ text) =
     ]
 
 -- there is one for each line feed
-pub length-after_line_feeds_from : (k : ℕ) (text : List ℕ) → length (after_line_feeds_from k text) ≡ count_by is_line_feed text
+pub length-after_line_feeds_from : (k : ℕ) (text : List ℕ)
+    → length (after_line_feeds_from k text) ≡ count_by is_line_feed text
 length-after_line_feeds_from k [] = refl
 length-after_line_feeds_from k (c ∷ text) =
     rw (sum_by-cons (λ x. cond (is_line_feed x) 1 0) c text, ← length-after_line_feeds_from (k + 1) text)
@@ -67,7 +71,8 @@ length-after_line_feeds_from k (c ∷ text) =
     ])
 
 -- those of the front of a text and those of its rest
-split : (text : List ℕ) (k : ℕ) → k ≤ length text → after_line_feeds text ≡ after_line_feeds (take k text) ++ after_line_feeds_from k (drop k text)
+split : (text : List ℕ) (k : ℕ) → k ≤ length text
+    → after_line_feeds text ≡ after_line_feeds (take k text) ++ after_line_feeds_from k (drop k text)
 split text k h =
     ap after_line_feeds (sym (take-append-drop k text))
     ∙ (after_line_feeds_from-append 0 (take k text) (drop k text)
@@ -84,12 +89,14 @@ line_feeds_before text k n within bound below above =
     let front = after_line_feeds (take k text) in
     let rest = after_line_feeds_from k (drop k text) in
     let whole : after_line_feeds text ≡ front ++ rest = split text k within in
-    let long : length (after_line_feeds text) ≡ length front + length rest = ap length whole ∙ length-append front rest in
+    let long : length (after_line_feeds text) ≡ length front + length rest = ap length whole
+    ∙ length-append front rest in
     let counts : length front ≡ count_by is_line_feed (take k text) = length-after_line_feeds_from 0 (take k text) in
     elim (cases_lt (length front) n) [
       | inl less ↦
           let here : get_or (after_line_feeds text) (length front) 0 ≡ get_or rest 0 0 =
-          ap (λ xs. get_or xs (length front) 0) whole ∙ (ap (λ i. get_or (front ++ rest) i 0) (omega arith) ∙ get_or-append-add front rest 0 0) in
+          ap (λ xs. get_or xs (length front) 0) whole
+          ∙ (ap (λ i. get_or (front ++ rest) i 0) (omega arith) ∙ get_or-append-add front rest 0 0) in
           let past = after_line_feeds_from-within k (drop k text) 0 0 (omega arith) in
           absurd (omega (arith, below (length front) less, past.0))
       | inr more ↦ elim (cases_lt n (length front)) [
@@ -110,9 +117,11 @@ last_start starts = get_or starts (length starts - 1) 0
 abbrev last_line : List ℕ → List ℕ
 last_line front = take_while (λ c. not (is_line_feed c)) (reverse front)
 
-last_line-push : (front : List ℕ) (c : ℕ) → last_line (front ++ c ∷ []) ≡ cond (not (is_line_feed c)) (c ∷ last_line front) []
+last_line-push : (front : List ℕ) (c : ℕ)
+    → last_line (front ++ c ∷ []) ≡ cond (not (is_line_feed c)) (c ∷ last_line front) []
 last_line-push front c =
-    ap (take_while (λ c. not (is_line_feed c))) (reverse-append front (c ∷ [])) ∙ take_while-cons (λ c. not (is_line_feed c)) c (reverse front)
+    ap (take_while (λ c. not (is_line_feed c))) (reverse-append front (c ∷ []))
+    ∙ take_while-cons (λ c. not (is_line_feed c)) c (reverse front)
 
 length-last_line-push :
     (front : List ℕ) (c : ℕ) → length (last_line front) + last_start (after_line_feeds front) ≡ length front
@@ -120,7 +129,8 @@ length-last_line-push :
 length-last_line-push front c h =
     rw (last_line-push front c, after_line_feeds-push front c)
     (elim (is_line_feed c) as
-    (λ b. length (cond (not b) (c ∷ last_line front) []) + last_start (after_line_feeds front ++ cond b ((length front + 1) ∷ []) [])
+    (λ b. length (cond (not b) (c ∷ last_line front) []) + last_start
+    (after_line_feeds front ++ cond b ((length front + 1) ∷ []) [])
     ≡ length front + 1) [
       | true ↦
           let starts = after_line_feeds front ++ (length front + 1) ∷ [] in
@@ -132,13 +142,39 @@ length-last_line-push front c h =
     ])
 
 -- the column is counted from the last line start at or before the place
-pub column_is : (text : List ℕ) (k : ℕ) → k ≤ length text → column text k + last_start (after_line_feeds (take k text)) ≡ k
+pub column_is : (text : List ℕ) (k : ℕ) → k ≤ length text
+    → column text k + last_start (after_line_feeds (take k text)) ≡ k
 column_is text zero h = refl
 column_is text (suc k) h =
     let next : suc k ≡ k + 1 = omega arith in
-    let e : take (suc k) text ≡ take k text ++ get_or text k 0 ∷ [] = ap (λ n. take n text) next ∙ take_more text k 0 (omega arith) in
-    let step = length-last_line-push (take k text) (get_or text k 0) (column_is text k (omega arith) ∙ sym (length-take-le k text (omega arith))) in
-    ap (λ xs. length (last_line xs) + last_start (after_line_feeds xs)) e ∙ (step ∙ omega (arith, length-take-le k text (omega arith)))
+    let e : take (suc k) text ≡ take k text ++ get_or text k 0 ∷ [] = ap (λ n. take n text) next
+    ∙ take_more text k 0 (omega arith) in
+    let step = length-last_line-push (take k text) (get_or text k 0)
+    (column_is text k (omega arith) ∙ sym (length-take-le k text (omega arith))) in
+    ap (λ xs. length (last_line xs) + last_start (after_line_feeds xs)) e
+    ∙ (step ∙ omega (arith, length-take-le k text (omega arith)))
+
+-- the column of the next place, by the character before it
+column-next :
+    (text : List ℕ) (k : ℕ) → k < length text
+    → column text (k + 1) ≡ cond (not (is_line_feed (get_or text k 0))) (column text k + 1) 0
+column-next text k less =
+    ap (λ front. length (last_line front)) (take_more text k 0 less)
+    ∙ (ap length (last_line-push (take k text) (get_or text k 0)) ∙ size (not (is_line_feed (get_or text k 0))))
+  where
+    size : (b : Bool) → length (cond b (get_or text k 0 ∷ last_line (take k text)) []) ≡ cond b (column text k + 1) 0
+    size true = omega arith
+    size false = refl
+
+-- it is 0 after a line feed, and nowhere else past the text's start
+pub column-feed : (text : List ℕ) (k : ℕ) → k < length text → get_or text k 0 ≡ 10 → column text (k + 1) ≡ 0
+column-feed text k less feed =
+    column-next text k less ∙ ap (λ c. cond (not (is_line_feed c)) (column text k + 1) 0) feed
+
+pub column-inside :
+    (text : List ℕ) (k : ℕ) → k < length text → not (is_line_feed (get_or text k 0)) ≡ true → 0 < column text (k + 1)
+column-inside text k less inside =
+    omega (arith, column-next text k less, ap (λ b. cond b (column text k + 1) 0) inside)
 
 -- the line after the one of a place begins after the place
 pub next_start :
@@ -150,8 +186,10 @@ next_start text k n next within here less is =
     let whole : after_line_feeds text ≡ front ++ rest = split text k within in
     let size : length front ≡ n = omega (arith, length-after_line_feeds_from 0 (take k text), here) in
     let first : next ≡ get_or rest 0 0 =
-    is ∙ (ap (λ xs. get_or xs n 0) whole ∙ (ap (λ i. get_or (front ++ rest) i 0) (omega arith) ∙ get_or-append-add front rest 0 0)) in
-    let past = after_line_feeds_from-within k (drop k text) 0 0 (omega (arith, ap length whole, length-append front rest)) in
+    is ∙ (ap (λ xs. get_or xs n 0) whole
+    ∙ (ap (λ i. get_or (front ++ rest) i 0) (omega arith) ∙ get_or-append-add front rest 0 0)) in
+    let past = after_line_feeds_from-within k (drop k text) 0 0
+    (omega (arith, ap length whole, length-append front rest)) in
     (omega (arith, past.0), omega (arith, past.1, length-drop k text))
 
 rising_cons : (x : ℕ) (xs : List ℕ) → All (λ y. x ≤ y) xs → IsNonDecreasing xs → IsNonDecreasing (x ∷ xs)
@@ -166,8 +204,10 @@ after_line_feeds_from-rising k [] = λ i j d le less. absurd (omega arith)
 after_line_feeds_from-rising k (c ∷ text) =
     let more : IsNonDecreasing (after_line_feeds_from (k + 1) text) = after_line_feeds_from-rising (k + 1) text in
     let least : All (λ start. k + 1 ≤ start) (after_line_feeds_from (k + 1) text) =
-    All-weaker (IsWithin (k + 1) (length text)) (λ start. k + 1 ≤ start) (λ start h. omega arith) _ (after_line_feeds_from-within (k + 1) text) in
-    elim (is_line_feed c) as (λ b. IsNonDecreasing (cond b ((k + 1) ∷ after_line_feeds_from (k + 1) text) (after_line_feeds_from (k + 1) text))) [
+    All-weaker (IsWithin (k + 1) (length text)) (λ start. k + 1 ≤ start) (λ start h. omega arith) _
+    (after_line_feeds_from-within (k + 1) text) in
+    elim (is_line_feed c) as (λ b. IsNonDecreasing
+    (cond b ((k + 1) ∷ after_line_feeds_from (k + 1) text) (after_line_feeds_from (k + 1) text))) [
       | true ↦ rising_cons (k + 1) _ least more
       | false ↦ more
     ]
@@ -188,7 +228,8 @@ line_column_found text k n start within bound point is =
     let front = after_line_feeds (take k text) in
     let rest = after_line_feeds_from k (drop k text) in
     let size : length front ≡ n = length-after_line_feeds_from 0 (take k text) ∙ counts in
-    let last : start ≡ last_start front = is ∙ (ap (λ starts. get_or (0 ∷ starts) n 0) (split text k within) ∙ last_of front rest n size) in
+    let last : start ≡ last_start front = is
+    ∙ (ap (λ starts. get_or (0 ∷ starts) n 0) (split text k within) ∙ last_of front rest n size) in
     let col = column_is text k within in
     (omega arith, ap₂ place_of (omega arith) (omega arith))
   where

@@ -19,8 +19,11 @@ pub ArePlaced-push :
     (position : ℕ) (files : List PlacedText) (file : PlacedText) → ArePlaced position files
     → file.lo ≡ position + positions (texts_of files) → ArePlaced position (files ++ file ∷ [])
 ArePlaced-push position [] file h e = (omega arith, tt)
-ArePlaced-push position (f ∷ files) file h e =
-    (h.0, ArePlaced-push (position + (length f.text + 1)) files file h.1 (omega (arith, positions-cons f.text (texts_of files))))
+ArePlaced-push position (f ∷ files) file h e = (
+  h.0,
+  ArePlaced-push (position + (length f.text + 1)) files file h.1
+      (omega (arith, positions-cons f.text (texts_of files))),
+)
 
 -- a file more takes one position more than it has characters
 pub positions-push :
@@ -45,8 +48,12 @@ pub placed_at :
 placed_at position [] i d h less = absurd (omega arith)
 placed_at position (file ∷ files) zero d h less = ([], texts_of files, refl, omega arith)
 placed_at position (file ∷ files) (suc i) d h less =
-    let more = placed_at (position + (length file.text + 1)) files i d h.1 (omega arith) in
-    (file.text ∷ more.0, more.1, ap (λ ts. file.text ∷ ts) more.2, omega (arith, more.3, positions-cons file.text more.0))
+    let more = placed_at (position + (length file.text + 1)) files i d h.1 (omega arith) in (
+      file.text ∷ more.0,
+      more.1,
+      ap (λ ts. file.text ∷ ts) more.2,
+      omega (arith, more.3, positions-cons file.text more.0),
+    )
 
 -- the last file ends before the next one would begin
 pub last_end :
@@ -57,11 +64,16 @@ last_end position [] i d h e = absurd (omega arith)
 last_end position (file ∷ []) zero d h e = omega arith
 last_end position (file ∷ f ∷ files) zero d h e = absurd (omega arith)
 last_end position (file ∷ files) (suc i) d h e =
-    omega (arith, last_end (position + (length file.text + 1)) files i d h.1 (omega arith), positions-cons file.text (texts_of files))
+    omega (
+      arith,
+      last_end (position + (length file.text + 1)) files i d h.1 (omega arith),
+      positions-cons file.text (texts_of files),
+    )
 
 -- the file of a text that has so many before it
 numbered :
-    (position : ℕ) (files : List PlacedText) (before after : List (List ℕ)) (text : List ℕ) (d : PlacedText) → ArePlaced position files
+    (position : ℕ) (files : List PlacedText) (before after : List (List ℕ)) (text : List ℕ) (d : PlacedText)
+    → ArePlaced position files
     → texts_of files ≡ before ++ (text ∷ after)
     → (length before < length files) × ((get_or files (length before) d).text ≡ text)
     × ((get_or files (length before) d).lo ≡ position + positions before)
@@ -76,17 +88,21 @@ numbered position (f ∷ files) (t ∷ ts) after text d h e =
 -- the file that has the position is the one of its number
 pub file_at :
     (limit : ℕ) (files : List PlacedText) (position number : ℕ) (file d : PlacedText) → ArePlaced 1 files
-    → IsFileOf (record { texts = texts_of files; limit = limit }) position number file → position ≤ file.lo + length file.text
+    → IsFileOf (record { texts = texts_of files; limit = limit }) position number file
+    → position ≤ file.lo + length file.text
     → (number ≡ 0 → ⊥)
-    → (number - 1 < length files) × ((get_or files (number - 1) d).text ≡ file.text) × ((get_or files (number - 1) d).lo ≡ file.lo)
+    → (number - 1 < length files) × ((get_or files (number - 1) d).text ≡ file.text)
+    × ((get_or files (number - 1) d).lo ≡ file.lo)
 file_at limit files position number file d placed found within some =
     at found.is_file.before found.is_file.after found.is_file.whole found.is_file.begins
     (found.only file.text file.lo found.is_file found.begins within).2
   where
     at :
-        (before after : List (List ℕ)) → [] ∷ texts_of files ≡ before ++ (file.text ∷ after) → file.lo ≡ positions before
+        (before after : List (List ℕ)) → [] ∷ texts_of files ≡ before ++ (file.text ∷ after)
+        → file.lo ≡ positions before
         → length before ≡ number
-        → (number - 1 < length files) × ((get_or files (number - 1) d).text ≡ file.text) × ((get_or files (number - 1) d).lo ≡ file.lo)
+        → (number - 1 < length files) × ((get_or files (number - 1) d).text ≡ file.text)
+        × ((get_or files (number - 1) d).lo ≡ file.lo)
     at [] after whole begins count = absurd (some (sym count))
     at (t ∷ before) after whole begins count =
         let here = numbered 1 files before after file.text d placed (cc) in
@@ -100,15 +116,18 @@ begins_past :
 begins_past position files i d h less = omega (arith, (placed_at position files i d h less).3)
 
 -- files ascend
-pub rising : (position : ℕ) (files : List PlacedText) → ArePlaced position files → IsNonDecreasingBy (λ file. file.lo) files
+pub rising : (position : ℕ) (files : List PlacedText) → ArePlaced position files
+    → IsNonDecreasingBy (λ file. file.lo) files
 rising position [] h i j d le less = absurd (omega arith)
 rising position (file ∷ files) h zero j d le less = omega (arith, begins_past position (file ∷ files) j d h less)
 rising position (file ∷ files) h (suc i) zero d le less = absurd (omega arith)
-rising position (file ∷ files) h (suc i) (suc j) d le less = rising (position + (length file.text + 1)) files h.1 i j d (omega arith) (omega arith)
+rising position (file ∷ files) h (suc i) (suc j) d le less =
+    rising (position + (length file.text + 1)) files h.1 i j d (omega arith) (omega arith)
 
 -- of `file ∷ files` with n of `files` at or before the position, only the one at n may have it
 only_at :
-    (file : PlacedText) (files : List PlacedText) (n position : ℕ) (d : PlacedText) (before after : List (List ℕ)) (text : List ℕ)
+    (file : PlacedText) (files : List PlacedText) (n position : ℕ) (d : PlacedText) (before after : List (List ℕ))
+    (text : List ℕ)
     → ArePlaced (file.lo + (length file.text + 1)) files → n ≤ length files
     → ((j : ℕ) (e : PlacedText) → j < n → (get_or files j e).lo ≤ position)
     → ((j : ℕ) (e : PlacedText) → n ≤ j → j < length files → position < (get_or files j e).lo)
@@ -128,8 +147,10 @@ only_at file (f ∷ files) zero position d (t ∷ ts) after text h bound below a
     absurd (omega (arith, above 0 f (omega arith) (omega arith), h.0, ap length same, positions-cons t ts))
 only_at file (f ∷ files) (suc n) position d (t ∷ ts) after text h bound below above e from to =
     let same : file.text ≡ t = cc in
-    let k : f.lo + positions ts ≡ file.lo + positions (t ∷ ts) = omega (arith, h.0, ap length same, positions-cons t ts) in
-    let placed : ArePlaced (f.lo + (length f.text + 1)) files = subst (λ p. ArePlaced (p + (length f.text + 1)) files) (sym h.0) h.1 in
+    let k : f.lo + positions ts ≡ file.lo + positions (t ∷ ts) =
+    omega (arith, h.0, ap length same, positions-cons t ts) in
+    let placed : ArePlaced (f.lo + (length f.text + 1)) files =
+    subst (λ p. ArePlaced (p + (length f.text + 1)) files) (sym h.0) h.1 in
     let rest = only_at f files n position d ts after text placed (omega arith)
     (λ j e less. below (suc j) e (omega arith)) (λ j e le less. above (suc j) e (omega arith) (omega arith))
     (cc) (omega arith) (omega arith) in
@@ -152,7 +173,8 @@ file_found limit files n position d h bound below above = record {
   where
     is_file :
         (n : ℕ) → n ≤ length files
-        → IsFile (record { texts = texts_of files; limit = limit }) (get_or (file_0 ∷ files) n d).text (get_or (file_0 ∷ files) n d).lo
+        → IsFile (record { texts = texts_of files; limit = limit }) (get_or (file_0 ∷ files) n d).text
+        (get_or (file_0 ∷ files) n d).lo
     is_file zero bound = record { before = []; after = texts_of files; whole = refl; begins = refl }
     is_file (suc n) bound =
         let at = placed_at 1 files n d h (omega arith) in
@@ -170,7 +192,8 @@ file_found limit files n position d h bound below above = record {
     begins (suc n) bound below = below n d (omega arith)
 
 -- the element before the place n, or the first that stands for none
-pub get_or_before : {X : Type 0} (xs : List X) (n : ℕ) (x d : X) → (n ≡ 0 → ⊥) → n ≤ length xs → x ≡ get_or xs (n - 1) x → x ≡ get_or (d ∷ xs) n d
+pub get_or_before : {X : Type 0} (xs : List X) (n : ℕ) (x d : X) → (n ≡ 0 → ⊥) → n ≤ length xs → x ≡ get_or xs (n - 1) x
+    → x ≡ get_or (d ∷ xs) n d
 get_or_before xs zero x d some bound e = absurd (some refl)
 get_or_before xs (suc n) x d some bound e =
     let i : suc n - 1 ≡ n = omega arith in
@@ -181,7 +204,8 @@ pub found_none :
     {map : Files} {p q number : ℕ} {file : Option (Bor PlacedText)} → p ≡ q → file ≡ None
     → IsFileOf map p number (unwrap_or (option_copied file) file_0) → IsFileOf map q number file_0
 found_none {map} {p} {q} {number} same is found =
-    subst (λ r. IsFileOf map r number file_0) same (subst (λ o. IsFileOf map p number (unwrap_or (option_copied o) file_0)) is found)
+    subst (λ r. IsFileOf map r number file_0) same
+    (subst (λ o. IsFileOf map p number (unwrap_or (option_copied o) file_0)) is found)
 
 pub found_some :
     {map : Files} {p q number : ℕ} {file : Option (Bor PlacedText)} {some : Bor PlacedText} → p ≡ q → file ≡ Some some
@@ -199,7 +223,8 @@ none_at_0 (Some file) h is = absurd (omega arith)
 
 -- a span is held exactly if it ends in the file that may have its beginning
 pub holds_at :
-    {map : Files} {number : ℕ} {file : PlacedText} (span : Extent) → IsFileOf map span.lo number file → span.lo ≤ span.hi
+    {map : Files} {number : ℕ} {file : PlacedText} (span : Extent) → IsFileOf map span.lo number file
+    → span.lo ≤ span.hi
     → (span.hi ≤ file.lo + length file.text) ↔ Holds map span
 holds_at {map} {number} {file} span found ordered = (
   λ to. record { text = file.text; lo = file.lo; file = found.is_file; from = found.begins; to = to },
@@ -213,11 +238,15 @@ pub file_held :
     {map : Files} (limit : ℕ) (files : List PlacedText) (position number : ℕ) (file d : PlacedText)
     → record { texts = texts_of files; limit = limit } ≡ map → ArePlaced 1 files → IsFileOf map position number file
     → Holds map (record { lo = position; hi = position }) → (number ≡ 0 → ⊥)
-    → ((number - 1 < length files) × ((get_or files (number - 1) d).text ≡ file.text) × ((get_or files (number - 1) d).lo ≡ file.lo))
+    → ((number - 1 < length files) × ((get_or files (number - 1) d).text ≡ file.text)
+    × ((get_or files (number - 1) d).lo ≡ file.lo))
     × (position ≤ file.lo + length file.text)
 file_held limit files position number file d view placed found held some =
-    let within = (holds_at (record { lo = position; hi = position }) found (omega arith)).1 held in
-    (file_at limit files position number file d placed (subst (λ m. IsFileOf m position number file) (sym view) found) within some, within)
+    let within = (holds_at (record { lo = position; hi = position }) found (omega arith)).1 held in (
+      file_at limit files position number file d placed (subst (λ m. IsFileOf m position number file) (sym view) found)
+          within some,
+      within,
+    )
 
 -- what holds of the file that was found holds of any file of the map that has the span
 pub of_each :
@@ -246,7 +275,8 @@ pub past_file_0 :
     → span ≢ nowhere
 past_file_0 {map} span found past same =
     let lo = ap (λ s. s.lo) same in
-    let zero = found.only [] 0 (record { before = []; after = map.texts; whole = refl; begins = refl }) (omega arith) (omega arith) in
+    let zero = found.only [] 0 (record { before = []; after = map.texts; whole = refl; begins = refl }) (omega arith)
+    (omega arith) in
     omega (arith, zero.2)
 
 -- the places of file 0

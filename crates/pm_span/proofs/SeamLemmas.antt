@@ -137,14 +137,17 @@ chars_encodes_all cs utf8 = encodes_same _ _ (encodes-chars (encode_utf8_all cs)
 
 -- one character more
 pub back_one :
-    {text : List ℕ} {n : ℕ} (s t : Chars) (r : Option ℕ) → IsUtf8 text → IsCutBack text s.rest.now n → n < length (chars text)
+    {text : List ℕ} {n : ℕ} (s t : Chars) (r : Option ℕ) → IsUtf8 text → IsCutBack text s.rest.now n
+    → n < length (chars text)
     → chars_steps_back s r t → IsCutBack text t.rest.now (n + 1)
 back_one {text} {n} s t None utf8 cut less steps =
-    let all : text ≡ encode_utf8_all cut.cut = cut.whole ∙ ap (λ xs. xs ++ encode_utf8_all cut.cut) (nil_from_length s.rest.now steps.0) in
+    let all : text ≡ encode_utf8_all cut.cut = cut.whole
+    ∙ ap (λ xs. xs ++ encode_utf8_all cut.cut) (nil_from_length s.rest.now steps.0) in
     absurd (omega (arith, cut.size, ap length (ap chars all ∙ chars_encodes_all cut.cut (subst IsUtf8 all utf8))))
 back_one {text} {n} s t (Some c) utf8 cut less steps = record {
   cut = c ∷ cut.cut;
-  whole = cut.whole ∙ (ap (λ xs. xs ++ encode_utf8_all cut.cut) steps ∙ append_assoc t.rest.now (encode_utf8 c) (encode_utf8_all cut.cut));
+  whole = cut.whole ∙ (ap (λ xs. xs ++ encode_utf8_all cut.cut) steps
+      ∙ append_assoc t.rest.now (encode_utf8 c) (encode_utf8_all cut.cut));
   size = omega (arith, cut.size);
 }
 
@@ -158,8 +161,11 @@ front_of {text} {front} {n} utf8 left cut =
     let at : IsCharBoundary text (length front) =
     IsCharBoundary-from_take text (length front) utf8 (omega (arith, ap length whole, length-append front back))
     (subst IsUtf8 (sym (ap (take (length front)) whole ∙ take_at front back _ refl)) left) in
-    let rest : IsUtf8 back = subst IsUtf8 (ap (drop (length front)) whole ∙ drop_at front back _ refl) (IsUtf8-drop text (length front) utf8 at) in
+    let rest : IsUtf8 back = subst IsUtf8 (ap (drop (length front)) whole ∙ drop_at front back _ refl)
+    (IsUtf8-drop text (length front) utf8 at) in
     let cs : chars text ≡ chars front ++ cut.cut =
     ap chars whole ∙ (chars-append front back left ∙ ap (λ xs. chars front ++ xs) (chars_encodes_all cut.cut rest)) in
-    let size : length (chars front) ≡ length (chars text) - n = omega (arith, ap length cs, length-append (chars front) cut.cut, cut.size) in
-    sym (ap (λ m. take m (chars text)) (sym size) ∙ (ap (take (length (chars front))) cs ∙ take_at (chars front) cut.cut _ refl))
+    let size : length (chars front) ≡ length (chars text) - n =
+    omega (arith, ap length cs, length-append (chars front) cut.cut, cut.size) in
+    sym (ap (λ m. take m (chars text)) (sym size)
+    ∙ (ap (take (length (chars front))) cs ∙ take_at (chars front) cut.cut _ refl))

@@ -1,6 +1,6 @@
 ghost use Rattle.std.specs.Prelude.{◌≡◌, ◌+◌, ◌^◌, ◌<◌, ◌≤◌, List, ℕ, length, IfOk, OnOk};
 ghost use Rattle.std.specs.Str.{chars};
-ghost use Rattle.pm_span.specs.FileInfo.{PlacedText, IsLineAt, IsByteOffset, AreEnds, after_line_feeds};
+ghost use Rattle.pm_span.specs.FileInfo.{PlacedText, IsLineAt, IsByteOffset, IsWideLine, AreEnds, after_line_feeds};
 ghost use Rattle.pm_span.specs.Place.{line_column, byte_offset, between};
 
 use crate::location::LineColumn;
@@ -98,7 +98,7 @@ fn find_lines(alloc: Global, text: &str) -> Result<Lines, AllocError>
     })
 }
 
-/// Keeps both ends of a line. The first one is kept already where the line before it is.
+/// Keeps both ends of a line that isn't ASCII. The first one is kept already where the line before it is.
 fn push_ends(
     ends: &mut Vec<KnownPlace>,
     start: KnownPlace,
@@ -106,7 +106,7 @@ fn push_ends(
 ) -> Result<(), AllocError>
     ensures ok { OnOk result ((text : List ℕ) → AreEnds text start.place ends.old.items
         → IsByteOffset text start.place start.bytes → IsByteOffset text end.place end.bytes
-        → start.place ≤ end.place → AreEnds text end.place ends.new.items) }
+        → IsWideLine text start.place end.place → AreEnds text end.place ends.new.items) }
 {
     match ends.last() {
         Some(last) if last.place == start.place => {}

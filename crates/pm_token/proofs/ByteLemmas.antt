@@ -34,7 +34,8 @@ pair_hex b r low = record {
 }
 
 -- the digits of a byte that isn't zero aren't both zero
-pub pair_nonzero : (b : ℕ) (r : List ℕ) → b < 256 → (b == 0) ≡ false → begins_any (codes "00" ∷ []) (hex_pair b ++ r) ≡ false
+pub pair_nonzero : (b : ℕ) (r : List ℕ) → b < 256 → (b == 0) ≡ false
+    → begins_any (codes "00" ∷ []) (hex_pair b ++ r) ≡ false
 pair_nonzero b r low some = not-true _ (
     sym (ap (λ zero. zero || not (begins_any (codes "00" ∷ []) (hex_pair b))) some)
     ∙ agree_below_at (λ x. (x == 0) || not (begins_any (codes "00" ∷ []) (hex_pair x))) (λ x. true) 256 b refl low)
@@ -50,7 +51,8 @@ allows_byte : (class : ℕ → Bool) (quote b : ℕ) → b < 256
 allows_byte class quote b low within = record {
   letter = λ letter r is. inl (letter, refl, letter_of_all letter is);
   zeros = λ r e. (inl (48, refl, refl), hex_escape (codes "00") r (pair_hex 0 r (omega arith)));
-  other = λ r plain. cond_both (nat_le 32 b && nat_lt b 127) (b ∷ []) (codes "\\x" ++ hex_pair b) (λ p. SingleUnit class ByteEscape p r)
+  other = λ r plain. cond_both (nat_le 32 b && nat_lt b 127) (b ∷ []) (codes "\\x" ++ hex_pair b)
+      (λ p. SingleUnit class ByteEscape p r)
       (λ e. inl (b, refl, within b (omega (arith, ltb-true b 127 (and_parts (nat_le 32 b) (nat_lt b 127) e).1)) plain))
       (λ e. inr (record {
         front = codes "\\";
@@ -102,7 +104,12 @@ byte_string_stands bytes r are ends = record {
     front = content 34 written_byte bytes;
     back = codes "\"";
     whole = refl;
-    first = record { units = units_of 34 written_byte bytes; whole = content_units 34 written_byte bytes; each = each_unit bytes (34 ∷ r) are };
+    first = record {
+      units = units_of 34 written_byte bytes;
+      whole = content_units 34 written_byte bytes;
+      each =
+          each_unit bytes (34 ∷ r) are;
+    };
     second = closed (codes "\"") r ends;
   };
 }
@@ -117,7 +124,8 @@ byte_stands b r low ends = record {
     front = written 39 written_byte b [];
     back = codes "'";
     whole = refl;
-    first = written_stands is_byte_char_plain ByteEscape written_byte 39 b [] (39 ∷ r) (allows_byte is_byte_char_plain 39 b low byte_char_plain) refl;
+    first = written_stands is_byte_char_plain ByteEscape written_byte 39 b [] (39 ∷ r)
+        (allows_byte is_byte_char_plain 39 b low byte_char_plain) refl;
     second = closed (codes "'") r ends;
   };
 }

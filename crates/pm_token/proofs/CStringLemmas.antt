@@ -44,7 +44,8 @@ allows_c c scalar some = record {
 }
 
 char_unit : (c : ℕ) (r : List ℕ) → IsScalar c → (c == 0) ≡ false → CUnit (part_text (Char c)) r
-char_unit c r scalar some = body_unit is_c_plain CEscape _ _ (written_stands is_c_plain CEscape written_char 34 c [] r (allows_c c scalar some) refl)
+char_unit c r scalar some = body_unit is_c_plain CEscape _ _
+    (written_stands is_c_plain CEscape written_char 34 c [] r (allows_c c scalar some) refl)
 
 byte_unit : (b : ℕ) (r : List ℕ) → b < 256 → (b == 0) ≡ false → CUnit (part_text (Byte b)) r
 byte_unit b r low some = inr (inr (record {
@@ -87,14 +88,16 @@ texts_whole : (parts : List Part) → parts_text parts ≡ concat (texts_of part
 texts_whole [] = refl
 texts_whole (part ∷ parts) = ap (λ p. part_text part ++ p) (texts_whole parts)
 
-each_part : (parts : List Part) (bytes r : List ℕ) → AreParts parts bytes → AreBytes bytes → has_no_zero bytes ≡ true → Each CUnit (texts_of parts) r
+each_part : (parts : List Part) (bytes r : List ℕ) → AreParts parts bytes → AreBytes bytes → has_no_zero bytes ≡ true
+    → Each CUnit (texts_of parts) r
 each_part [] bytes r are fit none = tt
 each_part (Char c ∷ parts) bytes r are fit none =
     let behind = are.1 in
     let split = are.2 in
     let zeros : has_no_zero (encode_utf8 c ++ behind) ≡ true = ap has_no_zero (sym split) ∙ none in (
       char_unit c (concat (texts_of parts) ++ r) are.0 (char_some c behind zeros),
-      each_part parts behind r are.3 (bytes_behind (encode_utf8 c) behind (subst AreBytes split fit)) (no_zero_behind (encode_utf8 c) behind zeros),
+      each_part parts behind r are.3 (bytes_behind (encode_utf8 c) behind (subst AreBytes split fit))
+          (no_zero_behind (encode_utf8 c) behind zeros),
     )
 each_part (Byte b ∷ parts) bytes r are fit none =
     let behind = are.1 in
@@ -105,7 +108,8 @@ each_part (Byte b ∷ parts) bytes r are fit none =
       each_part parts behind r are.3 bytes_fit.1 zeros.1,
     )
 
-pub c_string_stands : (parts : List Part) (bytes r : List ℕ) → AreParts parts bytes → AreBytes bytes → has_no_zero bytes ≡ true → EndsSuffix r
+pub c_string_stands : (parts : List Part) (bytes r : List ℕ) → AreParts parts bytes → AreBytes bytes
+    → has_no_zero bytes ≡ true → EndsSuffix r
     → CStr (codes "c\"" ++ (parts_text parts ++ codes "\"")) r
 c_string_stands parts bytes r are fit none ends = record {
   front = codes "c\"";
@@ -116,13 +120,19 @@ c_string_stands parts bytes r are fit none ends = record {
     front = parts_text parts;
     back = codes "\"";
     whole = refl;
-    first = record { units = texts_of parts; whole = texts_whole parts; each = each_part parts bytes (34 ∷ r) are fit none };
+    first = record {
+      units = texts_of parts;
+      whole = texts_whole parts;
+      each =
+          each_part parts bytes (34 ∷ r) are fit none;
+    };
     second = closed (codes "\"") r ends;
   };
 }
 
 -- what `c_string` writes is a whole literal
-pub c_string_whole : (bytes text : List ℕ) → IsCStringText bytes text → AreBytes bytes → has_no_zero bytes ≡ true → IsLiteralToken text
+pub c_string_whole : (bytes text : List ℕ) → IsCStringText bytes text → AreBytes bytes → has_no_zero bytes ≡ true
+    → IsLiteralToken text
 unfolding IsLiteralToken literals.Literal
 c_string_whole bytes text is fit none =
     subst (λ t. literals.AnyLiteral t []) (sym is.whole)
@@ -143,7 +153,8 @@ later c =
 
 -- what follows counts for a zero only
 some_written : (c : ℕ) (rest : List ℕ) → (c == 0) ≡ false → written 34 written_char c rest ≡ later c
-some_written c rest some = ap (λ z. if z && first_passes is_octal_digit rest then codes "\\x00" else if z then codes "\\0" else later c) some
+some_written c rest some = ap (λ z. if z && first_passes is_octal_digit rest then codes "\\x00" else if z then codes
+    "\\0" else later c) some
 
 -- no character is zero
 abbrev pub no_zero_in : List ℕ → Bool
@@ -158,15 +169,20 @@ text_parts (c ∷ cs) none =
 
 parts_append : (ps qs : List Part) → parts_text (ps ++ qs) ≡ parts_text ps ++ parts_text qs
 parts_append [] qs = refl
-parts_append (p ∷ ps) qs = ap (λ x. part_text p ++ x) (parts_append ps qs) ∙ sym (append_assoc (part_text p) (parts_text ps) (parts_text qs))
+parts_append (p ∷ ps) qs = ap (λ x. part_text p ++ x) (parts_append ps qs)
+    ∙ sym (append_assoc (part_text p) (parts_text ps) (parts_text qs))
 
 -- a text, and then other parts
 chars_parts : (cs : List ℕ) (more : List Part) (rest : List ℕ) → all_scalars cs ≡ true → AreParts more rest
     → AreParts (map Char cs ++ more) (encode_utf8_all cs ++ rest)
 chars_parts [] more rest all are = are
 chars_parts (c ∷ cs) more rest all are =
-    let parts = and_parts _ _ all in
-    (parts.0, encode_utf8_all cs ++ rest, append_assoc (encode_utf8 c) (encode_utf8_all cs) rest, chars_parts cs more rest parts.1 are)
+    let parts = and_parts _ _ all in (
+      parts.0,
+      encode_utf8_all cs ++ rest,
+      append_assoc (encode_utf8 c) (encode_utf8_all cs) rest,
+      chars_parts cs more rest parts.1 are,
+    )
 
 -- a text whose bytes aren't zero has no such character
 chars_some : (cs rest : List ℕ) → has_no_zero (encode_utf8_all cs ++ rest) ≡ true → no_zero_in cs ≡ true
@@ -188,16 +204,20 @@ longest bytes m (suc n) le is =
     shorter : is_utf8 (take (suc n) bytes) ≡ false → m ≤ n
     shorter e = elim (cases_lt m (suc n)) [
       | inl less ↦ omega (arith, less)
-      | inr more ↦ let same : m ≡ suc n = omega (arith, le, more) in absurd (both_ways _ e (subst (λ k. is_utf8 (take k bytes) ≡ true) same is))
+      | inr more ↦ let same : m ≡ suc n = omega (arith, le, more) in
+          absurd (both_ways _ e (subst (λ k. is_utf8 (take k bytes) ≡ true) same is))
     ]
 
 -- after the longest text at the front no character begins
-begins_none : (bytes valid tail : List ℕ) → IsUtf8 valid → bytes ≡ valid ++ tail → length valid ≡ utf8_valid_len bytes → BeginsNone tail
+begins_none : (bytes valid tail : List ℕ) → IsUtf8 valid → bytes ≡ valid ++ tail → length valid ≡ utf8_valid_len bytes
+    → BeginsNone tail
 unfolding utf8_valid_len
 begins_none bytes valid tail utf8 whole long c rest scalar e =
     let front = valid ++ encode_utf8 c in
-    let all : bytes ≡ front ++ rest = whole ∙ (ap (λ x. valid ++ x) e ∙ sym (append_assoc valid (encode_utf8 c) rest)) in
-    let cut : take (length front) bytes ≡ front = ap (take (length front)) all ∙ take_at front rest (length front) refl in
+    let all : bytes ≡ front ++ rest = whole
+    ∙ (ap (λ x. valid ++ x) e ∙ sym (append_assoc valid (encode_utf8 c) rest)) in
+    let cut : take (length front) bytes ≡ front = ap (take (length front)) all
+    ∙ take_at front rest (length front) refl in
     let within : length front ≤ length bytes = omega (arith, ap length all, length-append front rest) in
     let most =
     longest bytes (length front) (length bytes) within
@@ -208,28 +228,35 @@ begins_none bytes valid tail utf8 whole long c rest scalar e =
 -- ---- one step
 
 -- what follows a text at the front
-tail_of : (bytes valid more : List ℕ) → bytes ≡ valid ++ more → bytes ≡ valid ++ take (length bytes - length valid) (drop (length valid) bytes)
+tail_of : (bytes valid more : List ℕ) → bytes ≡ valid ++ more
+    → bytes ≡ valid ++ take (length bytes - length valid) (drop (length valid) bytes)
 tail_of bytes valid more whole =
-    let behind : drop (length valid) bytes ≡ more = ap (drop (length valid)) whole ∙ drop_at valid more (length valid) refl in
+    let behind : drop (length valid) bytes ≡ more = ap (drop (length valid)) whole
+    ∙ drop_at valid more (length valid) refl in
     let count : length more ≤ length bytes - length valid = omega (arith, ap length whole, length-append valid more) in
-    whole ∙ ap (λ x. valid ++ x) (sym (take_all (length bytes - length valid) more count) ∙ ap (take (length bytes - length valid)) (sym behind))
+    whole ∙ ap (λ x. valid ++ x)
+    (sym (take_all (length bytes - length valid) more count) ∙ ap (take (length bytes - length valid)) (sym behind))
 
 -- the same of what the chunk of some bytes says
 pub chunk_whole : (bytes left valid text more : List ℕ) → left ≡ bytes → left ≡ valid ++ more → text ≡ valid
     → bytes ≡ text ++ take (length bytes - length text) (drop (length text) bytes)
-chunk_whole bytes left valid text more same split is = tail_of bytes text more (sym same ∙ (split ∙ ap (λ x. x ++ more) (sym is)))
+chunk_whole bytes left valid text more same split is =
+    tail_of bytes text more (sym same ∙ (split ∙ ap (λ x. x ++ more) (sym is)))
 
-pub chunk_long : (bytes left valid text : List ℕ) → left ≡ bytes → length valid ≡ utf8_valid_len left → text ≡ valid → length text ≡ utf8_valid_len bytes
+pub chunk_long : (bytes left valid text : List ℕ) → left ≡ bytes → length valid ≡ utf8_valid_len left → text ≡ valid
+    → length text ≡ utf8_valid_len bytes
 chunk_long bytes left valid text same long is = ap length is ∙ (long ∙ ap utf8_valid_len same)
 
 -- the text at the front, and the byte after it
 pub front_and_byte : (bytes valid tail rest old new : List ℕ) (b : ℕ) → IsUtf8 valid → bytes ≡ valid ++ tail
     → length valid ≡ utf8_valid_len bytes → tail ≡ b ∷ rest
-    → has_no_zero bytes ≡ true → new ≡ (old ++ content 34 written_char (chars valid)) ++ (codes "\\x" ++ hex_pair b) → WritesFront bytes rest old new
+    → has_no_zero bytes ≡ true → new ≡ (old ++ content 34 written_char (chars valid)) ++ (codes "\\x" ++ hex_pair b)
+    → WritesFront bytes rest old new
 front_and_byte bytes valid tail rest old new b utf8 whole long split none e =
     let cs = chars valid in
     let spelled : encode_utf8_all cs ++ tail ≡ bytes = ap (λ x. x ++ tail) (encodes-chars valid utf8) ∙ sym whole in
-    let text : parts_text (map Char cs) ≡ content 34 written_char cs = text_parts cs (chars_some cs tail (ap has_no_zero spelled ∙ none)) in
+    let text : parts_text (map Char cs) ≡ content 34 written_char cs =
+    text_parts cs (chars_some cs tail (ap has_no_zero spelled ∙ none)) in
     record {
       parts = map Char cs ++ (Byte b ∷ []);
       reads = λ more are. (
@@ -237,7 +264,8 @@ front_and_byte bytes valid tail rest old new b utf8 whole long split none e =
         subst (AreParts (map Char cs ++ (Byte b ∷ more))) spelled
             (chars_parts cs (Byte b ∷ more) tail (scalars-chars valid utf8)
             (begins_none bytes valid tail utf8 whole long, rest, split, are)),
-        ap parts_text (sym (append_assoc (map Char cs) (Byte b ∷ []) more)) ∙ parts_append (map Char cs ++ (Byte b ∷ [])) more,
+        ap parts_text (sym (append_assoc (map Char cs) (Byte b ∷ []) more))
+            ∙ parts_append (map Char cs ++ (Byte b ∷ [])) more,
       );
       text = e ∙ (append_assoc old (content 34 written_char cs) (codes "\\x" ++ hex_pair b)
           ∙ ap (λ x. old ++ x) (ap₂ (λ x y. x ++ y) (sym text) (sym (append-nil (codes "\\x" ++ hex_pair b)))
@@ -246,12 +274,14 @@ front_and_byte bytes valid tail rest old new b utf8 whole long split none e =
     }
 
 -- the text that is all of them
-pub front_alone : (bytes valid tail old new : List ℕ) → IsUtf8 valid → bytes ≡ valid ++ tail → length tail ≡ 0 → has_no_zero bytes ≡ true → bytes ≢ []
+pub front_alone : (bytes valid tail old new : List ℕ) → IsUtf8 valid → bytes ≡ valid ++ tail → length tail ≡ 0
+    → has_no_zero bytes ≡ true → bytes ≢ []
     → new ≡ old ++ content 34 written_char (chars valid) → WritesFront bytes [] old new
 front_alone bytes valid [] old new utf8 whole nothing none some e =
     let cs = chars valid in
     let spelled : encode_utf8_all cs ++ [] ≡ bytes = ap (λ x. x ++ []) (encodes-chars valid utf8) ∙ sym whole in
-    let text : parts_text (map Char cs) ≡ content 34 written_char cs = text_parts cs (chars_some cs [] (ap has_no_zero spelled ∙ none)) in
+    let text : parts_text (map Char cs) ≡ content 34 written_char cs =
+    text_parts cs (chars_some cs [] (ap has_no_zero spelled ∙ none)) in
     record {
       parts = map Char cs;
       reads = λ more are. (

@@ -60,7 +60,8 @@ same_char p c d e is = subst (λ x. Escapes c_kind p (units.Char x)) (sym (eqb-t
 -- whatever is written for a character that isn't zero
 char_as : (c : ℕ) → IsScalar c → (c == 0) ≡ false → WrittenAs c_kind 34 c (part_text (Char c)) (units.Char c)
 char_as c scalar some =
-    cond_both ((c == 0) && first_passes is_octal_digit []) _ _ As (λ e. absurd (both_ways (c == 0) some (and_parts (c == 0) _ e).0))
+    cond_both ((c == 0) && first_passes is_octal_digit []) _ _ As
+    (λ e. absurd (both_ways (c == 0) some (and_parts (c == 0) _ e).0))
     (λ e. cond_both (c == 0) _ _ As (λ e. absurd (both_ways (c == 0) some e))
     (λ e. cond_both (c == 9) _ _ As (λ e. inl (same_char _ c 9 e short_tab))
     (λ tab. cond_both (c == 13) _ _ As (λ e. inl (same_char _ c 13 e short_return))
@@ -91,11 +92,13 @@ glyph_value : (d : ℕ) → d < 16 → nat_eq (digit_value (digit_glyph true d))
 glyph_value d low = agree_below_at (λ x. nat_eq (digit_value (digit_glyph true x)) x) (λ x. true) 16 d refl low
 
 pair_read : (high low : ℕ) (more : List ℕ) → high < 16 → low < 16
-    → escape c_kind (120 ∷ digit_glyph true high ∷ digit_glyph true low ∷ more) ≡ record { unit = c_byte (16 * high + low); rest = more }
+    → escape c_kind (120 ∷ digit_glyph true high ∷ digit_glyph true low ∷ more)
+    ≡ record { unit = c_byte (16 * high + low); rest = more }
 unfolding escape hex_escape
 pair_read high low more h l =
     cond-true _ _ _ (glyph_hex high h) ∙ (cond-true _ _ _ (glyph_hex low l)
-    ∙ ap₂ (λ x y. record { unit = c_byte (16 * x + y); rest = more }) (eqb-true _ _ (glyph_value high h)) (eqb-true _ _ (glyph_value low l)))
+    ∙ ap₂ (λ x y. record { unit = c_byte (16 * x + y); rest = more }) (eqb-true _ _ (glyph_value high h))
+    (eqb-true _ _ (glyph_value low l)))
 
 byte_as : (b : ℕ) → b < 256 → (b == 0) ≡ false → WrittenAs c_kind 34 b (part_text (Byte b)) (byte_unit b)
 byte_as b low some = inl (record {
@@ -104,7 +107,8 @@ byte_as b low some = inl (record {
   whole = refl;
   no_line = refl;
   gives = λ more. let sum : 16 * (b / 16) + b % 16 ≡ b = omega arith in
-      pair_read (b / 16) (b % 16) more (omega arith) (omega arith) ∙ ap (λ u. record { unit = u; rest = more }) (ap c_byte sum ∙ cond-false _ _ _ some);
+      pair_read (b / 16) (b % 16) more (omega arith) (omega arith)
+      ∙ ap (λ u. record { unit = u; rest = more }) (ap c_byte sum ∙ cond-false _ _ _ some);
 })
 
 -- ---- all parts
@@ -142,7 +146,8 @@ parts_give end (Char c ∷ parts) bytes are fit =
     (parts_give end parts are.1 are.3 (fit_behind bytes (encode_utf8 c) are.1 are.2 fit))
 parts_give end (Byte b ∷ parts) bytes are fit =
     let low = subst (AllByRecursion (λ d. d < 256)) are.2 fit.low in
-    let some = not-true (b == 0) (and_parts (not (b == 0)) (has_no_zero are.1) (ap has_no_zero (sym are.2) ∙ fit.some)).0 in
+    let some = not-true (b == 0)
+    (and_parts (not (b == 0)) (has_no_zero are.1) (ap has_no_zero (sym are.2) ∙ fit.some)).0 in
     give_front c_kind end (part_text (Byte b) ++ parts_text parts) (byte_unit b) (parts_text parts) (units_of parts)
     (begins_written c_kind end b (part_text (Byte b)) (byte_unit b) (parts_text parts) (byte_as b low.0 some))
     (parts_give end parts are.1 are.3 (fit_behind bytes (b ∷ []) are.1 are.2 fit))
@@ -159,9 +164,11 @@ pub c_strings_come_back : (bytes text : List ℕ) → AllByRecursion (λ b. b < 
 c_strings_come_back all text low some is =
     let inside = parts_text is.parts in
     let fit : AreFit all = record { low = low; some = some } in
-    let raw = option_map (λ content. ended (encode_utf8_all content)) (raw_content (codes "cr") (codes "c\"" ++ (inside ++ codes "\""))) in
+    let raw = option_map (λ content. ended (encode_utf8_all content))
+    (raw_content (codes "cr") (codes "c\"" ++ (inside ++ codes "\""))) in
     ap cstr_value is.whole
-    ∙ (ap (λ o. value_from (option_map (λ content. c_bytes (values.units c_kind content)) o) raw) (between_within (codes "c\"") (codes "\"") inside)
+    ∙ (ap (λ o. value_from (option_map (λ content. c_bytes (values.units c_kind content)) o) raw)
+    (between_within (codes "c\"") (codes "\"") inside)
     ∙ (ap (λ v. value_from (Some (c_bytes v)) raw)
     (given_value (items c_kind inside) (units_of is.parts) (parts_give (bytes inside) is.parts all is.reads fit))
     ∙ ap (λ x. Ok (ended x)) (parts_bytes is.parts all is.reads)))

@@ -30,11 +30,14 @@ digit_no_brace d low = agree_below_at (λ x. digit_char x == 125) (λ x. false) 
 
 -- ---- digits, and the brace that closes them
 
-digits_front : (ds more : List ℕ) → AreHex ds → while_front is_code_character ((digits_of ds ++ 125 ∷ []) ++ more) ≡ digits_of ds
+digits_front : (ds more : List ℕ) → AreHex ds
+    → while_front is_code_character ((digits_of ds ++ 125 ∷ []) ++ more) ≡ digits_of ds
 digits_front [] more all = refl
-digits_front (d ∷ ds) more all = cond-true _ _ _ (digit_code d all.0) ∙ ap (λ xs. digit_char d ∷ xs) (digits_front ds more all.1)
+digits_front (d ∷ ds) more all = cond-true _ _ _ (digit_code d all.0)
+    ∙ ap (λ xs. digit_char d ∷ xs) (digits_front ds more all.1)
 
-digits_rest : (ds more : List ℕ) → AreHex ds → while_rest is_code_character ((digits_of ds ++ 125 ∷ []) ++ more) ≡ 125 ∷ more
+digits_rest : (ds more : List ℕ) → AreHex ds
+    → while_rest is_code_character ((digits_of ds ++ 125 ∷ []) ++ more) ≡ 125 ∷ more
 digits_rest [] more all = refl
 digits_rest (d ∷ ds) more all = cond-true _ _ _ (digit_code d all.0) ∙ digits_rest ds more all.1
 
@@ -46,7 +49,8 @@ digits_count : (ds : List ℕ) → length (digits_of ds) ≡ length ds
 digits_count [] = refl
 digits_count (d ∷ ds) = ap (λ n. suc n) (digits_count ds)
 
-digits_number : (n : ℕ) (ds : List ℕ) → AreHex ds → fold (λ m c. 16 * m + digit_value c) n (digits_of ds) ≡ value_behind n ds
+digits_number : (n : ℕ) (ds : List ℕ) → AreHex ds
+    → fold (λ m c. 16 * m + digit_value c) n (digits_of ds) ≡ value_behind n ds
 digits_number n [] all = refl
 digits_number n (d ∷ ds) all =
     ap (λ v. fold (λ m c. 16 * m + digit_value c) (16 * n + v) (digits_of ds)) (digit_value-digit_char d (omega arith))
@@ -60,7 +64,8 @@ code_is : {U : Type 0} (kind : Kind U) (unit : U) (c : ℕ) (ds : List ℕ) → 
 code_is kind unit c ds all few value scalar is =
     cond-false _ _ _ (false_from_ne_true (nat_lt 6 (length (digits_of ds)))
     (λ e. let lt = ltb-true 6 (length (digits_of ds)) e in absurd (omega (arith, digits_count ds))))
-    ∙ (ap (λ n. kind.of_code (character n)) (digits_number 0 ds all ∙ value) ∙ (ap kind.of_code (scalar_character c (is_scalar-IsScalar c scalar)) ∙ is))
+    ∙ (ap (λ n. kind.of_code (character n)) (digits_number 0 ds all ∙ value)
+    ∙ (ap kind.of_code (scalar_character c (is_scalar-IsScalar c scalar)) ∙ is))
 
 -- the digits in the braces
 coded_is : {U : Type 0} (kind : Kind U) (unit : U) (c : ℕ) (ds more : List ℕ) → AreHex ds → length ds ≤ 6
@@ -68,21 +73,25 @@ coded_is : {U : Type 0} (kind : Kind U) (unit : U) (c : ℕ) (ds more : List ℕ
     → coded kind ((digits_of ds ++ 125 ∷ []) ++ more) ≡ record { unit = Ok unit; rest = more }
 unfolding coded
 coded_is kind unit c ds more all few value scalar is =
-    ap₂ (λ digits rest. closed kind digits rest) (ap (filter is_hex) (digits_front ds more all) ∙ digits_hex ds all) (digits_rest ds more all)
+    ap₂ (λ digits rest. closed kind digits rest) (ap (filter is_hex) (digits_front ds more all) ∙ digits_hex ds all)
+    (digits_rest ds more all)
     ∙ ap (λ u. record { unit = u; rest = more }) (code_is kind unit c ds all few value scalar is)
 
 -- after `u`
 unicode_is : {U : Type 0} (kind : Kind U) (unit : U) (c first : ℕ) (others more : List ℕ) → AreHex (first ∷ others)
     → length others ≤ 5 → value_behind 0 (first ∷ others) ≡ c → IsScalar c
     → kind.of_code (Ok c) ≡ Ok unit
-    → escape kind (117 ∷ (123 ∷ ((digits_of (first ∷ others) ++ 125 ∷ []) ++ more))) ≡ record { unit = Ok unit; rest = more }
+    → escape kind (117 ∷ (123 ∷ ((digits_of (first ∷ others) ++ 125 ∷ []) ++ more)))
+    ≡ record { unit = Ok unit; rest = more }
 unfolding escape unicode_escape
 unicode_is kind unit c first others more all few value scalar is =
-    cond-false _ _ _ (digit_no_line first all.0) ∙ (cond-false _ _ _ (digit_no_brace first all.0) ∙ (cond-true _ _ _ (digit_hex first all.0)
+    cond-false _ _ _ (digit_no_line first all.0)
+    ∙ (cond-false _ _ _ (digit_no_brace first all.0) ∙ (cond-true _ _ _ (digit_hex first all.0)
     ∙ coded_is kind unit c (first ∷ others) more all (omega arith) value scalar is))
 
 -- the escape of a character by its code
-pub code_escapes_as : {U : Type 0} (kind : Kind U) (unit : U) (c : ℕ) → IsScalar c → kind.of_code (Ok c) ≡ Ok unit → Escapes kind (escape_unicode c) unit
+pub code_escapes_as : {U : Type 0} (kind : Kind U) (unit : U) (c : ℕ) → IsScalar c → kind.of_code (Ok c) ≡ Ok unit
+    → Escapes kind (escape_unicode c) unit
 code_escapes_as kind unit c scalar is =
     let coded = coded_as c scalar in record {
       letter = 117;

@@ -42,14 +42,16 @@ then_same Equal a b h = h refl
 then_same Greater a b h = refl
 
 -- what doesn't begin with a text is decided by that text
-pub order_front : (front x t : List ℕ) → begins_with front t ≡ false → slice_cmp nat_cmp (front ++ x) t ≡ slice_cmp nat_cmp front t
+pub order_front : (front x t : List ℕ) → begins_with front t ≡ false
+    → slice_cmp nat_cmp (front ++ x) t ≡ slice_cmp nat_cmp front t
 order_front [] x t h = absurd (both_ways _ h refl)
 order_front (c ∷ front) x [] h = refl
 order_front (c ∷ front) x (d ∷ t) h = then_same (nat_cmp c d) _ _ (λ e.
     let same : (c == d) ≡ true = eq-eqb c d (exact_unsigned c d e) in
     order_front front x t (ap (λ b. b && begins_with front t) (sym same) ∙ h))
 
-pub order_back : (front x t : List ℕ) → begins_with front t ≡ false → slice_cmp nat_cmp t (front ++ x) ≡ slice_cmp nat_cmp t front
+pub order_back : (front x t : List ℕ) → begins_with front t ≡ false
+    → slice_cmp nat_cmp t (front ++ x) ≡ slice_cmp nat_cmp t front
 order_back [] x t h = absurd (both_ways _ h refl)
 order_back (c ∷ front) x [] h = refl
 order_back (c ∷ front) x (d ∷ t) h = then_same (nat_cmp d c) _ _ (λ e.
@@ -67,16 +69,19 @@ pub record IsNameOf (a : Name) (s : List ℕ) : Type 0 where
 -- no name begins with `r#`
 name_plain : (s : List ℕ) → IsUtf8 s → identifiers.Name (chars s) [] → begins_with (codes "r#") s ≡ false
 name_plain s utf8 is =
-    begins_chars (codes "r#") s utf8 refl ∙ left_false _ (none_begins is_ident_continue (codes "r#" ∷ []) (chars s) none (name_continues (chars s) [] is))
+    begins_chars (codes "r#") s utf8 refl
+    ∙ left_false _ (none_begins is_ident_continue (codes "r#" ∷ []) (chars s) none (name_continues (chars s) [] is))
   where
     none : (not (is_ident_continue 114 && (is_ident_continue 35 && true)) && true) ≡ true
-    none = ap₂ (λ x y. not (x && (y && true)) && true) (ident_continue_ascii 114 (omega arith)) (ident_continue_ascii 35 (omega arith))
+    none = ap₂ (λ x y. not (x && (y && true)) && true) (ident_continue_ascii 114 (omega arith))
+        (ident_continue_ascii 35 (omega arith))
 
     left_false : (b : Bool) → (b || false) ≡ false → b ≡ false
     left_false true h = h
     left_false false h = refl
 
-pub name_of : {a b : Name} (s : List ℕ) → b ≡ a → chars s ≡ b.name → IsUtf8 s → IsBuiltToken (name_token b) → IsNameOf a s
+pub name_of : {a b : Name} (s : List ℕ) → b ≡ a → chars s ≡ b.name → IsUtf8 s → IsBuiltToken (name_token b)
+    → IsNameOf a s
 name_of {a} {b} s view e utf8 built = record {
   own = sym (ap (λ (x : Name). x.name) view) ∙ sym e;
   utf8 = utf8;
@@ -85,7 +90,8 @@ name_of {a} {b} s view e utf8 built = record {
 
 -- the bytes of an identifier as it is written
 pub written_bytes : (a : Name) (s : List ℕ) → IsNameOf a s → written a ≡ raw_front a.raw ++ s
-written_bytes a s h = written_is a.raw a.name ∙ ap (λ x. raw_front a.raw ++ x) (ap encode_utf8_all h.own ∙ encodes-chars s h.utf8)
+written_bytes a s h = written_is a.raw a.name
+    ∙ ap (λ x. raw_front a.raw ++ x) (ap encode_utf8_all h.own ∙ encodes-chars s h.utf8)
 
 -- ---- equality
 
@@ -95,19 +101,23 @@ eq_text a b r is =
     let same = bytes_eq-Decides (written a) (written b) in
     (λ h. encodes_same (name_text a) (name_text b) (same.0 (sym is ∙ h)), λ h. is ∙ same.1 (ap encode_utf8_all h))
 
-past_front : (raw : Bool) (x y : List ℕ) → pointwise nat_eq (raw_front raw ++ x) (raw_front raw ++ y) ≡ pointwise nat_eq x y
+past_front : (raw : Bool) (x y : List ℕ)
+    → pointwise nat_eq (raw_front raw ++ x) (raw_front raw ++ y) ≡ pointwise nat_eq x y
 past_front true x y = refl
 past_front false x y = refl
 
 -- both raw or both plain: by the names
-pub eq_alike : (a b : Name) (s t : List ℕ) (r : Bool) → IsNameOf a s → IsNameOf b t → a.raw ≡ b.raw → r ≡ pointwise nat_eq s t → r ≡ name_eq a b
+pub eq_alike : (a b : Name) (s t : List ℕ) (r : Bool) → IsNameOf a s → IsNameOf b t → a.raw ≡ b.raw
+    → r ≡ pointwise nat_eq s t → r ≡ name_eq a b
 eq_alike a b s t r h k alike is =
     is ∙ (sym (past_front b.raw s t)
-    ∙ ap₂ (pointwise nat_eq) (ap (λ x. raw_front x ++ s) (sym alike) ∙ sym (written_bytes a s h)) (sym (written_bytes b t k)))
+    ∙ ap₂ (pointwise nat_eq) (ap (λ x. raw_front x ++ s) (sym alike) ∙ sym (written_bytes a s h))
+    (sym (written_bytes b t k)))
 
 -- one raw and one plain: apart
 pub eq_apart : (a b : Name) (s t : List ℕ) → IsNameOf a s → IsNameOf b t → a.raw ≢ b.raw → name_eq a b ≡ false
-eq_apart a b s t h k differ = ap₂ (pointwise nat_eq) (written_bytes a s h) (written_bytes b t k) ∙ fronts_apart a.raw b.raw differ
+eq_apart a b s t h k differ = ap₂ (pointwise nat_eq) (written_bytes a s h) (written_bytes b t k)
+    ∙ fronts_apart a.raw b.raw differ
   where
     fronts_apart : (x y : Bool) → x ≢ y → pointwise nat_eq (raw_front x ++ s) (raw_front y ++ t) ≡ false
     fronts_apart true true differ = absurd (differ refl)
@@ -121,7 +131,8 @@ pub eq_fields : (a b : Name) (s t : List ℕ) (r : Bool) → IsNameOf a s → Is
 eq_fields a b s t r h k alike is =
     let same = bytes_eq-Decides s t in (
       λ yes. (h.own ∙ (ap chars (same.0 (sym is ∙ yes)) ∙ sym k.own), alike),
-      λ fields. is ∙ same.1 (sym (encodes-chars s h.utf8) ∙ (ap encode_utf8_all (sym h.own ∙ (fields.0 ∙ k.own)) ∙ encodes-chars t k.utf8)),
+      λ fields. is ∙ same.1 (sym (encodes-chars s h.utf8)
+          ∙ (ap encode_utf8_all (sym h.own ∙ (fields.0 ∙ k.own)) ∙ encodes-chars t k.utf8)),
     )
 
 -- ---- order
@@ -136,12 +147,14 @@ cmp_text a b o is =
       λ h. tie.0 (ap is_eq is ∙ (sym ties ∙ text.1 h)),
     )
 
-cmp_bytes : (a b : Name) (s t : List ℕ) → IsNameOf a s → IsNameOf b t → name_cmp a b ≡ slice_cmp nat_cmp (raw_front a.raw ++ s) (raw_front b.raw ++ t)
+cmp_bytes : (a b : Name) (s t : List ℕ) → IsNameOf a s → IsNameOf b t
+    → name_cmp a b ≡ slice_cmp nat_cmp (raw_front a.raw ++ s) (raw_front b.raw ++ t)
 cmp_bytes a b s t h k = ap₂ (slice_cmp nat_cmp) (written_bytes a s h) (written_bytes b t k)
 
 cmp_fronts : (a b : Name) (s t : List ℕ) (x y : Bool) → IsNameOf a s → IsNameOf b t → a.raw ≡ x → b.raw ≡ y
     → name_cmp a b ≡ slice_cmp nat_cmp (raw_front x ++ s) (raw_front y ++ t)
-cmp_fronts a b s t x y h k p q = cmp_bytes a b s t h k ∙ ap₂ (λ u v. slice_cmp nat_cmp (raw_front u ++ s) (raw_front v ++ t)) p q
+cmp_fronts a b s t x y h k p q = cmp_bytes a b s t h k
+    ∙ ap₂ (λ u v. slice_cmp nat_cmp (raw_front u ++ s) (raw_front v ++ t)) p q
 
 -- raw and plain: the plain name is compared with `r#`
 pub cmp_raw_plain : (a b : Name) (s t : List ℕ) → IsNameOf a s → IsNameOf b t
@@ -153,7 +166,8 @@ pub cmp_plain_raw : (a b : Name) (s t : List ℕ) → IsNameOf a s → IsNameOf 
 cmp_plain_raw a b s t h k p q = sym (cmp_fronts a b s t false true h k p q ∙ order_back (codes "r#") t s h.plain)
 
 -- both raw or both plain: by the names
-pub cmp_alike : (a b : Name) (s t : List ℕ) (x : Bool) → IsNameOf a s → IsNameOf b t → a.raw ≡ x → b.raw ≡ x → slice_cmp nat_cmp s t ≡ name_cmp a b
+pub cmp_alike : (a b : Name) (s t : List ℕ) (x : Bool) → IsNameOf a s → IsNameOf b t → a.raw ≡ x → b.raw ≡ x
+    → slice_cmp nat_cmp s t ≡ name_cmp a b
 cmp_alike a b s t true h k p q = sym (cmp_fronts a b s t true true h k p q)
 cmp_alike a b s t false h k p q = sym (cmp_fronts a b s t false false h k p q)
 

@@ -24,7 +24,8 @@ pub not_some : {A : Type 0} (x : A) → None ≡ Some x → ⊥
 not_some x e = both_ways _ refl (ap is_some e)
 
 -- two options with the same value, if they have one
-pub same_option : {A : Type 0} (a b : Option A) → ((x : A) → a ≡ Some x → b ≡ Some x) → ((x : A) → b ≡ Some x → a ≡ Some x) → a ≡ b
+pub same_option : {A : Type 0} (a b : Option A) → ((x : A) → a ≡ Some x → b ≡ Some x)
+    → ((x : A) → b ≡ Some x → a ≡ Some x) → a ≡ b
 same_option None None f g = refl
 same_option None (Some y) f g = g y refl
 same_option (Some x) b f g = sym (f x refl)
@@ -43,10 +44,12 @@ pub behind_none : (front text : List ℕ) → begins_with front text ≡ false �
 unfolding behind
 behind_none front text h = cond-false _ _ _ h
 
-behind_cases : (b : Bool) (front text rest : List ℕ) → begins_with front text ≡ b → behind front text ≡ Some rest → text ≡ front ++ rest
+behind_cases : (b : Bool) (front text rest : List ℕ) → begins_with front text ≡ b → behind front text ≡ Some rest
+    → text ≡ front ++ rest
 behind_cases true front text rest h e =
     let split = begins_splits front text h in
-    split.1 ∙ ap (λ r. front ++ r) (some_same split.0 rest (sym (behind_front front split.0) ∙ (ap (behind front) (sym split.1) ∙ e)))
+    split.1 ∙ ap (λ r. front ++ r)
+    (some_same split.0 rest (sym (behind_front front split.0) ∙ (ap (behind front) (sym split.1) ∙ e)))
 behind_cases false front text rest h e = absurd (not_some rest (sym (behind_none front text h) ∙ e))
 
 pub behind_splits : (front text rest : List ℕ) → behind front text ≡ Some rest → text ≡ front ++ rest
@@ -63,7 +66,8 @@ before_cases : (o : Option (List ℕ)) (back text front : List ℕ) → behind (
 before_cases None back text front h e = absurd (not_some front e)
 before_cases (Some rest) back text front h e =
     sym (reverse-reverse text) ∙ (ap reverse (behind_splits (reverse back) (reverse text) rest h)
-    ∙ (reverse-append (reverse back) rest ∙ ap₂ (λ xs ys. xs ++ ys) (some_same (reverse rest) front e) (reverse-reverse back)))
+    ∙ (reverse-append (reverse back) rest
+    ∙ ap₂ (λ xs ys. xs ++ ys) (some_same (reverse rest) front e) (reverse-reverse back)))
 
 pub before_splits : (back text front : List ℕ) → before back text ≡ Some front → text ≡ front ++ back
 unfolding before
@@ -75,14 +79,17 @@ before_none back text none = no_option (before back text) (λ front e. none fron
 -- ---- between a front and an end
 
 pub between_within : (front back content : List ℕ) → between front back (front ++ (content ++ back)) ≡ Some content
-between_within front back content = ap (option_and_then (before back)) (behind_front front (content ++ back)) ∙ before_back back content
+between_within front back content = ap (option_and_then (before back)) (behind_front front (content ++ back))
+    ∙ before_back back content
 
 between_cases : (o : Option (List ℕ)) (front back text content : List ℕ) → behind front text ≡ o
     → option_and_then (before back) o ≡ Some content → text ≡ front ++ (content ++ back)
 between_cases None front back text content h e = absurd (not_some content e)
-between_cases (Some rest) front back text content h e = behind_splits front text rest h ∙ ap (λ r. front ++ r) (before_splits back rest content e)
+between_cases (Some rest) front back text content h e = behind_splits front text rest h
+    ∙ ap (λ r. front ++ r) (before_splits back rest content e)
 
-pub between_splits : (front back text content : List ℕ) → between front back text ≡ Some content → text ≡ front ++ (content ++ back)
+pub between_splits : (front back text content : List ℕ) → between front back text ≡ Some content
+    → text ≡ front ++ (content ++ back)
 between_splits front back text content e = between_cases (behind front text) front back text content refl e
 
 -- ---- hash signs
@@ -97,7 +104,8 @@ hashes_all : (text : List ℕ) → list_all is_hash (hashes text) ≡ true
 hashes_all [] = refl
 hashes_all (c ∷ text) = step (is_hash c) refl (hashes_all text)
   where
-    step : (b : Bool) → is_hash c ≡ b → list_all is_hash (hashes text) ≡ true → list_all is_hash (cond b (c ∷ hashes text) []) ≡ true
+    step : (b : Bool) → is_hash c ≡ b → list_all is_hash (hashes text) ≡ true
+        → list_all is_hash (cond b (c ∷ hashes text) []) ≡ true
     step true h all = and_from _ _ h all
     step false h all = refl
 
@@ -126,39 +134,48 @@ hashed_splits text content e = record {
 pub hashed_within : (text content : List ℕ) → IsHashed text content → hashed_content text ≡ Some content
 unfolding hashed_content
 hashed_within text content is =
-    let signs : hashes text ≡ is.signs = ap hashes is.whole ∙ hashes_front is.signs (content ++ (codes "\"" ++ is.signs)) is.all in
-    ap₂ (λ s t. between (s ++ codes "\"") (codes "\"" ++ s) t) signs is.whole ∙ between_within (is.signs ++ codes "\"") (codes "\"" ++ is.signs) content
+    let signs : hashes text ≡ is.signs = ap hashes is.whole
+    ∙ hashes_front is.signs (content ++ (codes "\"" ++ is.signs)) is.all in
+    ap₂ (λ s t. between (s ++ codes "\"") (codes "\"" ++ s) t) signs is.whole
+    ∙ between_within (is.signs ++ codes "\"") (codes "\"" ++ is.signs) content
 
 -- the end of quotes with one sign more
 more_signs : (signs content : List ℕ) → list_all is_hash signs ≡ true
-    → (signs ++ codes "\"") ++ (content ++ (codes "\"" ++ (35 ∷ signs))) ≡ ((signs ++ codes "\"") ++ (content ++ (codes "\"" ++ signs))) ++ codes "#"
+    → (signs ++ codes "\"") ++ (content ++ (codes "\"" ++ (35 ∷ signs)))
+    ≡ ((signs ++ codes "\"") ++ (content ++ (codes "\"" ++ signs))) ++ codes "#"
 more_signs signs content h =
     ap (λ xs. (signs ++ codes "\"") ++ (content ++ (34 ∷ xs))) (sym (turned signs h))
     ∙ (ap (λ xs. (signs ++ codes "\"") ++ xs) (sym (append_assoc content (34 ∷ signs) (codes "#")))
     ∙ sym (append_assoc (signs ++ codes "\"") (content ++ (34 ∷ signs)) (codes "#")))
 
-behind_sign : (signs text content : List ℕ) → list_all is_hash signs ≡ true → 35 ∷ text ≡ (signs ++ codes "\"") ++ (content ++ (codes "\"" ++ signs))
-    → (fewer : List ℕ) × (list_all is_hash fewer ≡ true) × (text ≡ ((fewer ++ codes "\"") ++ (content ++ (codes "\"" ++ fewer))) ++ codes "#")
+behind_sign : (signs text content : List ℕ) → list_all is_hash signs ≡ true
+    → 35 ∷ text ≡ (signs ++ codes "\"") ++ (content ++ (codes "\"" ++ signs))
+    → (fewer : List ℕ) × (list_all is_hash fewer ≡ true)
+    × (text ≡ ((fewer ++ codes "\"") ++ (content ++ (codes "\"" ++ fewer))) ++ codes "#")
 behind_sign [] text content h e = absurd (both_ways true (ap (first_passes is_hash) e) refl)
 behind_sign (c ∷ signs) text content h e =
     let parts = and_parts (is_hash c) (list_all is_hash signs) h in
     let sign : c ≡ 35 = eqb-true c 35 parts.0 in (
       signs,
       parts.1,
-      ap (drop 1) e ∙ (ap (λ d. (signs ++ codes "\"") ++ (content ++ (34 ∷ (d ∷ signs)))) sign ∙ more_signs signs content parts.1),
+      ap (drop 1) e ∙ (ap (λ d.
+          (signs ++ codes "\"") ++ (content ++ (34 ∷ (d ∷ signs)))) sign ∙ more_signs signs content parts.1),
     )
 
 -- a sign at the front and one at the end
 pub hashed_peel : (text : List ℕ) → hashed_content (35 ∷ (text ++ codes "#")) ≡ hashed_content text
 hashed_peel text = same_option _ _ inside outside
   where
-    inside : (content : List ℕ) → hashed_content (35 ∷ (text ++ codes "#")) ≡ Some content → hashed_content text ≡ Some content
+    inside : (content : List ℕ) → hashed_content (35 ∷ (text ++ codes "#")) ≡ Some content
+        → hashed_content text ≡ Some content
     inside content e =
         let is = hashed_splits (35 ∷ (text ++ codes "#")) content e in
         let fewer = behind_sign is.signs (text ++ codes "#") content is.all is.whole in
-        hashed_within text content (record { signs = fewer.0; all = fewer.1; whole = append_cancel_right _ _ (codes "#") fewer.2 })
+        hashed_within text content
+        (record { signs = fewer.0; all = fewer.1; whole = append_cancel_right _ _ (codes "#") fewer.2 })
 
-    outside : (content : List ℕ) → hashed_content text ≡ Some content → hashed_content (35 ∷ (text ++ codes "#")) ≡ Some content
+    outside : (content : List ℕ) → hashed_content text ≡ Some content
+        → hashed_content (35 ∷ (text ++ codes "#")) ≡ Some content
     outside content e =
         let is = hashed_splits text content e in
         hashed_within (35 ∷ (text ++ codes "#")) content (record {
@@ -180,17 +197,20 @@ no_hashes [] e = refl
 no_hashes (c ∷ text) e = step (is_hash c) refl
   where
     step : (b : Bool) → is_hash c ≡ b → hashes (c ∷ text) ≡ []
-    step true h = absurd (not_some text (sym e ∙ (ap (λ d. behind (codes "#") (d ∷ text)) (eqb-true c 35 h) ∙ behind_front (codes "#") text)))
+    step true h = absurd (not_some text
+        (sym e ∙ (ap (λ d. behind (codes "#") (d ∷ text)) (eqb-true c 35 h) ∙ behind_front (codes "#") text)))
     step false h = cond-false _ _ _ h
 
 -- no sign at the front
-pub hashed_plain : (text : List ℕ) → behind (codes "#") text ≡ None → hashed_content text ≡ cooked_content (codes "\"") text
+pub hashed_plain : (text : List ℕ) → behind (codes "#") text ≡ None
+    → hashed_content text ≡ cooked_content (codes "\"") text
 unfolding hashed_content
 hashed_plain text e = ap (λ s. between (s ++ codes "\"") (codes "\"" ++ s) text) (no_hashes text e)
 
 -- ---- the clauses of `strip_prefix` and `strip_suffix`
 
-pub behind_found : (front text : List ℕ) (r : Option (Bor (List ℕ))) → MatchOption r (begins_with front text ≡ false) (λ x. text ≡ front ++ chars x.now)
+pub behind_found : (front text : List ℕ) (r : Option (Bor (List ℕ)))
+    → MatchOption r (begins_with front text ≡ false) (λ x. text ≡ front ++ chars x.now)
     → MatchOption r (behind front text ≡ None) (λ x. behind front text ≡ Some (chars x.now))
 behind_found front text None h = behind_none front text h
 behind_found front text (Some x) h = ap (behind front) h ∙ behind_front front (chars x.now)
@@ -198,17 +218,21 @@ behind_found front text (Some x) h = ap (behind front) h ∙ behind_front front 
 -- a text without an ASCII character at its end is a text
 utf8_before : (text front : List ℕ) (c : ℕ) → IsUtf8 text → text ≡ front ++ (c ∷ []) → c < 128 → IsUtf8 front
 utf8_before text front c utf8 whole low =
-    let byte : get_or text (length front) 0 ≡ c = ap (λ xs. get_or xs (length front) 0) whole ∙ get_or_at front c [] 0 (length front) refl in
+    let byte : get_or text (length front) 0 ≡ c = ap (λ xs. get_or xs (length front) 0) whole
+    ∙ get_or_at front c [] 0 (length front) refl in
     let within : length front < length text = omega (arith, ap length whole, length-append front (c ∷ [])) in
-    let cut : take (length front) text ≡ front = ap (take (length front)) whole ∙ take_at front (c ∷ []) (length front) refl in
-    subst IsUtf8 cut (IsUtf8-take text (length front) utf8 (IsCharBoundary-before_ascii text (length front) within (subst (λ b. b < 128) (sym byte) low)))
+    let cut : take (length front) text ≡ front = ap (take (length front)) whole
+    ∙ take_at front (c ∷ []) (length front) refl in
+    subst IsUtf8 cut (IsUtf8-take text (length front) utf8
+    (IsCharBoundary-before_ascii text (length front) within (subst (λ b. b < 128) (sym byte) low)))
 
 pub before_found : (c : ℕ) (text : List ℕ) (r : Option (Bor (List ℕ))) → c < 128 → IsUtf8 text
     → MatchOption r ((front : List ℕ) → text ≢ front ++ (c ∷ [])) (λ x. text ≡ x.now ++ (c ∷ []))
     → MatchOption r (before (c ∷ []) (chars text) ≡ None) (λ x. before (c ∷ []) (chars text) ≡ Some (chars x.now))
 before_found c text None low utf8 none =
     before_none (c ∷ []) (chars text) (λ front e.
-    none (encode_utf8_all front) (seam_bytes text front (c ∷ []) utf8 e ∙ ap (λ b. encode_utf8_all front ++ (b ++ [])) (encode_ascii c low)))
+    none (encode_utf8_all front)
+    (seam_bytes text front (c ∷ []) utf8 e ∙ ap (λ b. encode_utf8_all front ++ (b ++ [])) (encode_ascii c low)))
 before_found c text (Some x) low utf8 whole =
     let split : chars text ≡ chars x.now ++ (c ∷ []) =
     ap chars whole ∙ (chars-append x.now (c ∷ []) (utf8_before text x.now c utf8 whole low)
@@ -220,7 +244,8 @@ before_found c text (Some x) low utf8 whole =
 -- a sign at the front, none at the end
 pub stop_signs : (all quoted rest : List ℕ) → hashed_content quoted ≡ hashed_content all
     → behind (codes "#") quoted ≡ Some rest → before (codes "#") rest ≡ None → hashed_content all ≡ None
-stop_signs all quoted rest same front back = sym same ∙ (ap hashed_content (behind_splits (codes "#") quoted rest front) ∙ hashed_alone rest back)
+stop_signs all quoted rest same front back = sym same
+    ∙ (ap hashed_content (behind_splits (codes "#") quoted rest front) ∙ hashed_alone rest back)
 
 -- one at either end
 pub past_signs : (all quoted rest inside : List ℕ) → hashed_content quoted ≡ hashed_content all
@@ -239,8 +264,10 @@ past_shorter quoted rest inside front back =
     omega (arith, first, last, length-append inside (codes "#"))
 
 -- none at the front
-pub no_signs : (all quoted : List ℕ) (r : Option (Bor (List ℕ))) → hashed_content quoted ≡ hashed_content all → behind (codes "#") quoted ≡ None
-    → MatchOption r (cooked_content (codes "\"") quoted ≡ None) (λ x. cooked_content (codes "\"") quoted ≡ Some (chars x.now))
+pub no_signs : (all quoted : List ℕ) (r : Option (Bor (List ℕ))) → hashed_content quoted ≡ hashed_content all
+    → behind (codes "#") quoted ≡ None
+    → MatchOption r (cooked_content (codes "\"") quoted ≡ None) (λ x. cooked_content (codes "\"") quoted
+    ≡ Some (chars x.now))
     → MatchOption r (hashed_content all ≡ None) (λ x. hashed_content all ≡ Some (chars x.now))
 no_signs all quoted None same front h = sym same ∙ (hashed_plain quoted front ∙ h)
 no_signs all quoted (Some x) same front h = sym same ∙ (hashed_plain quoted front ∙ h)

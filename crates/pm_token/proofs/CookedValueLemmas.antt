@@ -46,13 +46,15 @@ give_warnings None more items units give = give_warning more items units give
 give_warnings (Some range) more items units give =
     let past = give_warning more items units give in record { sound = past.sound; all = past.all }
 
-give_line : {U : Type 0} (kind : Kind U) (end : ℕ) (line : List ℕ) (units : List U) → Give (items_from kind end (while_rest blank line)) units
+give_line : {U : Type 0} (kind : Kind U) (end : ℕ) (line : List ℕ) (units : List U)
+    → Give (items_from kind end (while_rest blank line)) units
     → Give (items_from kind end (92 ∷ 10 ∷ line)) units
 unfolding front line_skip
 give_line kind end line units give =
     let rest = while_rest blank line in
     subst (λ items. Give items units) (sym (items_past kind end (92 ∷ 10 ∷ line)))
-    (give_warnings (lines_range end (92 ∷ 10 ∷ line) (while_front blank line) rest) (white_range end (92 ∷ 10 ∷ line) rest)
+    (give_warnings (lines_range end (92 ∷ 10 ∷ line) (while_front blank line) rest)
+    (white_range end (92 ∷ 10 ∷ line) rest)
     (items_from kind end rest) units give)
 
 -- ---- the units of the grammar
@@ -65,15 +67,24 @@ flipped : (c d : ℕ) → (d == c) ≡ false → (c == d) ≡ false
 flipped c d e = ne_eqb c d (λ same. eqb-false d c e (sym same))
 
 -- a character that stands for itself
-alone : {U : Type 0} (kind : Kind U) (c : ℕ) (unit : U) → is_string_plain c ≡ true → kind.of_char c ≡ Ok unit → Alone kind c unit
+alone : {U : Type 0} (kind : Kind U) (c : ℕ) (unit : U) → is_string_plain c ≡ true → kind.of_char c ≡ Ok unit
+    → Alone kind c unit
 alone kind c unit plain is =
     let quote = or_none (34 == c) _ (not-true _ plain) in
     let backslash = or_none (92 == c) _ quote.1 in
     let return = or_none (13 == c) _ backslash.1 in
-    record { unit_is = is; no_return = flipped c 13 return.0; no_backslash = flipped c 92 backslash.0; no_quote = flipped c 34 quote.0 }
+    record {
+      unit_is = is;
+      no_return = flipped c 13 return.0;
+      no_backslash = flipped c 92 backslash.0;
+      no_quote =
+          flipped c 34 quote.0;
+    }
 
--- what the kind has to give: for each character that stands for itself, and for each escape, a unit that gives what is made of them
-pub record Fits {U : Type 0} (kind : Kind U) (spell : U → List ℕ) (makes : Makes) (plain : ℕ → Bool) (Escape : Form) : Type 0 where
+-- what the kind has to give: for each character that stands for itself, and for each escape, a unit that gives what is
+-- made of them
+pub record Fits {U : Type 0} (kind : Kind U) (spell : U → List ℕ) (makes : Makes) (plain : ℕ → Bool)
+    (Escape : Form) : Type 0 where
   pub bare : (c : ℕ) → plain c ≡ true → is_string_plain c ≡ true
   pub char : Spells spell kind.of_char makes.of_char plain
   pub escape : (back r : List ℕ) → Escape back r → EscapesAs kind spell (92 ∷ back) (escape_value makes back)
@@ -90,19 +101,23 @@ no_return text = list_all (λ c. not (c == 13)) text
 -- blanks but CR are skipped
 skips : (c : ℕ) → (c == 13) ≡ false → (c == 92) ≡ false → is_skipped true (c ∷ []) ≡ blank c
 skips c return backslash =
-    ap (λ b. (b && false) || is_blank (c ∷ [])) backslash ∙ sym (ap (λ b. is_blank (c ∷ []) || b) return ∙ or-false (is_blank (c ∷ [])))
+    ap (λ b. (b && false) || is_blank (c ∷ [])) backslash
+    ∙ sym (ap (λ b. is_blank (c ∷ []) || b) return ∙ or-false (is_blank (c ∷ [])))
 
 -- an escape isn't skipped
-escape_stands : (letter : ℕ) (back : List ℕ) (skipping : Bool) → (letter == 10) ≡ false → is_skipped skipping (92 ∷ letter ∷ back) ≡ false
+escape_stands : (letter : ℕ) (back : List ℕ) (skipping : Bool) → (letter == 10) ≡ false
+    → is_skipped skipping (92 ∷ letter ∷ back) ≡ false
 escape_stands letter back true line = ap (λ b. (b && pointwise nat_eq back []) || false) line
 escape_stands letter back false line = ap (λ b. (b && pointwise nat_eq back []) || false) line
 
 module _ {U : Type 0} (kind : Kind U) (spell : U → List ℕ) (makes : Makes) (end : ℕ) where
   -- what these units of the grammar give; and so where the blanks at the front are skipped
   abbrev HasBoth : List ℕ → List (List ℕ) → Type 0
-  HasBoth text parts = Has kind spell end text (joined makes false parts) × Has kind spell end (while_rest blank text) (joined makes true parts)
+  HasBoth text parts = Has kind spell end text (joined makes false parts)
+      × Has kind spell end (while_rest blank text) (joined makes true parts)
 
-  has_front : (text rest : List ℕ) (unit : U) (one more : List ℕ) → Begins kind end text unit rest → spell unit ≡ one → Has kind spell end rest more
+  has_front : (text rest : List ℕ) (unit : U) (one more : List ℕ) → Begins kind end text unit rest → spell unit ≡ one
+      → Has kind spell end rest more
       → Has kind spell end text (one ++ more)
   has_front text rest unit one more begins is has =
       record {
@@ -112,27 +127,34 @@ module _ {U : Type 0} (kind : Kind U) (spell : U → List ℕ) (makes : Makes) (
       }
 
   -- one or the other, as the test says
-  has_chosen : (b : Bool) (text other value another : List ℕ) → Has kind spell end text value → Has kind spell end other another
+  has_chosen : (b : Bool) (text other value another : List ℕ) → Has kind spell end text value
+      → Has kind spell end other another
       → Has kind spell end (cond b text other) (cond b value another)
   has_chosen true text other value another has more = has
   has_chosen false text other value another has more = more
 
   -- a character that stands for itself
-  has_plain : (c : ℕ) (rest : List ℕ) (parts : List (List ℕ)) (unit : U) → Alone kind c unit → spell unit ≡ makes.of_char c → HasBoth rest parts
+  has_plain : (c : ℕ) (rest : List ℕ) (parts : List (List ℕ)) (unit : U) → Alone kind c unit
+      → spell unit ≡ makes.of_char c → HasBoth rest parts
       → HasBoth (c ∷ rest) ((c ∷ []) ∷ parts)
   has_plain c rest parts unit is gives has =
       let value = unit_value makes (c ∷ []) in
       let value_is : spell unit ≡ value = gives ∙ sym (cond-false _ _ _ is.no_backslash) in
-      let here = has_front (c ∷ rest) rest unit value (joined makes false parts) (begins_alone kind end c unit rest is) value_is has.0 in
-      let both = has_chosen (blank c) (while_rest blank rest) (c ∷ rest) (joined makes true parts) (value ++ joined makes false parts) has.1 here in (
-        subst (λ b. Has kind spell end (c ∷ rest) (cond b (joined makes true parts) (value ++ joined makes false parts)))
+      let here = has_front (c ∷ rest) rest unit value (joined makes false parts)
+      (begins_alone kind end c unit rest is) value_is has.0 in
+      let both = has_chosen (blank c) (while_rest blank rest) (c ∷ rest) (joined makes true parts)
+      (value ++ joined makes false parts) has.1 here in (
+        subst (λ b. Has kind spell end (c ∷ rest)
+            (cond b (joined makes true parts) (value ++ joined makes false parts)))
             (sym (ap (λ b. (b && false) || false) is.no_backslash)) here,
-        subst (λ b. Has kind spell end (while_rest blank (c ∷ rest)) (cond b (joined makes true parts) (value ++ joined makes false parts)))
+        subst (λ b. Has kind spell end (while_rest blank (c ∷ rest))
+            (cond b (joined makes true parts) (value ++ joined makes false parts)))
             (sym (skips c is.no_return is.no_backslash)) both,
       )
 
   -- an escape
-  has_escape : (back rest : List ℕ) (parts : List (List ℕ)) → EscapesAs kind spell (92 ∷ back) (escape_value makes back) → HasBoth rest parts
+  has_escape : (back rest : List ℕ) (parts : List (List ℕ)) → EscapesAs kind spell (92 ∷ back) (escape_value makes back)
+      → HasBoth rest parts
       → HasBoth (92 ∷ (back ++ rest)) ((92 ∷ back) ∷ parts)
   has_escape back rest parts is has = (with false, with true)
     where
@@ -141,39 +163,55 @@ module _ {U : Type 0} (kind : Kind U) (spell : U → List ℕ) (makes : Makes) (
           (begins_escape kind end (92 ∷ back) is.unit rest is.escapes) is.value_is has.0
 
       stands : (skipping : Bool) → is_skipped skipping (92 ∷ back) ≡ false
-      stands skipping = ap (is_skipped skipping) is.escapes.whole ∙ escape_stands is.escapes.letter is.escapes.back skipping is.escapes.no_line
+      stands skipping = ap (is_skipped skipping) is.escapes.whole
+          ∙ escape_stands is.escapes.letter is.escapes.back skipping is.escapes.no_line
 
       with : (skipping : Bool) → Has kind spell end (92 ∷ (back ++ rest)) (joined makes skipping ((92 ∷ back) ∷ parts))
       with skipping =
-          subst (λ b. Has kind spell end (92 ∷ (back ++ rest)) (cond b (joined makes true parts) (escape_value makes back ++ joined makes false parts)))
+          subst (λ b. Has kind spell end (92 ∷ (back ++ rest))
+          (cond b (joined makes true parts) (escape_value makes back ++ joined makes false parts)))
           (sym (stands skipping)) here
 
   -- a line end after a backslash
-  has_line : (rest : List ℕ) (parts : List (List ℕ)) → HasBoth rest parts → HasBoth (92 ∷ 10 ∷ rest) ((92 ∷ 10 ∷ []) ∷ parts)
+  has_line : (rest : List ℕ) (parts : List (List ℕ)) → HasBoth rest parts
+      → HasBoth (92 ∷ 10 ∷ rest) ((92 ∷ 10 ∷ []) ∷ parts)
   has_line rest parts has =
       let here : Has kind spell end (92 ∷ 10 ∷ rest) (joined makes true parts) =
-      record { units = has.1.units; give = give_line kind end rest has.1.units has.1.give; value_is = has.1.value_is } in
+      record {
+        units = has.1.units;
+        give = give_line kind end rest has.1.units has.1.give;
+        value_is =
+            has.1.value_is;
+      } in
       (here, here)
 
   module _ (plain : ℕ → Bool) (Escape : Form) (fits : Fits kind spell makes plain Escape) where
-    has_unit : (unit rest r : List ℕ) (parts : List (List ℕ)) → no_return (unit ++ rest) ≡ true → BodyUnit plain Escape unit r → HasBoth rest parts
+    has_unit : (unit rest r : List ℕ) (parts : List (List ℕ)) → no_return (unit ++ rest) ≡ true
+        → BodyUnit plain Escape unit r → HasBoth rest parts
         → HasBoth (unit ++ rest) (unit ∷ parts)
     has_unit unit rest r parts clean (inl one) has =
         let gives = fits.char one.0 one.2 in
         subst (λ p. HasBoth (p ++ rest) (p ∷ parts)) (sym one.1)
-        (has_plain one.0 rest parts gives.unit (alone kind one.0 gives.unit (fits.bare one.0 one.2) gives.is) gives.value_is has)
-    has_unit unit rest r parts clean (inr (inl newline)) has = absurd (both_ways false refl (ap (λ p. no_return (p ++ rest)) (sym newline) ∙ clean))
-    has_unit unit rest r parts clean (inr (inr then)) has = subst (λ p. HasBoth (p ++ rest) (p ∷ parts)) (sym whole) (behind then.second)
+        (has_plain one.0 rest parts gives.unit (alone kind one.0 gives.unit (fits.bare one.0 one.2) gives.is)
+        gives.value_is has)
+    has_unit unit rest r parts clean (inr (inl newline)) has =
+        absurd (both_ways false refl (ap (λ p. no_return (p ++ rest)) (sym newline) ∙ clean))
+    has_unit unit rest r parts clean (inr (inr then)) has =
+        subst (λ p. HasBoth (p ++ rest) (p ∷ parts)) (sym whole) (behind then.second)
       where
         whole : unit ≡ 92 ∷ then.back
         whole = then.whole ∙ ap (λ p. p ++ then.back) then.first
 
         behind : Either Continuation Escape then.back r → HasBoth (92 ∷ (then.back ++ rest)) ((92 ∷ then.back) ∷ parts)
-        behind (inl (inl line)) = subst (λ p. HasBoth (92 ∷ (p ++ rest)) ((92 ∷ p) ∷ parts)) (sym line) (has_line rest parts has)
-        behind (inl (inr newline)) = absurd (both_ways false refl (sym (ap (λ p. no_return (p ++ rest)) (whole ∙ ap (λ p. 92 ∷ p) newline)) ∙ clean))
+        behind (inl (inl line)) =
+            subst (λ p. HasBoth (92 ∷ (p ++ rest)) ((92 ∷ p) ∷ parts)) (sym line) (has_line rest parts has)
+        behind (inl (inr newline)) =
+            absurd (both_ways false refl
+            (sym (ap (λ p. no_return (p ++ rest)) (whole ∙ ap (λ p. 92 ∷ p) newline)) ∙ clean))
         behind (inr escaped) = has_escape then.back rest parts (fits.escape then.back r escaped) has
 
-    has_units : (parts : List (List ℕ)) (r : List ℕ) → no_return (concat parts) ≡ true → Each (BodyUnit plain Escape) parts r → HasBoth (concat parts) parts
+    has_units : (parts : List (List ℕ)) (r : List ℕ) → no_return (concat parts) ≡ true
+        → Each (BodyUnit plain Escape) parts r → HasBoth (concat parts) parts
     has_units [] r clean each =
         let none : Has kind spell end [] [] = record { units = []; give = give_none kind end; value_is = refl } in
         (none, none)
@@ -187,12 +225,15 @@ record Reads {U : Type 0} (kind : Kind U) (spell : U → List ℕ) (content valu
   is : value_of (items kind content) ≡ Ok units
   value_is : flat_map spell units ≡ value
 
-reads : {U : Type 0} (kind : Kind U) (spell : U → List ℕ) (makes : Makes) (plain : ℕ → Bool) (Escape : Form) (content r : List ℕ)
+reads : {U : Type 0} (kind : Kind U) (spell : U → List ℕ) (makes : Makes) (plain : ℕ → Bool) (Escape : Form)
+    (content r : List ℕ)
     → Fits kind spell makes plain Escape → no_return content ≡ true
     → (many : Many (BodyUnit plain Escape) content r) → Reads kind spell content (joined makes false many.units)
 reads kind spell makes plain Escape content r fits clean many =
-    let has = has_units kind spell makes (bytes content) plain Escape fits many.units r (ap no_return (sym many.whole) ∙ clean) many.each in
-    let here = subst (λ text. Has kind spell (bytes content) text (joined makes false many.units)) (sym many.whole) has.0 in
+    let has = has_units kind spell makes (bytes content) plain Escape fits many.units r
+    (ap no_return (sym many.whole) ∙ clean) many.each in
+    let here = subst (λ text. Has kind spell (bytes content) text (joined makes false many.units))
+    (sym many.whole) has.0 in
     record { units = here.units; is = given_value (items kind content) here.units here.give; value_is = here.value_is }
 
 -- ---- the three kinds
@@ -222,7 +263,8 @@ pub strings_have_values : StringsHaveValues
 unfolding Str
 strings_have_values content is clean = record {
   units = content_units (codes "\"") content StringUnit is;
-  value_is = λ body. let has = reads string_kind one numbers is_string_plain StringEscape content (codes "\"") string_fits clean body in
+  value_is = λ body. let has = reads string_kind one numbers is_string_plain StringEscape content
+      (codes "\"") string_fits clean body in
       ap (λ o. value_from (option_map (units string_kind) o) raw) (between_within (codes "\"") (codes "\"") content)
       ∙ (ap (λ v. value_from (Some v) raw) has.is ∙ ap Ok (sym (ones has.units) ∙ has.value_is));
 }
@@ -233,7 +275,8 @@ strings_have_values content is clean = record {
 pub byte_strings_have_values : ByteStringsHaveValues
 byte_strings_have_values content is clean = record {
   units = content_units (codes "b\"") content ByteUnit is;
-  value_is = λ body. let has = reads byte_kind one numbers is_byte_plain ByteEscape content (codes "\"") byte_fits clean body in
+  value_is = λ body. let has = reads byte_kind one numbers is_byte_plain ByteEscape content
+      (codes "\"") byte_fits clean body in
       ap (λ o. value_from (option_map (units byte_kind) o) raw) (between_within (codes "b\"") (codes "\"") content)
       ∙ (ap (λ v. value_from (Some v) raw) has.is ∙ ap Ok (sym (ones has.units) ∙ has.value_is));
 }
@@ -245,9 +288,11 @@ pub c_strings_have_values : CStringsHaveValues
 c_strings_have_values content is clean = record {
   units = content_units (codes "c\"") content CUnit is;
   value_is = λ body. let has = reads c_kind unit_bytes utf8 is_c_plain CEscape content (codes "\"") c_fits clean body in
-      ap (λ o. value_from (option_map (λ text. c_bytes (units c_kind text)) o) raw) (between_within (codes "c\"") (codes "\"") content)
+      ap (λ o. value_from (option_map (λ text. c_bytes (units c_kind text)) o) raw)
+      (between_within (codes "c\"") (codes "\"") content)
       ∙ (ap (λ v. value_from (Some (c_bytes v)) raw) has.is ∙ ap (λ v. Ok (ended v)) has.value_is);
 }
   where
     raw : Option (List ℕ)
-    raw = option_map (λ text. ended (encode_utf8_all text)) (raw_content (codes "cr") (cooked_text (codes "c\"") content))
+    raw = option_map (λ text. ended (encode_utf8_all text))
+        (raw_content (codes "cr") (cooked_text (codes "c\"") content))

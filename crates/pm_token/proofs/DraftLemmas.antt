@@ -1,12 +1,15 @@
 -- A text that grows, by its characters.
-use Rattle.std.proofs.Common.{◌≡◌, ℕ, ◌≤◌, ◌<◌, true, false, List, [], ◌∷◌, ◌++◌, if◌then◌else◌, Result, Ok, Err, OnOk, refl, sym, ap, ap₂, ◌∙◌, subst}
-use Rattle.std.proofs.Common.{append-nil, append_assoc, length, length-append, arith, ne_eqb, take, drop, leb-true, ltb-true, nat_le, ◌==◌, not}
+use Rattle.std.proofs.Common.{◌≡◌, ℕ, ◌≤◌, ◌<◌, true, false, List, [], ◌∷◌, ◌++◌, if◌then◌else◌, Result, Ok, Err, OnOk}
+use Rattle.std.proofs.Common.{refl, sym, ap, ap₂, ◌∙◌, subst}
+use Rattle.std.proofs.Common.{append-nil, append_assoc, length, length-append, arith, ne_eqb, take, drop, leb-true}
+use Rattle.std.proofs.Common.{ltb-true, nat_le, ◌==◌, not}
 use Rattle.std.specs.Prelude.{encode_utf8, is_ok}
 use Rattle.std.specs.Char.{IsScalar}
 use Rattle.std.specs.List.{list_all}
 use Rattle.std.specs.Str.{chars, IsCharBoundary, IsUtf8}
 use Rattle.std.proofs.lemmas.Str.{chars-nil, chars-append, chars_past_char, IsUtf8-encode}
-use Rattle.std.proofs.lemmas.Bool.{and_left, and_right, and_parts, and_from, cond-true, cond-false, lt-ltb, le-ltb, not-true}
+use Rattle.std.proofs.lemmas.Bool.{and_left, and_right, and_parts, and_from, cond-true, cond-false, lt-ltb, le-ltb}
+use Rattle.std.proofs.lemmas.Bool.{not-true}
 use Rattle.lexical.specs.Finder.{while_front, while_rest}
 use Rattle.lexical.specs.Form.{Run}
 use Rattle.lexical.proofs.FinderLemmas.{finds_run}
@@ -15,12 +18,14 @@ use Rattle.pm_token.specs.Escaped.{is_plain_ascii, written_char, written, conten
 
 -- the characters of one character's bytes
 chars-encode : (c : ℕ) → IsScalar c → chars (encode_utf8 c) ≡ c ∷ []
-chars-encode c is = chars_past_char (encode_utf8 c) [] c (IsUtf8-encode c is) (sym (append-nil (encode_utf8 c))) ∙ ap (λ cs. c ∷ cs) chars-nil
+chars-encode c is = chars_past_char (encode_utf8 c) [] c (IsUtf8-encode c is) (sym (append-nil (encode_utf8 c)))
+    ∙ ap (λ cs. c ∷ cs) chars-nil
 
 -- after `push`
 pub chars_pushed : {E : Type 0} (r : Result (Unit {0}) E) (new old : List ℕ) (c : ℕ) → IsUtf8 old → IsScalar c
     → new ≡ (if is_ok r then old ++ encode_utf8 c else old) → OnOk r (chars new ≡ chars old ++ c ∷ [])
-chars_pushed (Ok v) new old c utf8 is e = ap chars e ∙ (chars-append old (encode_utf8 c) utf8 ∙ ap (λ cs. chars old ++ cs) (chars-encode c is))
+chars_pushed (Ok v) new old c utf8 is e = ap chars e
+    ∙ (chars-append old (encode_utf8 c) utf8 ∙ ap (λ cs. chars old ++ cs) (chars-encode c is))
 chars_pushed (Err v) new old c utf8 is e = tt
 
 -- after `push_str`
@@ -39,7 +44,8 @@ content_more quote c old new text rest utf8 split e =
     ∙ (append_assoc old (written quote written_char c (chars rest)) (content quote written_char (chars rest))
     ∙ ap (λ cs. old ++ content quote written_char cs) (sym (chars_past_char text rest c utf8 split)))
 
-pub content_end : (quote : ℕ) (old text : List ℕ) → length text ≡ 0 → old ++ content quote written_char (chars text) ≡ old
+pub content_end : (quote : ℕ) (old text : List ℕ) → length text ≡ 0
+    → old ++ content quote written_char (chars text) ≡ old
 content_end quote old [] e = ap (λ cs. old ++ content quote written_char cs) chars-nil ∙ append-nil old
 content_end quote old (b ∷ text) e = absurd (omega arith)
 
@@ -50,7 +56,8 @@ pub plain_past : (quote c : ℕ) → 128 ≤ c → is_plain_ascii quote c ≡ fa
 plain_past quote c high = and_right (nat_le 32 c) _ (and_left _ _ (le-ltb c 127 (omega arith)))
 
 -- each is written as it is
-plain_written : (quote c : ℕ) (rest : List ℕ) → is_plain_ascii quote c ≡ true → written quote written_char c rest ≡ c ∷ []
+plain_written : (quote c : ℕ) (rest : List ℕ) → is_plain_ascii quote c ≡ true
+    → written quote written_char c rest ≡ c ∷ []
 plain_written quote c rest is =
     let low = and_parts _ _ is in
     let high = and_parts _ _ low.1 in
@@ -65,7 +72,8 @@ plain_written quote c rest is =
     ∙ (cond-false _ _ _ (other 10 (omega arith))
     ∙ (cond-false _ _ _ (not-true _ signs.0)
     ∙ (cond-false _ _ _ (not-true _ signs.1)
-    ∙ cond-true _ _ _ (cond-true _ _ _ (lt-ltb c 128 (omega arith)) ∙ and_from _ _ low.0 (ap not (ne_eqb c 127 (λ e. omega arith))))))))))
+    ∙ cond-true _ _ _ (cond-true _ _ _ (lt-ltb c 128 (omega arith))
+    ∙ and_from _ _ low.0 (ap not (ne_eqb c 127 (λ e. omega arith))))))))))
 
 pub content_plain : (quote : ℕ) (front rest : List ℕ) → list_all (is_plain_ascii quote) front ≡ true
     → content quote written_char (front ++ rest) ≡ front ++ content quote written_char rest
@@ -76,7 +84,8 @@ content_plain quote (c ∷ front) rest all =
 
 -- what is written and what is still to be written stay the same
 pub content_past : (quote : ℕ) (old new front text rest : List ℕ) → text ≡ front ++ rest → new ≡ old ++ front
-    → list_all (is_plain_ascii quote) front ≡ true → new ++ content quote written_char rest ≡ old ++ content quote written_char text
+    → list_all (is_plain_ascii quote) front ≡ true
+    → new ++ content quote written_char rest ≡ old ++ content quote written_char text
 content_past quote old new front text rest split wrote plain =
     ap (λ x. x ++ content quote written_char rest) wrote
     ∙ (append_assoc old front (content quote written_char rest)
@@ -87,13 +96,15 @@ pub past_shorter : (front text rest : List ℕ) → text ≡ front ++ rest → l
 past_shorter front text rest split = omega (arith, ap length split, length-append front rest)
 
 -- so many bytes are of the front that stands for itself
-module _ (quote n : ℕ) (text : List ℕ) (utf8 : IsUtf8 text) (size : n ≡ length (while_front (is_plain_ascii quote) text)) where
+module _ (quote n : ℕ) (text : List ℕ) (utf8 : IsUtf8 text)
+    (size : n ≡ length (while_front (is_plain_ascii quote) text)) where
   pub plain_boundary : IsCharBoundary text n
   plain_boundary = run_boundary (is_plain_ascii quote) false (plain_past quote) text utf8 n size
 
   -- and they are written
   pub plain_pushed : (old new back : List ℕ) → IsUtf8 old → new ≡ old ++ take n text → back ≡ drop n text
-      → (front : List ℕ) × (chars text ≡ front ++ chars back) × (chars new ≡ chars old ++ front) × Run (is_plain_ascii quote) front (chars back)
+      → (front : List ℕ) × (chars text ≡ front ++ chars back) × (chars new ≡ chars old ++ front)
+      × Run (is_plain_ascii quote) front (chars back)
   plain_pushed old new back is wrote rest =
       let run = (finds_run (is_plain_ascii quote)).sound (chars text) in
       let same : while_rest (is_plain_ascii quote) (chars text) ≡ chars back =

@@ -19,7 +19,8 @@ use Rattle.pm_token.proofs.UnicodeEscapeLemmas.{unicode_escapes}
 
 -- ---- letters
 
-one_low : (letters : List ℕ) (c : ℕ) → list_all (λ d. nat_lt d 128) letters ≡ true → is_one_of letters c ≡ true → c < 128
+one_low : (letters : List ℕ) (c : ℕ) → list_all (λ d. nat_lt d 128) letters ≡ true → is_one_of letters c ≡ true
+    → c < 128
 one_low [] c low h = absurd (both_ways false refl h)
 one_low (d ∷ letters) c low h =
     let parts = and_parts (nat_lt d 128) (list_all (λ d. nat_lt d 128) letters) low in
@@ -38,13 +39,15 @@ that_is (Some d) c h = ap Some (eqb-true d c h)
 
 -- a letter is read as the character that it stands for, which passes, and begins no other escape
 abbrev is_letter : (ℕ → Bool) → ℕ → Bool
-is_letter passes c = (is_that (letter c) (meant c) && passes (meant c)) && (not (c == 120) && (not (c == 117) && not (c == 10)))
+is_letter passes c = (is_that (letter c) (meant c) && passes (meant c)) &&
+    (not (c == 120) && (not (c == 117) && not (c == 10)))
 
 -- letters for which that holds
 abbrev AreLetters : (ℕ → Bool) → List ℕ → Type 0
 AreLetters passes letters = (c : ℕ) → is_one_of letters c ≡ true → is_letter passes c ≡ true
 
-letter_escapes : {U : Type 0} (kind : Kind U) (spell : U → List ℕ) (makes : Makes) (passes : ℕ → Bool) (letters back r : List ℕ)
+letter_escapes : {U : Type 0} (kind : Kind U) (spell : U → List ℕ) (makes : Makes) (passes : ℕ → Bool)
+    (letters back r : List ℕ)
     → Spells spell kind.of_char makes.of_char passes → AreLetters passes letters → Stands (rule.simple letters) back r
     → EscapesAs kind spell (92 ∷ back) (escape_value makes back)
 unfolding escape
@@ -55,7 +58,8 @@ letter_escapes kind spell makes passes letters back r spells are simple =
     let others = and_parts (not (c == 120)) _ parts.1 in
     let more = and_parts (not (c == 117)) (not (c == 10)) others.1 in
     let gives = spells (meant c) char.1 in
-    let read : letter_unit kind (letter c) ≡ Ok gives.unit = ap (letter_unit kind) (that_is (letter c) (meant c) char.0) ∙ gives.is in
+    let read : letter_unit kind (letter c) ≡ Ok gives.unit = ap (letter_unit kind) (that_is (letter c) (meant c) char.0)
+    ∙ gives.is in
     subst (λ p. EscapesAs kind spell (92 ∷ p) (escape_value makes p)) (sym simple.1) (
     record {
       unit = gives.unit;
@@ -72,21 +76,25 @@ letter_escapes kind spell makes passes letters back r spells are simple =
 
 -- letters of ASCII, by trying all of it
 letters_are : (passes : ℕ → Bool) (letters : List ℕ) → list_all (λ d. nat_lt d 128) letters ≡ true
-    → agree_below (λ x. is_one_of letters x && is_letter passes x) (is_one_of letters) 128 ≡ true → AreLetters passes letters
+    → agree_below (λ x. is_one_of letters x && is_letter passes x) (is_one_of letters) 128 ≡ true
+    → AreLetters passes letters
 letters_are passes letters low agree c h =
     (and_parts (is_one_of letters c) (is_letter passes c)
-    (agree_below_at (λ x. is_one_of letters x && is_letter passes x) (is_one_of letters) 128 c agree (one_low letters c low h) ∙ h)).1
+    (agree_below_at (λ x. is_one_of letters x && is_letter passes x) (is_one_of letters) 128 c agree
+    (one_low letters c low h) ∙ h)).1
 
 -- ---- escapes
 
-pub string_escape : (back r : List ℕ) → StringEscape back r → EscapesAs string_kind one (92 ∷ back) (escape_value numbers back)
+pub string_escape : (back r : List ℕ) → StringEscape back r
+    → EscapesAs string_kind one (92 ∷ back) (escape_value numbers back)
 string_escape back r (inl simple) =
     letter_escapes string_kind one numbers (λ c. true) (codes "nrt\\0'\"") back r string_chars
     (letters_are (λ c. true) (codes "nrt\\0'\"") refl refl) simple
 string_escape back r (inr (inl hex)) = low_pair back r hex
 string_escape back r (inr (inr code)) = unicode_escapes string_kind one numbers (λ n. true) back r string_chars code
 
-pub byte_escape : (back r : List ℕ) → ByteEscape back r → EscapesAs byte_kind one (92 ∷ back) (escape_value numbers back)
+pub byte_escape : (back r : List ℕ) → ByteEscape back r
+    → EscapesAs byte_kind one (92 ∷ back) (escape_value numbers back)
 byte_escape back r (inl simple) =
     letter_escapes byte_kind one numbers is_ascii (codes "nrt\\0'\"") back r byte_chars
     (letters_are is_ascii (codes "nrt\\0'\"") refl refl) simple

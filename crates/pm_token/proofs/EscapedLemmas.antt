@@ -37,14 +37,17 @@ pub record Allows (class : ℕ → Bool) (Escape : Form) (plain : ℕ → List �
   pub zeros : (r : List ℕ) → (c == 0) ≡ true → Escape (codes "0") r × Escape (codes "x00") r
   pub other : (r : List ℕ) → is_plain quote c ≡ true → SingleUnit class Escape (plain c) r
 
-behind_backslash : (class : ℕ → Bool) (Escape : Form) (back r : List ℕ) → Escape back r → SingleUnit class Escape (92 ∷ back) r
-behind_backslash class Escape back r is = inr (record { front = codes "\\"; back = back; whole = refl; first = refl; second = is })
+behind_backslash : (class : ℕ → Bool) (Escape : Form) (back r : List ℕ) → Escape back r
+    → SingleUnit class Escape (92 ∷ back) r
+behind_backslash class Escape back r is =
+    inr (record { front = codes "\\"; back = back; whole = refl; first = refl; second = is })
 
 flipped : (c d : ℕ) → (c == d) ≡ false → (d == c) ≡ false
 flipped c d e = ne_eqb d c (λ same. eqb-false c d e (sym same))
 
 -- what is none of these stands for itself
-bare : (quote c : ℕ) → (c == 9) ≡ false → (c == 13) ≡ false → (c == 10) ≡ false → (c == 92) ≡ false → (c == quote) ≡ false
+bare : (quote c : ℕ) → (c == 9) ≡ false → (c == 13) ≡ false → (c == 10) ≡ false → (c == 92) ≡ false
+    → (c == quote) ≡ false
     → is_plain quote c ≡ true
 bare quote c tab cr lf backslash other =
     ap not (or_from _ _ (flipped c quote other) (or_from _ _ (flipped c 92 backslash)
@@ -52,11 +55,13 @@ bare quote c tab cr lf backslash other =
 
 -- whatever is written for a character, before anything
 pub written_stands : (class : ℕ → Bool) (Escape : Form) (plain : ℕ → List ℕ) (quote c : ℕ) (rest r : List ℕ)
-    → Allows class Escape plain quote c → is_one_of (codes "nrt\\'\"") quote ≡ true → SingleUnit class Escape (written quote plain c rest) r
+    → Allows class Escape plain quote c
+    → is_one_of (codes "nrt\\'\"") quote ≡ true → SingleUnit class Escape (written quote plain c rest) r
 written_stands class Escape plain quote c rest r allows is =
     cond_both ((c == 0) && first_passes is_octal_digit rest) _ _ (λ p. SingleUnit class Escape p r)
     (λ e. behind_backslash class Escape _ r (allows.zeros r (and_parts _ _ e).0).1)
-    (λ e. cond_both (c == 0) _ _ (λ p. SingleUnit class Escape p r) (λ e. behind_backslash class Escape _ r (allows.zeros r e).0)
+    (λ e. cond_both (c == 0) _ _ (λ p. SingleUnit class Escape p r)
+    (λ e. behind_backslash class Escape _ r (allows.zeros r e).0)
     (λ e. cond_both (c == 9) _ _ (λ p. SingleUnit class Escape p r) (λ e. short 116 refl)
     (λ tab. cond_both (c == 13) _ _ (λ p. SingleUnit class Escape p r) (λ e. short 114 refl)
     (λ cr. cond_both (c == 10) _ _ (λ p. SingleUnit class Escape p r) (λ e. short 110 refl)
@@ -73,7 +78,8 @@ code : (allowed : ℕ → Bool) (c : ℕ) (p r : List ℕ) (is : IsCoded c p) �
     → Stands (rule.code allowed) (digits_of (is.first ∷ is.others)) (125 ∷ r)
 code allowed c p r is scalar fits =
     let digits = is.first ∷ is.others in
-    let count : length (filter is_ascii_hexdigit (digits_of digits)) ≤ 6 = omega (arith, length_digits digits is.hex, is.few) in
+    let count : length (filter is_ascii_hexdigit (digits_of digits)) ≤ 6 =
+    omega (arith, length_digits digits is.hex, is.few) in
     let number : hex_value (digits_of digits) ≡ c = hex_value-digits digits is.hex ∙ is.value in (
       record {
         front = digit_char is.first ∷ [];
@@ -82,28 +88,40 @@ code allowed c p r is scalar fits =
         first = (digit_char is.first, refl, hex_digit is.first is.hex.0);
         second = record { each = hex_digits is.others is.hex.1; stops = refl };
       },
-      and_from _ _ (le-leb _ _ count) (and_from _ _ (ap is_scalar number ∙ is_scalar-IsScalar c scalar) (ap allowed number ∙ fits)),
+      and_from _ _ (le-leb _ _ count)
+          (and_from _ _ (ap is_scalar number ∙ is_scalar-IsScalar c scalar) (ap allowed number ∙ fits)),
     )
 
 -- the escape by a character's number
-pub unicode : (letters : List ℕ) (pair : Rule) (allowed class : ℕ → Bool) (c : ℕ) (r : List ℕ) → IsScalar c → allowed c ≡ true
+pub unicode : (letters : List ℕ) (pair : Rule) (allowed class : ℕ → Bool) (c : ℕ) (r : List ℕ) → IsScalar c
+    → allowed c ≡ true
     → SingleUnit class (Stands (rule.escape_of letters pair allowed)) (escape_unicode c) r
 unicode letters pair allowed class c r scalar fits =
     let is = coded c scalar in
     let digits = digits_of (is.first ∷ is.others) in
     subst (λ q. SingleUnit class (Stands (rule.escape_of letters pair allowed)) q r) (sym is.whole)
-    (behind_backslash class (Stands (rule.escape_of letters pair allowed)) (117 ∷ 123 ∷ (digits ++ 125 ∷ [])) r (inr (inr (record {
+    (behind_backslash class (Stands (rule.escape_of letters pair allowed)) (117 ∷ 123 ∷ (digits ++ 125 ∷ [])) r
+    (inr (inr (record {
       front = codes "u{";
       back = digits ++ 125 ∷ [];
       whole = refl;
       first = refl;
-      second = record { front = digits; back = 125 ∷ []; whole = refl; first = code allowed c (escape_unicode c) r is scalar fits; second = refl };
+      second = record {
+        front = digits;
+        back = 125 ∷ [];
+        whole = refl;
+        first =
+            code allowed c (escape_unicode c) r is scalar fits;
+        second = refl;
+      };
     }))))
 
 -- one of these letters is one of all
-pub letter_of_all : (letter : ℕ) → is_one_of (codes "nrt\\'\"") letter ≡ true → is_one_of (codes "nrt\\0'\"") letter ≡ true
+pub letter_of_all : (letter : ℕ)
+    → is_one_of (codes "nrt\\'\"") letter ≡ true → is_one_of (codes "nrt\\0'\"") letter ≡ true
 letter_of_all letter is =
-    any_of (λ d. is_one_of (codes "nrt\\0'\"") d ≡ true) (codes "nrt\\'\"") letter (refl, (refl, (refl, (refl, (refl, (refl, tt)))))) is
+    any_of (λ d. is_one_of (codes "nrt\\0'\"") d ≡ true) (codes "nrt\\'\"") letter
+    (refl, (refl, (refl, (refl, (refl, (refl, tt)))))) is
 
 zeros_of_string : (r : List ℕ) → StringEscape (codes "0") r × StringEscape (codes "x00") r
 zeros_of_string r = (
@@ -113,7 +131,14 @@ zeros_of_string r = (
     back = codes "00";
     whole = refl;
     first = refl;
-    second = record { front = codes "0"; back = codes "0"; whole = refl; first = (48, refl, refl); second = (48, refl, refl) };
+    second = record {
+      front = codes "0";
+      back = codes "0";
+      whole = refl;
+      first = (48, refl, refl);
+      second =
+          (48, refl, refl);
+    };
   })),
 )
 
@@ -124,7 +149,8 @@ allows_char class quote c scalar within = record {
   letter = λ letter r is. inl (letter, refl, letter_of_all letter is);
   zeros = λ r e. zeros_of_string r;
   other = λ r plain. cond_both (is_bare c) (c ∷ []) (escape_unicode c) (λ p. SingleUnit class StringEscape p r)
-      (λ e. inl (c, refl, within c plain)) (λ e. unicode (codes "nrt\\0'\"") rule.low_pair (λ n. true) class c r scalar refl);
+      (λ e. inl (c, refl, within c plain))
+      (λ e. unicode (codes "nrt\\0'\"") rule.low_pair (λ n. true) class c r scalar refl);
 }
 
 -- ---- bodies
@@ -136,10 +162,18 @@ string_plain c is =
     let more = or_parts (13 == c) _ (or_parts (10 == c) _ others.1).1 in
     ap not (or_from _ _ parts.0 (or_from _ _ others.0 (or_from _ _ more.0 refl)))
 
-pub body_unit : (class : ℕ → Bool) (Escape : Form) (p r : List ℕ) → SingleUnit class Escape p r → BodyUnit class Escape p r
+pub body_unit : (class : ℕ → Bool) (Escape : Form) (p r : List ℕ) → SingleUnit class Escape p r
+    → BodyUnit class Escape p r
 body_unit class Escape p r is = elim is [
   | inl one ↦ inl one
-  | inr escape ↦ inr (inr (record { front = escape.front; back = escape.back; whole = escape.whole; first = escape.first; second = inr escape.second }))
+  | inr escape ↦ inr (inr (record {
+    front = escape.front;
+    back = escape.back;
+    whole = escape.whole;
+    first =
+        escape.first;
+    second = inr escape.second;
+  }))
 ]
 
 -- what is written for each character
@@ -147,7 +181,8 @@ abbrev pub units_of : ℕ → (ℕ → List ℕ) → List ℕ → List (List ℕ
 units_of quote plain [] = []
 units_of quote plain (c ∷ rest) = written quote plain c rest ∷ units_of quote plain rest
 
-pub content_units : (quote : ℕ) (plain : ℕ → List ℕ) (text : List ℕ) → content quote plain text ≡ concat (units_of quote plain text)
+pub content_units : (quote : ℕ) (plain : ℕ → List ℕ) (text : List ℕ)
+    → content quote plain text ≡ concat (units_of quote plain text)
 content_units quote plain [] = refl
 content_units quote plain (c ∷ rest) = ap (λ p. written quote plain c rest ++ p) (content_units quote plain rest)
 
@@ -163,13 +198,24 @@ each_unit (c ∷ rest) r all =
     )
 
 string_body : (text r : List ℕ) → IsText text → Many StringUnit (content 34 written_char text) r
-string_body text r all = record { units = units_of 34 written_char text; whole = content_units 34 written_char text; each = each_unit text r all }
+string_body text r all = record {
+  units = units_of 34 written_char text;
+  whole = content_units 34 written_char text;
+  each = each_unit text r all;
+}
 
 -- ---- literals
 
 -- what closes a literal, with no suffix
 pub closed : (close r : List ℕ) → EndsSuffix r → Then (Exactly close) Suffix close r
-closed close r ends = record { front = close; back = []; whole = sym (append-nil close); first = refl; second = inr (no_name r ends.start, refl) }
+closed close r ends = record {
+  front = close;
+  back = [];
+  whole = sym (append-nil close);
+  first = refl;
+  second =
+      inr (no_name r ends.start, refl);
+}
 
 -- the text stands before whatever doesn't go on with a suffix
 pub string_stands : (text r : List ℕ) → IsText text → EndsSuffix r → Str (string_text text) r
@@ -207,7 +253,8 @@ character_stands c r scalar ends = record {
     front = written 39 written_char c [];
     back = codes "'";
     whole = refl;
-    first = written_stands is_char_plain StringEscape written_char 39 c [] (39 ∷ r) (allows_char is_char_plain 39 c scalar (λ d plain. plain)) refl;
+    first = written_stands is_char_plain StringEscape written_char 39 c [] (39 ∷ r)
+        (allows_char is_char_plain 39 c scalar (λ d plain. plain)) refl;
     second = closed (codes "'") r ends;
   };
 }

@@ -4,7 +4,8 @@ use Rattle.ucd_category.proofs.Computing.{ucd_category}
 use Rattle.pm_token.specs.Escaped.{written_char, written, string_text}
 
 -- a zero is long before the digits 0 to 7 alone
-zeros : string_text (97 ∷ 0 ∷ 48 ∷ 98 ∷ 0 ∷ 55 ∷ 99 ∷ 0 ∷ 56 ∷ 100 ∷ 0 ∷ 101 ∷ 0 ∷ []) ≡ codes "\"a\\x000b\\x007c\\08d\\0e\\0\""
+zeros : string_text (97 ∷ 0 ∷ 48 ∷ 98 ∷ 0 ∷ 55 ∷ 99 ∷ 0 ∷ 56 ∷ 100 ∷ 0 ∷ 101 ∷ 0 ∷ [])
+    ≡ codes "\"a\\x000b\\x007c\\08d\\0e\\0\""
 zeros = refl
 
 -- line ends are escaped

@@ -30,7 +30,8 @@ hex_low c h = elim (or_cases (is_in_range 48 57 c || is_in_range 65 70 c) (is_in
     up_to a b c h top = let le = leb-true c b (and_parts (nat_le a c) (nat_le c b) h).1 in omega arith
 
 pub hex_is : (c : ℕ) → is_ascii_hexdigit c ≡ true → is_hex c ≡ true
-hex_is c h = (and_parts _ _ (agree_below_at (λ x. is_ascii_hexdigit x && is_hex x) is_ascii_hexdigit 128 c refl (hex_low c h) ∙ h)).1
+hex_is c h = (and_parts _ _ (agree_below_at (λ x. is_ascii_hexdigit x && is_hex x) is_ascii_hexdigit 128 c refl
+    (hex_low c h) ∙ h)).1
 
 no_line : (c : ℕ) → is_ascii_hexdigit c ≡ true → (c == 95) ≡ false
 no_line c h =
@@ -46,22 +47,25 @@ pair_number a b high low =
     ∙ (cond-false _ _ _ (no_line b low) ∙ ap (λ n. 16 * n + digit_value b) (cond-false _ _ _ (no_line a high) ∙ first))
 
 -- two hex digits, whose number has a unit
-pair_escapes : {U : Type 0} (kind : Kind U) (spell : U → List ℕ) (makes : Makes) (a b : ℕ) (back : List ℕ) → back ≡ 120 ∷ a ∷ b ∷ []
+pair_escapes : {U : Type 0} (kind : Kind U) (spell : U → List ℕ) (makes : Makes) (a b : ℕ) (back : List ℕ)
+    → back ≡ 120 ∷ a ∷ b ∷ []
     → is_ascii_hexdigit a ≡ true → is_ascii_hexdigit b ≡ true
     → Gives spell (kind.of_hex (16 * digit_value a + digit_value b)) (makes.of_hex (16 * digit_value a + digit_value b))
     → EscapesAs kind spell (92 ∷ back) (escape_value makes back)
 unfolding escape hex_escape
-pair_escapes kind spell makes a b back whole high low gives = subst (λ p. EscapesAs kind spell (92 ∷ p) (escape_value makes p)) (sym whole) (record {
-  unit = gives.unit;
-  escapes = record {
-    letter = 120;
-    back = a ∷ b ∷ [];
-    whole = refl;
-    no_line = refl;
-    gives = λ more. cond-true _ _ _ (hex_is a high) ∙ (cond-true _ _ _ (hex_is b low) ∙ ap (λ u. record { unit = u; rest = more }) gives.is);
-  };
-  value_is = gives.value_is ∙ ap makes.of_hex (sym (pair_number a b high low));
-})
+pair_escapes kind spell makes a b back whole high low gives =
+    subst (λ p. EscapesAs kind spell (92 ∷ p) (escape_value makes p)) (sym whole) (record {
+      unit = gives.unit;
+      escapes = record {
+        letter = 120;
+        back = a ∷ b ∷ [];
+        whole = refl;
+        no_line = refl;
+        gives = λ more. cond-true _ _ _ (hex_is a high)
+            ∙ (cond-true _ _ _ (hex_is b low) ∙ ap (λ u. record { unit = u; rest = more }) gives.is);
+      };
+      value_is = gives.value_is ∙ ap makes.of_hex (sym (pair_number a b high low));
+    })
 
 octal_hex : (c : ℕ) → is_octal_digit c ≡ true → is_ascii_hexdigit c ≡ true
 octal_hex c h = cond_both (nat_lt c 128) true false (λ b. is_ascii_hexdigit c ≡ true) low (λ e. absurd (high e))
@@ -69,7 +73,8 @@ octal_hex c h = cond_both (nat_lt c 128) true false (λ b. is_ascii_hexdigit c �
     low : nat_lt c 128 ≡ true → is_ascii_hexdigit c ≡ true
     low e =
         (and_parts (is_octal_digit c) (is_ascii_hexdigit c)
-        (agree_below_at (λ x. is_octal_digit x && is_ascii_hexdigit x) is_octal_digit 128 c refl (ltb-true c 128 e) ∙ h)).1
+        (agree_below_at (λ x. is_octal_digit x && is_ascii_hexdigit x) is_octal_digit 128 c refl (ltb-true c 128 e)
+        ∙ h)).1
 
     above : nat_lt c 128 ≡ false → (k : ℕ) → k ≤ 128 → nat_lt c k ≡ false
     above e k le = false_from_ne_true (nat_lt c k)
@@ -86,24 +91,29 @@ octal_hex c h = cond_both (nat_lt c 128) true false (λ b. is_ascii_hexdigit c �
         ∙ cond-false _ _ _ (above e 123 (omega arith)))))) in
         both_ways (nat_lt (digit_value c) 8) (ap (λ d. nat_lt d 8) value) h
 
-pub low_pair : (back r : List ℕ) → Stands (rule.hex rule.low_pair) back r → EscapesAs string_kind one (92 ∷ back) (escape_value numbers back)
+pub low_pair : (back r : List ℕ) → Stands (rule.hex rule.low_pair) back r
+    → EscapesAs string_kind one (92 ∷ back) (escape_value numbers back)
 low_pair back r is =
     let a = is.second.first.0 in
     let b = is.second.second.0 in
     let digit = ltb-true (digit_value a) 8 is.second.first.2 in
     let low = ltb-true (digit_value b) 16 (hex_is b is.second.second.2) in
-    let small : nat_lt (16 * digit_value a + digit_value b) 128 ≡ true = lt-ltb (16 * digit_value a + digit_value b) 128 (omega arith) in
+    let small : nat_lt (16 * digit_value a + digit_value b) 128 ≡ true =
+    lt-ltb (16 * digit_value a + digit_value b) 128 (omega arith) in
     let whole : back ≡ 120 ∷ a ∷ b ∷ [] =
-    is.whole ∙ ap₂ (λ x y. x ++ y) is.first (is.second.whole ∙ ap₂ (λ x y. x ++ y) is.second.first.1 is.second.second.1) in
+    is.whole ∙ ap₂ (λ x y. x ++ y) is.first
+    (is.second.whole ∙ ap₂ (λ x y. x ++ y) is.second.first.1 is.second.second.1) in
     pair_escapes string_kind one numbers a b back whole (octal_hex a is.second.first.2) is.second.second.2
     (record { unit = 16 * digit_value a + digit_value b; is = cond-true _ _ _ small; value_is = refl })
 
-pub hex_pair : (back r : List ℕ) → Stands (rule.hex rule.hex_pair) back r → EscapesAs byte_kind one (92 ∷ back) (escape_value numbers back)
+pub hex_pair : (back r : List ℕ) → Stands (rule.hex rule.hex_pair) back r
+    → EscapesAs byte_kind one (92 ∷ back) (escape_value numbers back)
 hex_pair back r is =
     let a = is.second.first.0 in
     let b = is.second.second.0 in
     let whole : back ≡ 120 ∷ a ∷ b ∷ [] =
-    is.whole ∙ ap₂ (λ x y. x ++ y) is.first (is.second.whole ∙ ap₂ (λ x y. x ++ y) is.second.first.1 is.second.second.1) in
+    is.whole ∙ ap₂ (λ x y. x ++ y) is.first
+    (is.second.whole ∙ ap₂ (λ x y. x ++ y) is.second.first.1 is.second.second.1) in
     pair_escapes byte_kind one numbers a b back whole is.second.first.2 is.second.second.2
     (record { unit = 16 * digit_value a + digit_value b; is = refl; value_is = refl })
 
@@ -114,7 +124,8 @@ zero_digit c h zero =
     128 c refl (hex_low c h) in
     eqb-true c 48 (sym (ap (λ b. b && (c == 48)) h) ∙ (sym agree ∙ and_from _ _ h (ap (λ n. n == 0) zero)))
 
-pub nonzero_pair : (back r : List ℕ) → Stands (rule.hex rule.nonzero_pair) back r → EscapesAs c_kind unit_bytes (92 ∷ back) (escape_value utf8 back)
+pub nonzero_pair : (back r : List ℕ) → Stands (rule.hex rule.nonzero_pair) back r
+    → EscapesAs c_kind unit_bytes (92 ∷ back) (escape_value utf8 back)
 nonzero_pair back r is =
     let pair = is.second.0 in
     let a = pair.first.0 in

@@ -39,7 +39,8 @@ pub length_digits : (ds : List ℕ) → AreHex ds → length (filter is_ascii_he
 length_digits [] all = refl
 length_digits (d ∷ ds) all = ap length (cond-true _ _ _ (hex_digit d all.0)) ∙ omega (arith, length_digits ds all.1)
 
-value_of : (n : ℕ) (ds : List ℕ) → AreHex ds → fold (λ m c. cond (c == 95) m (16 * m + digit_value c)) n (digits_of ds) ≡ value_behind n ds
+value_of : (n : ℕ) (ds : List ℕ) → AreHex ds
+    → fold (λ m c. cond (c == 95) m (16 * m + digit_value c)) n (digits_of ds) ≡ value_behind n ds
 value_of n [] all = refl
 value_of n (d ∷ ds) all =
     ap (λ m. fold (λ k c. cond (c == 95) k (16 * k + digit_value c)) m (digits_of ds))
@@ -71,10 +72,12 @@ value_2 c low = omega arith
 value_3 : (c : ℕ) → c < 0x1000 → value_behind 0 (c / 0x100 % 16 ∷ c / 0x10 % 16 ∷ c / 1 % 16 ∷ []) ≡ c
 value_3 c low = omega arith
 
-value_4 : (c : ℕ) → c < 0x1_0000 → value_behind 0 (c / 0x1000 % 16 ∷ c / 0x100 % 16 ∷ c / 0x10 % 16 ∷ c / 1 % 16 ∷ []) ≡ c
+value_4 : (c : ℕ) → c < 0x1_0000
+    → value_behind 0 (c / 0x1000 % 16 ∷ c / 0x100 % 16 ∷ c / 0x10 % 16 ∷ c / 1 % 16 ∷ []) ≡ c
 value_4 c low = omega arith
 
-value_5 : (c : ℕ) → c < 0x10_0000 → value_behind 0 (c / 0x1_0000 % 16 ∷ c / 0x1000 % 16 ∷ c / 0x100 % 16 ∷ c / 0x10 % 16 ∷ c / 1 % 16 ∷ []) ≡ c
+value_5 : (c : ℕ) → c < 0x10_0000
+    → value_behind 0 (c / 0x1_0000 % 16 ∷ c / 0x1000 % 16 ∷ c / 0x100 % 16 ∷ c / 0x10 % 16 ∷ c / 1 % 16 ∷ []) ≡ c
 value_5 c low = omega arith
 
 value_6 : (c : ℕ) → c < 0x11_0000 → value_behind 0
@@ -96,7 +99,15 @@ at place c = c / place % 16
 pub coded : (c : ℕ) → IsScalar c → IsCoded c (escape_unicode c)
 coded c is =
     cond_both (nat_lt c 0x10) _ _ (IsCoded c)
-    (λ e. record { first = at 1 c; others = []; hex = (omega arith, tt); few = omega arith; value = value_1 c (ltb-true c _ e); whole = refl })
+    (λ e. record {
+      first = at 1 c;
+      others = [];
+      hex = (omega arith, tt);
+      few = omega arith;
+      value =
+          value_1 c (ltb-true c _ e);
+      whole = refl;
+    })
     (λ e. cond_both (nat_lt c 0x100) _ _ (IsCoded c)
     (λ e. record {
       first = at 0x10 c;

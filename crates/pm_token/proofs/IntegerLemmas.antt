@@ -67,7 +67,8 @@ digits_pass : (digits : List ℕ) → AllDigits 10 digits → list_all is_ascii_
 digits_pass [] all = refl
 digits_pass (c ∷ digits) all = and_from _ _ (digit_passes c all.0) (digits_pass digits all.1)
 
-no_prefix : (c : ℕ) (rest : List ℕ) → first_passes is_base_letter rest ≡ false → begins_any base_prefixes (c ∷ rest) ≡ false
+no_prefix : (c : ℕ) (rest : List ℕ) → first_passes is_base_letter rest ≡ false
+    → begins_any base_prefixes (c ∷ rest) ≡ false
 no_prefix c rest h = false_from_ne_true _ (λ begins. elim (or_cases _ _ begins) [
   | inl x ↦ clash (codes "0x") 48 120 x refl refl
   | inr more ↦ elim (or_cases _ _ more) [
@@ -79,7 +80,8 @@ no_prefix c rest h = false_from_ne_true _ (λ begins. elim (or_cases _ _ begins)
   ]
 ])
   where
-    clash : (front : List ℕ) (nought letter : ℕ) → begins_with front (c ∷ rest) ≡ true → front ≡ nought ∷ letter ∷ [] → is_base_letter letter ≡ true → ⊥
+    clash : (front : List ℕ) (nought letter : ℕ) → begins_with front (c ∷ rest) ≡ true → front ≡ nought ∷ letter ∷ []
+        → is_base_letter letter ≡ true → ⊥
     clash front nought letter begins e is =
         let at = begins_splits front (c ∷ rest) begins in
         let behind_zero : rest ≡ letter ∷ at.0 = ap (drop 1) (at.1 ∙ ap (λ x. x ++ at.0) e) in
@@ -95,13 +97,16 @@ digit_no_letter c h = false_from_ne_true _ (λ is. elim (or_cases _ _ is) [
   ]
 ])
 
-no_letter : (digits : List ℕ) (suffix : Suffix) → list_all is_ascii_digit digits ≡ true → first_passes is_base_letter (digits ++ suffix_text suffix) ≡ false
+no_letter : (digits : List ℕ) (suffix : Suffix) → list_all is_ascii_digit digits ≡ true
+    → first_passes is_base_letter (digits ++ suffix_text suffix) ≡ false
 no_letter [] suffix all = (suffix_ends suffix).no_prefix
 no_letter (c ∷ digits) suffix all = digit_no_letter c (and_parts _ _ all).0
 
-digits_or_underscores : (digits : List ℕ) → list_all is_ascii_digit digits ≡ true → list_all is_digit_or_underscore digits ≡ true
+digits_or_underscores : (digits : List ℕ) → list_all is_ascii_digit digits ≡ true
+    → list_all is_digit_or_underscore digits ≡ true
 digits_or_underscores [] all = refl
-digits_or_underscores (c ∷ digits) all = let parts = and_parts _ _ all in and_from _ _ (or_left _ _ parts.0) (digits_or_underscores digits parts.1)
+digits_or_underscores (c ∷ digits) all = let parts = and_parts _ _ all in
+    and_from _ _ (or_left _ _ parts.0) (digits_or_underscores digits parts.1)
 
 -- ---- integers
 
@@ -118,7 +123,8 @@ integer_found c digits suffix all =
       second = record { each = digits_or_underscores digits parts.1; stops = (suffix_ends suffix).stops };
     } in
     number_decimal _ (no_prefix c (digits ++ suffix_text suffix) (no_letter digits suffix parts.1))
-    ∙ (ap (and_find (find tail)) (finds_digits.complete (c ∷ digits) (suffix_text suffix) front) ∙ ap (behind (c ∷ digits)) (suffix_ends suffix).ends)
+    ∙ (ap (and_find (find tail)) (finds_digits.complete (c ∷ digits) (suffix_text suffix) front)
+    ∙ ap (behind (c ∷ digits)) (suffix_ends suffix).ends)
 
 -- digits and such a suffix are a literal, which begins with a digit
 integer_literal : (digits : List ℕ) (suffix : Suffix) → IsNumeral 10 digits
@@ -126,8 +132,10 @@ integer_literal : (digits : List ℕ) (suffix : Suffix) → IsNumeral 10 digits
 unfolding Literal
 integer_literal [] suffix numeral = absurd (omega (arith, numeral.0))
 integer_literal (c ∷ digits) suffix numeral =
-    let all = digits_pass (c ∷ digits) numeral.1 in
-    (inr (found_is (find number) Number finds_number _ _ _ (integer_found c digits suffix all)).1, (and_parts _ _ all).0)
+    let all = digits_pass (c ∷ digits) numeral.1 in (
+      inr (found_is (find number) Number finds_number _ _ _ (integer_found c digits suffix all)).1,
+      (and_parts _ _ all).0,
+    )
 
 pub unsigned_whole : (n : ℕ) (suffix : Suffix) → n < 2 ^ 128 → IsWholeLiteral (decimal n ++ suffix_text suffix)
 unsigned_whole n suffix h =
@@ -141,15 +149,20 @@ signed_whole (negsuc n) suffix h =
 
 -- ---- characters
 
-chars_behind : (front : List ℕ) (suffix : Suffix) → IsAscii front → chars (front ++ suffix_text suffix) ≡ front ++ suffix_text suffix
+chars_behind : (front : List ℕ) (suffix : Suffix) → IsAscii front
+    → chars (front ++ suffix_text suffix) ≡ front ++ suffix_text suffix
 chars_behind front suffix ascii =
     chars-append front (suffix_text suffix) (IsUtf8-from_ascii front ascii)
-    ∙ ap₂ (λ xs ys. xs ++ ys) (chars-IsAscii front ascii) (chars-IsAscii (suffix_text suffix) (is_ascii (suffix_text suffix) (suffix_ends suffix).ascii))
+    ∙ ap₂ (λ xs ys. xs ++ ys) (chars-IsAscii front ascii)
+    (chars-IsAscii (suffix_text suffix) (is_ascii (suffix_text suffix) (suffix_ends suffix).ascii))
 
-pub chars_unsigned : (n : ℕ) (suffix : Suffix) → n < 2 ^ 128 → chars (decimal n ++ suffix_text suffix) ≡ decimal n ++ suffix_text suffix
+pub chars_unsigned : (n : ℕ) (suffix : Suffix) → n < 2 ^ 128
+    → chars (decimal n ++ suffix_text suffix) ≡ decimal n ++ suffix_text suffix
 chars_unsigned n suffix h = chars_behind (decimal n) suffix (IsAscii-decimal_wide n (omega (arith, h)))
 
-pub chars_signed : (z : ℤ) (suffix : Suffix) → SFits w128 z → chars (signed_decimal z ++ suffix_text suffix) ≡ signed_decimal z ++ suffix_text suffix
+pub chars_signed : (z : ℤ) (suffix : Suffix) → SFits w128 z
+    → chars (signed_decimal z ++ suffix_text suffix) ≡ signed_decimal z ++ suffix_text suffix
 chars_signed (pos n) suffix h = chars_unsigned n suffix (omega (arith, h.sfits))
 chars_signed (negsuc n) suffix h =
-    chars_behind (45 ∷ decimal (suc n)) suffix (IsAscii-cons 45 (decimal (suc n)) (omega arith) (IsAscii-decimal_wide (suc n) (omega (arith, h.sfits))))
+    chars_behind (45 ∷ decimal (suc n)) suffix
+    (IsAscii-cons 45 (decimal (suc n)) (omega arith) (IsAscii-decimal_wide (suc n) (omega (arith, h.sfits))))

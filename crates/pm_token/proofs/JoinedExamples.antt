@@ -6,7 +6,8 @@ use Rattle.lexical.specs.Quoted.{StringUnit}
 use Rattle.pm_token.specs.Joined.{c_joined, string_joined}
 
 -- nothing is made of a backslash and LF, nor of the blanks after them
-skipped : string_joined (codes "a" ∷ codes "\\\n" ∷ codes " " ∷ codes "\t" ∷ codes "\n" ∷ codes " " ∷ codes "b" ∷ codes " " ∷ []) ≡ codes "ab "
+skipped : string_joined (codes "a" ∷ codes "\\\n" ∷ codes " " ∷ codes "\t" ∷ codes "\n" ∷ codes " " ∷ codes "b"
+    ∷ codes " " ∷ []) ≡ codes "ab "
 skipped = refl
 
 -- another line end stays, with the blanks after it
@@ -17,7 +18,8 @@ kept = refl
 tab : string_joined (codes "\\\n" ∷ codes " " ∷ codes "\\t" ∷ codes " " ∷ []) ≡ codes "\t "
 tab = refl
 
-letters : string_joined (codes "\\n" ∷ codes "\\r" ∷ codes "\\t" ∷ codes "\\\\" ∷ codes "\\0" ∷ codes "\\'" ∷ codes "\\\"" ∷ [])
+letters : string_joined (codes "\\n" ∷ codes "\\r" ∷ codes "\\t" ∷ codes "\\\\" ∷ codes "\\0" ∷ codes "\\'"
+    ∷ codes "\\\"" ∷ [])
     ≡ 10 ∷ 13 ∷ 9 ∷ 92 ∷ 0 ∷ 39 ∷ 34 ∷ []
 letters = refl
 
@@ -28,7 +30,8 @@ byte : string_joined (codes "\\xFf" ∷ []) ≡ 255 ∷ []
 byte = refl
 
 -- in a C string two hex digits are a byte, and a character is its UTF-8
-c_units : c_joined (codes "\\xe9" ∷ (0xE9 ∷ []) ∷ codes "\\u{e9}" ∷ codes "e" ∷ []) ≡ 0xE9 ∷ 0xC3 ∷ 0xA9 ∷ 0xC3 ∷ 0xA9 ∷ 101 ∷ []
+c_units : c_joined (codes "\\xe9" ∷ (0xE9 ∷ []) ∷ codes "\\u{e9}" ∷ codes "e" ∷ [])
+    ≡ 0xE9 ∷ 0xC3 ∷ 0xA9 ∷ 0xC3 ∷ 0xA9 ∷ 101 ∷ []
 unfolding encode
 c_units = refl
 
@@ -41,7 +44,14 @@ division = record {
 }
   where
     continued : StringUnit (codes "\\\n") (codes " b\"")
-    continued = inr (inr (record { front = codes "\\"; back = codes "\n"; whole = refl; first = refl; second = inl (inl refl) }))
+    continued = inr (inr (record {
+      front = codes "\\";
+      back = codes "\n";
+      whole = refl;
+      first = refl;
+      second =
+          inl (inl refl);
+    }))
 
 divided : string_joined division.units ≡ codes "ab"
 unfolding division

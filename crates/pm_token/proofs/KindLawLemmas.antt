@@ -21,7 +21,8 @@ byte_strings_are_byte_strings bytes all = byte_string_stands bytes [] (bytes_bel
 
 pub c_strings_are_c_strings : CStringsAreCStrings
 c_strings_are_c_strings bytes text all none is =
-    subst (λ t. CStr t []) (sym is.whole) (c_string_stands is.parts bytes [] is.reads (bytes_below bytes all) none (stop_ends [] refl))
+    subst (λ t. CStr t []) (sym is.whole)
+    (c_string_stands is.parts bytes [] is.reads (bytes_below bytes all) none (stop_ends [] refl))
 
 pub characters_are_characters : CharactersAreCharacters
 characters_are_characters c scalar = character_stands c [] scalar (stop_ends [] refl)

@@ -26,3 +26,4 @@ pub mod UnicodeEscapeLemmas
 pub mod UnitLemmas
 pub mod ValueLawLemmas
 pub mod WholeLemmas
+pub mod WrittenLemmas

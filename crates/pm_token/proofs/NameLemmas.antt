@@ -38,8 +38,10 @@ empty_same text utf8 = sym (empty_encodes (chars text) ∙ ap (λ bytes. length 
         ne_eqb _ 0 (λ e. omega arith) ∙ sym (ne_eqb _ 0 (λ e. omega (arith, more)))
 
 -- the bytes of an identifier as it is written
-pub written_is : (raw : Bool) (name : List ℕ) → encode_utf8_all (raw_front raw ++ name) ≡ raw_front raw ++ encode_utf8_all name
-written_is true name = encodes-append (codes "r#") name ∙ ap (λ x. x ++ encode_utf8_all name) (encode_all_ascii (codes "r#") refl)
+pub written_is : (raw : Bool) (name : List ℕ)
+    → encode_utf8_all (raw_front raw ++ name) ≡ raw_front raw ++ encode_utf8_all name
+written_is true name = encodes-append (codes "r#") name
+    ∙ ap (λ x. x ++ encode_utf8_all name) (encode_all_ascii (codes "r#") refl)
 written_is false name = refl
 
 -- an identifier is written so in bytes where it is in characters
@@ -53,7 +55,8 @@ text_bytes raw name s text e own utf8 =
     )
 
 -- a plain identifier is written so where its name is so
-pub plain_is : (raw : Bool) (name s text : List ℕ) (r : Bool) → raw ≡ false → name ≡ chars s → IsUtf8 s → IsUtf8 text → r ≡ pointwise nat_eq s text
+pub plain_is : (raw : Bool) (name s text : List ℕ) (r : Bool) → raw ≡ false → name ≡ chars s → IsUtf8 s → IsUtf8 text
+    → r ≡ pointwise nat_eq s text
     → IsTrue r ↔ (raw_front raw ++ name ≡ chars text)
 plain_is true name s text r plain e own utf8 is = absurd (both_ways _ plain refl)
 plain_is false name s text r plain e own utf8 is =
@@ -74,7 +77,8 @@ raw_is true name s text rest r marked e own utf8 split is =
     )
 
 -- a raw one isn't written as what doesn't begin `r#`
-pub raw_is_not : (raw : Bool) (name s text : List ℕ) → raw ≡ true → name ≡ chars s → IsUtf8 s → IsUtf8 text → ((rest : List ℕ) → text ≢ codes "r#" ++ rest)
+pub raw_is_not : (raw : Bool) (name s text : List ℕ) → raw ≡ true → name ≡ chars s → IsUtf8 s → IsUtf8 text
+    → ((rest : List ℕ) → text ≢ codes "r#" ++ rest)
     → IsTrue false ↔ (raw_front raw ++ name ≡ chars text)
 raw_is_not false name s text marked e own utf8 none = absurd (both_ways _ refl marked)
 raw_is_not true name s text marked e own utf8 none =
@@ -109,19 +113,25 @@ longer_is_none p r d h = false_from_ne_true _ (λ is.
     let all = and_parts _ _ (sym (list_all-append is_ident_continue p (d ∷ r)) ∙ is_name-continues (p ++ d ∷ r) is) in
     both_ways _ h.second.stops (and_parts _ _ all.1).0)
 
-name_ends : (p r : List ℕ) (n : ℕ) → Name p r → n ≡ length (encode_utf8_all p) → (n == length (encode_utf8_all (p ++ r))) ≡ is_name (p ++ r)
+name_ends : (p r : List ℕ) (n : ℕ) → Name p r → n ≡ length (encode_utf8_all p)
+    → (n == length (encode_utf8_all (p ++ r))) ≡ is_name (p ++ r)
 name_ends p [] n h size =
-    eq-eqb n _ (size ∙ ap (λ x. length (encode_utf8_all x)) (sym (append-nil p))) ∙ sym (ap is_name (append-nil p) ∙ Name-is_name p [] h)
+    eq-eqb n _ (size ∙ ap (λ x. length (encode_utf8_all x)) (sym (append-nil p)))
+    ∙ sym (ap is_name (append-nil p) ∙ Name-is_name p [] h)
 name_ends p (d ∷ r) n h size =
     let whole = ap length (encodes-append p (d ∷ r)) ∙ length-append (encode_utf8_all p) (encode_utf8_all (d ∷ r)) in
     ne_eqb n _ (λ e. omega (arith, whole, length-le-encodes (d ∷ r))) ∙ sym (longer_is_none p r d h)
 
 -- the name at the front of a text is the whole text, or the text is none
-pub whole_name : (text : List ℕ) (found : Option ℕ) → IsUtf8 text → IfSome found (IsAt Name (chars text)) → IfNone found (HasNone Name (chars text))
+pub whole_name : (text : List ℕ) (found : Option ℕ) → IsUtf8 text → IfSome found (IsAt Name (chars text))
+    → IfNone found (HasNone Name (chars text))
     → option_eq eqb found (Some (length text)) ≡ is_name (chars text)
-whole_name text None utf8 some none = sym (false_from_ne_true _ (λ is. none (chars text) [] (sym (append-nil (chars text))) (is_name-Name (chars text) is)))
+whole_name text None utf8 some none =
+    sym (false_from_ne_true _ (λ is. none (chars text) [] (sym (append-nil (chars text)))
+    (is_name-Name (chars text) is)))
 whole_name text (Some n) utf8 at none =
-    let bytes : encode_utf8_all (at.front ++ at.rest) ≡ text = ap encode_utf8_all (sym at.whole) ∙ encodes-chars text utf8 in
+    let bytes : encode_utf8_all (at.front ++ at.rest) ≡ text = ap encode_utf8_all (sym at.whole)
+    ∙ encodes-chars text utf8 in
     ap (λ x. n == length x) (sym bytes) ∙ (name_ends at.front at.rest n at.stands at.size ∙ ap is_name (sym at.whole))
 
 -- ---- faults
@@ -136,6 +146,7 @@ built_from raw name text h =
     let reserved = past (not (is_allowed raw name)) Reserved None invalid.1 in
     (is_name-Name name (not-false _ invalid.0), not-false _ reserved.0, text)
   where
-    past : (test : Bool) (error : IdentError) (more : Option IdentError) → cond test (Some error) more ≡ None → (test ≡ false) × (more ≡ None)
+    past : (test : Bool) (error : IdentError) (more : Option IdentError) → cond test (Some error) more ≡ None
+        → (test ≡ false) × (more ≡ None)
     past true error more e = absurd (none-some error (sym e))
     past false error more e = (refl, e)

@@ -11,10 +11,12 @@ use Rattle.pm_token.specs.Value.{c_bytes, ended, units, value_from}
 use Rattle.pm_token.specs.ValueLaws.{RawByteStringsHaveBodies, RawCStringsHaveBodies, RawStringsHaveBodies, raw_text}
 use Rattle.pm_token.proofs.ContentLemmas.{behind_front, behind_none, hashed_within}
 
-body_is : (front signs body : List ℕ) → list_all is_hash signs ≡ true → raw_content front (raw_text front signs body) ≡ Some body
+body_is : (front signs body : List ℕ) → list_all is_hash signs ≡ true
+    → raw_content front (raw_text front signs body) ≡ Some body
 body_is front signs body all =
     ap (option_and_then hashed_content) (behind_front front ((signs ++ codes "\"") ++ (body ++ (codes "\"" ++ signs))))
-    ∙ hashed_within ((signs ++ codes "\"") ++ (body ++ (codes "\"" ++ signs))) body (record { signs = signs; all = all; whole = refl })
+    ∙ hashed_within ((signs ++ codes "\"") ++ (body ++ (codes "\"" ++ signs))) body
+    (record { signs = signs; all = all; whole = refl })
 
 -- a text with another front has no content with escapes
 no_cooked : (front text : List ℕ) → begins_with front text ≡ false → cooked_content front text ≡ None

@@ -37,11 +37,13 @@ pub record Begins {U : Type 0} (kind : Kind U) (end : ℕ) (text : List ℕ) (un
   pub rest_is : (front kind end text).rest ≡ rest
 
 pub give_front : {U : Type 0} (kind : Kind U) (end : ℕ) (text : List ℕ) (unit : U) (rest : List ℕ) (units : List U)
-    → Begins kind end text unit rest → Give (items_from kind end rest) units → Give (items_from kind end text) (unit ∷ units)
+    → Begins kind end text unit rest → Give (items_from kind end rest) units
+    → Give (items_from kind end text) (unit ∷ units)
 give_front kind end text unit rest units begins give =
     let whole : items_from kind end text ≡ (begins.range, Ok unit) ∷ items_from kind end rest =
     items_past kind end text ∙ ap₂ (λ xs r. xs ++ items_from kind end r) begins.items begins.rest_is in
-    subst (λ items. Give items (unit ∷ units)) (sym whole) (give_more begins.range unit (items_from kind end rest) units give)
+    subst (λ items. Give items (unit ∷ units)) (sym whole)
+    (give_more begins.range unit (items_from kind end rest) units give)
 
 -- ---- one unit
 
@@ -72,7 +74,8 @@ one_front : {U : Type 0} (kind : Kind U) (end c : ℕ) (text : List ℕ) → ((c
 unfolding front
 one_front kind end c text h = cond-false _ _ _ h
 
-begins_read : {U : Type 0} (kind : Kind U) (end c : ℕ) (text : List ℕ) (unit : U) (rest : List ℕ) → ((c == 92) && first_is 10 text) ≡ false
+begins_read : {U : Type 0} (kind : Kind U) (end c : ℕ) (text : List ℕ) (unit : U) (rest : List ℕ)
+    → ((c == 92) && first_is 10 text) ≡ false
     → unit_front kind c text ≡ record { unit = Ok unit; rest = rest } → Begins kind end (c ∷ text) unit rest
 begins_read kind end c text unit rest h read =
     let whole = one_front kind end c text h ∙ ap (one_item end (c ∷ text)) read in record {
@@ -94,19 +97,30 @@ pub record Alone {U : Type 0} (kind : Kind U) (c : ℕ) (unit : U) : Type 0 wher
   pub no_backslash : (c == 92) ≡ false
   pub no_quote : (c == 34) ≡ false
 
-pub begins_alone : {U : Type 0} (kind : Kind U) (end c : ℕ) (unit : U) (more : List ℕ) → Alone kind c unit → Begins kind end (c ∷ more) unit more
+pub begins_alone : {U : Type 0} (kind : Kind U) (end c : ℕ) (unit : U) (more : List ℕ) → Alone kind c unit
+    → Begins kind end (c ∷ more) unit more
 begins_alone kind end c unit more is =
     begins_read kind end c more unit more (ap (λ b. b && first_is 10 more) is.no_backslash) (
     cond-false _ _ _ is.no_backslash
-    ∙ ap (λ u. record { unit = u; rest = more }) (cond-false _ _ _ is.no_quote ∙ (cond-false _ _ _ is.no_return ∙ is.unit_is)))
+    ∙ ap (λ u. record { unit = u; rest = more })
+    (cond-false _ _ _ is.no_quote ∙ (cond-false _ _ _ is.no_return ∙ is.unit_is)))
 
-begins_stand : {U : Type 0} (kind : Kind U) (end c : ℕ) (p : List ℕ) (unit : U) (more : List ℕ) → Stands kind 34 c p unit
+begins_stand : {U : Type 0} (kind : Kind U) (end c : ℕ) (p : List ℕ) (unit : U) (more : List ℕ)
+    → Stands kind 34 c p unit
     → Begins kind end (p ++ more) unit more
 begins_stand kind end c p unit more is =
-    let alone : Alone kind c unit = record { unit_is = is.unit_is; no_return = is.no_return; no_backslash = is.no_backslash; no_quote = is.no_quote } in
+    let alone : Alone kind c unit =
+    record {
+      unit_is = is.unit_is;
+      no_return = is.no_return;
+      no_backslash = is.no_backslash;
+      no_quote =
+          is.no_quote;
+    } in
     subst (λ q. Begins kind end (q ++ more) unit more) (sym is.whole) (begins_alone kind end c unit more alone)
 
-pub begins_written : {U : Type 0} (kind : Kind U) (end c : ℕ) (p : List ℕ) (unit : U) (more : List ℕ) → WrittenAs kind 34 c p unit
+pub begins_written : {U : Type 0} (kind : Kind U) (end c : ℕ) (p : List ℕ) (unit : U) (more : List ℕ)
+    → WrittenAs kind 34 c p unit
     → Begins kind end (p ++ more) unit more
 begins_written kind end c p unit more (inl is) = begins_escape kind end p unit more is
 begins_written kind end c p unit more (inr is) = begins_stand kind end c p unit more is
@@ -122,12 +136,26 @@ simple : (kind : Kind ℕ) (letter d : ℕ) → (letter == 10) ≡ false
     → ((more : List ℕ) → escape kind (letter ∷ more) ≡ record { unit = kind.of_char d; rest = more })
     → kind.of_char d ≡ Ok d → Escapes kind (92 ∷ letter ∷ []) d
 simple kind letter d line reads is =
-    record { letter = letter; back = []; whole = refl; no_line = line; gives = λ more. reads more ∙ ap (λ u. record { unit = u; rest = more }) is }
+    record {
+      letter = letter;
+      back = [];
+      whole = refl;
+      no_line = line;
+      gives = λ more. reads more
+          ∙ ap (λ u. record { unit = u; rest = more }) is;
+    }
 
 long_zero : (kind : Kind ℕ) → IsPlain kind → Escapes kind (codes "\\x00") 0
 unfolding escape hex_escape
 long_zero kind is =
-    record { letter = 120; back = codes "00"; whole = refl; no_line = refl; gives = λ more. ap (λ u. record { unit = u; rest = more }) is.zero }
+    record {
+      letter = 120;
+      back = codes "00";
+      whole = refl;
+      no_line = refl;
+      gives =
+          λ more. ap (λ u. record { unit = u; rest = more }) is.zero;
+    }
 
 short_zero : (kind : Kind ℕ) → IsPlain kind → Escapes kind (codes "\\0") 0
 unfolding escape
@@ -162,16 +190,24 @@ same_unit : (kind : Kind ℕ) (p : List ℕ) (c d : ℕ) → (c == d) ≡ true �
 same_unit kind p c d e is = subst (Escapes kind p) (sym (eqb-true c d e)) is
 
 -- whatever is written for a character, given what is written for one without a short escape
-pub written_as : (kind : Kind ℕ) (quote : ℕ) (how : ℕ → List ℕ) (c : ℕ) (rest : List ℕ) → IsPlain kind → Escapes kind (92 ∷ quote ∷ []) quote
-    → ((c == 9) ≡ false → (c == 13) ≡ false → (c == 10) ≡ false → (c == 92) ≡ false → (c == quote) ≡ false → WrittenAs kind quote c (how c) c)
+pub written_as : (kind : Kind ℕ) (quote : ℕ) (how : ℕ → List ℕ) (c : ℕ) (rest : List ℕ) → IsPlain kind
+    → Escapes kind (92 ∷ quote ∷ []) quote
+    → ((c == 9) ≡ false → (c == 13) ≡ false → (c == 10) ≡ false → (c == 92) ≡ false → (c == quote) ≡ false
+    → WrittenAs kind quote c (how c) c)
     → WrittenAs kind quote c (written quote how c rest) c
 written_as kind quote how c rest is closing other =
     cond_both ((c == 0) && first_passes is_octal_digit rest) _ _ (λ p. WrittenAs kind quote c p c)
     (λ e. inl (same_unit kind _ c 0 (and_parts (c == 0) _ e).0 (long_zero kind is)))
-    (λ e. cond_both (c == 0) _ _ (λ p. WrittenAs kind quote c p c) (λ e. inl (same_unit kind _ c 0 e (short_zero kind is)))
-    (λ e. cond_both (c == 9) _ _ (λ p. WrittenAs kind quote c p c) (λ e. inl (same_unit kind _ c 9 e (short_tab kind is)))
-    (λ tab. cond_both (c == 13) _ _ (λ p. WrittenAs kind quote c p c) (λ e. inl (same_unit kind _ c 13 e (short_return kind is)))
-    (λ return. cond_both (c == 10) _ _ (λ p. WrittenAs kind quote c p c) (λ e. inl (same_unit kind _ c 10 e (short_line kind is)))
-    (λ line. cond_both (c == 92) _ _ (λ p. WrittenAs kind quote c p c) (λ e. inl (same_unit kind _ c 92 e (short_backslash kind is)))
-    (λ backslash. cond_both (c == quote) _ _ (λ p. WrittenAs kind quote c p c) (λ e. inl (same_unit kind _ c quote e closing))
+    (λ e. cond_both (c == 0) _ _ (λ p. WrittenAs kind quote c p c)
+    (λ e. inl (same_unit kind _ c 0 e (short_zero kind is)))
+    (λ e. cond_both (c == 9) _ _ (λ p. WrittenAs kind quote c p c)
+    (λ e. inl (same_unit kind _ c 9 e (short_tab kind is)))
+    (λ tab. cond_both (c == 13) _ _ (λ p. WrittenAs kind quote c p c)
+    (λ e. inl (same_unit kind _ c 13 e (short_return kind is)))
+    (λ return. cond_both (c == 10) _ _ (λ p. WrittenAs kind quote c p c)
+    (λ e. inl (same_unit kind _ c 10 e (short_line kind is)))
+    (λ line. cond_both (c == 92) _ _ (λ p. WrittenAs kind quote c p c)
+    (λ e. inl (same_unit kind _ c 92 e (short_backslash kind is)))
+    (λ backslash. cond_both (c == quote) _ _ (λ p. WrittenAs kind quote c p c)
+    (λ e. inl (same_unit kind _ c quote e closing))
     (λ plain. other tab return line backslash plain)))))))

@@ -37,7 +37,8 @@ flipped : (c d : ℕ) → (d == c) ≡ false → (c == d) ≡ false
 flipped c d e = ne_eqb c d (λ same. eqb-false d c e (sym same))
 
 -- a character that may stand bare
-bare_unit : (kind : Kind ℕ) (c : ℕ) → is_char_plain c ≡ true → kind.of_char c ≡ Ok c → (single kind (c ∷ [])).unit ≡ Ok c
+bare_unit : (kind : Kind ℕ) (c : ℕ) → is_char_plain c ≡ true → kind.of_char c ≡ Ok c
+    → (single kind (c ∷ [])).unit ≡ Ok c
 bare_unit kind c plain is =
     let quote = or_parts (39 == c) _ (not-true _ plain) in
     let backslash = or_parts (92 == c) _ quote.1 in
@@ -71,10 +72,14 @@ byte_fits = record {
 }
 
 -- the unit between single quotes is one of the escaper's
-one_unit : (kind : Kind ℕ) (plain : ℕ → Bool) (Escape : Form) (unit r : List ℕ) → Fits kind plain Escape → SingleUnit plain Escape unit r
+one_unit : (kind : Kind ℕ) (plain : ℕ → Bool) (Escape : Form) (unit r : List ℕ) → Fits kind plain Escape
+    → SingleUnit plain Escape unit r
     → (n : ℕ) × ((single kind unit).unit ≡ Ok n)
-one_unit kind plain Escape unit r fits (inl bare) =
-    (bare.0, ap (λ p. (single kind p).unit) bare.1 ∙ bare_unit kind bare.0 (fits.bare bare.0 bare.2) (fits.char bare.0 bare.2))
+one_unit kind plain Escape unit r fits (inl bare) = (
+  bare.0,
+  ap (λ p. (single kind p).unit) bare.1
+      ∙ bare_unit kind bare.0 (fits.bare bare.0 bare.2) (fits.char bare.0 bare.2),
+)
 one_unit kind plain Escape unit r fits (inr then) =
     let whole : unit ≡ 92 ∷ then.back = then.whole ∙ ap (λ p. p ++ then.back) then.first in
     let is = fits.escape then.back r then.second in
@@ -83,14 +88,17 @@ one_unit kind plain Escape unit r fits (inr then) =
 -- ---- the whole literal
 
 -- a content that is one unit
-single_is : (kind : Kind ℕ) (front text content : List ℕ) (unit : ℕ) → text ≡ front ++ (content ++ codes "'") → (single kind content).unit ≡ Ok unit
+single_is : (kind : Kind ℕ) (front text content : List ℕ) (unit : ℕ) → text ≡ front ++ (content ++ codes "'")
+    → (single kind content).unit ≡ Ok unit
     → single_value kind front text ≡ Ok unit
 single_is kind front text content unit whole is =
     ap (λ t. single_value kind front t) whole
-    ∙ (ap (λ o. value_from_single (option_map (λ content. (single kind content).unit) o)) (between_within front (codes "'") content)
+    ∙ (ap (λ o. value_from_single (option_map (λ content. (single kind content).unit) o))
+    (between_within front (codes "'") content)
     ∙ ap (λ u. value_from_single (Some u)) is)
 
-has_single : (kind : Kind ℕ) (plain : ℕ → Bool) (Escape : Form) (front text : List ℕ) → Fits kind plain Escape → SingleQuoted front plain Escape text []
+has_single : (kind : Kind ℕ) (plain : ℕ → Bool) (Escape : Form) (front text : List ℕ) → Fits kind plain Escape
+    → SingleQuoted front plain Escape text []
     → HasSingle kind front text (single_value kind front text)
 has_single kind plain Escape front text fits h =
     let inner = h.second in
@@ -106,7 +114,8 @@ has_single kind plain Escape front text fits h =
       whole = whole;
       is_suffix = end.second;
       unit_is = unit.1;
-      value_is = λ none. single_is kind front text inner.front unit.0 (whole ∙ ap (λ s. front ++ (inner.front ++ (39 ∷ s))) none) unit.1;
+      value_is = λ none. single_is kind front text inner.front unit.0
+          (whole ∙ ap (λ s. front ++ (inner.front ++ (39 ∷ s))) none) unit.1;
     }
 
 pub characters_have_units : CharactersHaveUnits
@@ -128,7 +137,8 @@ byte_values_come_back b low =
 -- ---- which literals have a value
 
 -- a literal that begins with another text
-other : (front g text rest : List ℕ) (A : Form) → differ front g ≡ true → text ≡ front ++ rest → Then (Exactly g) A text [] → ⊥
+other : (front g text rest : List ℕ) (A : Form) → differ front g ≡ true → text ≡ front ++ rest
+    → Then (Exactly g) A text [] → ⊥
 other front g text rest A apart e h =
     apart_fronts front g (λ p r. Unit {0}) A apart text text [] []
     (record { front = front; back = rest; whole = e; first = refl; second = tt }) h refl
@@ -140,11 +150,14 @@ unfolding IsLiteralToken literals.Literal
 begins_quoted c text rest digit opener minus (inl (inl (inl quoted)), all) e = quoted
 begins_quoted c text rest digit opener minus (inl (inl (inr number)), all) e =
     let at = number_first text [] number in
-    absurd (both_ways (first_passes is_ascii_digit text) (ap (first_passes is_ascii_digit) e ∙ digit) (ap (first_passes is_ascii_digit) at.2 ∙ at.3))
+    absurd (both_ways (first_passes is_ascii_digit text) (ap (first_passes is_ascii_digit) e ∙ digit)
+    (ap (first_passes is_ascii_digit) at.2 ∙ at.3))
 begins_quoted c text rest digit opener minus (inl (inr error), all) e =
-    absurd (both_ways (first_passes (λ d. d == 40) text) (ap (first_passes (λ d. d == 40)) e ∙ opener) (ap (first_passes (λ d. d == 40)) error))
+    absurd (both_ways (first_passes (λ d. d == 40) text) (ap (first_passes (λ d. d == 40)) e ∙ opener)
+    (ap (first_passes (λ d. d == 40)) error))
 begins_quoted c text rest digit opener minus (inr negative, all) e =
-    absurd (both_ways (first_passes (λ d. d == 45) text) (ap (first_passes (λ d. d == 45)) e ∙ minus) (ap (first_passes (λ d. d == 45)) negative.whole))
+    absurd (both_ways (first_passes (λ d. d == 45) text) (ap (first_passes (λ d. d == 45)) e ∙ minus)
+    (ap (first_passes (λ d. d == 45)) negative.whole))
 
 -- of the literals between quotes those that begin with `'` are characters
 begins_character : (text rest : List ℕ) → text ≡ 39 ∷ rest → QuotedLiteral text [] → Character text []
@@ -204,11 +217,16 @@ pub record IsExact (Quoted : Form) (text : List ℕ) (value : Result ℕ Convers
   pub kind : IfErr value (λ error. error ≡ InvalidLiteralKind)
 
 -- that literal has one
-unsuffixed_value : (kind : Kind ℕ) (front text : List ℕ) (value : Result ℕ ConversionErrorKind) → HasSingle kind front text value
+unsuffixed_value : (kind : Kind ℕ) (front text : List ℕ) (value : Result ℕ ConversionErrorKind)
+    → HasSingle kind front text value
     → ends_with 39 text ≡ true → (unit : ℕ) × (value ≡ Ok unit)
 unsuffixed_value kind front text value has ends =
-    let split : text ≡ (front ++ has.content) ++ (39 ∷ has.suffix) = has.whole ∙ sym (append_assoc front has.content (39 ∷ has.suffix)) in
-    (has.unit, has.value_is (no_single_suffix (front ++ has.content) has.suffix [] has.is_suffix (sym (ap (ends_with 39) split) ∙ ends)))
+    let split : text ≡ (front ++ has.content) ++ (39 ∷ has.suffix) = has.whole
+    ∙ sym (append_assoc front has.content (39 ∷ has.suffix)) in (
+      has.unit,
+      has.value_is (no_single_suffix (front ++ has.content) has.suffix [] has.is_suffix
+          (sym (ap (ends_with 39) split) ∙ ends)),
+    )
 
 exact : (kind : Kind ℕ) (front text : List ℕ) (Quoted : Form)
     → (Quoted text [] → HasSingle kind front text (single_value kind front text))
@@ -216,7 +234,8 @@ exact : (kind : Kind ℕ) (front text : List ℕ) (Quoted : Form)
     → IsExact Quoted text (single_value kind front text)
 exact kind front text Quoted has quoted = by_content (single_content front text) refl
   where
-    by_content : (o : Option (List ℕ)) → single_content front text ≡ o → IsExact Quoted text (single_value kind front text)
+    by_content : (o : Option (List ℕ)) → single_content front text ≡ o
+        → IsExact Quoted text (single_value kind front text)
     by_content None none =
         let value : single_value kind front text ≡ Err InvalidLiteralKind =
         ap (λ o. value_from_single (option_map (λ content. (single kind content).unit) o)) none in

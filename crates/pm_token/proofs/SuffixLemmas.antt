@@ -12,7 +12,8 @@ use Rattle.lexical.proofs.ClassLemmas.{ident_continue_ascii, ident_start_ascii}
 use Rattle.lexical.proofs.TextLemmas.{ends_back}
 
 -- the end of a text is the end of what it ends with
-ends_append : (c : ℕ) (front : List ℕ) (d : ℕ) (back : List ℕ) → ends_with c (front ++ (d ∷ back)) ≡ ends_with c (d ∷ back)
+ends_append : (c : ℕ) (front : List ℕ) (d : ℕ) (back : List ℕ)
+    → ends_with c (front ++ (d ∷ back)) ≡ ends_with c (d ∷ back)
 ends_append c [] d back = refl
 ends_append c (x ∷ []) d back = refl
 ends_append c (x ∷ (y ∷ front)) d back = ends_append c (y ∷ front) d back
@@ -23,54 +24,72 @@ record IsNoName (quote : ℕ) : Type 0 where
   no_continue : is_ident_continue quote ≡ false
 
 -- so none ends with it
-continues_plain : (quote : ℕ) → IsNoName quote → (text : List ℕ) → list_all is_ident_continue text ≡ true → ends_with quote text ≡ true → ⊥
+continues_plain : (quote : ℕ) → IsNoName quote → (text : List ℕ) → list_all is_ident_continue text ≡ true
+    → ends_with quote text ≡ true → ⊥
 continues_plain quote out [] all ends = both_ways false refl ends
 continues_plain quote out (c ∷ []) all ends =
     both_ways (is_ident_continue quote) out.no_continue
     (ap is_ident_continue (sym (eqb-true c quote ends)) ∙ (and_parts (is_ident_continue c) true all).0)
-continues_plain quote out (c ∷ (d ∷ text)) all ends = continues_plain quote out (d ∷ text) (and_parts (is_ident_continue c) _ all).1 ends
+continues_plain quote out (c ∷ (d ∷ text)) all ends =
+    continues_plain quote out (d ∷ text) (and_parts (is_ident_continue c) _ all).1 ends
 
-name_plain : (quote : ℕ) → IsNoName quote → (c : ℕ) (text : List ℕ) → is_ident_start c ≡ true → list_all is_ident_continue text ≡ true
+name_plain : (quote : ℕ) → IsNoName quote → (c : ℕ) (text : List ℕ) → is_ident_start c ≡ true
+    → list_all is_ident_continue text ≡ true
     → ends_with quote (c ∷ text) ≡ true → ⊥
 name_plain quote out c [] start all ends =
     both_ways (is_ident_start quote) out.no_start (ap is_ident_start (sym (eqb-true c quote ends)) ∙ start)
 name_plain quote out c (d ∷ text) start all ends = continues_plain quote out (d ∷ text) all ends
 
 -- after a quote that ends the text no suffix stands
-no_suffix_behind : (quote : ℕ) → IsNoName quote → (body suffix r : List ℕ) → Suffix suffix r → ends_with quote (body ++ (quote ∷ suffix)) ≡ true
+no_suffix_behind : (quote : ℕ) → IsNoName quote → (body suffix r : List ℕ) → Suffix suffix r
+    → ends_with quote (body ++ (quote ∷ suffix)) ≡ true
     → suffix ≡ []
 no_suffix_behind quote out body suffix r (inr (none, nothing)) ends = nothing
 no_suffix_behind quote out body suffix r (inl name) ends =
     let c = name.first.0 in
     let text : suffix ≡ c ∷ name.back = name.whole ∙ ap (λ x. x ++ name.back) name.first.1 in
     let last : ends_with quote (c ∷ name.back) ≡ true =
-    sym (ends_append quote body quote (c ∷ name.back)) ∙ (ap (λ s. ends_with quote (body ++ (quote ∷ s))) (sym text) ∙ ends) in
+    sym (ends_append quote body quote (c ∷ name.back))
+    ∙ (ap (λ s. ends_with quote (body ++ (quote ∷ s))) (sym text) ∙ ends) in
     absurd (name_plain quote out c name.back name.first.2 name.second.each last)
 
 double_out : IsNoName 34
-double_out = record { no_start = ident_start_ascii 34 (omega arith); no_continue = ident_continue_ascii 34 (omega arith) }
+double_out = record {
+  no_start = ident_start_ascii 34 (omega arith);
+  no_continue =
+      ident_continue_ascii 34 (omega arith);
+}
 
 single_out : IsNoName 39
-single_out = record { no_start = ident_start_ascii 39 (omega arith); no_continue = ident_continue_ascii 39 (omega arith) }
+single_out = record {
+  no_start = ident_start_ascii 39 (omega arith);
+  no_continue =
+      ident_continue_ascii 39 (omega arith);
+}
 
 -- nor after a single one
-pub no_single_suffix : (body suffix r : List ℕ) → Suffix suffix r → ends_with 39 (body ++ (39 ∷ suffix)) ≡ true → suffix ≡ []
+pub no_single_suffix : (body suffix r : List ℕ) → Suffix suffix r → ends_with 39 (body ++ (39 ∷ suffix)) ≡ true
+    → suffix ≡ []
 no_single_suffix = no_suffix_behind 39 single_out
 
 -- what stands before the quote is the same in both
-body_same : (body content suffix r : List ℕ) → Suffix suffix r → body ++ (34 ∷ suffix) ≡ content ++ codes "\"" → body ≡ content
+body_same : (body content suffix r : List ℕ) → Suffix suffix r
+    → body ++ (34 ∷ suffix) ≡ content ++ codes "\"" → body ≡ content
 body_same body content suffix r is same =
     let none = no_suffix_behind 34 double_out body suffix r is (ap (ends_with 34) same ∙ ends_back 34 content) in
     append_cancel_right body content (codes "\"") (sym (ap (λ s. body ++ (34 ∷ s)) none) ∙ same)
 
 -- the units of the content, which the quote follows
-pub content_units : (front content : List ℕ) (Unit : Form) → Cooked front Unit (front ++ (content ++ codes "\"")) [] → Many Unit content (codes "\"")
+pub content_units : (front content : List ℕ) (Unit : Form)
+    → Cooked front Unit (front ++ (content ++ codes "\"")) [] → Many Unit content (codes "\"")
 content_units front content Unit is =
     let end = is.second.second in
     let closing : is.second.back ≡ 34 ∷ end.back = end.whole ∙ ap (λ x. x ++ end.back) end.first in
-    let back : is.back ≡ is.second.front ++ (34 ∷ end.back) = is.second.whole ∙ ap (λ x. is.second.front ++ x) closing in
+    let back : is.back ≡ is.second.front ++ (34 ∷ end.back) = is.second.whole
+    ∙ ap (λ x. is.second.front ++ x) closing in
     let same : is.second.front ++ (34 ∷ end.back) ≡ content ++ codes "\"" =
     append_cancel_left front _ _ (ap₂ (λ x y. x ++ y) (sym is.first) (sym back) ∙ sym is.whole) in
     let body = body_same is.second.front content end.back [] end.second same in
-    let quote : 34 ∷ end.back ≡ codes "\"" = append_cancel_left content _ _ (ap (λ x. x ++ (34 ∷ end.back)) (sym body) ∙ same) in
+    let quote : 34 ∷ end.back ≡ codes
+    "\"" = append_cancel_left content _ _ (ap (λ x. x ++ (34 ∷ end.back)) (sym body) ∙ same) in
     subst₂ (λ text r. Many Unit text r) body (append-nil is.second.back ∙ (closing ∙ quote)) is.second.first

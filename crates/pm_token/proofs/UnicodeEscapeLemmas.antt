@@ -27,25 +27,30 @@ part_low c h = elim (or_cases (is_ascii_hexdigit c) (c == 95) h) [
 ]
 
 part_code : (c : ℕ) → is_code_part c ≡ true → is_code_character c ≡ true
-part_code c h = (and_parts _ _ (agree_below_at (λ x. is_code_part x && is_code_character x) is_code_part 128 c refl (part_low c h) ∙ h)).1
+part_code c h = (and_parts _ _ (agree_below_at (λ x. is_code_part x && is_code_character x) is_code_part 128 c refl
+    (part_low c h) ∙ h)).1
 
 -- a part is a hex digit, or nothing is made of it
 part_hex : (c : ℕ) → is_code_part c ≡ true → (is_hex c ≡ is_ascii_hexdigit c) × ((c == 95) ≡ not (is_hex c))
 part_hex c h =
     let low = part_low c h in
-    let same = agree_below_at (λ x. is_code_part x && is_hex x) (λ x. is_code_part x && is_ascii_hexdigit x) 128 c refl low in
-    let line = agree_below_at (λ x. is_code_part x && (x == 95)) (λ x. is_code_part x && not (is_hex x)) 128 c refl low in (
+    let same = agree_below_at (λ x. is_code_part x && is_hex x)
+    (λ x. is_code_part x && is_ascii_hexdigit x) 128 c refl low in
+    let line = agree_below_at (λ x. is_code_part x && (x == 95))
+    (λ x. is_code_part x && not (is_hex x)) 128 c refl low in (
       sym (ap (λ b. b && is_hex c) h) ∙ (same ∙ ap (λ b. b && is_ascii_hexdigit c) h),
       sym (ap (λ b. b && (c == 95)) h) ∙ (line ∙ ap (λ b. b && not (is_hex c)) h),
     )
 
-code_front : (cs more : List ℕ) → list_all is_code_part cs ≡ true → while_front is_code_character ((cs ++ 125 ∷ []) ++ more) ≡ cs
+code_front : (cs more : List ℕ) → list_all is_code_part cs ≡ true
+    → while_front is_code_character ((cs ++ 125 ∷ []) ++ more) ≡ cs
 code_front [] more all = refl
 code_front (c ∷ cs) more all =
     let parts = and_parts (is_code_part c) (list_all is_code_part cs) all in
     cond-true _ _ _ (part_code c parts.0) ∙ ap (λ xs. c ∷ xs) (code_front cs more parts.1)
 
-code_rest : (cs more : List ℕ) → list_all is_code_part cs ≡ true → while_rest is_code_character ((cs ++ 125 ∷ []) ++ more) ≡ 125 ∷ more
+code_rest : (cs more : List ℕ) → list_all is_code_part cs ≡ true
+    → while_rest is_code_character ((cs ++ 125 ∷ []) ++ more) ≡ 125 ∷ more
 code_rest [] more all = refl
 code_rest (c ∷ cs) more all =
     let parts = and_parts (is_code_part c) (list_all is_code_part cs) all in
@@ -63,32 +68,37 @@ hex_step n c = 16 * n + digit_value c
 abbrev value_step : ℕ → ℕ → ℕ
 value_step n c = cond (c == 95) n (16 * n + digit_value c)
 
-code_number : (n : ℕ) (cs : List ℕ) → list_all is_code_part cs ≡ true → fold hex_step n (filter is_hex cs) ≡ fold value_step n cs
+code_number : (n : ℕ) (cs : List ℕ) → list_all is_code_part cs ≡ true
+    → fold hex_step n (filter is_hex cs) ≡ fold value_step n cs
 code_number n [] all = refl
 code_number n (c ∷ cs) all =
     let parts = and_parts (is_code_part c) (list_all is_code_part cs) all in
     step (is_hex c) (part_hex c parts.0).1 (λ m. code_number m cs parts.1)
   where
     step : (b : Bool) → (c == 95) ≡ not b → ((m : ℕ) → fold hex_step m (filter is_hex cs) ≡ fold value_step m cs)
-        → fold hex_step n (cond b (c ∷ filter is_hex cs) (filter is_hex cs)) ≡ fold value_step (cond (c == 95) n (16 * n + digit_value c)) cs
+        → fold hex_step n (cond b (c ∷ filter is_hex cs) (filter is_hex cs))
+        ≡ fold value_step (cond (c == 95) n (16 * n + digit_value c)) cs
     step true line ih = ih (hex_step n c) ∙ ap (λ m. fold value_step m cs) (sym (cond-false _ _ _ line))
     step false line ih = ih n ∙ ap (λ m. fold value_step m cs) (sym (cond-true _ _ _ line))
 
 pub scalar_character : (n : ℕ) → is_scalar n ≡ true → character n ≡ Ok n
 scalar_character n h = elim (or_cases (nat_lt n 0xD800) (nat_le 0xE000 n && nat_lt n 0x11_0000) h) [
   | inl below ↦ let lt = ltb-true n 0xD800 below in
-      cond-false _ _ _ (false_from_ne_true (nat_lt 0x10_FFFF n) (λ e. let more = ltb-true 0x10_FFFF n e in absurd (omega arith)))
+      cond-false _ _ _ (false_from_ne_true (nat_lt 0x10_FFFF n)
+      (λ e. let more = ltb-true 0x10_FFFF n e in absurd (omega arith)))
       ∙ cond-false _ _ _ (false_from_ne_true (nat_le 0xD800 n && nat_lt n 0xE000)
       (λ e. let le = leb-true 0xD800 n (and_parts (nat_le 0xD800 n) (nat_lt n 0xE000) e).0 in absurd (omega arith)))
   | inr above ↦ let ends = and_parts (nat_le 0xE000 n) (nat_lt n 0x11_0000) above in
       let from = leb-true 0xE000 n ends.0 in
       let up_to = ltb-true n 0x11_0000 ends.1 in
-      cond-false _ _ _ (false_from_ne_true (nat_lt 0x10_FFFF n) (λ e. let more = ltb-true 0x10_FFFF n e in absurd (omega arith)))
+      cond-false _ _ _ (false_from_ne_true (nat_lt 0x10_FFFF n)
+      (λ e. let more = ltb-true 0x10_FFFF n e in absurd (omega arith)))
       ∙ cond-false _ _ _ (false_from_ne_true (nat_le 0xD800 n && nat_lt n 0xE000)
       (λ e. let lt = ltb-true n 0xE000 (and_parts (nat_le 0xD800 n) (nat_lt n 0xE000) e).1 in absurd (omega arith)))
 ]
 
-code_unit_is : {U : Type 0} (kind : Kind U) (allowed : ℕ → Bool) (cs : List ℕ) → list_all is_code_part cs ≡ true → is_code allowed cs ≡ true
+code_unit_is : {U : Type 0} (kind : Kind U) (allowed : ℕ → Bool) (cs : List ℕ) → list_all is_code_part cs ≡ true
+    → is_code allowed cs ≡ true
     → code_unit kind (filter is_hex cs) ≡ kind.of_code (Ok (hex_value cs))
 code_unit_is kind allowed cs all is =
     let parts = and_parts (nat_le (length (filter is_ascii_hexdigit cs)) 6) _ is in
@@ -115,7 +125,8 @@ first_digit c h =
 
 unicode_is : {U : Type 0} (kind : Kind U) (allowed : ℕ → Bool) (c : ℕ) (cs more : List ℕ)
     → is_ascii_hexdigit c ≡ true → list_all is_code_part cs ≡ true → is_code allowed (c ∷ cs) ≡ true
-    → escape kind (117 ∷ (123 ∷ (((c ∷ cs) ++ 125 ∷ []) ++ more))) ≡ record { unit = kind.of_code (Ok (hex_value (c ∷ cs))); rest = more }
+    → escape kind (117 ∷ (123 ∷ (((c ∷ cs) ++ 125 ∷ []) ++ more)))
+    ≡ record { unit = kind.of_code (Ok (hex_value (c ∷ cs))); rest = more }
 unfolding escape unicode_escape
 unicode_is kind allowed c cs more hex all is =
     let plain = first_digit c hex in
@@ -130,9 +141,11 @@ code_in n (c ∷ cs) all =
     let parts = and_parts (is_code_part c) (list_all is_code_part cs) all in
     cond_both (is_ascii_hexdigit c) _ _ (λ p. fold value_step n p ≡ fold value_step (value_step n c) cs)
     (λ e. code_in (value_step n c) cs parts.1)
-    (λ e. code_in n cs parts.1 ∙ ap (λ m. fold value_step m cs) (sym (cond-true _ _ _ (sym (ap (λ b. b || (c == 95)) e) ∙ parts.0))))
+    (λ e. code_in n cs parts.1 ∙ ap (λ m. fold value_step m cs)
+    (sym (cond-true _ _ _ (sym (ap (λ b. b || (c == 95)) e) ∙ parts.0))))
 
-pub unicode_escapes : {U : Type 0} (kind : Kind U) (spell : U → List ℕ) (makes : Makes) (allowed : ℕ → Bool) (back r : List ℕ)
+pub unicode_escapes : {U : Type 0} (kind : Kind U) (spell : U → List ℕ) (makes : Makes) (allowed : ℕ → Bool)
+    (back r : List ℕ)
     → Spells spell (λ c. kind.of_code (Ok c)) makes.of_char allowed → Stands (rule.unicode allowed) back r
     → EscapesAs kind spell (92 ∷ back) (escape_value makes back)
 unicode_escapes kind spell makes allowed back r spells is =
@@ -141,7 +154,8 @@ unicode_escapes kind spell makes allowed back r spells is =
     let cs = code.0.back in
     let text : is.second.front ≡ c ∷ cs = code.0.whole ∙ ap (λ x. x ++ cs) code.0.first.1 in
     let is_one : is_code allowed (c ∷ cs) ≡ true = sym (ap (is_code allowed) text) ∙ code.1 in
-    let all : list_all is_code_part (c ∷ cs) ≡ true = and_from _ _ (ap (λ b. b || (c == 95)) code.0.first.2) code.0.second.each in
+    let all : list_all is_code_part (c ∷ cs) ≡ true =
+    and_from _ _ (ap (λ b. b || (c == 95)) code.0.first.2) code.0.second.each in
     let scalar =
     and_parts (is_scalar (hex_value (c ∷ cs))) (allowed (hex_value (c ∷ cs)))
     (and_parts (nat_le (length (filter is_ascii_hexdigit (c ∷ cs))) 6) _ is_one).1 in

@@ -31,11 +31,21 @@ string_plain : IsPlain string_kind
 string_plain = record { chars = λ d low. refl; zero = refl }
 
 -- a character without a short escape
-pub char_as : (quote c : ℕ) → IsScalar c → (c == 9) ≡ false → (c == 13) ≡ false → (c == 10) ≡ false → (c == 92) ≡ false → (c == quote) ≡ false
+pub char_as : (quote c : ℕ) → IsScalar c → (c == 9) ≡ false → (c == 13) ≡ false → (c == 10) ≡ false → (c == 92) ≡ false
+    → (c == quote) ≡ false
     → WrittenAs string_kind quote c (written_char c) c
 char_as quote c scalar tab return line backslash other =
     cond_both (is_bare c) (c ∷ []) (escape_unicode c) (λ p. WrittenAs string_kind quote c p c)
-    (λ e. inr (record { whole = refl; unit_is = refl; no_tab = tab; no_return = return; no_line = line; no_backslash = backslash; no_quote = other }))
+    (λ e. inr (record {
+      whole = refl;
+      unit_is = refl;
+      no_tab = tab;
+      no_return = return;
+      no_line = line;
+      no_backslash =
+          backslash;
+      no_quote = other;
+    }))
     (λ e. inl (code_escapes c scalar))
 
 string_units : (end : ℕ) (text : List ℕ) → IsText text
@@ -43,14 +53,18 @@ string_units : (end : ℕ) (text : List ℕ) → IsText text
 string_units end [] all = give_none string_kind end
 string_units end (c ∷ rest) all =
     let parts = and_parts _ _ all in
-    let how = written_as string_kind 34 written_char c rest string_plain (short_double string_kind string_plain) (char_as 34 c parts.0) in
-    give_front string_kind end (written 34 written_char c rest ++ content 34 written_char rest) c (content 34 written_char rest) rest
-    (begins_written string_kind end c (written 34 written_char c rest) c (content 34 written_char rest) how) (string_units end rest parts.1)
+    let how = written_as string_kind 34 written_char c rest string_plain (short_double string_kind string_plain)
+    (char_as 34 c parts.0) in
+    give_front string_kind end (written 34 written_char c rest ++ content 34 written_char rest) c
+    (content 34 written_char rest) rest
+    (begins_written string_kind end c (written 34 written_char c rest) c (content 34 written_char rest) how)
+    (string_units end rest parts.1)
 
 pub strings_come_back : StringsComeBack
 strings_come_back text all =
     let inside = content 34 written_char text in
-    ap (λ o. value_from (option_map (units string_kind) o) (raw_content (codes "r") (string_text text))) (between_within (codes "\"") (codes "\"") inside)
+    ap (λ o. value_from (option_map (units string_kind) o) (raw_content (codes "r") (string_text text)))
+    (between_within (codes "\"") (codes "\"") inside)
     ∙ ap (λ v. value_from (Some v) (raw_content (codes "r") (string_text text)))
     (given_value (items string_kind inside) text (string_units (bytes inside) text all))
 
@@ -67,11 +81,13 @@ glyph_value d low = agree_below_at (λ x. nat_eq (digit_value (digit_glyph true 
 
 -- two hex digits after a backslash and `x`
 pair_read : (high low : ℕ) (more : List ℕ) → high < 16 → low < 16
-    → escape byte_kind (120 ∷ digit_glyph true high ∷ digit_glyph true low ∷ more) ≡ record { unit = Ok (16 * high + low); rest = more }
+    → escape byte_kind (120 ∷ digit_glyph true high ∷ digit_glyph true low ∷ more)
+    ≡ record { unit = Ok (16 * high + low); rest = more }
 unfolding escape hex_escape
 pair_read high low more h l =
     cond-true _ _ _ (glyph_hex high h) ∙ (cond-true _ _ _ (glyph_hex low l)
-    ∙ ap₂ (λ x y. record { unit = Ok (16 * x + y); rest = more }) (eqb-true _ _ (glyph_value high h)) (eqb-true _ _ (glyph_value low l)))
+    ∙ ap₂ (λ x y. record { unit = Ok (16 * x + y); rest = more }) (eqb-true _ _ (glyph_value high h))
+    (eqb-true _ _ (glyph_value low l)))
 
 byte_escapes : (b : ℕ) → b < 256 → Escapes byte_kind (codes "\\x" ++ hex_pair b) b
 byte_escapes b low = record {
@@ -84,7 +100,8 @@ byte_escapes b low = record {
 }
 
 -- a byte without a short escape
-byte_as : (quote b : ℕ) → b < 256 → (b == 9) ≡ false → (b == 13) ≡ false → (b == 10) ≡ false → (b == 92) ≡ false → (b == quote) ≡ false
+byte_as : (quote b : ℕ) → b < 256 → (b == 9) ≡ false → (b == 13) ≡ false → (b == 10) ≡ false → (b == 92) ≡ false
+    → (b == quote) ≡ false
     → WrittenAs byte_kind quote b (written_byte b) b
 byte_as quote b low tab return line backslash other =
     cond_both (nat_le 32 b && nat_lt b 127) (b ∷ []) (codes "\\x" ++ hex_pair b) (λ p. WrittenAs byte_kind quote b p b)
@@ -100,12 +117,16 @@ byte_as quote b low tab return line backslash other =
     }))
     (λ e. inl (byte_escapes b low))
 
-byte_units : (end : ℕ) (text : List ℕ) → AllByRecursion (λ b. b < 256) text → Give (items_from byte_kind end (content 34 written_byte text)) text
+byte_units : (end : ℕ) (text : List ℕ) → AllByRecursion (λ b. b < 256) text
+    → Give (items_from byte_kind end (content 34 written_byte text)) text
 byte_units end [] all = give_none byte_kind end
 byte_units end (b ∷ rest) all =
-    let how = written_as byte_kind 34 written_byte b rest byte_plain (short_double byte_kind byte_plain) (byte_as 34 b all.0) in
-    give_front byte_kind end (written 34 written_byte b rest ++ content 34 written_byte rest) b (content 34 written_byte rest) rest
-    (begins_written byte_kind end b (written 34 written_byte b rest) b (content 34 written_byte rest) how) (byte_units end rest all.1)
+    let how = written_as byte_kind 34 written_byte b rest byte_plain (short_double byte_kind byte_plain)
+    (byte_as 34 b all.0) in
+    give_front byte_kind end (written 34 written_byte b rest ++ content 34 written_byte rest) b
+    (content 34 written_byte rest) rest
+    (begins_written byte_kind end b (written 34 written_byte b rest) b (content 34 written_byte rest) how)
+    (byte_units end rest all.1)
 
 pub byte_strings_come_back : ByteStringsComeBack
 byte_strings_come_back text all =
@@ -120,7 +141,8 @@ pub single_escape : (kind : Kind ℕ) (p : List ℕ) (c : ℕ) → Escapes kind 
 unfolding single
 single_escape kind p c is =
     ap (λ q. (single kind q).unit) is.whole
-    ∙ ap (λ (x : Read ℕ). (only x.unit x.rest).unit) (ap (λ back. escape kind (is.letter ∷ back)) (sym (append-nil is.back)) ∙ is.gives [])
+    ∙ ap (λ (x : Read ℕ). (only x.unit x.rest).unit)
+    (ap (λ back. escape kind (is.letter ∷ back)) (sym (append-nil is.back)) ∙ is.gives [])
 
 pub single_stand : (kind : Kind ℕ) (c : ℕ) (p : List ℕ) → Stands kind 39 c p c → (single kind p).unit ≡ Ok c
 unfolding single
@@ -139,10 +161,12 @@ single_written kind c p (inr is) = single_stand kind c p is
 
 pub characters_come_back : CharactersComeBack
 characters_come_back c scalar =
-    let how = written_as string_kind 39 written_char c [] string_plain (short_single string_kind string_plain) (char_as 39 c scalar) in
+    let how = written_as string_kind 39 written_char c [] string_plain (short_single string_kind string_plain)
+    (char_as 39 c scalar) in
     (written 39 written_char c [], refl, single_written string_kind c (written 39 written_char c []) how)
 
 pub bytes_come_back : BytesComeBack
 bytes_come_back b low =
-    let how = written_as byte_kind 39 written_byte b [] byte_plain (short_single byte_kind byte_plain) (byte_as 39 b low) in
+    let how = written_as byte_kind 39 written_byte b [] byte_plain (short_single byte_kind byte_plain)
+    (byte_as 39 b low) in
     (written 39 written_byte b [], refl, single_written byte_kind b (written 39 written_byte b []) how)

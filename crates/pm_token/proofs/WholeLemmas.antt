@@ -72,7 +72,8 @@ no_bytes (c ∷ rest) e = absurd (omega (arith, length-le-encodes (c ∷ rest)))
 pub whole_literal : (text : List ℕ) (found : Option ℕ) → IsUtf8 text
     → IfSome found (IsAt Literal (chars text)) → IfNone found (HasNone Literal (chars text))
     → IsTrue (option_eq eqb found (Some (length text))) ↔ Literal (chars text) []
-whole_literal text None utf8 some none = (λ h. absurd (both_ways _ refl h), λ is. absurd (none (chars text) [] (sym (append-nil (chars text))) is))
+whole_literal text None utf8 some none =
+    (λ h. absurd (both_ways _ refl h), λ is. absurd (none (chars text) [] (sym (append-nil (chars text))) is))
 whole_literal text (Some n) utf8 at none = (from_all, to_all)
   where
     bytes : encode_utf8_all at.front ++ encode_utf8_all at.rest ≡ text
@@ -89,8 +90,10 @@ whole_literal text (Some n) utf8 at none = (from_all, to_all)
 
     to_all : Literal (chars text) [] → IsTrue (n == length text)
     to_all is =
-        let same = one_split find_literal Literal finds_literal (chars text) at.front [] at.rest is at.stands (append-nil (chars text) ∙ at.whole) in
-        eq-eqb n (length text) (at.size ∙ (ap (λ p. length (encode_utf8_all p)) (sym same.0) ∙ ap length (encodes-chars text utf8)))
+        let same = one_split find_literal Literal finds_literal (chars text) at.front [] at.rest is at.stands
+        (append-nil (chars text) ∙ at.whole) in
+        eq-eqb n (length text) (at.size
+        ∙ (ap (λ p. length (encode_utf8_all p)) (sym same.0) ∙ ap length (encodes-chars text utf8)))
 
 -- ---- the sign before a literal
 
@@ -99,13 +102,15 @@ begins_minus [] h = absurd (both_ways _ refl h)
 begins_minus (c ∷ cs) h = (cs, ap (λ d. d ∷ cs) (eqb-true c 45 h))
 
 -- what stands after the `-`, in bytes and in characters
-pub minus_stripped : (text : List ℕ) (r : Option (Bor (List ℕ))) → IsUtf8 text → MatchOption r ((rest : List ℕ) → text ≢ 45 ∷ rest) (λ x. text ≡ 45 ∷ x.now)
+pub minus_stripped : (text : List ℕ) (r : Option (Bor (List ℕ))) → IsUtf8 text
+    → MatchOption r ((rest : List ℕ) → text ≢ 45 ∷ rest) (λ x. text ≡ 45 ∷ x.now)
     → MatchOption r (first_passes (λ c. c == 45) (chars text) ≡ false) (λ x. chars text ≡ 45 ∷ chars x.now)
 minus_stripped text None utf8 none = false_from_ne_true _ (λ h.
     let at = begins_minus (chars text) h in
     none (encode_utf8_all at.0) (sym (encodes-chars text utf8)
     ∙ (ap encode_utf8_all at.1 ∙ ap (λ bytes. bytes ++ encode_utf8_all at.0) (encode_ascii 45 (omega arith)))))
-minus_stripped text (Some x) utf8 e = chars_past_char text x.now 45 utf8 (e ∙ ap (λ bytes. bytes ++ x.now) (sym (encode_ascii 45 (omega arith))))
+minus_stripped text (Some x) utf8 e =
+    chars_past_char text x.now 45 utf8 (e ∙ ap (λ bytes. bytes ++ x.now) (sym (encode_ascii 45 (omega arith))))
 
 -- no literal of the grammar begins with `-`
 no_minus : (number : List ℕ) → Literal (45 ∷ number) [] → ⊥
@@ -152,7 +157,8 @@ negative_text text minus (inl (inr error), all) = absurd (both_ways (has_minus t
 negative_text text minus (inr negative, all) = negative
 
 -- what follows the `-` is built
-pub number_built : (text : List ℕ) → has_minus text ≡ true → IsLiteralText text → IsBuiltToken (tokens.Literal (drop 1 text))
+pub number_built : (text : List ℕ) → has_minus text ≡ true → IsLiteralText text
+    → IsBuiltToken (tokens.Literal (drop 1 text))
 unfolding IsLiteralToken
 number_built text minus is =
     let negative = negative_text text minus is in

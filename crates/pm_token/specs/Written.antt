@@ -1,11 +1,12 @@
 -- Identifiers as they are written, by which they are compared.
 use Rattle.std.specs.Prelude.{ℕ, Bool, List, ◌∷◌, cond, codes, drop, nat_eq, ◌≡◌, IsTrue}
-use Rattle.std.specs.Str.{encode_utf8_all}
+use Rattle.std.specs.Str.{chars, encode_utf8_all}
 use Rattle.std.specs.Hash as fed
 use Rattle.std.specs.Cmp.Lexicographic.{pointwise, slice_cmp, same_text}
 use Rattle.std.proofs.Common.{ap, sym}
 use Rattle.std.specs.Ordering.{nat_cmp}
 use Rattle.std.specs.declared.cmp.Ordering.{Ordering}
+use Rattle.lexical.specs.Ascii.{all_ascii}
 use Rattle.lexical.specs.Text.{begins_with}
 use Rattle.lexical.specs.Token.{token_text}
 use Rattle.pm_token.specs.Leaf.{Name, name_token}
@@ -13,6 +14,12 @@ use Rattle.pm_token.specs.Leaf.{Name, name_token}
 -- the characters of the identifier as it is written
 abbrev pub name_text : Name → List ℕ
 name_text ident = token_text (name_token ident)
+
+-- the characters that the bytes of a text spell. They are `chars` of it, but those of an ASCII text are its bytes, so
+-- that
+-- they compute where the text is known.
+abbrev pub spelled : List ℕ → List ℕ
+spelled text = cond (all_ascii text) text (chars text)
 
 -- its bytes
 abbrev pub written : Name → List ℕ

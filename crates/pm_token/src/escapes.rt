@@ -7,7 +7,8 @@ ghost use Rattle.lexical.specs.Text.{first_passes};
 ghost use Rattle.lexical.specs.Finder.{while_front};
 ghost use Rattle.lexical.specs.Form.{Run};
 ghost use Rattle.lexical.specs.Quoted.{is_octal_digit};
-ghost use Rattle.pm_token.specs.Escaped.{is_hidden, is_bare as bare, is_plain_ascii, written_char, written, content, string_text};
+ghost use Rattle.pm_token.specs.Escaped.{is_hidden, is_bare as bare, is_plain_ascii, written_char, written, content};
+ghost use Rattle.pm_token.specs.Escaped.{string_text};
 ghost use Rattle.pm_token.specs.Text.{IsText};
 
 mod bytes;

@@ -40,7 +40,7 @@ impl Ident {
     ghost use Rattle.pm_token.specs.Built.{IsBuiltToken};
     ghost use Rattle.pm_token.specs.IdentFault.{Refuses, ident_fault};
     ghost use Rattle.pm_token.specs.Leaf.{name_token};
-    ghost use Rattle.pm_token.specs.Written.{name_text};
+    ghost use Rattle.pm_token.specs.Written.{name_text, spelled};
     ghost use Rattle.lexical.specs.Token as tokens;
 
     /// The identifier of this name, which has no `r#`.
@@ -70,7 +70,8 @@ impl Ident {
         }
     }
 
-    /// The plain identifier of this name, which stands at this span.
+    /// The plain identifier of this name, which stands at this span. A keyword is one too: `fn` as the
+    /// name of a variable is found out only by who compiles what is printed.
     ///
     /// Refused, by the rule `identifier-fault`, with the first of these that holds: `Empty` where the
     /// name has no character; `Number` where it has ASCII digits only; `Invalid` where it isn't a
@@ -111,9 +112,16 @@ impl Ident {
     }
 
     /// Whether `text` is how the identifier is written: a raw `a` is `r#a`, and not `a`.
+    ///
+    /// Of a text that a program writes out, as in `name.eq_str("fn")`, a proof learns by `spelled` that
+    /// the identifier is written `fn`: `spelled (codes "fn")` computes to `codes "fn"`.
     pub fn eq_str(&self, text: &str) -> bool
         ensures exactly { IsTrue result ↔ (name_text self.now ≡ chars text.now) }
         ensures value { result ≡ pointwise nat_eq (name_text self.now) (chars text.now) }
+
+        // The same, in words that compute for an ASCII text that is known.
+        ensures spelled { IsTrue result ↔ (name_text self.now ≡ spelled text.now) }
+        ensures computed { result ≡ pointwise nat_eq (name_text self.now) (spelled text.now) }
     {
         let name = self.name.as_str();
         if !self.name.is_raw() {

@@ -1,6 +1,7 @@
-//! What is proved of literals and their values together. The functions compute nothing: their contracts
-//! are the laws, which `specs/KindLaws.antt` and `specs/ValueLaws.antt` state.
-
+//! What is proved of literals and their values together, and of what is compared. The functions compute
+//! nothing: their contracts are the laws, those of literals by `specs/KindLaws.antt` and
+//! `specs/ValueLaws.antt`.
+ghost use Rattle.std.specs.Prelude.{◌≡◌, ◌↔◌, IsTrue};
 ghost use Rattle.pm_token.specs.KindLaws.{
   ByteStringsAreByteStrings,
   BytesAreBytes,
@@ -25,6 +26,20 @@ ghost use Rattle.pm_token.specs.ValueLaws.{
   StringsComeBack,
   StringsHaveValues,
 };
+
+use crate::delimiters::Delimiter;
+use crate::literals::ConversionErrorKind;
+use crate::marks::Spacing;
+
+/// Two delimiters, two spacings, and two reasons why a literal has no value, are equal exactly if they
+/// are the same: of one kind, and for a fault of the content with the same fault.
+///
+/// Of the faults of `"\z"` and `"\x1"`, both `FailedToUnescape`, neither equals the other.
+pub fn equal_delimiters_spacings_and_errors()
+    ensures delimiters { (a b : Delimiter) → IsTrue (⟦<Delimiter as PartialEq>⟧.eq a b) ↔ (a ≡ b) }
+    ensures spacings { (a b : Spacing) → IsTrue (⟦<Spacing as PartialEq>⟧.eq a b) ↔ (a ≡ b) }
+    ensures errors { (a b : ConversionErrorKind) → IsTrue (⟦<ConversionErrorKind as PartialEq>⟧.eq a b) ↔ (a ≡ b) }
+{}
 
 /// A literal that was made is one of its kind, with nothing after it: what `Literal::string` writes is a
 /// string, what `byte_string` and `c_string` write a byte string and a C string, and what `character` and

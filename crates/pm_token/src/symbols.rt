@@ -34,9 +34,11 @@ impl Text {
         }
     }
 
-    /// The text itself if it is long, and a copy if it is short. Fails where memory runs out.
+    /// The text itself if it is long, and a copy if it is short. Fails where memory runs out, which a
+    /// short text doesn't take.
     fn from_string(alloc: Global, text: String) -> Result<Text, AllocError>
         ensures ok { IfOk result (λ kept. text_bytes kept ≡ string_bytes text) }
+        ensures short { IsShort (chars (string_bytes text)) → IsOk result }
     {
         if text.len() <= ROOM {
             Ok(Text::Short(Short::new(text.as_str())))

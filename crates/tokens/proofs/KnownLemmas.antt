@@ -12,11 +12,13 @@ use Rattle.tokens.specs.Known.{AppendsFront}
 pub Consumes-filled : (a b c : Option (List ℕ)) (old new : List ℕ) (f n : ℕ) → take f new ≡ take f old
     → Consumes a b (take f old) → Consumes b c (take n (drop f new)) → Consumes a c (take (f + n) new)
 Consumes-filled a b c old new f n same before read =
-    let whole : take f old ++ take n (drop f new) ≡ take (f + n) new = ap (λ l. l ++ take n (drop f new)) (sym same) ∙ sym (take-add f n new) in
+    let whole : take f old ++ take n (drop f new) ≡ take (f + n) new = ap (λ l. l ++ take n (drop f new)) (sym same)
+    ∙ sym (take-add f n new) in
     subst (Consumes a c) whole (Consumes-trans a b c _ _ before read)
 
 -- what a write took comes off the front of the rest, which is cut as the code cuts it
-pub whole_moves : (all front rest : List ℕ) (n : ℕ) → all ≡ front ++ rest → all ≡ (front ++ take n rest) ++ take (length rest - n) (drop n rest)
+pub whole_moves : (all front rest : List ℕ) (n : ℕ) → all ≡ front ++ rest
+    → all ≡ (front ++ take n rest) ++ take (length rest - n) (drop n rest)
 whole_moves all front rest n whole =
     whole ∙ ap (λ l. front ++ l) (sym (take-append-drop n rest)) ∙ sym (append_assoc front (take n rest) (drop n rest))
     ∙ ap (λ l. (front ++ take n rest) ++ l) (sym (take_rest rest n))
@@ -24,10 +26,17 @@ whole_moves all front rest n whole =
 -- a beginning of some bytes is one of more bytes
 pub AppendsFront-more : (a b : Option (List ℕ)) (xs ys : List ℕ) → AppendsFront a b xs → AppendsFront a b (xs ++ ys)
 AppendsFront-more a b xs ys h =
-    record { front = h.front; back = h.back ++ ys; whole = ap (λ l. l ++ ys) h.whole ∙ append_assoc h.front h.back ys; appends = h.appends }
+    record {
+      front = h.front;
+      back = h.back ++ ys;
+      whole = ap (λ l. l ++ ys) h.whole
+          ∙ append_assoc h.front h.back ys;
+      appends = h.appends;
+    }
 
 -- bytes and then a beginning of others are a beginning of both
-pub AppendsFront-after : (a b c : Option (List ℕ)) (xs ys : List ℕ) → Appends a b xs → AppendsFront b c ys → AppendsFront a c (xs ++ ys)
+pub AppendsFront-after : (a b c : Option (List ℕ)) (xs ys : List ℕ) → Appends a b xs → AppendsFront b c ys
+    → AppendsFront a c (xs ++ ys)
 AppendsFront-after a b c xs ys first h =
     record {
       front = xs ++ h.front;

@@ -32,7 +32,8 @@ HasFaultAt-read new input fault place text read empty stands told =
     }
 
 -- a refusal that tells a place tells that of the fault
-pub HasFaultAt-told : (new : Files) (input : List ℕ) (error : ParseError) (why : RunError) (place : LineColumn) → IsUtf8 input
+pub HasFaultAt-told : (new : Files) (input : List ℕ) (error : ParseError) (why : RunError) (place : LineColumn)
+    → IsUtf8 input
     → IfLex error (λ fault. (fault.lo ≡ fault.hi) × FaultAt (next_lo new_map) (chars input) fault.lo)
     → new ≡ (if was_read {T = Forest} (Err error) then with_file new_map (chars input) else new_map)
     → IfLex error (λ fault. (p : LineColumn) × (why ≡ run.Lex p) × StartsAt new fault p)

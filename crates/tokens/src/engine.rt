@@ -66,7 +66,7 @@ fn output_of(alloc: Global, mode: OutputMode, input: Vec<u8>) -> Result<Vec<Stri
         // What is printed has no positions, so trees and a map are wanted only where the place of a fault is told.
         OutputMode::Print => match reprint(alloc, text.as_str()) {
             Ok(printed) => Ok(ended(alloc, printed)?),
-            Err(ParseError::Lex(_)) => Err(place_of_fault(alloc, text.as_str())),
+            Err(ParseError::Lex(_)) => Err(refusal_of(alloc, text.as_str())),
             Err(ParseError::MapFull) => Err(RunError::MapFull),
             Err(ParseError::Memory(error)) => Err(RunError::Memory(error)),
         },
@@ -80,12 +80,13 @@ fn output_of(alloc: Global, mode: OutputMode, input: Vec<u8>) -> Result<Vec<Stri
     }
 }
 
-// Where the fault of a text stands that doesn't parse, or that memory ran out.
-fn place_of_fault(alloc: Global, text: &str) -> RunError
-    requires fits { Fits new_map (length (chars text.now)) }
-    requires faulty { (stream : Forest) → ParsesTo (next_lo new_map) (chars text.now) stream → ⊥ }
+// Why the run is refused of a text that doesn't parse: for its fault, whose line and column are asked of a map, or
+// where the text doesn't fit the map, or memory runs out.
+fn refusal_of(alloc: Global, text: &str) -> RunError
+    requires { (stream : Forest) → ParsesTo (next_lo new_map) (chars text.now) stream → ⊥ }
     ensures lex { (place : LineColumn) → result ≡ RunError.Lex place → HasFaultAt text.now place }
-    ensures others { (result ≢ RunError.Io) × (result ≢ RunError.NotUtf8) × (result ≢ RunError.MapFull) }
+    ensures map_full { (result ≡ RunError.MapFull) ↔ (Fits new_map (length (chars text.now)) → ⊥) }
+    ensures others { (result ≢ RunError.Io) × (result ≢ RunError.NotUtf8) }
 {
     let mut map = SourceMap::new(alloc);
     match TokenStream::from_str(text, &mut map) {

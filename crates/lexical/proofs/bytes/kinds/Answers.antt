@@ -29,7 +29,8 @@ pub returns-in-Octal-base : goal.returns-in-Octal-base
 returns-in-Octal-base c = same_class _ (c.in-DigitOrUnderscoreOf.is ∙ ap DigitOrUnderscoreOf c.in-Octal-base.is) refl
 
 pub returns-in-Hexadecimal-base : goal.returns-in-Hexadecimal-base
-returns-in-Hexadecimal-base c = same_class _ (c.in-DigitOrUnderscoreOf.is ∙ ap DigitOrUnderscoreOf c.in-Hexadecimal-base.is) refl
+returns-in-Hexadecimal-base c =
+    same_class _ (c.in-DigitOrUnderscoreOf.is ∙ ap DigitOrUnderscoreOf c.in-Hexadecimal-base.is) refl
 
 pub returns-in-Sign : goal.returns-in-Sign
 returns-in-Sign c = same_class _ c.in-Sign.is refl

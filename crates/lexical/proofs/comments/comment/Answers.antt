@@ -20,7 +20,8 @@ comment_kind-requires c =
     rw (c.before-2.ensures c.in_ok-end.ensures.front is.0) is.1
 
 -- what was found, by the kind of its text
-found_so : (at end : Cursor) (h : Passes rule.comment at end) (p : List ℕ) (kind : Option Kind) → p ≡ h.front → comment_kind p (chars end.rest.now) ≡ kind
+found_so : (at end : Cursor) (h : Passes rule.comment at end) (p : List ℕ) (kind : Option Kind) → p ≡ h.front
+    → comment_kind p (chars end.rest.now) ≡ kind
     → comment_found (find rule.comment (chars at.rest.now)) ≡ with_kind (p, chars end.rest.now) kind
 found_so at end h p kind e is = rw (h.found, ← e) (ap (with_kind (p, chars end.rest.now)) is)
 
@@ -36,4 +37,10 @@ returns c =
     let h = c.in_ok-end.ensures in
     let same = c.before-2.ensures h.front (passed rule.comment clear_comment _ _ h).0 in
     let told = c.in_ok-kind.ensures in
-    record { front = chars c.before-2.result.now; found = found_so _ _ h _ _ same told.0; count = rw same h.count; lends = told.1 }
+    record {
+      front = chars c.before-2.result.now;
+      found = found_so _ _ h _ _ same told.0;
+      count =
+          rw same h.count;
+      lends = told.1;
+    }

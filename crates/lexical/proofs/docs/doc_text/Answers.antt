@@ -23,10 +23,12 @@ after_front comment said utf8 doc cut =
     ap chars cut ∙ seam_drop comment d.front (drop 3 (chars comment)) 3 utf8 d.whole d.bytes
 
 -- is the text and what closes it
-said_is : (comment said r end : List ℕ) → IsUtf8 comment → Where is_doc Comment (chars comment) r → said ≡ drop 3 comment
+said_is : (comment said r end : List ℕ) → IsUtf8 comment → Where is_doc Comment (chars comment) r
+    → said ≡ drop 3 comment
     → closing (chars comment) r ≡ end → chars said ≡ doc_text (chars comment) r ++ end
 said_is comment said r end utf8 h cut is =
-    after_front comment said utf8 h.1 cut ∙ (doc_back (chars comment) r h.0 h.1 ∙ ap (λ x. doc_text (chars comment) r ++ x) is)
+    after_front comment said utf8 h.1 cut
+    ∙ (doc_back (chars comment) r h.0 h.1 ∙ ap (λ x. doc_text (chars comment) r ++ x) is)
 
 pub range_from-said-requires : goal.range_from-said-requires
 range_from-said-requires c = λ _.
@@ -46,12 +48,14 @@ returns-then-begins c =
 pub returns-then-begins-2 : goal.returns-then-begins-2
 returns-then-begins-2 c =
     let same = after_front _ _ c.utf8.comment c.requires.1 c.range_from-said.ensures.value in
-    let end = closing_line (chars c.args.comment.now) (chars c.args.rest.now) c.requires.1 (sym c.if-begins.ensures) (sym c.if-begins-2.ensures) in
+    let end = closing_line (chars c.args.comment.now) (chars c.args.rest.now) c.requires.1 (sym c.if-begins.ensures)
+    (sym c.if-begins-2.ensures) in
     append_cancel_right _ _ (last_return (chars c.range_from-said.result.now)) (sym c.without_return.ensures
     ∙ said_is _ _ _ _ c.utf8.comment c.requires c.range_from-said.ensures.value (end ∙ ap last_return (sym same)))
 
 pub returns-else-begins-2 : goal.returns-else-begins-2
 returns-else-begins-2 c =
     let p = chars c.args.comment.now in
-    let end = closing_none p (chars c.args.rest.now) (sym c.if-begins.ensures) (and_right (ends_with 13 p) _ (sym c.if-begins-2.ensures)) in
+    let end = closing_none p (chars c.args.rest.now) (sym c.if-begins.ensures)
+    (and_right (ends_with 13 p) _ (sym c.if-begins-2.ensures)) in
     said_is _ _ _ _ c.utf8.comment c.requires c.range_from-said.ensures.value end ∙ append-nil _

@@ -6,7 +6,8 @@ use Rattle.lexical.proofs.QuotedFinderLemmas.{digits_whole, digits_all}
 use Rattle.lexical.proofs.escapes.code.Goals as goal
 
 pub before-requires : goal.before-requires
-before-requires c = passes_whole code_digits (tt, tt) _ _ (then_passes _ _ _ _ _ c.in_ok-first.ensures c.skip-end.ensures)
+before-requires c = passes_whole code_digits (tt, tt) _ _
+    (then_passes _ _ _ _ _ c.in_ok-first.ensures c.skip-end.ensures)
 
 pub writes_character-requires : goal.writes_character-requires
 writes_character-requires c =
@@ -15,10 +16,12 @@ writes_character-requires c =
 
 pub returns-then-not-writes_character : goal.returns-then-not-writes_character
 returns-then-not-writes_character c =
-    where_lacks (is_code (allows c.args.kind)) code_digits (tt, tt) _ _ _ (then_passes _ _ _ _ _ c.in_ok-first.ensures c.skip-end.ensures)
+    where_lacks (is_code (allows c.args.kind)) code_digits (tt, tt) _ _ _
+    (then_passes _ _ _ _ _ c.in_ok-first.ensures c.skip-end.ensures)
     c.before-2.ensures (sym c.writes_character.ensures ∙ c.if-not-writes_character.true)
 
 pub returns : goal.returns
 returns c =
-    where_passes (is_code (allows c.args.kind)) code_digits (tt, tt) _ _ _ (then_passes _ _ _ _ _ c.in_ok-first.ensures c.skip-end.ensures)
+    where_passes (is_code (allows c.args.kind)) code_digits (tt, tt) _ _ _
+    (then_passes _ _ _ _ _ c.in_ok-first.ensures c.skip-end.ensures)
     c.before-2.ensures (sym c.writes_character.ensures ∙ c.if-not-writes_character.false)

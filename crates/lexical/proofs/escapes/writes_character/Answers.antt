@@ -4,7 +4,10 @@ use Rattle.lexical.specs.Quoted.{allows}
 use Rattle.lexical.proofs.CodeLemmas.{CountsTo, reads_digit, reads_line, digits_tail, no_code_long, no_code_great}
 use Rattle.lexical.proofs.escapes.writes_character.Goals as goal
 use Rattle.lexical.proofs.escapes.writes_character.Goals.{in-Some-to_digit, in_default-to_digit}
-use Rattle.lexical.proofs.escapes.writes_character.Goals.{then-count-gt-MOST_DIGITS-via-then-count-gt-MOST_DIGITS, then-count-gt-MOST_DIGITS-via-else-count-gt-MOST_DIGITS+then-value-gt1114111}
+use Rattle.lexical.proofs.escapes.writes_character.Goals.{then-count-gt-MOST_DIGITS-via-then-count-gt-MOST_DIGITS}
+use Rattle.lexical.proofs.escapes.writes_character.Goals.{
+  then-count-gt-MOST_DIGITS-via-else-count-gt-MOST_DIGITS+then-value-gt1114111,
+}
 
 pub returns-then-count-gt-MOST_DIGITS : goal.returns-then-count-gt-MOST_DIGITS
 returns-then-count-gt-MOST_DIGITS c =
@@ -21,7 +24,8 @@ returns-then-count-gt-MOST_DIGITS c =
     let value : ℕ = c.match-to_digit.value in
     let count : ℕ = c.match-to_digit.count in
     sym (elim c.then-count-gt-MOST_DIGITS.branch [
-      | then-count-gt-MOST_DIGITS-via-then-count-gt-MOST_DIGITS w ↦ no_code_long (allows c.args.kind) value count after text counts w.if-count-gt-MOST_DIGITS.true
+      | then-count-gt-MOST_DIGITS-via-then-count-gt-MOST_DIGITS w ↦
+          no_code_long (allows c.args.kind) value count after text counts w.if-count-gt-MOST_DIGITS.true
       | then-count-gt-MOST_DIGITS-via-else-count-gt-MOST_DIGITS+then-value-gt1114111 w ↦
           no_code_great (allows c.args.kind) value count after text counts w.if-value-gt1114111.true
     ])

@@ -10,7 +10,8 @@ pub range_from-requires : goal.range_from-requires
 range_from-requires c =
     λ _. white_boundary c.args.text.now c.loop-byte.white c.utf8.text
     (omega (arith, c.loop-byte.invariant.0, ap length c.as_bytes-byte-items.ensures.value))
-    (subst (λ n. list_all ascii_white (take n c.args.text.now) ≡ true) (sym c.loop-byte.invariant.0) c.loop-byte.invariant.1)
+    (subst (λ n. list_all ascii_white (take n c.args.text.now) ≡ true)
+    (sym c.loop-byte.invariant.0) c.loop-byte.invariant.1)
 
 pub returns-clause-passed : goal.returns-clause-passed
 returns-clause-passed c =
@@ -25,4 +26,5 @@ returns-clause-passed c =
     ] in
     subst (λ r. IsPastWhite (chars text) (chars r) n) (sym c.range_from.ensures.value)
     (white_run text n c.utf8.text (omega (arith, c.loop-byte.invariant.0, same))
-    (subst (λ n. list_all ascii_white (take n text) ≡ true) (sym c.loop-byte.invariant.0) c.loop-byte.invariant.1) stops)
+    (subst (λ n. list_all ascii_white (take n text) ≡ true) (sym c.loop-byte.invariant.0) c.loop-byte.invariant.1)
+    stops)

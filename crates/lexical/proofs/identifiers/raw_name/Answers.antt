@@ -8,8 +8,10 @@ before-requires c = passes_whole name (tt, tt) _ _ c.in_ok-end.ensures
 
 pub returns-then-is_reserved : goal.returns-then-is_reserved
 returns-then-is_reserved c =
-    where_lacks (is_allowed true) name (tt, tt) _ _ _ c.in_ok-end.ensures c.before-2.ensures (ap not (sym c.is_reserved.ensures ∙ c.if-is_reserved.true))
+    where_lacks (is_allowed true) name (tt, tt) _ _ _ c.in_ok-end.ensures c.before-2.ensures
+    (ap not (sym c.is_reserved.ensures ∙ c.if-is_reserved.true))
 
 pub returns : goal.returns
 returns c =
-    where_passes (is_allowed true) name (tt, tt) _ _ _ c.in_ok-end.ensures c.before-2.ensures (ap not (sym c.is_reserved.ensures ∙ c.if-is_reserved.false))
+    where_passes (is_allowed true) name (tt, tt) _ _ _ c.in_ok-end.ensures c.before-2.ensures
+    (ap not (sym c.is_reserved.ensures ∙ c.if-is_reserved.false))

@@ -7,11 +7,15 @@ use Rattle.lexical.proofs.lexer.piece_at.Goals as goal
 
 pub returns-in_err-kind-clause-none : goal.returns-in_err-kind-clause-none
 returns-in_err-kind-clause-none c =
-    let none = none_from_found c.args.first (chars c.args.text.now) (ap (found c.args.first) (ap chars (sym c.new.ensures.rest)) ∙ c.in_err-kind.ensures) in
+    let none = none_from_found c.args.first (chars c.args.text.now)
+    (ap (found c.args.first) (ap chars (sym c.new.ensures.rest)) ∙ c.in_err-kind.ensures) in
     search (rules, none)
 
 pub bytes_in-requires : goal.bytes_in-requires
-bytes_in-requires c = (c.in_ok-kind.ensures.front, (read_stands c.args.first c.new.result _ _ (ap chars c.new.ensures.rest) c.in_ok-kind.ensures).0)
+bytes_in-requires c = (
+  c.in_ok-kind.ensures.front,
+  (read_stands c.args.first c.new.result _ _ (ap chars c.new.ensures.rest) c.in_ok-kind.ensures).0,
+)
 
 pub returns-clause-found : goal.returns-clause-found
 returns-clause-found c =

@@ -2,7 +2,8 @@ use Rattle.std.proofs.Common.{[], ◌∷◌, arith, sym, ◌∙◌}
 use Rattle.lexical.specs.RawString.{is_raw}
 use Rattle.lexical.proofs.HashLemmas.{raw_one}
 use Rattle.lexical.proofs.raw_strings.raw_unit.Goals as goal
-use Rattle.lexical.proofs.raw_strings.raw_unit.Goals.{else-c-eq34-via-then-c-eq34+else-begins, else-c-eq34-via-else-c-eq34}
+use Rattle.lexical.proofs.raw_strings.raw_unit.Goals.{else-c-eq34-via-then-c-eq34+else-begins}
+use Rattle.lexical.proofs.raw_strings.raw_unit.Goals.{else-c-eq34-via-else-c-eq34}
 
 pub returns-then-may_stand : goal.returns-then-may_stand
 returns-then-may_stand c = record {

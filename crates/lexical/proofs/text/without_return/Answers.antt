@@ -9,4 +9,5 @@ returns-in-Some c =
     (strip_suffix_char 13 c.args.text.now (Some c.in-Some.front) c.in-Some.ensures.cases (omega arith))
 
 pub returns-in-None : goal.returns-in-None
-returns-in-None c = no_return c.args.text.now c.utf8.text (strip_suffix_char 13 c.args.text.now None c.in-None.ensures.cases (omega arith))
+returns-in-None c = no_return c.args.text.now c.utf8.text
+    (strip_suffix_char 13 c.args.text.now None c.in-None.ensures.cases (omega arith))

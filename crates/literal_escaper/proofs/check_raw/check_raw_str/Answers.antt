@@ -3,4 +3,5 @@ use Rattle.literal_escaper.proofs.WithinLemmas.{raw_within}
 use Rattle.literal_escaper.proofs.check_raw.check_raw_str.Goals as goal
 
 pub returns-clause-within : goal.returns-clause-within
-returns-clause-within c = raw_within any_char c.args.src.now c.new.result c.utf8.src c.new.ensures.rest c.new.ensures.end
+returns-clause-within c = raw_within any_char c.args.src.now c.new.result c.utf8.src c.new.ensures.rest
+    c.new.ensures.end

@@ -8,7 +8,8 @@ use Rattle.literal_escaper.proofs.escape.digits.Given as goal
 abbrev pub invariant-loop-c : goal.invariant-loop-c
 invariant-loop-c l =
     (fold count_with l.count (while_front is_code_character (text_at l.after)) ≡ digit_count (text_at l.initial.after))
-    × (fold number_with l.number (while_front is_code_character (text_at l.after)) ≡ digit_number (text_at l.initial.after))
+    × (fold number_with l.number (while_front is_code_character (text_at l.after))
+    ≡ digit_number (text_at l.initial.after))
     × (while_rest is_code_character (text_at l.after) ≡ while_rest is_code_character (text_at l.initial.after))
     × (l.after.end ≡ l.initial.after.end)
     × (l.count ≤ 7)

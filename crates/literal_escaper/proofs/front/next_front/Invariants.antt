@@ -5,7 +5,8 @@ use Rattle.literal_escaper.proofs.front.next_front.Given as goal
 
 abbrev pub invariant-loop-front : goal.invariant-loop-front
 invariant-loop-front g l =
-    items_from g.K.Unescape.kind l.place.end (text_at l.place) ≡ items_from g.K.Unescape.kind l.initial.place.end (text_at l.initial.place)
+    items_from g.K.Unescape.kind l.place.end (text_at l.place)
+    ≡ items_from g.K.Unescape.kind l.initial.place.end (text_at l.initial.place)
 
 abbrev pub decreases-loop-front : goal.decreases-loop-front
 decreases-loop-front g l = length (text_at l.place)

@@ -5,7 +5,8 @@ use Rattle.pm_span.proofs.text.skip_chars_back.Goals as goal
 
 pub loop-preserved : goal.loop-preserved
 loop-preserved c =
-    back_one c.loop.front c.next_back.new.self c.next_back.result c.utf8.text c.loop.invariant (omega arith) c.next_back.ensures.steps
+    back_one c.loop.front c.next_back.new.self c.next_back.result c.utf8.text c.loop.invariant
+    (omega arith) c.next_back.ensures.steps
 
 pub returns-clause-value : goal.returns-clause-value
 returns-clause-value c =

@@ -11,5 +11,7 @@ pub returns-in-Ok-clause-ok : goal.returns-in-Ok-clause-ok
 returns-in-Ok-clause-ok c =
     let all = YieldsList-from_vec {s = skip_source c.skip.result} (into_iter_items c.in-Ok.arguments)
     (ap into_iter_items c.skip.ensures.source) (ap into_iter_len c.skip.ensures.source ∙ c.in-Ok.arguments.rest.ok.0) in
-    let taken = items_from_collect c.collect.result c.collect.ensures.ran (YieldsList-from_skip 1 all c.skip.ensures.count) in
-    IfOk-weaker c.collect.result _ _ (λ list same. ap words c.in-Ok.is ∙ ap (λ xs. Ok (map string_bytes xs)) (sym same)) taken
+    let taken = items_from_collect c.collect.result c.collect.ensures.ran
+    (YieldsList-from_skip 1 all c.skip.ensures.count) in
+    IfOk-weaker c.collect.result _ _ (λ list same. ap words c.in-Ok.is ∙ ap (λ xs. Ok (map string_bytes xs)) (sym same))
+    taken

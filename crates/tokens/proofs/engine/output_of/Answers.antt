@@ -1,13 +1,24 @@
-use Rattle.std.proofs.Common.{◌≡◌, ◌∙◌, ap, subst}
+use Rattle.std.proofs.Common.{◌≡◌, ◌∙◌, ap, subst, sym}
+use Rattle.std.specs.Str.{chars}
+use Rattle.proc_macro2.specs.Files.{new_map, next_lo}
+use Rattle.proc_macro2.specs.Parsing.{IsOnlyFault}
 use Rattle.tokens.specs.Output.{HasFaultAt}
 use Rattle.tokens.proofs.OutputLemmas.{HasFaultAt-told}
 use Rattle.tokens.proofs.engine.output_of.Goals as goal
 
-pub returns-in-Err-clause-lex : goal.returns-in-Err-clause-lex
-returns-in-Err-clause-lex c = λ place told.
-    let same : c.as_str-2.result.now ≡ c.args.input.items
-    = c.as_str-2.ensures.value ∙ ap (λ bytes. bytes.items) c.in-Ok.ensures.ok in
+pub refusal_of-requires : goal.refusal_of-requires
+refusal_of-requires c =
+    let same : c.as_str.result.now ≡ c.as_str-in-Err-Lex.result.now
+    = c.as_str.ensures.value ∙ sym c.as_str-in-Err-Lex.ensures.value in
+    let only : IsOnlyFault (next_lo new_map) (chars c.as_str.result.now) c.in-Err-Lex.field-0-0.lo
+    = rw c.in-Err-Lex.field-0-is at c.in-Err-Lex.ensures.only in
+    (subst (λ text. IsOnlyFault (next_lo new_map) (chars text) c.in-Err-Lex.field-0-0.lo) same only).0
+
+pub returns-clause-lex : goal.returns-clause-lex
+returns-clause-lex c = λ place told.
+    let same : c.as_str-in-Spans.result.now ≡ c.args.input.items
+    = c.as_str-in-Spans.ensures.value ∙ ap (λ bytes. bytes.items) c.in-Ok.ensures.ok in
     subst (λ bytes. HasFaultAt bytes place) same
-    (HasFaultAt-told _ _ c.in-Err.error _ place c.as_str-2.utf8 (rw c.new-map.ensures at c.in-Err.ensures.lex)
+    (HasFaultAt-told _ _ c.in-Err.error _ place c.as_str-in-Spans.utf8 (rw c.new-map.ensures at c.in-Err.ensures.lex)
     (rw c.new-map.ensures at c.in-Err.ensures.kept)
     c.refusal.ensures.lex c.refusal.ensures.map_full c.refusal.ensures.memory cc)

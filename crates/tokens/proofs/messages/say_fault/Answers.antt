@@ -19,7 +19,8 @@ pub returns-in_err-say_number-2-clause-front : goal.returns-in_err-say_number-2-
 returns-in_err-say_number-2-clause-front g c =
     AppendsFront-after _ _ _ _ _ c.in_ok-write_all.ensures.ok
     (AppendsFront-after _ _ _ _ _ c.in_ok-say_number.ensures.ok
-    (AppendsFront-after _ _ _ _ _ c.in_ok-write_all-2.ensures.ok (AppendsFront-more _ _ _ _ c.say_number-2.ensures.front)))
+    (AppendsFront-after _ _ _ _ _ c.in_ok-write_all-2.ensures.ok
+    (AppendsFront-more _ _ _ _ c.say_number-2.ensures.front)))
 
 pub returns-clause-front : goal.returns-clause-front
 returns-clause-front g c =

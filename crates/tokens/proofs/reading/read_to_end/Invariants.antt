@@ -6,7 +6,8 @@ use Rattle.tokens.proofs.reading.read_to_end.Given as goal
 abbrev pub invariant-loop-bytes : goal.invariant-loop-bytes
 invariant-loop-bytes g l = record {
   within : l.filled ≤ vec_len l.bytes;
-  consumed : Consumes (g.R.ByteSource.left l.initial.reader) (g.R.ByteSource.left l.reader) (take l.filled l.bytes.items);
+  consumed : Consumes (g.R.ByteSource.left l.initial.reader) (g.R.ByteSource.left l.reader)
+      (take l.filled l.bytes.items);
   flag : g.R.ByteSource.has_failed l.reader ≡ g.R.ByteSource.has_failed l.initial.reader;
 }
 

@@ -8,4 +8,5 @@ text_of-requires c =
 
 pub returns : goal.returns
 returns c =
-    written_of_lines (λ blocks. flat_map string_bytes blocks.items) _ _ _ _ (rw c.as_slice.ensures.value c.in_ok-lines.ensures) c.text_of.ensures
+    written_of_lines (λ blocks. flat_map string_bytes blocks.items) _ _ _ _
+    (rw c.as_slice.ensures.value c.in_ok-lines.ensures) c.text_of.ensures

@@ -6,4 +6,5 @@ use Rattle.tokens.proofs.spans.text_of.Given as goal
 -- the lines before this one are written
 abbrev pub invariant-loop-line : goal.invariant-loop-line
 invariant-loop-line l = (source : List ℕ) → l.map ≡ with_file new_map source → All (IsInSource source) l.lines
-    → flat_map string_bytes l.blocks.items ++ string_bytes l.block ≡ flat_map (line_in source) (take l.line-index l.lines)
+    → flat_map string_bytes l.blocks.items ++ string_bytes l.block
+    ≡ flat_map (line_in source) (take l.line-index l.lines)

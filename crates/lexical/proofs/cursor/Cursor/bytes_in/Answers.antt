@@ -4,7 +4,15 @@ use Rattle.lexical.proofs.TextLemmas.{front_len}
 use Rattle.lexical.proofs.cursor.Cursor.bytes_in.Goals as goal
 
 pub overflow_sub-result : goal.overflow_sub-result
-overflow_sub-result c = omega (arith, front_len c.args.text.now c.args.self.rest.now c.requires.0 c.utf8.text (IsUtf8-had _ c.args.self.text) c.requires.1)
+overflow_sub-result c = omega (
+  arith,
+  front_len c.args.text.now c.args.self.rest.now c.requires.0 c.utf8.text
+      (IsUtf8-had _ c.args.self.text) c.requires.1,
+)
 
 pub returns : goal.returns
-returns c = λ front e. omega (arith, front_len c.args.text.now c.args.self.rest.now front c.utf8.text (IsUtf8-had _ c.args.self.text) e)
+returns c = λ front e. omega (
+  arith,
+  front_len c.args.text.now c.args.self.rest.now front c.utf8.text
+      (IsUtf8-had _ c.args.self.text) e,
+)

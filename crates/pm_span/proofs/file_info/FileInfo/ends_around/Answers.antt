@@ -14,11 +14,14 @@ returns-in-Some-clause-before c =
     c.partition_point-count.ensures.partitioned k (λ a r f q. search rules)) in
     elim c.if-count-eq0.branch [
       | then-count-eq0 w ↦
-          subst (λ known. IsByteOffset c.args.self.now.text known.place known.bytes × (known.place ≤ c.args.place)) (sym w.before-is)
+          subst (λ known. IsByteOffset c.args.self.now.text known.place known.bytes × (known.place ≤ c.args.place))
+          (sym w.before-is)
           (record { within = omega arith; value = refl }, omega arith)
       | else-count-eq0 w ↦
-          subst (λ known. IsByteOffset c.args.self.now.text known.place known.bytes × (known.place ≤ c.args.place)) (sym w.before-is)
-          (end_before c.args.place (ap (λ file. file.text) c.self.view_is) c.self.invariant.wide found w.if-count-eq0.false w.index.ensures)
+          subst (λ known. IsByteOffset c.args.self.now.text known.place known.bytes × (known.place ≤ c.args.place))
+          (sym w.before-is)
+          (end_before c.args.place (ap (λ file. file.text) c.self.view_is) c.self.invariant.wide found
+          w.if-count-eq0.false w.index.ensures)
     ]
 
 pub returns-in-None-clause-before : goal.returns-in-None-clause-before
@@ -28,11 +31,14 @@ returns-in-None-clause-before c =
     c.partition_point-count.ensures.partitioned k (λ a r f q. search rules)) in
     elim c.if-count-eq0.branch [
       | then-count-eq0 w ↦
-          subst (λ known. IsByteOffset c.args.self.now.text known.place known.bytes × (known.place ≤ c.args.place)) (sym w.before-is)
+          subst (λ known. IsByteOffset c.args.self.now.text known.place known.bytes × (known.place ≤ c.args.place))
+          (sym w.before-is)
           (record { within = omega arith; value = refl }, omega arith)
       | else-count-eq0 w ↦
-          subst (λ known. IsByteOffset c.args.self.now.text known.place known.bytes × (known.place ≤ c.args.place)) (sym w.before-is)
-          (end_before c.args.place (ap (λ file. file.text) c.self.view_is) c.self.invariant.wide found w.if-count-eq0.false w.index.ensures)
+          subst (λ known. IsByteOffset c.args.self.now.text known.place known.bytes × (known.place ≤ c.args.place))
+          (sym w.before-is)
+          (end_before c.args.place (ap (λ file. file.text) c.self.view_is) c.self.invariant.wide found
+          w.if-count-eq0.false w.index.ensures)
     ]
 
 pub returns-in-Some-clause-after : goal.returns-in-Some-clause-after
@@ -48,6 +54,7 @@ returns-in-None-clause-after c =
     let text = ap (λ file. file.text) c.self.view_is in
     let size = c.self.inside.hi - c.self.inside.lo in (
       subst (IsByteOffset c.args.self.now.text size) (sym (c.len.ensures ∙ c.self.inside.text.bytes.ok.0))
-          (text_end size (IsUtf8-string_bytes c.self.inside.text) text (omega (arith, c.self.invariant.ends, ap length text))),
+          (text_end size (IsUtf8-string_bytes c.self.inside.text) text
+          (omega (arith, c.self.invariant.ends, ap length text))),
       omega (arith, c.self.invariant.ends, ap length text, c.requires),
     )

@@ -11,7 +11,8 @@ invariant_of-self c =
       ends = c.self.invariant.ends;
       lines = c.self.invariant.lines;
       wide = c.self.invariant.wide;
-      known = All-tried place c.count_bytes-bytes.result.0 c.self.inside.byte_offsets.entries c.insert.new.self.entries c.insert.result
+      known = All-tried place c.count_bytes-bytes.result.0 c.self.inside.byte_offsets.entries c.insert.new.self.entries
+          c.insert.result
           (record {
             within = omega (arith, c.requires, ap length text);
             value = c.count_bytes-bytes.ensures ∙ ap (λ t. byte_offset t place) (sym text);

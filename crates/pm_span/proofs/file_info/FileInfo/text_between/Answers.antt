@@ -16,21 +16,24 @@ range-requires-clause-start_le_end c =
 pub range-requires-clause-start_boundary : goal.range-requires-clause-start_boundary
 range-requires-clause-start_boundary c =
     let bytes = c.as_str.result.now in
-    let text : chars bytes ≡ c.args.self.now.text = ap chars c.as_str.ensures.value ∙ ap (λ file. file.text) c.self.view_is in
+    let text : chars bytes ≡ c.args.self.now.text = ap chars c.as_str.ensures.value
+    ∙ ap (λ file. file.text) c.self.view_is in
     λ past. subst (IsCharBoundary bytes) (ap (λ t. byte_offset t c.args.from) text ∙ sym c.byte_offset.ensures)
     (boundary_at bytes c.args.from c.as_str.utf8)
 
 pub range-requires-clause-end_boundary : goal.range-requires-clause-end_boundary
 range-requires-clause-end_boundary c =
     let bytes = c.as_str.result.now in
-    let text : chars bytes ≡ c.args.self.now.text = ap chars c.as_str.ensures.value ∙ ap (λ file. file.text) c.self.view_is in
+    let text : chars bytes ≡ c.args.self.now.text = ap chars c.as_str.ensures.value
+    ∙ ap (λ file. file.text) c.self.view_is in
     subst (IsCharBoundary bytes) (ap (λ t. byte_offset t c.args.to) text ∙ sym c.byte_offset-2.ensures)
     (boundary_at bytes c.args.to c.as_str.utf8)
 
 pub returns : goal.returns
 returns c =
     let bytes = c.as_str.result.now in
-    let text : chars bytes ≡ c.args.self.now.text = ap chars c.as_str.ensures.value ∙ ap (λ file. file.text) c.self.view_is in
+    let text : chars bytes ≡ c.args.self.now.text = ap chars c.as_str.ensures.value
+    ∙ ap (λ file. file.text) c.self.view_is in
     let from : c.byte_offset.result ≡ byte_offset (chars bytes) c.args.from =
     c.byte_offset.ensures ∙ ap (λ t. byte_offset t c.args.from) (sym text) in
     let to : c.byte_offset-2.result ≡ byte_offset (chars bytes) c.args.to =

@@ -13,10 +13,12 @@ found :
     (map : Files) (files slice : List PlacedText) (limit position n : ℕ) (file : PlacedText)
     → record { texts = texts_of files; limit = limit } ≡ map → slice ≡ files → ArePlaced 1 files
     → n ≤ length slice
-    → (IsPartitionedBy (λ f. leb f.lo position) slice → IsPartitionPoint (λ f. leb f.lo position ≡ true) (λ f. leb f.lo position ≡ false) slice n)
+    → (IsPartitionedBy (λ f. leb f.lo position) slice
+    → IsPartitionPoint (λ f. leb f.lo position ≡ true) (λ f. leb f.lo position ≡ false) slice n)
     → file ≡ get_or (file_0 ∷ files) n file_0 → IsFileOf map position n file
 found map files slice limit position n file view e placed bound point is =
-    let here = point (IsPartitionedBy-leb (λ f. f.lo) slice position (rising 1 slice (subst (ArePlaced 1) (sym e) placed))) in
+    let here = point (IsPartitionedBy-leb (λ f. f.lo) slice position
+    (rising 1 slice (subst (ArePlaced 1) (sym e) placed))) in
     let there : IsPartitionPoint (λ f. leb f.lo position ≡ true) (λ f. leb f.lo position ≡ false) files n =
     subst (λ xs. IsPartitionPoint (λ f. leb f.lo position ≡ true) (λ f. leb f.lo position ≡ false) xs n) e here in
     let last = file_found limit files n position file_0 placed (omega (arith, ap length e))

@@ -14,5 +14,7 @@ pub returns-in-Some : goal.returns-in-Some
 returns-in-Some c =
     let lo = ap (λ p. p.0) c.bounds-lo.ensures.value in
     let held = holds_at c.args.span (found_some lo c.in-Some.is c.file_of.ensures.found) c.bounds-lo.ensures.ordered in
-    let hi = ap (λ p. p.1) c.bounds-lo.ensures.value in
-    (λ is. held.0 (omega (arith, leb-true _ _ is, c.hi.ensures)), λ h. le-leb _ _ (omega (arith, held.1 h, c.hi.ensures)))
+    let hi = ap (λ p. p.1) c.bounds-lo.ensures.value in (
+      λ is. held.0 (omega (arith, leb-true _ _ is, c.hi.ensures)),
+      λ h. le-leb _ _ (omega (arith, held.1 h, c.hi.ensures)),
+    )

@@ -11,11 +11,15 @@ line_column-requires c =
 
 pub returns-in-None : goal.returns-in-None
 returns-in-None c = λ text lo file.
-    of_each (record { lo = c.args.position; hi = c.args.position }) (λ n t l. record { line = 1; column = 0 } ≡ line_column t (c.args.position - l))
-    (found_none refl c.in-None.is c.file_of.ensures.found) (omega arith) (line_column-nil (c.args.position - 0)) text lo file
+    of_each (record { lo = c.args.position; hi = c.args.position })
+    (λ n t l. record { line = 1; column = 0 } ≡ line_column t (c.args.position - l))
+    (found_none refl c.in-None.is c.file_of.ensures.found) (omega arith)
+    (line_column-nil (c.args.position - 0)) text lo file
 
 pub returns-in-Some : goal.returns-in-Some
 returns-in-Some c = λ text lo file.
-    of_each (record { lo = c.args.position; hi = c.args.position }) (λ n t l. c.line_column.result ≡ line_column t (c.args.position - l))
+    of_each (record { lo = c.args.position; hi = c.args.position })
+    (λ n t l. c.line_column.result ≡ line_column t (c.args.position - l))
     (found_some refl c.in-Some.is c.file_of.ensures.found) (omega arith)
-    (c.line_column.ensures ∙ ap (λ l. line_column c.in-Some.file.now.text (c.args.position - l)) c.lo.ensures) text lo file
+    (c.line_column.ensures ∙ ap (λ l. line_column c.in-Some.file.now.text (c.args.position - l)) c.lo.ensures) text lo
+    file

@@ -19,12 +19,15 @@ span_of_both first second span lo hi p q at other least most is =
 pub returns-then-holds-clause-found : goal.returns-then-holds-clause-found
 returns-then-holds-clause-found c =
     let same = span_of_both c.args.self c.args.other c.new-joined.result c.min.result c.max.result c.bounds-lo.result
-    c.bounds-other_lo.result c.bounds-lo.ensures.value c.bounds-other_lo.ensures.value c.min.ensures c.max.ensures c.new-joined.ensures in
+    c.bounds-other_lo.result c.bounds-lo.ensures.value c.bounds-other_lo.ensures.value c.min.ensures c.max.ensures
+    c.new-joined.ensures in
     (held_joined c.args.self c.args.other (subst (Holds c.args.map.now) same (c.holds.ensures.0 c.if-holds.true)), same)
 
 pub returns-else-holds-clause-found : goal.returns-else-holds-clause-found
 returns-else-holds-clause-found c = λ both.
     let same = span_of_both c.args.self c.args.other c.new-joined.result c.min.result c.max.result c.bounds-lo.result
-    c.bounds-other_lo.result c.bounds-lo.ensures.value c.bounds-other_lo.ensures.value c.min.ensures c.max.ensures c.new-joined.ensures in
-    let held = c.holds.ensures.1 (subst (Holds c.args.map.now) (sym same) (joined_held c.args.self c.args.other both)) in
+    c.bounds-other_lo.result c.bounds-lo.ensures.value c.bounds-other_lo.ensures.value c.min.ensures c.max.ensures
+    c.new-joined.ensures in
+    let held = c.holds.ensures.1
+    (subst (Holds c.args.map.now) (sym same) (joined_held c.args.self c.args.other both)) in
     false≢true (sym c.if-holds.false ∙ held)

@@ -27,7 +27,8 @@ returns c =
     let hi = ap (λ p. p.1) c.bounds-lo.ensures.value in
     let found = found_some lo c.in_ok-file.was c.file_of.ensures.found in
     let within = (holds_at c.args.self found c.bounds-lo.ensures.ordered).1 c.requires in
-    let past = subst (λ o. MatchOption o (c.file_of.result.0 ≡ 0) (λ _. 0 < c.file_of.result.0)) c.in_ok-file.was c.file_of.ensures.number in
+    let past = subst (λ o. MatchOption o (c.file_of.result.0 ≡ 0) (λ _. 0 < c.file_of.result.0)) c.in_ok-file.was
+    c.file_of.ensures.number in
     let here : chars c.text_between.result.now ≡ between c.in_ok-file.file.now.text
     (c.args.self.lo - c.in_ok-file.file.now.lo) (c.args.self.hi - c.in_ok-file.file.now.lo) =
     c.text_between.ensures.value ∙ ap₂ (λ j k. between c.in_ok-file.file.now.text j k)

@@ -6,7 +6,8 @@ use Rattle.pm_token.proofs.escapes.Draft.push_content.Given as goal
 -- what is written, and what is still to be written
 abbrev pub invariant-loop-c : goal.invariant-loop-c
 invariant-loop-c l = record {
-  same : l.self ++ content l.quote written_char (chars l.rest.rest.now) ≡ l.fn.self ++ content l.quote written_char (chars l.fn.text);
+  same : l.self ++ content l.quote written_char (chars l.rest.rest.now)
+      ≡ l.fn.self ++ content l.quote written_char (chars l.fn.text);
   utf8 : IsUtf8 l.rest.rest.now;
 }
 

@@ -3,28 +3,41 @@ use Rattle.std.specs.Cmp.Lexicographic.{bytes_decides}
 use Rattle.std.specs.Str.{chars}
 use Rattle.std.proofs.lemmas.Bool.Decides.{same_from_decides}
 use Rattle.pm_token.proofs.NameLemmas.{plain_is, raw_is, raw_is_not}
+use Rattle.pm_token.proofs.WrittenLemmas.{spelled_is}
 use Rattle.pm_token.proofs.identifiers.Ident.eq_str.Goals as goal
 
 pub returns-then-not-is_raw : goal.returns-then-not-is_raw
 returns-then-not-is_raw c =
-    let raw : c.args.self.now.raw ≡ false = sym (ap (λ x. x.raw) c.self.view_is) ∙ (sym c.is_raw.ensures ∙ c.if-not-is_raw.true) in
-    let name : c.args.self.now.name ≡ chars c.as_str-name.result.now = sym (ap (λ x. x.name) c.self.view_is) ∙ sym c.as_str-name.ensures in
-    let exactly = plain_is _ _ c.as_str-name.result.now c.args.text.now c.eq.result raw name c.as_str-name.utf8 c.utf8.text c.eq.ensures in
-    record { exactly = exactly; value = same_from_decides _ _ exactly (bytes_decides _ _) }
+    let raw : c.args.self.now.raw ≡ false = sym (ap (λ x. x.raw) c.self.view_is)
+    ∙ (sym c.is_raw.ensures ∙ c.if-not-is_raw.true) in
+    let name : c.args.self.now.name ≡ chars c.as_str-name.result.now = sym (ap (λ x. x.name) c.self.view_is)
+    ∙ sym c.as_str-name.ensures in
+    let exactly = plain_is _ _ c.as_str-name.result.now c.args.text.now c.eq.result raw name c.as_str-name.utf8
+    c.utf8.text c.eq.ensures in
+    let value = same_from_decides _ _ exactly (bytes_decides _ _) in
+    rw spelled_is (record { exactly = exactly; value = value; spelled = exactly; computed = value })
 
 pub returns-in-Some : goal.returns-in-Some
 returns-in-Some c =
-    let raw : c.args.self.now.raw ≡ true = sym (ap (λ x. x.raw) c.self.view_is) ∙ (sym c.is_raw.ensures ∙ c.if-not-is_raw.false) in
-    let name : c.args.self.now.name ≡ chars c.as_str-name.result.now = sym (ap (λ x. x.name) c.self.view_is) ∙ sym c.as_str-name.ensures in
+    let raw : c.args.self.now.raw ≡ true = sym (ap (λ x. x.raw) c.self.view_is)
+    ∙ (sym c.is_raw.ensures ∙ c.if-not-is_raw.false) in
+    let name : c.args.self.now.name ≡ chars c.as_str-name.result.now = sym (ap (λ x. x.name) c.self.view_is)
+    ∙ sym c.as_str-name.ensures in
     let stripped = c.in-Some.ensures.cases in
-    let split : c.args.text.now ≡ codes "r#" ++ c.in-Some.rest.now = stripped.1.1 ∙ ap (λ x. codes "r#" ++ x) (sym stripped.2) in
+    let split : c.args.text.now ≡ codes "r#" ++ c.in-Some.rest.now = stripped.1.1
+    ∙ ap (λ x. codes "r#" ++ x) (sym stripped.2) in
     let exactly = raw_is _ _ c.as_str-name.result.now c.args.text.now c.in-Some.rest.now c.eq-in-Some.result raw name
     c.as_str-name.utf8 c.utf8.text split c.eq-in-Some.ensures in
-    record { exactly = exactly; value = same_from_decides _ _ exactly (bytes_decides _ _) }
+    let value = same_from_decides _ _ exactly (bytes_decides _ _) in
+    rw spelled_is (record { exactly = exactly; value = value; spelled = exactly; computed = value })
 
 pub returns-in-None : goal.returns-in-None
 returns-in-None c =
-    let raw : c.args.self.now.raw ≡ true = sym (ap (λ x. x.raw) c.self.view_is) ∙ (sym c.is_raw.ensures ∙ c.if-not-is_raw.false) in
-    let name : c.args.self.now.name ≡ chars c.as_str-name.result.now = sym (ap (λ x. x.name) c.self.view_is) ∙ sym c.as_str-name.ensures in
-    let exactly = raw_is_not _ _ c.as_str-name.result.now c.args.text.now raw name c.as_str-name.utf8 c.utf8.text c.in-None.ensures.cases in
-    record { exactly = exactly; value = same_from_decides _ _ exactly (bytes_decides _ _) }
+    let raw : c.args.self.now.raw ≡ true = sym (ap (λ x. x.raw) c.self.view_is)
+    ∙ (sym c.is_raw.ensures ∙ c.if-not-is_raw.false) in
+    let name : c.args.self.now.name ≡ chars c.as_str-name.result.now = sym (ap (λ x. x.name) c.self.view_is)
+    ∙ sym c.as_str-name.ensures in
+    let exactly = raw_is_not _ _ c.as_str-name.result.now c.args.text.now raw name c.as_str-name.utf8 c.utf8.text
+    c.in-None.ensures.cases in
+    let value = same_from_decides _ _ exactly (bytes_decides _ _) in
+    rw spelled_is (record { exactly = exactly; value = value; spelled = exactly; computed = value })

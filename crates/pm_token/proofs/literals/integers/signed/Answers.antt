@@ -14,7 +14,8 @@ use Rattle.pm_token.proofs.literals.integers.signed.Goals.{After-call_site}
 text : (c : After-call_site) → c.in_ok-from_string.field-0 ≡ signed_decimal c.args.value ++ suffix_text c.args.suffix
 text c =
     let written =
-    c.in_ok-format.ensures.ok ∙ ap (λ z. signed_decimal z ++ c.name-suffix.result.now) (to_z-of_z w128 c.args.value c.ranges.value)
+    c.in_ok-format.ensures.ok ∙ ap (λ z. signed_decimal z ++ c.name-suffix.result.now)
+    (to_z-of_z w128 c.args.value c.ranges.value)
     ∙ ap (λ xs. signed_decimal c.args.value ++ xs) c.name-suffix.ensures in
     c.in_ok-from_string.ensures.ok
     ∙ (ap chars written
@@ -28,5 +29,6 @@ invariant_of-result c =
 pub returns : goal.returns
 returns c = record {
   ok = ap (λ x. record { text = x; span = c.call_site.result }) (text c)
-      ∙ ap (λ x. record { text = signed_decimal c.args.value ++ suffix_text c.args.suffix; span = x }) c.call_site.ensures.value;
+      ∙ ap (λ x. record { text = signed_decimal c.args.value ++ suffix_text c.args.suffix; span = x })
+      c.call_site.ensures.value;
 }

@@ -23,5 +23,6 @@ invariant_of-result c =
 pub returns : goal.returns
 returns c = record {
   ok = ap (λ x. record { text = x; span = c.call_site.result }) (text c)
-      ∙ ap (λ x. record { text = decimal c.args.value ++ suffix_text c.args.suffix; span = x }) c.call_site.ensures.value;
+      ∙ ap (λ x. record { text = decimal c.args.value ++ suffix_text c.args.suffix; span = x })
+      c.call_site.ensures.value;
 }

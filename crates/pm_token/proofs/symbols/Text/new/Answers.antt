@@ -5,10 +5,12 @@ use Rattle.pm_token.proofs.symbols.Text.new.Goals as goal
 
 pub returns-in_err-from_str-clause-short : goal.returns-in_err-from_str-clause-short
 returns-in_err-from_str-clause-short c = λ short.
-    let fits : length c.args.text.now ≤ ROOM = subst (λ bytes. length bytes ≤ ROOM) (encodes-chars _ c.utf8.text) short in
+    let fits : length c.args.text.now ≤ ROOM =
+    subst (λ bytes. length bytes ≤ ROOM) (encodes-chars _ c.utf8.text) short in
     search rules
 
 pub returns-in_err-new-clause-short : goal.returns-in_err-new-clause-short
 returns-in_err-new-clause-short c = λ short.
-    let fits : length c.args.text.now ≤ ROOM = subst (λ bytes. length bytes ≤ ROOM) (encodes-chars _ c.utf8.text) short in
+    let fits : length c.args.text.now ≤ ROOM =
+    subst (λ bytes. length bytes ≤ ROOM) (encodes-chars _ c.utf8.text) short in
     search rules

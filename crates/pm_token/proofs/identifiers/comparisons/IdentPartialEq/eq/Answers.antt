@@ -10,7 +10,8 @@ returns-then-raw-is_raw-clause-value c =
     let other = name_of _ c.other.view_is c.as_str-other_name.ensures c.as_str-other_name.utf8 c.other.invariant in
     let alike : c.args.self.now.raw ≡ c.args.other.now.raw =
     sym (ap (λ x. x.raw) c.self.view_is)
-    ∙ (sym c.is_raw-raw.ensures ∙ ((booleans_Decides _ _).0 c.if-raw-is_raw.true ∙ (c.is_raw.ensures ∙ ap (λ x. x.raw) c.other.view_is))) in
+    ∙ (sym c.is_raw-raw.ensures
+    ∙ ((booleans_Decides _ _).0 c.if-raw-is_raw.true ∙ (c.is_raw.ensures ∙ ap (λ x. x.raw) c.other.view_is))) in
     eq_alike c.args.self.now c.args.other.now _ _ c.eq.result own other alike c.eq.ensures
 
 pub returns-then-raw-is_raw-clause-fields : goal.returns-then-raw-is_raw-clause-fields
@@ -19,18 +20,23 @@ returns-then-raw-is_raw-clause-fields c =
     let other = name_of _ c.other.view_is c.as_str-other_name.ensures c.as_str-other_name.utf8 c.other.invariant in
     let alike : c.args.self.now.raw ≡ c.args.other.now.raw =
     sym (ap (λ x. x.raw) c.self.view_is)
-    ∙ (sym c.is_raw-raw.ensures ∙ ((booleans_Decides _ _).0 c.if-raw-is_raw.true ∙ (c.is_raw.ensures ∙ ap (λ x. x.raw) c.other.view_is))) in
+    ∙ (sym c.is_raw-raw.ensures
+    ∙ ((booleans_Decides _ _).0 c.if-raw-is_raw.true ∙ (c.is_raw.ensures ∙ ap (λ x. x.raw) c.other.view_is))) in
     eq_fields c.args.self.now c.args.other.now _ _ c.eq.result own other alike c.eq.ensures
 
 pub returns-then-raw-is_raw-clause-text : goal.returns-then-raw-is_raw-clause-text
-returns-then-raw-is_raw-clause-text c = eq_text c.args.self.now c.args.other.now c.eq.result (returns-then-raw-is_raw-clause-value c)
+returns-then-raw-is_raw-clause-text c =
+    eq_text c.args.self.now c.args.other.now c.eq.result (returns-then-raw-is_raw-clause-value c)
 
 pub returns-clause-value : goal.returns-clause-value
 returns-clause-value c =
     let own = name_of _ c.self.view_is c.as_str-name.ensures c.as_str-name.utf8 c.self.invariant in
     let other = name_of _ c.other.view_is c.as_str-other_name.ensures c.as_str-other_name.utf8 c.other.invariant in
     let differ : c.args.self.now.raw ≢ c.args.other.now.raw =
-    λ e. both_ways _ c.if-raw-is_raw.false ((booleans_Decides _ _).1 (c.is_raw-raw.ensures ∙ (ap (λ x. x.raw) c.self.view_is ∙ (e ∙ (sym (ap (λ x. x.raw) c.other.view_is) ∙ sym c.is_raw.ensures))))) in
+    λ e. both_ways _ c.if-raw-is_raw.false
+    ((booleans_Decides _ _).1
+    (c.is_raw-raw.ensures ∙ (ap (λ x. x.raw) c.self.view_is
+    ∙ (e ∙ (sym (ap (λ x. x.raw) c.other.view_is) ∙ sym c.is_raw.ensures))))) in
     sym (eq_apart c.args.self.now c.args.other.now _ _ own other differ)
 
 pub returns-clause-text : goal.returns-clause-text

@@ -6,4 +6,5 @@ use Rattle.pm_token.proofs.literals.values.content.behind_front.Goals as goal
 pub returns-clause-found : goal.returns-clause-found
 returns-clause-found c =
     behind_found c.args.front.now (chars c.args.text.now) c.strip_prefix.result
-    (strips_chars c.args.front.now c.args.text.now c.strip_prefix.result c.utf8.text c.requires c.strip_prefix.ensures.cases)
+    (strips_chars c.args.front.now c.args.text.now c.strip_prefix.result c.utf8.text c.requires
+    c.strip_prefix.ensures.cases)

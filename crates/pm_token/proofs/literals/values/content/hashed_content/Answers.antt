@@ -17,7 +17,8 @@ loop-behind-smaller c =
 
 pub loop-behind-preserved : goal.loop-behind-preserved
 loop-behind-preserved c = (
-  past_signs (chars c.args.text.now) (chars c.loop-behind.quoted.now) (chars c.in-Some.behind.now) (chars c.in_ok-quoted.quoted.now)
+  past_signs (chars c.args.text.now) (chars c.loop-behind.quoted.now) (chars c.in-Some.behind.now)
+      (chars c.in_ok-quoted.quoted.now)
       c.loop-behind.invariant.0 c.in-Some.ensures.found c.in_ok-quoted.ensures.found,
   c.in_ok-quoted.ensures.utf8,
 )

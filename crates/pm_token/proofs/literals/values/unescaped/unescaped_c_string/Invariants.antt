@@ -8,6 +8,7 @@ use Rattle.pm_token.proofs.literals.values.unescaped.unescaped_c_string.Given as
 abbrev pub invariant-loop-unit : goal.invariant-loop-unit
 invariant-loop-unit l = record {
   finite : (goal.iterator-loop-unit).can_next l.unit-iterator × (goal.iterator-loop-unit).is_finite l.unit-iterator;
-  joined : bytes_of l.value ++ flat_map unit_bytes (units_of l.unit-iterator) ≡ flat_map unit_bytes (units_of l.initial.unit-iterator);
+  joined : bytes_of l.value ++ flat_map unit_bytes (units_of l.unit-iterator)
+      ≡ flat_map unit_bytes (units_of l.initial.unit-iterator);
   fault : last_fault_or l.fault l.unit-iterator ≡ last_fault_or l.initial.fault l.initial.unit-iterator;
 }

@@ -1,0 +1,50 @@
+//! What strings forbid between their quotes.
+//!
+//! A string's end is searched for among its bytes, and then the stretch up to there is checked.
+
+ghost use Rattle.std.specs.Prelude.{◌≡◌, length};
+ghost use Rattle.std.specs.Char.{is_ascii};
+ghost use Rattle.lexical.specs.Finder.{while_front};
+ghost use Rattle.lexical.specs.RawString.{is_raw};
+
+use crate::quoted::StringKind;
+use memchr::memchr;
+
+/// Whether a string of the kind may have the character, be it raw or not.
+pub fn may_stand(c: char, kind: StringKind) -> bool
+    ensures { result ≡ is_raw kind c }
+{
+    match kind {
+        StringKind::Plain => true,
+        StringKind::Byte => c.is_ascii(),
+        StringKind::C => c != '\0',
+    }
+}
+
+/// How many bytes come before the first that is past ASCII.
+fn count_ascii(bytes: &[u8]) -> usize
+    ensures { result ≡ length (while_front is_ascii bytes.now) }
+{
+    if bytes.is_ascii() {
+        return bytes.len();
+    }
+    let mut count = 0;
+    while count < bytes.len() {
+        if !bytes[count].is_ascii() {
+            break;
+        }
+        count += 1;
+    }
+    count
+}
+
+/// How many bytes of the stretch come before the first that a string of the kind forbids.
+pub fn count_allowed(stretch: &[u8], kind: StringKind) -> usize
+    ensures { result ≡ length (while_front (is_raw kind) stretch.now) }
+{
+    match kind {
+        StringKind::Plain => stretch.len(),
+        StringKind::Byte => count_ascii(stretch),
+        StringKind::C => memchr(0, stretch).unwrap_or(stretch.len()),
+    }
+}
