@@ -211,19 +211,19 @@ def ended(wanted):
 
 
 def table(cost, command, seconds):
-    """The cost as a Markdown table, in processor minutes."""
+    """The cost as a Markdown table, in processor minutes: the proofs, and all with LLVM, runs and the rest. What is less
+    than 3 seconds is left out."""
     crates = sorted({crate for crate, _ in cost.by_kind}, key=lambda it: (not it, it))
     rows = {crate: [cost.by_kind.get((crate, phase), 0.0) for phase in range(len(PHASES))] for crate in crates}
     rows["all"] = [sum(column) for column in zip(*rows.values())]
-    lines = [f"| Crate | {' | '.join(PHASES)} | all | checks of edits | seconds each |", "|---" + "|---:" * 8 + "|"]
+    lines = ["Crate | proof | tests | edits | all", "---" + "|---:" * 4]
     for crate, times in rows.items():
-        tried = sum(map(len, cost.edits.values())) if crate == "all" else len(cost.edits.get(crate, ()))
-        cells = [f"{it / 60:.1f}" for it in (*times, sum(times))]
-        cells += [str(tried), f"{times[EDITS] / tried:.1f}"] if tried else ["", ""]
-        lines.append(f"| {crate or 'none'} | {' | '.join(cells)} |")
+        minutes = [it / 60 for it in (*times[:BUILDS], sum(times))]
+        lines.append(" | ".join([crate or "none", *(f"{it:.1f}" if it >= 0.05 else "" for it in minutes)]).rstrip())
     minutes = sum(rows["all"]) / 60
+    tried = sum(map(len, cost.edits.values()))
     lines.append("")
-    lines.append(f"`{' '.join(command)}`: {minutes:.1f} processor minutes in {seconds / 60:.1f} minutes,")
+    lines.append(f"`{' '.join(command)}`: {minutes:.1f} processor minutes in {seconds / 60:.1f} minutes, {tried} edits tried,")
     lines.append(f"on {len(os.sched_getaffinity(0))} processors, on {time.strftime('%Y-%m-%d')}.")
     return "\n".join(lines) + "\n"
 
