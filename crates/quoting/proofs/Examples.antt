@@ -121,6 +121,26 @@ no_list :
     ≡ Err (NoList (record { lo = 1; hi = 5 }))
 no_list = refl
 
+-- `#( #y )*`: its parentheses come before the name inside
+no_list_before_no_hole :
+    filled holes (hash 0 (parens 1 5 (hole (codes "y") 2 nil) (mark 42 6 nil)))
+    ≡ Err (NoList (record { lo = 1; hi = 5 }))
+no_list_before_no_hole = refl
+
+-- `#( #y [#xs] )*`: a list is named, if after that and in a group
+no_hole_before_a_list :
+    filled holes
+    (hash 0 (parens 1 9 (hole (codes "y") 2 (group Bracket 4 7 (hole (codes "xs") 5 nil) nil)) (mark 42 10 nil)))
+    ≡ Err (NoHole (at 3))
+no_hole_before_a_list = refl
+
+-- `#( #( #x )* )*`: the outer parentheses come first
+no_list_before_nested :
+    filled holes
+    (hash 0 (parens 1 9 (hash 2 (parens 3 7 (hole (codes "x") 4 nil) (mark 42 8 nil))) (mark 42 10 nil)))
+    ≡ Err (NoList (record { lo = 1; hi = 9 }))
+no_list_before_nested = refl
+
 -- `#( #xs #ys )*`
 unequal :
     filled holes (hash 0 (parens 1 7 (hole (codes "xs") 2 (hole (codes "ys") 4 nil)) (mark 42 8 nil)))

@@ -20,7 +20,7 @@ told first text holes template (UnequalLists place) parses is = (template, parse
 told first text holes template (Nested place) parses is = (template, parses, is)
 told first text holes template (TooDeep place) parses is = (template, parses, is)
 told first text holes template (Parse error) parses is = absurd is
-told first text holes template (Memory error) parses is = tt
+told first text holes template (Memory error) parses is = (template, parses)
 
 pub all_told : (first : ℕ) (text : List ℕ) (holes : List Named) (template : Forest)
     (r : Result (Unit {0}) TemplateError)

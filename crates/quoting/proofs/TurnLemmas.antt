@@ -1,23 +1,87 @@
 -- Turns that are counted and filled up to a place.
-use Rattle.std.proofs.Common.{◌≡◌, Bor, ℕ, zero, suc, ◌+◌, ◌-◌, ◌<◌, false, Option, Some, None, is_some, Ok, Err, List, refl, sym, ap, ap₂, subst, ◌∙◌, arith}
-use Rattle.proc_macro2.specs.Forest.{Forest, nil, joined}
+use Rattle.std.proofs.Common.{◌≡◌, Bor, ℕ, zero, suc, ◌+◌, ◌-◌, ◌<◌, ◌==◌, Bool, true, false, if◌then◌else◌}
+use Rattle.std.proofs.Common.{Option, Some, None, is_some, Ok, Err, List, [], ◌∷◌, ◌++◌, length}
+use Rattle.std.proofs.Common.{refl, sym, ap, ap₂, subst, ◌∙◌, arith}
+use Rattle.proc_macro2.specs.Extent.{Extent}
+use Rattle.proc_macro2.specs.Forest.{Forest, nil, leaf, group, joined}
+use Rattle.proc_macro2.specs.declared.ParseError.{ParseError}
 use Rattle.proc_macro2.specs.Leaf.{Mark}
-use Rattle.proc_macro2.specs.Level.{forest}
+use Rattle.proc_macro2.specs.Level.{before, forest, inside}
+use Rattle.proc_macro2.specs.declared.Group.{Group as Grouped}
 use Rattle.proc_macro2.specs.declared.TokenTree.{TokenTree}
-use Rattle.quoting.specs.Filled.{Count, at_top, before_turn, counted, followed, in_turn, repeated_so, turns_from, woven}
-use Rattle.quoting.specs.Given.{gives, named_all, repeats_of, separator_of}
-use Rattle.quoting.specs.Holes.{Named, Outcome}
+use Rattle.proc_macro2.specs.declared.TokenTree.TheVariants.{Group, Ident, Punct, Literal}
+use Rattle.quoting.specs.Filled.{at_top, before_turn, followed, in_turn, repeated_so, turns_from, unless_fault, woven}
+use Rattle.quoting.specs.Given.{UnlessMemory, gives, named_all, repeats_of, separator_of, starts}
+use Rattle.quoting.specs.Holes.{Filling, One, Each, Named, Outcome, filling_of}
+use Rattle.quoting.specs.Start.{Start, Names, Repeats, start, taken}
+use Rattle.quoting.specs.Turns.{Check, and_then, checked, name_checked, named_length, or_else, start_checked, turns_of, turns_or}
 use Rattle.quoting.specs.declared.errors.TemplateError.{TemplateError}
+use Rattle.quoting.specs.declared.errors.TemplateError.TheVariants.{NoHole, LoneList, NoList, UnequalLists, Nested, TooDeep, Parse, Memory}
 use Rattle.quoting.specs.declared.holes.Hole.{Hole}
 use Rattle.quoting.specs.declared.start.Repetition.{Repetition}
+use Rattle.quoting.proofs.FaultLemmas.{Rests, after_found, end_found, inside_found, left_found, rests_found}
 use Rattle.quoting.proofs.PartLemmas.{joined_assoc, joined_nil}
 use Rattle.quoting.proofs.WeaveLemmas.{followed_more, followed_nil}
 
 -- ---- turns that are counted
 
--- what was counted in all is what is counted from here on
-abbrev pub CountsOn : List Named → ℕ → Count → Option ℕ → List TokenTree → Type 0
-CountsOn holes depth all turns left = all ≡ counted holes depth turns 0 (forest left)
+-- how many turns there are by what is left: by these trees, or by those after the open groups
+abbrev pub left_turns : List Named → List TokenTree → Rests → Option ℕ
+left_turns holes left outer = left_found (turns_or holes) left outer
+
+-- a list that is named first is the first
+turns_here : (holes : List Named) (t : TokenTree) (rest : Forest) (more : Option ℕ) (turns : ℕ)
+    → named_length holes (starts t rest) ≡ Some turns → turns_or holes (before t rest) more ≡ Some turns
+turns_here holes (Group g) rest more turns h = absurd (cc)
+turns_here holes (Ident i) rest more turns h = ap (λ n. or_else n (turns_or holes rest more)) h
+turns_here holes (Punct p) rest more turns h = ap (λ n. or_else n (turns_or holes rest more)) h
+turns_here holes (Literal l) rest more turns h = ap (λ n. or_else n (turns_or holes rest more)) h
+
+-- where none is named, the first comes from inside the tree or after it
+turns_later : (holes : List Named) (t : TokenTree) (rest : Forest) (more : Option ℕ)
+    → named_length holes (starts t rest) ≡ None
+    → turns_or holes (before t rest) more ≡ turns_or holes (inside t) (turns_or holes rest more)
+turns_later holes (Group g) rest more h = refl
+turns_later holes (Ident i) rest more h = ap (λ n. or_else n (turns_or holes rest more)) h
+turns_later holes (Punct p) rest more h = ap (λ n. or_else n (turns_or holes rest more)) h
+turns_later holes (Literal l) rest more h = ap (λ n. or_else n (turns_or holes rest more)) h
+
+pub counted_here : (holes : List Named) (left after : List TokenTree) (t : TokenTree) (outer : Rests) (turns : ℕ)
+    → left ≡ t ∷ after → Some turns ≡ named_length holes (starts t (forest after))
+    → left_turns holes left outer ≡ Some turns
+counted_here holes left after t outer turns whole is =
+    ap (λ ts. left_turns holes ts outer) whole
+    ∙ turns_here holes t (forest after) (rests_found (turns_or holes) outer None) turns (sym is)
+
+pub inside_turns : (holes : List Named) (left within : List TokenTree) (after : Bor (List TokenTree)) (t : TokenTree)
+    (g : Grouped) (outer new : Rests)
+    → left ≡ t ∷ after.now → t ≡ Group g → None ≡ named_length holes (starts t (forest after.now))
+    → forest within ≡ g.stream → new ≡ outer ++ after ∷ [] → left_turns holes within new ≡ left_turns holes left outer
+inside_turns holes left within after t g outer new whole is none into push =
+    inside_found (turns_or holes) left within after t g outer new whole is
+    (λ more. turns_later holes t (forest after.now) more (sym none)) into push
+
+pub token_turns : (holes : List Named) (left after : List TokenTree) (t : TokenTree) (outer : Rests) → left ≡ t ∷ after
+    → ((g : Grouped) → t ≡ Group g → ⊥) → None ≡ named_length holes (starts t (forest after))
+    → left_turns holes after outer ≡ left_turns holes left outer
+token_turns holes left after (Group g) outer whole other none = absurd (other g refl)
+token_turns holes left after (Ident i) outer whole other none =
+    sym (ap (λ ts. left_turns holes ts outer) whole
+    ∙ turns_later holes (Ident i) (forest after) (rests_found (turns_or holes) outer None) (sym none))
+token_turns holes left after (Punct p) outer whole other none =
+    sym (ap (λ ts. left_turns holes ts outer) whole
+    ∙ turns_later holes (Punct p) (forest after) (rests_found (turns_or holes) outer None) (sym none))
+token_turns holes left after (Literal l) outer whole other none =
+    sym (ap (λ ts. left_turns holes ts outer) whole
+    ∙ turns_later holes (Literal l) (forest after) (rests_found (turns_or holes) outer None) (sym none))
+
+pub after_turns : (holes : List Named) (left : List TokenTree) (after : Bor (List TokenTree)) (outer new : Rests)
+    → length left ≡ 0 → outer ≡ new ++ after ∷ [] → left_turns holes after.now new ≡ left_turns holes left outer
+after_turns holes left after outer new none pop = after_found (turns_or holes) (λ more. refl) left after outer new none pop
+
+pub end_turns : (holes : List Named) (left : List TokenTree) (outer : Rests) → length left ≡ 0 → outer ≡ []
+    → left_turns holes left outer ≡ None
+end_turns holes left outer none end = end_found (turns_or holes) (λ more. refl) left outer none end
 
 -- ---- turns that are filled
 
@@ -86,17 +150,98 @@ no_separator stream separator turn none =
     sym (ap (λ s. joined stream (before_turn (separator_of s) turn)) none
     ∙ (ap (joined stream) (before_none turn) ∙ joined_nil stream))
 
--- outside of repetitions it is its turns
-pub all_turns : (holes : List Hole) (turn : Option ℕ) (depth inner turns : ℕ) (repetition : Repetition) (trees : Forest)
+-- outside of repetitions it is its turns, once its body is checked
+checked_turns : (holes : List Hole) (turn : Option ℕ) (depth inner turns : ℕ) (repetition : Repetition)
+    (trees : Forest)
     → is_some turn ≡ false → depth ≡ suc inner → trees ≡ repetition.body.now.stream
-    → counted (named_all holes) inner None 0 trees ≡ Ok (Some turns)
+    → turns_of (named_all holes) trees ≡ Some turns
     → gives holes turn depth (repeats_of repetition)
-    ≡ turns_from (λ i. woven (in_turn (named_all holes) i) inner 0 repetition.body.now.stream)
-    (separator_of repetition.separator) 0 turns
-all_turns holes (Some turn) depth inner turns repetition trees none deep whole counts = absurd (cc)
-all_turns holes None depth inner turns repetition trees none deep whole counts =
+    ≡ unless_fault (named_all holes) inner repetition.body.now.stream (separator_of repetition.separator) turns
+    (checked (named_all holes) inner turns 0 trees)
+checked_turns holes (Some turn) depth inner turns repetition trees none deep whole counts = absurd (cc)
+checked_turns holes None depth inner turns repetition trees none deep whole counts =
     let body = repetition.body.now in
     let between = separator_of repetition.separator in
     ap (λ n. at_top (named_all holes) n (repeats_of repetition)) deep
-    ∙ ap (repeated_so (named_all holes) inner body.stream body.span between)
-    (ap (λ f. counted (named_all holes) inner None 0 f) (sym whole) ∙ counts)
+    ∙ (ap (repeated_so (named_all holes) inner body.stream body.span between)
+    (ap (turns_of (named_all holes)) (sym whole) ∙ counts)
+    ∙ ap (λ f. unless_fault (named_all holes) inner body.stream between turns
+    (checked (named_all holes) inner turns 0 f)) (sym whole))
+
+pub all_turns : (holes : List Hole) (turn : Option ℕ) (depth inner turns : ℕ) (repetition : Repetition) (trees : Forest)
+    → is_some turn ≡ false → depth ≡ suc inner → trees ≡ repetition.body.now.stream
+    → turns_of (named_all holes) trees ≡ Some turns → checked (named_all holes) inner turns 0 trees ≡ Ok tt
+    → gives holes turn depth (repeats_of repetition)
+    ≡ turns_from (λ i. woven (in_turn (named_all holes) i) inner 0 repetition.body.now.stream)
+    (separator_of repetition.separator) 0 turns
+all_turns holes turn depth inner turns repetition trees none deep whole counts checks =
+    checked_turns holes turn depth inner turns repetition trees none deep whole counts
+    ∙ ap (unless_fault (named_all holes) inner repetition.body.now.stream (separator_of repetition.separator) turns)
+    checks
+
+-- ---- what is wrong inside of a repetition is a fault of the template
+
+-- whether a list is as long as there are turns
+abbrev length_checked : Bool → Extent → Check
+length_checked b place = if b then Ok tt else Err (UnequalLists place)
+
+length_parses : (b : Bool) (place : Extent) (error : ParseError) → length_checked b place ≡ Err (Parse error) → ⊥
+length_parses true place error h = absurd (cc)
+length_parses false place error h = absurd (cc)
+
+name_parses : (turns : ℕ) (place : Extent) (filling : Option Filling) (error : ParseError)
+    → name_checked turns place filling ≡ Err (Parse error) → ⊥
+name_parses turns place None error h = absurd (cc)
+name_parses turns place (Some (One stream)) error h = absurd (cc)
+name_parses turns place (Some (Each streams)) error h = length_parses (length streams == turns) place error h
+
+start_parses : (holes : List Named) (turns : ℕ) (s : Option Start) (error : ParseError)
+    → start_checked holes turns s ≡ Err (Parse error) → ⊥
+start_parses holes turns None error h = absurd (cc)
+start_parses holes turns (Some (Names name place)) error h =
+    name_parses turns place (filling_of holes name) error h
+start_parses holes turns (Some (Repeats body place between)) error h = absurd (cc)
+
+both_parse : (first more : Check) (error : ParseError) → (first ≡ Err (Parse error) → ⊥)
+    → (more ≡ Err (Parse error) → ⊥) → and_then first more ≡ Err (Parse error) → ⊥
+both_parse (Err fault) more error first_parses more_parses h = first_parses h
+both_parse (Ok done) more error first_parses more_parses h = more_parses h
+
+body_parses : (holes : List Named) (depth turns passed : ℕ) (body : Forest) (error : ParseError)
+    → checked holes depth turns passed body ≡ Err (Parse error) → ⊥
+body_parses holes depth turns passed nil error h = absurd (cc)
+body_parses holes depth turns zero (leaf token lo hi rest) error h =
+    both_parse (start_checked holes turns (start token rest))
+    (checked holes depth turns (taken (start token rest)) rest) error
+    (start_parses holes turns (start token rest) error)
+    (body_parses holes depth turns (taken (start token rest)) rest error) h
+body_parses holes depth turns (suc passed) (leaf token lo hi rest) error h =
+    body_parses holes depth turns passed rest error h
+body_parses holes depth turns (suc passed) (group d lo hi inside rest) error h =
+    body_parses holes depth turns passed rest error h
+body_parses holes zero turns zero (group d lo hi inside rest) error h = absurd (cc)
+body_parses holes (suc depth) turns zero (group d lo hi inside rest) error h =
+    both_parse (checked holes depth turns 0 inside) (checked holes (suc depth) turns 0 rest) error
+    (body_parses holes depth turns 0 inside error) (body_parses holes (suc depth) turns 0 rest error) h
+
+of_template : (fault : TemplateError) (P : Type 0) → ((error : ParseError) → fault ≡ Parse error → ⊥) → P
+    → UnlessMemory fault P
+of_template (NoHole place) P other h = h
+of_template (LoneList place) P other h = h
+of_template (NoList place) P other h = h
+of_template (UnequalLists place) P other h = h
+of_template (Nested place) P other h = h
+of_template (TooDeep place) P other h = h
+of_template (Parse error) P other h = absurd (other error refl)
+of_template (Memory error) P other h = tt
+
+pub checked_fault : (holes : List Hole) (turn : Option ℕ) (depth inner turns : ℕ) (repetition : Repetition)
+    (trees : Forest) (fault : TemplateError)
+    → is_some turn ≡ false → depth ≡ suc inner → trees ≡ repetition.body.now.stream
+    → turns_of (named_all holes) trees ≡ Some turns → checked (named_all holes) inner turns 0 trees ≡ Err fault
+    → UnlessMemory fault (gives holes turn depth (repeats_of repetition) ≡ Err fault)
+checked_fault holes turn depth inner turns repetition trees fault none deep whole counts checks =
+    of_template fault _ (λ error is. body_parses (named_all holes) inner turns 0 trees error (checks ∙ ap Err is))
+    (checked_turns holes turn depth inner turns repetition trees none deep whole counts
+    ∙ ap (unless_fault (named_all holes) inner repetition.body.now.stream (separator_of repetition.separator) turns)
+    checks)

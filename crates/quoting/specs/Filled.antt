@@ -1,13 +1,13 @@
 -- Templates whose holes are filled.
-use Rattle.std.specs.Prelude.{ℕ, Bool, true, false, zero, suc, ◌==◌, List, Option, Some, None, Result, Ok, Err, if◌then◌else◌, length}
+use Rattle.std.specs.Prelude.{ℕ, Bool, true, false, zero, suc, List, Option, Some, None, Ok, Err}
 use Rattle.proc_macro2.specs.Extent.{Extent}
 use Rattle.proc_macro2.specs.Forest.{Forest, nil, leaf, group, joined}
 use Rattle.proc_macro2.specs.Token.{Token, Name, Mark, Literal}
 use Rattle.proc_macro2.specs.declared.Delimiter.{Delimiter}
-use Rattle.quoting.specs.Holes.{Filling, One, Each, Named, Outcome, filling_of, put_in}
+use Rattle.quoting.specs.Holes.{Named, Outcome, filling_of, put_in}
 use Rattle.quoting.specs.Start.{Start, Names, Repeats, start, taken}
-use Rattle.quoting.specs.declared.errors.TemplateError.{TemplateError}
-use Rattle.quoting.specs.declared.errors.TemplateError.TheVariants.{NoHole, NoList, UnequalLists, Nested, TooDeep}
+use Rattle.quoting.specs.Turns.{Check, checked, turns_of}
+use Rattle.quoting.specs.declared.errors.TemplateError.TheVariants.{NoList, Nested, TooDeep}
 
 -- one outcome and then another: a fault of the first comes first
 abbrev pub followed : Outcome → Outcome → Outcome
@@ -55,39 +55,6 @@ woven gives zero zero (group d lo hi inside rest) = Err (TooDeep (record { lo = 
 woven gives (suc depth) zero (group d lo hi inside rest) =
     followed (enclosed_in d lo hi (woven gives depth 0 inside)) (woven gives (suc depth) 0 rest)
 
--- how many turns there are, as far as the lists that were named tell, or the first fault
-abbrev pub Count : Type 0
-Count = Result (Option ℕ) TemplateError
-
-abbrev pub and_then : Count → (Option ℕ → Count) → Count
-and_then (Err fault) next = Err fault
-and_then (Ok turns) next = next turns
-
--- all lists are of one length
-abbrev pub agreed : Option ℕ → Extent → Option Filling → Count
-agreed turns place None = Err (NoHole place)
-agreed turns place (Some (One stream)) = Ok turns
-agreed None place (Some (Each streams)) = Ok (Some (length streams))
-agreed (Some turns) place (Some (Each streams)) =
-    if turns == length streams then Ok (Some turns) else Err (UnequalLists place)
-
--- after what has a meaning
-abbrev pub noted : List Named → Option ℕ → Option Start → Count
-noted holes turns None = Ok turns
-noted holes turns (Some (Names name place)) = agreed turns place (filling_of holes name)
-noted holes turns (Some (Repeats body place between)) = Err (Nested place)
-
--- after the trees in order, as far as those before them tell
-abbrev pub counted : List Named → ℕ → Option ℕ → ℕ → Forest → Count
-counted holes depth turns passed nil = Ok turns
-counted holes depth turns zero (leaf token lo hi rest) =
-    and_then (noted holes turns (start token rest)) (λ now. counted holes depth now (taken (start token rest)) rest)
-counted holes depth turns (suc passed) (leaf token lo hi rest) = counted holes depth turns passed rest
-counted holes depth turns (suc passed) (group d lo hi inside rest) = counted holes depth turns passed rest
-counted holes zero turns zero (group d lo hi inside rest) = Err (TooDeep (record { lo = lo; hi = hi }))
-counted holes (suc depth) turns zero (group d lo hi inside rest) =
-    and_then (counted holes depth turns 0 inside) (λ now. counted holes (suc depth) now 0 rest)
-
 -- in a turn of a repetition
 abbrev pub in_turn : List Named → ℕ → ℕ → Start → Outcome
 in_turn holes turn depth (Names name place) = put_in (Some turn) place (filling_of holes name)
@@ -104,17 +71,22 @@ turns_from gives between turn zero = Ok nil
 turns_from gives between turn (suc more) =
     followed (followed (Ok (before_turn between turn)) (gives turn)) (turns_from gives between (suc turn) more)
 
--- a repetition, once its turns are counted
-abbrev pub repeated_so : List Named → ℕ → Forest → Extent → Forest → Count → Outcome
-repeated_so holes depth body place between (Err fault) = Err fault
-repeated_so holes depth body place between (Ok None) = Err (NoList place)
-repeated_so holes depth body place between (Ok (Some turns)) =
+-- a repetition of so many turns, once its body is checked
+abbrev pub unless_fault : List Named → ℕ → Forest → Forest → ℕ → Check → Outcome
+unless_fault holes depth body between turns (Err fault) = Err fault
+unless_fault holes depth body between turns (Ok done) =
     turns_from (λ turn. woven (in_turn holes turn) depth 0 body) between 0 turns
+
+-- a repetition that has turns, or else names no list. Its parentheses come before what is wrong inside
+abbrev pub repeated_so : List Named → ℕ → Forest → Extent → Forest → Option ℕ → Outcome
+repeated_so holes depth body place between None = Err (NoList place)
+repeated_so holes depth body place between (Some turns) =
+    unless_fault holes depth body between turns (checked holes depth turns 0 body)
 
 abbrev pub repeated : List Named → ℕ → Forest → Extent → Forest → Outcome
 repeated holes zero body place between = Err (TooDeep place)
 repeated holes (suc depth) body place between =
-    repeated_so holes depth body place between (counted holes depth None 0 body)
+    repeated_so holes depth body place between (turns_of holes body)
 
 -- outside of repetitions
 abbrev pub at_top : List Named → ℕ → Start → Outcome
@@ -125,6 +97,8 @@ at_top holes depth (Repeats body place between) = repeated holes depth body plac
 abbrev pub depth_limit : ℕ
 depth_limit = 64
 
--- `filled`: the template with its holes filled, or its first fault
+-- `filled`: the template with its holes filled, or its first fault in reading order, a group coming before its
+-- contents. So a repetition that names no list is the fault, whatever is wrong inside of it. Of the faults at one pair of
+-- parentheses `Nested` comes first, then `TooDeep`, then `NoList`.
 abbrev pub filled : List Named → Forest → Outcome
 filled holes template = woven (at_top holes) depth_limit 0 template

@@ -5,9 +5,7 @@ use Rattle.std.specs.List.{slice_get}
 use Rattle.proc_macro2.specs.Extent.{Extent}
 use Rattle.proc_macro2.specs.Forest.{Forest}
 use Rattle.quoting.specs.declared.errors.TemplateError.{TemplateError}
-use Rattle.quoting.specs.declared.errors.TemplateError.TheVariants.{NoHole, LoneList, UnequalLists, Parse, Memory}
-use Rattle.proc_macro2.specs.declared.ParseError.{ParseError}
-use Rattle.proc_macro2.specs.declared.ParseError.TheVariants.{Lex, MapFull, Memory as NoMemory}
+use Rattle.quoting.specs.declared.errors.TemplateError.TheVariants.{NoHole, LoneList, UnequalLists}
 
 -- what a hole stands for: one stream, or in each turn of a repetition the next stream of a list
 pub data Filling : Type 0 where
@@ -39,9 +37,3 @@ put_in turn place None = Err (NoHole place)
 put_in turn place (Some (One stream)) = Ok stream
 put_in None place (Some (Each streams)) = Err (LoneList place)
 put_in (Some turn) place (Some (Each streams)) = of_list place (slice_get streams turn)
-
--- what a template's error tells of a text that was not parsed
-abbrev pub parse_fault : ParseError → TemplateError
-parse_fault (Lex error) = Parse (Lex error)
-parse_fault MapFull = Parse MapFull
-parse_fault (NoMemory error) = Memory error

@@ -6,6 +6,7 @@ pub mod Part
 pub mod Laws
 pub mod Holes
 pub mod Start
+pub mod Turns
 pub mod Filled
 pub mod Given
 pub mod TextFault

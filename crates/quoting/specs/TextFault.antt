@@ -1,5 +1,5 @@
 -- Templates that are given as text.
-use Rattle.std.specs.Prelude.{ℕ, ◌≡◌, ◌⊎◌, List, Result, Ok, Err}
+use Rattle.std.specs.Prelude.{ℕ, ◌≡◌, List, Result, Ok, Err}
 use Rattle.proc_macro2.specs.Files.{Files, with_file}
 use Rattle.proc_macro2.specs.Forest.{Forest}
 use Rattle.proc_macro2.specs.Parsing.{FaultAt, ParsesTo}
@@ -15,7 +15,8 @@ abbrev pub IsTemplateFault : ℕ → List ℕ → List Named → TemplateError �
 IsTemplateFault first text holes fault =
     (template : Forest) × ParsesTo first text template × (filled holes template ≡ Err fault)
 
--- a fault of the template; or of its text, with the place where it is; want of memory says nothing
+-- a fault of the template; or of its text, with the place where it is. Want of memory in filling says that the text
+-- parses, and in parsing nothing
 abbrev pub IsTextFault : ℕ → List ℕ → List Named → TemplateError → Type 0
 IsTextFault first text holes (NoHole place) = IsTemplateFault first text holes (NoHole place)
 IsTextFault first text holes (LoneList place) = IsTemplateFault first text holes (LoneList place)
@@ -25,10 +26,11 @@ IsTextFault first text holes (Nested place) = IsTemplateFault first text holes (
 IsTextFault first text holes (TooDeep place) = IsTemplateFault first text holes (TooDeep place)
 IsTextFault first text holes (Parse (Lex fault)) = (fault.lo ≡ fault.hi) × FaultAt first text fault.lo
 IsTextFault first text holes (Parse MapFull) = Unit {0}
-IsTextFault first text holes (Parse (NoMemory error)) = ⊥
-IsTextFault first text holes (Memory error) = Unit {0}
+IsTextFault first text holes (Parse (NoMemory error)) = Unit {0}
+IsTextFault first text holes (Memory error) = (template : Forest) × ParsesTo first text template
 
--- the map after the call: with the text as its next file where that was read, and else as it was
+-- the map after the call: with the text as its next file, but as it was where the text didn't fit and where memory for
+-- parsing it ran out
 abbrev pub LeavesMap : Files → List ℕ → Files → Result (Unit {0}) TemplateError → Type 0
 LeavesMap old text new (Ok done) = new ≡ with_file old text
 LeavesMap old text new (Err (NoHole place)) = new ≡ with_file old text
@@ -39,5 +41,5 @@ LeavesMap old text new (Err (Nested place)) = new ≡ with_file old text
 LeavesMap old text new (Err (TooDeep place)) = new ≡ with_file old text
 LeavesMap old text new (Err (Parse (Lex fault))) = new ≡ with_file old text
 LeavesMap old text new (Err (Parse MapFull)) = new ≡ old
-LeavesMap old text new (Err (Parse (NoMemory error))) = ⊥
-LeavesMap old text new (Err (Memory error)) = (new ≡ old) ⊎ (new ≡ with_file old text)
+LeavesMap old text new (Err (Parse (NoMemory error))) = new ≡ old
+LeavesMap old text new (Err (Memory error)) = new ≡ with_file old text

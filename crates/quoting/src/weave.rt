@@ -4,15 +4,14 @@
 ghost use Rattle.std.specs.Prelude.{◌≡◌, IfErr, IfOk, Ok, Err, OnOk};
 ghost use Rattle.proc_macro2.specs.Forest.{joined};
 ghost use Rattle.proc_macro2.specs.Level.{forest};
-ghost use Rattle.quoting.specs.Filled.{agreed, before_turn, counted, has_meaning, woven};
-ghost use Rattle.quoting.specs.Given.{UnlessMemory, apart_before, gives, inside_at, named_all};
-ghost use Rattle.quoting.specs.Given.{place_of, repeats_of, separator_of, text_of};
-ghost use Rattle.quoting.specs.Holes.{filling_of};
+ghost use Rattle.quoting.specs.Filled.{before_turn, has_meaning, woven};
+ghost use Rattle.quoting.specs.Given.{UnlessMemory, apart_before, gives, inside_at, repeats_of, separator_of};
 
 use crate::errors::TemplateError;
-use crate::holes::{Filling, Hole, Name};
+use crate::holes::Hole;
 use crate::respace::{put, regrouped, spaced};
 use crate::start::{Repetition, Start, start_at};
+use crate::turns::{checked, turns_of};
 use proc_macro2::{Group, Punct, Spacing, TokenStream, TokenTree};
 use std::alloc::{AllocError, Global};
 
@@ -98,8 +97,7 @@ fn filled_inside(
     woven(alloc, group.stream_ref(), holes, turn, inner)
 }
 
-// The turns of a repetition, with the separator between them. There are as many as each list has streams that is named
-// inside.
+// The turns of a repetition, with the separator between them. That it names no list comes before what is wrong inside.
 #[cycle(woven)]
 fn repeated(
     alloc: Global,
@@ -119,9 +117,11 @@ fn repeated(
     let Some(inner) = depth.checked_sub(1) else {
         return Err(TemplateError::TooDeep(body.span()));
     };
-    let Some(turns) = counted(body.stream_ref().trees(), holes, inner, None)? else {
+    let trees = body.stream_ref().trees();
+    let Some(turns) = turns_of(alloc, trees, holes)? else {
         return Err(TemplateError::NoList(body.span()));
     };
+    checked(trees, holes, inner, turns)?;
     let mut out = TokenStream::new(alloc);
     for turn in 0..turns {
         separate(&mut out, repetition.separator, turn)?;
@@ -129,63 +129,6 @@ fn repeated(
         append(&mut out, part)?;
     }
     Ok(out)
-}
-
-// How many turns a repetition of these trees has: the length of the lists that are named, after a front that tells so
-// many. `None` where no list is named.
-fn counted(
-    trees: &[TokenTree],
-    holes: &[Hole<'_>],
-    depth: usize,
-    before: Option<usize>,
-) -> Result<Option<usize>, TemplateError>
-    ensures ok { IfOk result (λ turns. counted (named_all holes.now) depth before 0 (forest trees.now) ≡ Ok turns) }
-    ensures fault { IfErr result (λ fault.
-        UnlessMemory fault (counted (named_all holes.now) depth before 0 (forest trees.now) ≡ Err fault)) }
-{
-    let mut turns = before;
-    let mut left = trees;
-    while let Some((tree, after)) = left.split_first() {
-        match start_at(tree, after) {
-            None => {
-                if let TokenTree::Group(group) = tree {
-                    let Some(inner) = depth.checked_sub(1) else {
-                        return Err(TemplateError::TooDeep(group.span()));
-                    };
-                    turns = counted(group.stream_ref().trees(), holes, inner, turns)?;
-                }
-                left = after;
-            }
-            Some(Start::Names(name, rest)) => {
-                turns = agreed(&name, holes, turns)?;
-                left = rest;
-            }
-            Some(Start::Repeats(repetition, _)) => {
-                return Err(TemplateError::Nested(repetition.body.span()));
-            }
-        }
-    }
-    Ok(turns)
-}
-
-// How many turns there are, as this name tells and those before it, which tell so many.
-fn agreed(
-    name: &Name<'_>,
-    holes: &[Hole<'_>],
-    turns: Option<usize>,
-) -> Result<Option<usize>, TemplateError>
-    ensures ok { IfOk result (λ now.
-        agreed turns (place_of name.now) (filling_of (named_all holes.now) (text_of name.now)) ≡ Ok now) }
-    ensures fault { IfErr result (λ fault. UnlessMemory fault
-        (agreed turns (place_of name.now) (filling_of (named_all holes.now) (text_of name.now)) ≡ Err fault)) }
-{
-    match (name.filling(holes), turns) {
-        (None, _) => Err(TemplateError::NoHole(name.span())),
-        (Some(Filling::One(_)), _) => Ok(turns),
-        (Some(Filling::Each(streams)), None) => Ok(Some(streams.len())),
-        (Some(Filling::Each(streams)), Some(length)) if streams.len() == length => Ok(turns),
-        (Some(Filling::Each(_)), Some(_)) => Err(TemplateError::UnequalLists(name.span())),
-    }
 }
 
 // Puts the separator at the end, Alone, before a turn that is not the first.

@@ -3,7 +3,7 @@ use Rattle.quoting.specs.Given.{gives, rest_of, seen, separator_of}
 use Rattle.quoting.specs.Filled.{turns_from}
 use Rattle.proc_macro2.specs.Forest.{joined}
 use Rattle.std.proofs.lemmas.Result.{err_from_is_err_and}
-use Rattle.quoting.proofs.TurnLemmas.{all_turns, turn_fault, turn_more, turn_of, turns_begun, turns_ended}
+use Rattle.quoting.proofs.TurnLemmas.{all_turns, checked_fault, turn_fault, turn_more, turn_of, turns_begun, turns_ended}
 use Rattle.quoting.proofs.WeaveLemmas.{IsUpTo, copy_inside, ended, found_step, gives_name, group_step, token_step, unless_weaker}
 use Rattle.quoting.proofs.weave.+woven.Goals as goal
 
@@ -11,6 +11,16 @@ pub repeated-loop-turn-init : goal.repeated-loop-turn-init
 repeated-loop-turn-init t c =
     turns_begun (turn_of c.args.holes.now c.in-Some.inner c.args.repetition.now.body.now.stream)
     (separator_of c.args.repetition.now.separator) _ c.in-Some-2.turns c.new-out.ensures
+
+pub repeated-returns-in_err-checked-clause-fault : goal.repeated-returns-in_err-checked-clause-fault
+repeated-returns-in_err-checked-clause-fault t c =
+    let p =
+    err_from_is_err_and c.from_residual-in_err-checked.result c.from_residual-in_err-checked.ensures.1 in
+    rw (p.1, p.2) (checked_fault c.args.holes.now c.args.turn c.args.depth c.in-Some.inner c.in-Some-2.turns
+    c.args.repetition.now _ _
+    (search rules) (search rules)
+    (c.trees-trees.ensures.value ∙ c.stream_ref.ensures.value) (sym c.in_ok-turns.ensures ∙ c.in-Some-2.is)
+    (sym c.in_err-checked.ensures))
 
 pub repeated-returns-in_err-part-clause-fault : goal.repeated-returns-in_err-part-clause-fault
 repeated-returns-in_err-part-clause-fault t c =
@@ -21,7 +31,8 @@ repeated-returns-in_err-part-clause-fault t c =
     (λ h.
     all_turns c.args.holes.now c.args.turn c.args.depth c.in-Some.inner c.in-Some-2.turns c.args.repetition.now _
     (search rules) (search rules)
-    (c.trees.ensures.value ∙ c.stream_ref.ensures.value) (c.in_ok-turns.ensures.ok ∙ ap Ok c.in-Some-2.is)
+    (c.trees-trees.ensures.value ∙ c.stream_ref.ensures.value) (sym c.in_ok-turns.ensures ∙ c.in-Some-2.is)
+    (sym c.in_ok-checked.ensures)
     ∙ turn_fault given between (turns_from given between 0 c.in-Some-2.turns) c.loop-turn.out _ c.loop-turn.turn
     c.in-Some-2.turns
     c.loop-turn.invariant c.loop-turn-test.true
@@ -45,7 +56,8 @@ repeated-returns-clause-ok t c =
     let given = turn_of c.args.holes.now c.in-Some.inner c.args.repetition.now.body.now.stream in
     all_turns c.args.holes.now c.args.turn c.args.depth c.in-Some.inner c.in-Some-2.turns c.args.repetition.now _
     (search rules) (search rules)
-    (c.trees.ensures.value ∙ c.stream_ref.ensures.value) (c.in_ok-turns.ensures.ok ∙ ap Ok c.in-Some-2.is)
+    (c.trees-trees.ensures.value ∙ c.stream_ref.ensures.value) (sym c.in_ok-turns.ensures ∙ c.in-Some-2.is)
+    (sym c.in_ok-checked.ensures)
     ∙ turns_ended given between (turns_from given between 0 c.in-Some-2.turns) c.loop-turn.out c.loop-turn.turn
     c.in-Some-2.turns
     c.loop-turn.invariant (omega (arith, c.loop-turn-test.false, c.loop-turn.auto.turn-end))

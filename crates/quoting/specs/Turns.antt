@@ -1,0 +1,72 @@
+-- How many turns a repetition has, and what is wrong inside of it.
+use Rattle.std.specs.Prelude.{ℕ, zero, suc, ◌==◌, List, Option, Some, None, Result, Ok, Err, if◌then◌else◌, length}
+use Rattle.proc_macro2.specs.Extent.{Extent}
+use Rattle.proc_macro2.specs.Forest.{Forest, nil, leaf, group}
+use Rattle.quoting.specs.Holes.{Filling, One, Each, Named, filling_of}
+use Rattle.quoting.specs.Start.{Start, Names, Repeats, start, taken}
+use Rattle.quoting.specs.declared.errors.TemplateError.{TemplateError}
+use Rattle.quoting.specs.declared.errors.TemplateError.TheVariants.{NoHole, UnequalLists, Nested, TooDeep}
+
+-- ---- how many turns
+
+-- the length of a list that a name stands for
+abbrev pub list_length : Option Filling → Option ℕ
+list_length None = None
+list_length (Some (One stream)) = None
+list_length (Some (Each streams)) = Some (length streams)
+
+-- the length of a list that is named
+abbrev pub named_length : List Named → Option Start → Option ℕ
+named_length holes None = None
+named_length holes (Some (Names name place)) = list_length (filling_of holes name)
+named_length holes (Some (Repeats body place between)) = None
+
+-- a length, or else another
+abbrev pub or_else : Option ℕ → Option ℕ → Option ℕ
+or_else None after = after
+or_else (Some turns) after = Some turns
+
+-- the length of the first list that is named in the trees, at any depth, or else what comes after them
+abbrev pub turns_or : List Named → Forest → Option ℕ → Option ℕ
+turns_or holes nil after = after
+turns_or holes (leaf token lo hi rest) after =
+    or_else (named_length holes (start token rest)) (turns_or holes rest after)
+turns_or holes (group d lo hi inside rest) after = turns_or holes inside (turns_or holes rest after)
+
+-- how many turns a repetition of these trees has: `None` where they name no list at any depth
+abbrev pub turns_of : List Named → Forest → Option ℕ
+turns_of holes body = turns_or holes body None
+
+-- ---- what is wrong inside
+
+-- nothing, or the first fault in reading order
+abbrev pub Check : Type 0
+Check = Result (Unit {0}) TemplateError
+
+abbrev pub and_then : Check → Check → Check
+and_then (Err fault) more = Err fault
+and_then (Ok done) more = more
+
+-- a name has a hole, and a list as many streams as there are turns
+abbrev pub name_checked : ℕ → Extent → Option Filling → Check
+name_checked turns place None = Err (NoHole place)
+name_checked turns place (Some (One stream)) = Ok tt
+name_checked turns place (Some (Each streams)) = if length streams == turns then Ok tt else Err (UnequalLists place)
+
+-- what has a meaning is a name, and no repetition
+abbrev pub start_checked : List Named → ℕ → Option Start → Check
+start_checked holes turns None = Ok tt
+start_checked holes turns (Some (Names name place)) = name_checked turns place (filling_of holes name)
+start_checked holes turns (Some (Repeats body place between)) = Err (Nested place)
+
+-- the trees of a repetition of so many turns in order, after some that are passed over, where groups may nest so deep
+abbrev pub checked : List Named → ℕ → ℕ → ℕ → Forest → Check
+checked holes depth turns passed nil = Ok tt
+checked holes depth turns zero (leaf token lo hi rest) =
+    and_then (start_checked holes turns (start token rest))
+    (checked holes depth turns (taken (start token rest)) rest)
+checked holes depth turns (suc passed) (leaf token lo hi rest) = checked holes depth turns passed rest
+checked holes depth turns (suc passed) (group d lo hi inside rest) = checked holes depth turns passed rest
+checked holes zero turns zero (group d lo hi inside rest) = Err (TooDeep (record { lo = lo; hi = hi }))
+checked holes (suc depth) turns zero (group d lo hi inside rest) =
+    and_then (checked holes depth turns 0 inside) (checked holes (suc depth) turns 0 rest)

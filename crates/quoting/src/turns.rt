@@ -1,0 +1,106 @@
+//! How many turns a repetition has, and what is wrong inside of it.
+ghost use Rattle.std.specs.Prelude.{◌≡◌, IfOk};
+ghost use Rattle.proc_macro2.specs.Level.{forest};
+ghost use Rattle.quoting.specs.Given.{named_all, place_of, starts, text_of};
+ghost use Rattle.quoting.specs.Holes.{filling_of};
+ghost use Rattle.quoting.specs.Turns.{checked, name_checked, named_length, turns_of};
+
+use crate::errors::TemplateError;
+use crate::holes::{Filling, Hole, Name};
+use crate::start::{Start, start_at};
+use proc_macro2::TokenTree;
+use std::alloc::{AllocError, Global};
+
+/// How many turns a repetition of these trees has: as many as the first list that is named in them has streams. `None`
+/// where they name no list at any depth. Fails where memory runs out.
+///
+/// Groups may nest deeper here than a template may have them, so what is left after a group stands in a list and not on
+/// the stack.
+pub(crate) fn turns_of(
+    alloc: Global,
+    trees: &[TokenTree],
+    holes: &[Hole<'_>],
+) -> Result<Option<usize>, AllocError>
+    ensures { IfOk result (λ turns. turns ≡ turns_of (named_all holes.now) (forest trees.now)) }
+{
+    let mut outer = Vec::new(alloc);
+    let mut left = trees;
+    loop {
+        let Some((tree, after)) = left.split_first() else {
+            let Some(after) = outer.pop() else {
+                return Ok(None);
+            };
+            left = after;
+            continue;
+        };
+        if let Some(turns) = named_length(tree, after, holes) {
+            return Ok(Some(turns));
+        }
+        if let TokenTree::Group(group) = tree {
+            outer.push(after)?;
+            left = group.stream_ref().trees();
+        } else {
+            left = after;
+        }
+    }
+}
+
+// How many streams the list has that the tree before these names, if it is the `#` of a list.
+fn named_length(tree: &TokenTree, after: &[TokenTree], holes: &[Hole<'_>]) -> Option<usize>
+    ensures { result ≡ named_length (named_all holes.now) (starts tree.now (forest after.now)) }
+{
+    let Some(Start::Names(name, _)) = start_at(tree, after) else {
+        return None;
+    };
+    match name.filling(holes) {
+        Some(Filling::Each(streams)) => Some(streams.len()),
+        Some(Filling::One(_)) | None => None,
+    }
+}
+
+/// Checks the trees of a repetition of so many turns, where groups may nest so deep. Fails with their first fault in
+/// reading order.
+pub(crate) fn checked(
+    trees: &[TokenTree],
+    holes: &[Hole<'_>],
+    depth: usize,
+    turns: usize,
+) -> Result<(), TemplateError>
+    ensures { result ≡ checked (named_all holes.now) depth turns 0 (forest trees.now) }
+{
+    let mut left = trees;
+    while let Some((tree, after)) = left.split_first() {
+        match start_at(tree, after) {
+            None => {
+                if let TokenTree::Group(group) = tree {
+                    let Some(inner) = depth.checked_sub(1) else {
+                        return Err(TemplateError::TooDeep(group.span()));
+                    };
+                    checked(group.stream_ref().trees(), holes, inner, turns)?;
+                }
+                left = after;
+            }
+            Some(Start::Names(name, rest)) => {
+                name_checked(&name, holes, turns)?;
+                left = rest;
+            }
+            Some(Start::Repeats(repetition, _)) => {
+                return Err(TemplateError::Nested(repetition.body.span()));
+            }
+        }
+    }
+    Ok(())
+}
+
+// Checks that the name has a hole, and a list as many streams as there are turns.
+fn name_checked(name: &Name<'_>, holes: &[Hole<'_>], turns: usize) -> Result<(), TemplateError>
+    ensures { result ≡ name_checked turns (place_of name.now) (filling_of (named_all holes.now) (text_of name.now)) }
+{
+    match name.filling(holes) {
+        None => Err(TemplateError::NoHole(name.span())),
+        Some(Filling::Each(streams)) if streams.len() != turns => Err(TemplateError::UnequalLists(
+            name.span(),
+        )),
+        Some(Filling::One(_) | Filling::Each(_)) => Ok(()),
+    }
+}
