@@ -1,5 +1,6 @@
 -- One list that is respaced up to a place.
-use Rattle.std.proofs.Common.{◌≡◌, ℕ, ◌+◌, ◌<◌, All, Option, Some, None, Result, Ok, Err, IfOk, MatchResult, List, [], ◌∷◌, ◌++◌, length, take, drop, append-nil, get_or, refl, sym, ap, ap₂, subst, ◌∙◌}
+use Rattle.std.proofs.Common.{◌≡◌, ℕ, ◌+◌, ◌<◌, All, Option, Some, None, Result, Ok, Err, IfOk, MatchResult, List, []}
+use Rattle.std.proofs.Common.{◌∷◌, ◌++◌, length, take, drop, append-nil, get_or, refl, sym, ap, ap₂, subst, ◌∙◌}
 use Rattle.std.proofs.Math.Seq.{take-add}
 use Rattle.std.proofs.lemmas.List as takes
 use Rattle.std.proofs.lemmas.List.{drop-drop, take-append-drop}
@@ -52,7 +53,8 @@ adds_kept whole n trees t old same first =
     }
 
 -- these trees come in its place
-pub adds_put : (whole : Forest) (changed : Option Forest) (n : ℕ) (trees : List TokenTree) (was now first : Forest) (old : Part)
+pub adds_put : (whole : Forest) (changed : Option Forest) (n : ℕ) (trees : List TokenTree) (was now first : Forest)
+    (old : Part)
     → part_of whole changed n trees ≡ old → was ≡ done_of changed n trees → now ≡ joined was first
     → Adds old first (part_of whole (Some now) (n + 1) trees)
 adds_put whole changed n trees was now first old same copied put = record {
@@ -62,7 +64,8 @@ adds_put whole changed n trees was now first old same copied put = record {
 }
 
 -- the first tree that is left may be put into a stream
-pub first_goes_inside : (whole : Forest) (changed : Option Forest) (n : ℕ) (trees : List TokenTree) (t copy : TokenTree) (old : Part)
+pub first_goes_inside : (whole : Forest) (changed : Option Forest) (n : ℕ) (trees : List TokenTree) (t copy : TokenTree)
+    (old : Part)
     → All GoesInside trees → part_of whole changed n trees ≡ old → old.left ≡ t ∷ others old.left → copy ≡ t
     → GoesInside copy
 first_goes_inside whole changed n trees t copy old all same first cloned =
@@ -71,8 +74,10 @@ first_goes_inside whole changed n trees t copy old all same first cloned =
     (All-head GoesInside t (others old.left) (subst (All GoesInside) here (All-drop GoesInside n trees all)))
 
 -- all trees are done, and none was changed
-pub finished : {E : Type 0} (Refused : E → Type 0) (whole : Forest) (n : ℕ) (trees : List TokenTree) (old : Part) (r : Result Forest E)
-    → part_of whole None n trees ≡ old → forest trees ≡ whole → old.left ≡ [] → MatchResult r (λ copy. copy ≡ whole) Refused
+pub finished : {E : Type 0} (Refused : E → Type 0) (whole : Forest) (n : ℕ) (trees : List TokenTree) (old : Part)
+    (r : Result Forest E)
+    → part_of whole None n trees ≡ old → forest trees ≡ whole → old.left ≡ []
+    → MatchResult r (λ copy. copy ≡ whole) Refused
     → IfOk r (λ copy. copy ≡ old.done)
 finished Refused whole n trees old (Err e) same is none copied = tt
 finished Refused whole n trees old (Ok f) same is none copied =

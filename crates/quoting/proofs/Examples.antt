@@ -6,7 +6,8 @@ use Rattle.proc_macro2.specs.Token.{Name, Mark, Literal}
 use Rattle.proc_macro2.specs.declared.Delimiter.TheVariants.{Parenthesis, Brace, Bracket}
 use Rattle.quoting.specs.Filled.{at_top, filled, woven}
 use Rattle.quoting.specs.Holes.{One, Each, Named}
-use Rattle.quoting.specs.declared.errors.TemplateError.TheVariants.{NoHole, LoneList, NoList, UnequalLists, Nested, TooDeep}
+use Rattle.quoting.specs.declared.errors.TemplateError.TheVariants.{NoHole, LoneList, NoList, UnequalLists, Nested}
+use Rattle.quoting.specs.declared.errors.TemplateError.TheVariants.{TooDeep}
 
 -- the place of one character
 abbrev at : ℕ → Extent

@@ -1,6 +1,7 @@
 -- What is left to look at while groups are open, in a search through trees in reading order; and in that for the first
 -- fault.
-use Rattle.std.proofs.Common.{◌≡◌, ℕ, ◌+◌, ◌*◌, ◌<◌, Bool, true, false, Option, Some, None, List, [], ◌∷◌, ◌++◌, length, Bor, if◌then◌else◌, refl, sym, ap, ◌∙◌, arith}
+use Rattle.std.proofs.Common.{◌≡◌, ℕ, ◌+◌, ◌*◌, ◌<◌, Bool, true, false, Option, Some, None, List, [], ◌∷◌, ◌++◌, length}
+use Rattle.std.proofs.Common.{Bor, if◌then◌else◌, refl, sym, ap, ◌∙◌, arith}
 use Rattle.proc_macro2.specs.Forest.{Forest, nil}
 use Rattle.proc_macro2.specs.Level.{before, forest, inside}
 use Rattle.proc_macro2.specs.Leaf.{mark_token}
@@ -60,10 +61,12 @@ count-before (Punct p) rest = refl
 count-before (Literal l) rest = refl
 
 -- nothing is found at the first tree, which is a group, and the trees in it are next
-pub inside_found : {A : Type 0} (search : Search A) (left within : List TokenTree) (after : Bor (List TokenTree)) (t : TokenTree)
+pub inside_found : {A : Type 0} (search : Search A) (left within : List TokenTree) (after : Bor (List TokenTree))
+    (t : TokenTree)
     (g : Grouped) (outer new : Rests)
     → left ≡ t ∷ after.now → t ≡ Group g
-    → ((more : Option A) → search (before t (forest after.now)) more ≡ search (inside t) (search (forest after.now) more))
+    → ((more : Option A) → search (before t (forest after.now)) more
+    ≡ search (inside t) (search (forest after.now) more))
     → forest within ≡ g.stream → new ≡ outer ++ after ∷ [] → left_found search within new ≡ left_found search left outer
 inside_found search left within after t g outer new whole is later into push =
     rw (whole, push, into, rests_found-push search outer after None)
@@ -99,7 +102,8 @@ unguarded true x y h = refl
 unguarded false x y h = absurd (cc)
 
 -- a fault of the first tree is the first
-fault_here : (t : TokenTree) (rest : Forest) (more : Option QuoteError) (fault : QuoteError) → tree_fault t rest ≡ Some fault
+fault_here : (t : TokenTree) (rest : Forest) (more : Option QuoteError) (fault : QuoteError)
+    → tree_fault t rest ≡ Some fault
     → fault_or (before t rest) more ≡ Some fault
 fault_here (Group g) rest more fault h =
     guarded (is_shown g.delimiter) (fault_or g.stream (fault_or rest more)) NoneGroup fault h
@@ -124,14 +128,17 @@ found_here left after t outer fault whole is =
     ap (λ ts. left_fault ts outer) whole ∙ fault_here t (forest after) (rests_found fault_or outer None) fault (sym is)
 
 -- the first tree is a group without a fault of its own, and the trees in it are next
-pub inside_fault : (left within : List TokenTree) (after : Bor (List TokenTree)) (t : TokenTree) (g : Grouped) (outer new : Rests)
+pub inside_fault : (left within : List TokenTree) (after : Bor (List TokenTree)) (t : TokenTree) (g : Grouped)
+    (outer new : Rests)
     → left ≡ t ∷ after.now → t ≡ Group g → None ≡ tree_fault t (forest after.now) → forest within ≡ g.stream
     → new ≡ outer ++ after ∷ [] → left_fault within new ≡ left_fault left outer
 inside_fault left within after t g outer new whole is none into push =
-    inside_found fault_or left within after t g outer new whole is (λ more. fault_later t (forest after.now) more (sym none))
+    inside_found fault_or left within after t g outer new whole is
+    (λ more. fault_later t (forest after.now) more (sym none))
     into push
 
-pub inside_less : (left within : List TokenTree) (after : Bor (List TokenTree)) (t : TokenTree) (g : Grouped) (outer new : Rests)
+pub inside_less : (left within : List TokenTree) (after : Bor (List TokenTree)) (t : TokenTree) (g : Grouped)
+    (outer new : Rests)
     → left ≡ t ∷ after.now → t ≡ Group g → forest within ≡ g.stream → new ≡ outer ++ after ∷ []
     → left_count within new < left_count left outer
 inside_less left within after t g outer new whole is into push =
@@ -139,12 +146,14 @@ inside_less left within after t g outer new whole is into push =
 
 -- the first tree is no group
 pub token_fault : (left after : List TokenTree) (t : TokenTree) (outer : Rests) → left ≡ t ∷ after
-    → ((g : Grouped) → t ≡ Group g → ⊥) → None ≡ tree_fault t (forest after) → left_fault after outer ≡ left_fault left outer
+    → ((g : Grouped) → t ≡ Group g → ⊥) → None ≡ tree_fault t (forest after)
+    → left_fault after outer ≡ left_fault left outer
 token_fault left after (Group g) outer whole other none = absurd (other g refl)
 token_fault left after (Ident i) outer whole other none = ap (λ ts. left_fault ts outer) (sym whole)
 token_fault left after (Literal l) outer whole other none = ap (λ ts. left_fault ts outer) (sym whole)
 token_fault left after (Punct p) outer whole other none =
-    sym (ap (λ ts. left_fault ts outer) whole ∙ fault_later (Punct p) (forest after) (rests_found fault_or outer None) (sym none))
+    sym (ap (λ ts. left_fault ts outer) whole
+    ∙ fault_later (Punct p) (forest after) (rests_found fault_or outer None) (sym none))
 
 pub token_less : (left after : List TokenTree) (t : TokenTree) (outer : Rests) → left ≡ t ∷ after
     → left_count after outer < left_count left outer

@@ -1,5 +1,6 @@
 -- Lists that are respaced up to a place, each in the group that comes next in the one around it.
-use Rattle.std.proofs.Common.{◌≡◌, ℕ, ◌+◌, ◌*◌, ◌<◌, Result, Ok, Err, IfOk, List, [], ◌∷◌, ◌++◌, refl, sym, ap, ap₂, subst, ◌∙◌, arith}
+use Rattle.std.proofs.Common.{◌≡◌, ℕ, ◌+◌, ◌*◌, ◌<◌, Result, Ok, Err, IfOk, List, [], ◌∷◌, ◌++◌, refl, sym, ap, ap₂}
+use Rattle.std.proofs.Common.{subst, ◌∙◌, arith}
 use Rattle.proc_macro2.specs.Forest.{Forest, nil, leaf, group, joined}
 use Rattle.proc_macro2.specs.Level.{before, forest}
 use Rattle.proc_macro2.specs.Size.{count}
@@ -100,7 +101,8 @@ begun here outer f done left none = record {
 
 -- ---- the first tree is a group
 
-pub open_group : (here new : Part) (outer more : List Part) (t : TokenTree) (after : List TokenTree) (g : Grouped) (answer : Forest)
+pub open_group : (here new : Part) (outer more : List Part) (t : TokenTree) (after : List TokenTree) (g : Grouped)
+    (answer : Forest)
     → here.left ≡ t ∷ after → t ≡ Group g → new.whole ≡ g.stream → new.done ≡ nil → forest new.left ≡ g.stream
     → more ≡ outer ++ here ∷ [] → IsOnTheWay here outer answer → IsOnTheWay new more answer
 open_group here new outer more t after g answer left is whole done inside push was =
@@ -141,14 +143,16 @@ respaced-before (Literal l) rest other = refl
 
 pub step_token : (here new : Part) (outer : List Part) (t : TokenTree) (after : List TokenTree) (answer : Forest)
     → here.left ≡ t ∷ after → ((g : Grouped) → t ≡ Group g → ⊥)
-    → Adds here (respaced_alone t (next_token (forest after))) new → IsOnTheWay here outer answer → IsOnTheWay new outer answer
+    → Adds here (respaced_alone t (next_token (forest after))) new → IsOnTheWay here outer answer
+    → IsOnTheWay new outer answer
 step_token here new outer t after answer left other adds was =
     let first = respaced_alone t (next_token (forest after)) in
     let rest : new.left ≡ after = adds.left ∙ ap others left in
     let same : ended new ≡ ended here =
     ap₂ (λ x ts. joined x (respaced (forest ts))) adds.done rest
     ∙ (joined_assoc here.done first (respaced (forest after))
-    ∙ ap (joined here.done) (sym (respaced-before t (forest after) other) ∙ ap (λ ts. respaced (forest ts)) (sym left))) in
+    ∙ ap (joined here.done) (sym (respaced-before t (forest after) other) ∙ ap (λ ts. respaced (forest ts)) (sym left)))
+    in
     record {
       answer_is = ap (unwound outer) same ∙ was.answer_is;
       linked = subst (Linked outer) (sym adds.whole) was.linked;

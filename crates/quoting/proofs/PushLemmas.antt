@@ -1,5 +1,6 @@
 -- What is put into a stream by an iterator over one item.
-use Rattle.std.proofs.Common.{◌≡◌, List, [], ◌∷◌, ◌++◌, Option, Some, Result, Ok, Err, OnOk, OnErr, MatchResult, length, length-append, refl, sym, ap, ◌∙◌, arith}
+use Rattle.std.proofs.Common.{◌≡◌, List, [], ◌∷◌, ◌++◌, Option, Some, Result, Ok, Err, OnOk, OnErr, MatchResult, length}
+use Rattle.std.proofs.Common.{length-append, refl, sym, ap, ◌∙◌, arith}
 use Rattle.std.specs.Iterator.{Drains, Yields}
 use Rattle.proc_macro2.specs.Building.{PutsIn, gathered}
 use Rattle.proc_macro2.specs.Forest.{Forest, joined}
@@ -42,7 +43,8 @@ pub refuse_one : {S A E : Type 0} (Begins : S → Type 0) (steps : S → Option 
     → ((it : S) → Begins it → left it ≡ item ∷ [])
     → OnErr r (new ≡ old)
 refuse_one Begins steps left trees item was old new (Ok u) same lists refused one = tt
-refuse_one Begins steps left trees item was old new (Err e) same lists (it, items, last, now, rest, is, yields, step, puts) one =
+refuse_one Begins steps left trees item was old new (Err e) same lists
+    (it, items, last, now, rest, is, yields, step, puts) one =
     let whole : items ++ last ∷ left rest ≡ item ∷ [] =
     sym (yields_front steps left lists it now items yields ∙ ap (λ xs. items ++ xs) (lists.each now rest last step))
     ∙ one it is in

@@ -1,12 +1,14 @@
 -- What respacing does.
-use Rattle.std.proofs.Common.{◌≡◌, ◌==◌, ℕ, Bool, true, false, not, ◌&&◌, Option, Some, None, List, [], if◌then◌else◌, refl, sym, ap, ap₂, ◌∙◌}
+use Rattle.std.proofs.Common.{◌≡◌, ◌==◌, ℕ, Bool, true, false, not, ◌&&◌, Option, Some, None, List, [], if◌then◌else◌}
+use Rattle.std.proofs.Common.{refl, sym, ap, ap₂, ◌∙◌}
 use Rattle.std.proofs.lemmas.Bool.{and_from, and_parts, both_ways}
 use Rattle.proc_macro2.specs.Character.{single_quote}
 use Rattle.proc_macro2.specs.Forest.{Forest, nil, leaf, group}
 use Rattle.proc_macro2.specs.Shown.{is_shown}
 use Rattle.proc_macro2.specs.Token.{Token, Name, Mark, Literal}
 use Rattle.proc_macro2.specs.WellSpaced.{fits, follows_joint, follows_quote, next_token, well_spaced, IsWellSpaced}
-use Rattle.quoting.specs.Choice.{IsHopeless, KeepsAllItMay, KeepsThose, spacing_onto, spacings_onto, unspaced, unspaced_token}
+use Rattle.quoting.specs.Choice.{IsHopeless, KeepsAllItMay, KeepsThose, spacing_onto, spacings_onto, unspaced}
+use Rattle.quoting.specs.Choice.{unspaced_token}
 use Rattle.quoting.specs.Fault.{fault_or, first_fault, may_stand}
 use Rattle.quoting.specs.Respaced.{is_kept_joint, respaced, respaced_token}
 use Rattle.quoting.specs.declared.errors.QuoteError.{QuoteError}
@@ -88,7 +90,8 @@ respaced_fits (Literal text) f h = refl
 respaced_fits (Mark c joint) f h =
     let kept = is_kept_joint c joint (next_token f) in
     fits_by c kept (next_token (respaced f))
-    ∙ (ap₂ (λ x y. fits_as (c == single_quote) kept x y) (same_quote f (respaced f) (only_spacing f)) (same_joint c f (respaced f) (only_spacing f))
+    ∙ (ap₂ (λ x y. fits_as (c == single_quote) kept x y) (same_quote f (respaced f) (only_spacing f))
+    (same_joint c f (respaced f) (only_spacing f))
     ∙ respaced_as (c == single_quote) joint (follows_quote (next_token f)) (follows_joint c (next_token f)) h)
 
 -- a mark that fits in another choice of spacings
@@ -114,7 +117,8 @@ fits_unchanged : (t : Token) (next : Option Token) → fits t next ≡ true → 
 fits_unchanged (Name raw name) next h = refl
 fits_unchanged (Literal text) next h = refl
 fits_unchanged (Mark c joint) next h =
-    ap (Mark c) (stays_as (c == single_quote) joint (follows_quote next) (follows_joint c next) (sym (fits_by c joint next) ∙ h))
+    ap (Mark c) (stays_as (c == single_quote) joint (follows_quote next) (follows_joint c next)
+    (sym (fits_by c joint next) ∙ h))
 
 keeps_token : (t u : Token) (f g : Forest) (olds chosens news : List Bool) → unspaced_token u ≡ unspaced_token t
     → unspaced g ≡ unspaced f → fits u (next_token g) ≡ true → KeepsThose olds chosens news
@@ -166,7 +170,8 @@ hopeless f fault is g e w =
     let none : None ≡ Some fault = sym (no_fault f g None e w) ∙ is in
     absurd (cc)
 
-passes : (b : Bool) (x : Option QuoteError) (y : QuoteError) → (if b then x else Some y) ≡ None → (b ≡ true) × (x ≡ None)
+passes : (b : Bool) (x : Option QuoteError) (y : QuoteError) → (if b then x else Some y) ≡ None
+    → (b ≡ true) × (x ≡ None)
 passes true x y h = (refl, h)
 passes false x y h = absurd (cc)
 
@@ -202,7 +207,8 @@ keeps_onto (leaf t lo hi f) (leaf u l h g) olds chosens news e w more =
     let same : unspaced_token u ≡ unspaced_token t = cc in
     let rest : unspaced g ≡ unspaced f = cc in
     let parts = and_parts _ _ w in
-    keeps_token t u f g (spacings_onto f olds) (spacings_onto g chosens) (spacings_onto (respaced f) news) same rest parts.0
+    keeps_token t u f g (spacings_onto f olds) (spacings_onto g chosens)
+    (spacings_onto (respaced f) news) same rest parts.0
     (keeps_onto f g olds chosens news rest parts.1 more)
 keeps_onto (group d lo hi f k) (group c l h g m) olds chosens news e w more =
     let inside : unspaced g ≡ unspaced f = cc in

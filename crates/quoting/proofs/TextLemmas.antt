@@ -7,7 +7,8 @@ use Rattle.quoting.specs.Given.{UnlessMemory}
 use Rattle.quoting.specs.Holes.{Named}
 use Rattle.quoting.specs.TextFault.{IsTextFault}
 use Rattle.quoting.specs.declared.errors.TemplateError.{TemplateError}
-use Rattle.quoting.specs.declared.errors.TemplateError.TheVariants.{NoHole, LoneList, NoList, UnequalLists, Nested, TooDeep, Parse, Memory}
+use Rattle.quoting.specs.declared.errors.TemplateError.TheVariants.{NoHole, LoneList, NoList, UnequalLists, Nested}
+use Rattle.quoting.specs.declared.errors.TemplateError.TheVariants.{TooDeep, Parse, Memory}
 
 -- the fault of the template that a text parses to is told of the text
 told : (first : ℕ) (text : List ℕ) (holes : List Named) (template : Forest) (fault : TemplateError)

@@ -14,9 +14,11 @@ use Rattle.quoting.specs.Filled.{at_top, before_turn, followed, in_turn, repeate
 use Rattle.quoting.specs.Given.{UnlessMemory, gives, named_all, repeats_of, separator_of, starts}
 use Rattle.quoting.specs.Holes.{Filling, One, Each, Named, Outcome, filling_of}
 use Rattle.quoting.specs.Start.{Start, Names, Repeats, start, taken}
-use Rattle.quoting.specs.Turns.{Check, and_then, checked, name_checked, named_length, or_else, start_checked, turns_of, turns_or}
+use Rattle.quoting.specs.Turns.{Check, and_then, checked, name_checked, named_length, or_else, start_checked, turns_of}
+use Rattle.quoting.specs.Turns.{turns_or}
 use Rattle.quoting.specs.declared.errors.TemplateError.{TemplateError}
-use Rattle.quoting.specs.declared.errors.TemplateError.TheVariants.{NoHole, LoneList, NoList, UnequalLists, Nested, TooDeep, Parse, Memory}
+use Rattle.quoting.specs.declared.errors.TemplateError.TheVariants.{NoHole, LoneList, NoList, UnequalLists, Nested}
+use Rattle.quoting.specs.declared.errors.TemplateError.TheVariants.{TooDeep, Parse, Memory}
 use Rattle.quoting.specs.declared.holes.Hole.{Hole}
 use Rattle.quoting.specs.declared.start.Repetition.{Repetition}
 use Rattle.quoting.proofs.FaultLemmas.{Rests, after_found, end_found, inside_found, left_found, rests_found}
@@ -77,7 +79,8 @@ token_turns holes left after (Literal l) outer whole other none =
 
 pub after_turns : (holes : List Named) (left : List TokenTree) (after : Bor (List TokenTree)) (outer new : Rests)
     → length left ≡ 0 → outer ≡ new ++ after ∷ [] → left_turns holes after.now new ≡ left_turns holes left outer
-after_turns holes left after outer new none pop = after_found (turns_or holes) (λ more. refl) left after outer new none pop
+after_turns holes left after outer new none pop =
+    after_found (turns_or holes) (λ more. refl) left after outer new none pop
 
 pub end_turns : (holes : List Named) (left : List TokenTree) (outer : Rests) → length left ≡ 0 → outer ≡ []
     → left_turns holes left outer ≡ None

@@ -1,5 +1,6 @@
 -- Templates that are filled up to a place.
-use Rattle.std.proofs.Common.{◌≡◌, ℕ, Bool, true, false, zero, suc, All, Option, Some, None, Ok, Err, List, [], ◌∷◌, drop, length, refl, sym, ap, ap₂, subst, ◌∙◌, arith}
+use Rattle.std.proofs.Common.{◌≡◌, ℕ, Bool, true, false, zero, suc, All, Option, Some, None, Ok, Err, List, [], ◌∷◌}
+use Rattle.std.proofs.Common.{drop, length, refl, sym, ap, ap₂, subst, ◌∙◌, arith}
 use Rattle.std.proofs.lemmas.List.Elements.{All-drop}
 use Rattle.proc_macro2.specs.Forest.{Forest, nil, leaf, group, joined}
 use Rattle.proc_macro2.specs.Leaf.{mark_token, name_token, text_token}
@@ -10,13 +11,15 @@ use Rattle.proc_macro2.specs.declared.Group.{Group as Grouped}
 use Rattle.proc_macro2.specs.declared.TokenTree.{TokenTree}
 use Rattle.proc_macro2.specs.declared.TokenTree.TheVariants.{Group, Ident, Punct, Literal}
 use Rattle.quoting.specs.Filled.{followed, enclosed_in, has_meaning, replaced, set_apart, woven}
-use Rattle.quoting.specs.Given.{UnlessMemory, apart, apart_before, gives, inside_at, named_all, place_of, starts, text_of}
+use Rattle.quoting.specs.Given.{UnlessMemory, apart, apart_before, gives, inside_at, named_all, place_of, starts}
+use Rattle.quoting.specs.Given.{text_of}
 use Rattle.quoting.specs.Holes.{Outcome, filling_of, put_in}
 use Rattle.quoting.specs.Start.{Start, Names, taken}
 use Rattle.quoting.specs.declared.errors.TemplateError.{TemplateError}
 use Rattle.quoting.specs.declared.holes.Hole.{Hole}
 use Rattle.quoting.specs.declared.holes.Name.{Name}
-use Rattle.quoting.specs.declared.errors.TemplateError.TheVariants.{NoHole, LoneList, NoList, UnequalLists, Nested, TooDeep, Parse, Memory}
+use Rattle.quoting.specs.declared.errors.TemplateError.TheVariants.{NoHole, LoneList, NoList, UnequalLists, Nested}
+use Rattle.quoting.specs.declared.errors.TemplateError.TheVariants.{TooDeep, Parse, Memory}
 use Rattle.quoting.proofs.PartLemmas.{joined_assoc, joined_nil}
 
 -- what comes of what has a meaning

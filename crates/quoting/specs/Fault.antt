@@ -11,7 +11,8 @@ use Rattle.proc_macro2.specs.declared.TokenTree.TheVariants.{Group, Ident, Punct
 use Rattle.quoting.specs.declared.errors.QuoteError.{QuoteError}
 use Rattle.quoting.specs.declared.errors.QuoteError.TheVariants.{NoneGroup, LoneQuote, Memory}
 
--- whether the token may stand before what is next in its list, whatever spacing marks have: `'` needs what it belongs to
+-- whether the token may stand before what is next in its list, whatever spacing marks have: `'` needs what it belongs
+-- to
 abbrev pub may_stand : Token → Option Token → Bool
 may_stand (Name raw name) next = true
 may_stand (Mark c joint) next = if c == single_quote then follows_quote next else true

@@ -1,5 +1,6 @@
 -- What the code's values are in the words of templates.
-use Rattle.std.specs.Prelude.{ℕ, zero, suc, Bool, true, false, ◌==◌, List, [], ◌∷◌, Option, Some, None, Err, if◌then◌else◌}
+use Rattle.std.specs.Prelude.{ℕ, zero, suc, Bool, true, false, ◌==◌, List, [], ◌∷◌, Option, Some, None, Err}
+use Rattle.std.specs.Prelude.{if◌then◌else◌}
 use Rattle.std.specs.Borrow.{Bor}
 use Rattle.std.specs.Char.{is_ascii_digit}
 use Rattle.std.specs.List.{list_all}
@@ -18,7 +19,8 @@ use Rattle.quoting.specs.Filled.{at_top, has_meaning, in_turn, woven}
 use Rattle.quoting.specs.Holes.{Filling, One, Each, Named, Outcome}
 use Rattle.quoting.specs.Start.{Start, Names, Repeats, after_hash, start}
 use Rattle.quoting.specs.declared.errors.TemplateError.{TemplateError}
-use Rattle.quoting.specs.declared.errors.TemplateError.TheVariants.{NoHole, LoneList, NoList, UnequalLists, Nested, TooDeep, Parse, Memory}
+use Rattle.quoting.specs.declared.errors.TemplateError.TheVariants.{NoHole, LoneList, NoList, UnequalLists, Nested}
+use Rattle.quoting.specs.declared.errors.TemplateError.TheVariants.{TooDeep, Parse, Memory}
 use Rattle.quoting.specs.declared.holes.Filling.{Filling as Filler}
 use Rattle.quoting.specs.declared.holes.Filling.TheVariants.{One as OneStream, Each as EachStream}
 use Rattle.quoting.specs.declared.holes.Hole.{Hole}

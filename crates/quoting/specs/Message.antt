@@ -4,7 +4,8 @@ use Rattle.quoting.specs.declared.errors.QuoteError.{QuoteError}
 use Rattle.proc_macro2.specs.Message.{message}
 use Rattle.quoting.specs.declared.errors.QuoteError.TheVariants.{NoneGroup, LoneQuote, Memory}
 use Rattle.quoting.specs.declared.errors.TemplateError.{TemplateError}
-use Rattle.quoting.specs.declared.errors.TemplateError.TheVariants.{NoHole, LoneList, NoList, UnequalLists, Nested, TooDeep, Parse, Memory as NoMemory}
+use Rattle.quoting.specs.declared.errors.TemplateError.TheVariants.{NoHole, LoneList, NoList, UnequalLists, Nested}
+use Rattle.quoting.specs.declared.errors.TemplateError.TheVariants.{TooDeep, Parse, Memory as NoMemory}
 
 -- what the errors of quotes say
 abbrev pub quote_message : QuoteError → List ℕ

@@ -19,7 +19,8 @@ pub record Part : Type 0 where
 
 -- as a pair of streams and a list
 abbrev pub coded_part : Coded Part
-coded_part = code_by (Forest × (Forest × List TokenTree)) (coded× coded_forest (coded× coded_forest (coded_list tree.the_row.coded)))
+coded_part = code_by (Forest × (Forest × List TokenTree))
+    (coded× coded_forest (coded× coded_forest (coded_list tree.the_row.coded)))
     (λ part. (part.whole, (part.done, part.left)))
     (λ fields. record { whole = fields.0; done = fields.1.0; left = fields.1.1 }) (λ _. refl)
 

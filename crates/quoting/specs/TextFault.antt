@@ -8,7 +8,8 @@ use Rattle.proc_macro2.specs.declared.ParseError.TheVariants.{Lex, MapFull, Memo
 use Rattle.quoting.specs.Filled.{filled}
 use Rattle.quoting.specs.Holes.{Named}
 use Rattle.quoting.specs.declared.errors.TemplateError.{TemplateError}
-use Rattle.quoting.specs.declared.errors.TemplateError.TheVariants.{NoHole, LoneList, NoList, UnequalLists, Nested, TooDeep, Parse, Memory}
+use Rattle.quoting.specs.declared.errors.TemplateError.TheVariants.{NoHole, LoneList, NoList, UnequalLists, Nested}
+use Rattle.quoting.specs.declared.errors.TemplateError.TheVariants.{TooDeep, Parse, Memory}
 
 -- the text parses to a template that has this fault
 abbrev pub IsTemplateFault : ℕ → List ℕ → List Named → TemplateError → Type 0

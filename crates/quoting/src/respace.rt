@@ -198,7 +198,8 @@ pub(crate) fn put(stream: &mut TokenStream, tree: TokenTree) -> Result<(), Alloc
 
 // How the mark is spaced before these trees: `'` is Joint, any other mark Joint where it was and may be.
 fn kept_spacing(mark: &Punct, after: &[TokenTree]) -> Spacing
-    ensures { is_joint result ≡ is_kept_joint mark.now.mark (is_joint mark.now.spacing) (next_token (forest after.now)) }
+    ensures { is_joint result
+        ≡ is_kept_joint mark.now.mark (is_joint mark.now.spacing) (next_token (forest after.now)) }
 {
     let c = mark.as_char();
     if c == '\'' || mark.spacing() == Spacing::Joint && follows_joint(c, after) {

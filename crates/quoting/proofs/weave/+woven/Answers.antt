@@ -3,8 +3,10 @@ use Rattle.quoting.specs.Given.{gives, rest_of, seen, separator_of}
 use Rattle.quoting.specs.Filled.{turns_from}
 use Rattle.proc_macro2.specs.Forest.{joined}
 use Rattle.std.proofs.lemmas.Result.{err_from_is_err_and}
-use Rattle.quoting.proofs.TurnLemmas.{all_turns, checked_fault, turn_fault, turn_more, turn_of, turns_begun, turns_ended}
-use Rattle.quoting.proofs.WeaveLemmas.{IsUpTo, copy_inside, ended, found_step, gives_name, group_step, token_step, unless_weaker}
+use Rattle.quoting.proofs.TurnLemmas.{all_turns, checked_fault, turn_fault, turn_more, turn_of, turns_begun}
+use Rattle.quoting.proofs.TurnLemmas.{turns_ended}
+use Rattle.quoting.proofs.WeaveLemmas.{IsUpTo, copy_inside, ended, found_step, gives_name, group_step, token_step}
+use Rattle.quoting.proofs.WeaveLemmas.{unless_weaker}
 use Rattle.quoting.proofs.weave.+woven.Goals as goal
 
 pub repeated-loop-turn-init : goal.repeated-loop-turn-init

@@ -5,7 +5,8 @@ use Rattle.quoting.proofs.quote.Quote.push_stream.Goals as goal
 
 pub returns-clause-ok : goal.returns-clause-ok
 returns-clause-ok c =
-    put_one _ array_steps array_into_iter_items (λ stream. stream) c.args.stream _ _ _ c.extend_streams.result c.self.view_is
+    put_one _ array_steps array_into_iter_items (λ stream. stream) c.args.stream _ _ _ c.extend_streams.result
+    c.self.view_is
     (record { each = λ it next x p. p; all = drained }) c.extend_streams.ensures.ran (λ it is. is.0)
 
 pub returns-clause-err : goal.returns-clause-err

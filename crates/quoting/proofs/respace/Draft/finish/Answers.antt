@@ -7,5 +7,6 @@ pub returns-in-None : goal.returns-in-None
 returns-in-None c =
     let inside = c.self.inside in
     finished _ inside.stream.now inside.done inside.trees.now c.args.self c.clone.result
-    (ap (λ (changed : Option Forest). part_of inside.stream.now changed inside.done inside.trees.now) (sym c.in-None.is) ∙ c.self.view_is)
+    (ap (λ (changed : Option Forest). part_of inside.stream.now changed inside.done inside.trees.now) (sym c.in-None.is)
+    ∙ c.self.view_is)
     c.self.invariant.2 c.requires c.clone.ensures.cases

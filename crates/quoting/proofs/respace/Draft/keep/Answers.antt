@@ -17,18 +17,23 @@ returns c =
     let inside = c.self.inside in
     elim c.match-self.branch [
       | in-Some+in_ok-clone+in_ok-put w ↦
-          subst (λ i. Adds c.args.self.now (alone c.args.tree.now) (part_of i.stream.now i.changed (i.done + 1) i.trees.now))
+          subst (λ i. Adds c.args.self.now (alone c.args.tree.now)
+          (part_of i.stream.now i.changed (i.done + 1) i.trees.now))
           (sym w.self-inside-is)
-          (adds_put inside.stream.now inside.changed inside.done inside.trees.now w.in-Some.changed w.put.new.stream (alone c.args.tree.now) c.args.self.now
+          (adds_put inside.stream.now inside.changed inside.done inside.trees.now w.in-Some.changed w.put.new.stream
+          (alone c.args.tree.now) c.args.self.now
           c.self.view_is
           (ap (λ (changed : Option Forest). done_of changed inside.done inside.trees.now) (sym w.in-Some.is))
           (w.in_ok-put.ensures ∙ ap (λ t. joined w.in-Some.changed (alone t)) w.in_ok-clone.ensures.cases))
       | in_default w ↦
-          subst (λ i. Adds c.args.self.now (alone c.args.tree.now) (part_of i.stream.now i.changed (i.done + 1) i.trees.now))
+          subst (λ i. Adds c.args.self.now (alone c.args.tree.now)
+          (part_of i.stream.now i.changed (i.done + 1) i.trees.now))
           (sym w.self-inside-is)
-          (subst (λ (changed : Option Forest). Adds c.args.self.now (alone c.args.tree.now) (part_of inside.stream.now changed (inside.done + 1) inside.trees.now))
+          (subst (λ (changed : Option Forest). Adds c.args.self.now (alone c.args.tree.now)
+          (part_of inside.stream.now changed (inside.done + 1) inside.trees.now))
           (sym w.in_default.is)
           (adds_kept inside.stream.now inside.done inside.trees.now c.args.tree.now c.args.self.now
-          (ap (λ (changed : Option Forest). part_of inside.stream.now changed inside.done inside.trees.now) (sym w.in_default.is) ∙ c.self.view_is)
+          (ap (λ (changed : Option Forest). part_of inside.stream.now changed inside.done inside.trees.now)
+          (sym w.in_default.is) ∙ c.self.view_is)
           c.requires))
     ]
