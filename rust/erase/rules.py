@@ -53,9 +53,9 @@ class Package:
             name = following(tokens, at)
             if token.text != 'struct' or tokens[name].text not in self.destructors:
                 continue
-            body = text_of(t for t in tokens[following(tokens, name):closing(tokens, following(tokens, name))])
-            fields = re.findall(r'^\s*(?:pub(?:\(\w+\))? )?(\w+): (.*),$', body, re.M)
-            self.destructors[tokens[name].text] = dict(fields)
+            opener = following(tokens, name)
+            body = text_of(t for t in tokens[opener + 1:closing(tokens, opener)] if t.kind != 'comment')
+            self.destructors[tokens[name].text] = dict(re.findall(r'(\w+)\s*:\s*((?:[^,<]|<.*?>+)+),', body))
 
 
 def following(tokens, at):

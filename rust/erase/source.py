@@ -73,17 +73,15 @@ def past_ghost(text, at, line):
     named = re.compile(r'\w+\s*').match(text, at)
     if not named:
         raise Rejected(line, 'a ghost item of another form')
-    at = named.end()
+    first = at = named.end()
     while at < len(text):
         given = re.compile(r'(?:[:=]|by)\s*').match(text, at)
         if given:
             if not text.startswith('{', given.end()):
                 break
             at = past_white(text, past_braces(text, given.end(), line))
-        elif text[at] in ';,':
-            return at + 1
-        elif text[at] == '}':
-            return at
+        elif at > first and text[at] in ';,}':
+            return at if text[at] == '}' else at + 1
         else:
             break
     raise Rejected(line, 'a ghost item of another form')
