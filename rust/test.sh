@@ -1,6 +1,6 @@
 #!/usr/bin/env bash
-# The proved bodies as Rust; and the callers in C and in Rust: the demo under sanitizers, the Cargo package with its tests,
-# and syn and quote on it.
+# The proved bodies as Rust, the Cargo package over them with its tests, and syn and quote on it; and the demo in C under
+# sanitizers.
 #
 #   rust/test.sh
 #
@@ -65,14 +65,14 @@ else
     echo "no cargo of Rust 1.82 or later: rust/proved is left out"
 fi
 
-PM_C_LIB=$(cd .. && pwd)/crates/pm_c/out
-export PM_C_LIB
-archive=$PM_C_LIB/libpm_c.a
-try "the archive" ./archive.sh
-[ "$failed" -eq 0 ] || finish
-
-cc=${CC:-cc}
-if command -v "$cc" > /dev/null; then
+# The static library for C, and its demo.
+callers_in_c() {
+    local archive=../crates/pm_c/out/libpm_c.a cc=${CC:-cc}
+    try "the archive" ./archive.sh
+    if ! command -v "$cc" > /dev/null; then
+        echo "no C compiler: the demo is left out"
+        return
+    fi
     demo() {
         local flags=(-std=c11 -Wall -Wextra -Werror -g -fsanitize=address,undefined -fno-sanitize-recover=all)
         "$cc" "${flags[@]}" c/demo.c c/heap.c "$archive" -o "$room/demo" || return 1
@@ -80,9 +80,8 @@ if command -v "$cc" > /dev/null; then
         diff c/demo.stdout "$room/seen"
     }
     try "the demo in C, under the sanitizers of addresses and of undefined behaviour" demo
-else
-    echo "no C compiler: the demo is left out"
-fi
+}
+callers_in_c
 
 if [ "${minor:-0}" -lt 88 ]; then
     echo "no cargo of Rust 1.88 or later: the Cargo package, and syn and quote over it, are left out"
