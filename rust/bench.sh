@@ -4,8 +4,8 @@
 #   rust/bench.sh CRATE SOURCES
 #
 # CRATE is the unpacked public crate proc-macro2, SOURCES a folder with files of Rust. syn, quote and unicode-ident are
-# the distribution's, from CARGO_REGISTRY or /usr/share/cargo/registry; nothing is fetched. Build the archive first, by
-# `rt lib` in crates/pm_c. The two programs run in turn, three times each, and the least times are printed.
+# the distribution's, from CARGO_REGISTRY or /usr/share/cargo/registry; nothing is fetched. The two
+# programs run in turn, three times each, and the least times are printed.
 set -eu
 crate=$(cd "$1" && pwd)
 sources=$(cd "$2" && pwd)

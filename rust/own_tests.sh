@@ -5,8 +5,7 @@
 #
 # CRATE is the unpacked public crate proc-macro2. syn and quote are the distribution's, from CARGO_REGISTRY or
 # /usr/share/cargo/registry, and so are the crates that their tests want; nothing is fetched. Left out on both sides,
-# and named, are files of tests that fetch the Rust repository, and those that want a crate that isn't there. Build the
-# archive first, by rust/archive.sh.
+# and named, are files of tests that fetch the Rust repository, and those that want a crate that isn't there.
 #
 # Each test that doesn't pass over both has a line, and the file TABLE gets a line for every test. A test fails here if
 # it passes over the public crate and not over the package. The last line is `N passed, M failed`: of the tests that
@@ -16,8 +15,6 @@ crate=$(cd "$1" && pwd)
 table=${2:+$(realpath "$2")}
 cd "$(dirname "$0")"
 registry=${CARGO_REGISTRY:-/usr/share/cargo/registry}
-PM_C_LIB=$(cd ../crates/pm_c/out && pwd)
-export PM_C_LIB
 room=$(mktemp -d)
 trap 'rm -rf "$room"' EXIT
 # What is built of no crate under test serves both sides.

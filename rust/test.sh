@@ -1,9 +1,10 @@
 #!/usr/bin/env bash
-# The callers in C and in Rust: the demo under sanitizers, the Cargo package with its tests, and syn and quote on it.
+# The proved bodies as Rust, the Cargo package over them with its tests, and syn and quote on it; and the demo in C under
+# sanitizers.
 #
 #   rust/test.sh
 #
-# What isn't there is said and left out: a C compiler, cargo with Rust 1.88, and the
+# What isn't there is said and left out: Python, a C compiler, cargo with Rust 1.88, and the
 # distribution's packages librust-syn-dev, librust-quote-dev and librust-unicode-ident-dev, which are looked for in
 # CARGO_REGISTRY or /usr/share/cargo/registry. Nothing is fetched. rust/archive.sh builds the archive where it is older
 # than its sources. The last line is `N passed, M failed`, and the status is 1 if anything failed.
@@ -34,14 +35,44 @@ finish() {
     exit
 }
 
-PM_C_LIB=$(cd .. && pwd)/crates/pm_c/out
-export PM_C_LIB
-archive=$PM_C_LIB/libpm_c.a
-try "the archive" ./archive.sh
-[ "$failed" -eq 0 ] || finish
+export CARGO_TARGET_DIR=$room/target
+minor=$(cargo --version 2> /dev/null | sed -n 's/^cargo 1\.\([0-9]*\)\..*/\1/p')
 
-cc=${CC:-cc}
-if command -v "$cc" > /dev/null; then
+if command -v python3 > /dev/null; then
+    try "rust/erase rejects what it doesn't know, and its rules do what they say" python3 erase --test
+    try "rust/proved is what rust/erase makes of the proved sources" python3 erase --check
+    try "rust/audit tells changes that are planted" python3 audit --test
+    try "the proved sources and rust/proved differ as is known, and not otherwise" python3 audit
+    if command -v rt > /dev/null; then
+        try "the tables of rust/proved are what the proved crates answer" python3 facts --check
+    else
+        echo "no rt: the tables of rust/proved are not compared with the proved crates"
+    fi
+else
+    echo "no python3: rust/proved is not compared with the proved sources"
+fi
+if [ "${minor:-0}" -ge 82 ]; then
+    proved() { (cd proved && cargo "$@"); }
+    documented() { RUSTDOCFLAGS="-D warnings" proved doc --offline --quiet --no-deps --all-features; }
+    [ -x ../crates/tokens/out/tokens ] || echo "no crates/tokens/out/tokens: rust/proved is not compared with it"
+    try "rust/proved, with overflow checks: recorded answers, sources, the shim" proved test --offline --quiet --all-features
+    try "rust/proved without its features" proved build --offline --quiet
+    try "the documents of rust/proved" documented
+    if cargo clippy --version > /dev/null 2>&1; then
+        try "clippy on rust/proved" proved clippy --offline --quiet --all-features --all-targets -- -D warnings
+    fi
+else
+    echo "no cargo of Rust 1.82 or later: rust/proved is left out"
+fi
+
+# The static library for C, and its demo.
+callers_in_c() {
+    local archive=../crates/pm_c/out/libpm_c.a cc=${CC:-cc}
+    try "the archive" ./archive.sh
+    if ! command -v "$cc" > /dev/null; then
+        echo "no C compiler: the demo is left out"
+        return
+    fi
     demo() {
         local flags=(-std=c11 -Wall -Wextra -Werror -g -fsanitize=address,undefined -fno-sanitize-recover=all)
         "$cc" "${flags[@]}" c/demo.c c/heap.c "$archive" -o "$room/demo" || return 1
@@ -49,16 +80,13 @@ if command -v "$cc" > /dev/null; then
         diff c/demo.stdout "$room/seen"
     }
     try "the demo in C, under the sanitizers of addresses and of undefined behaviour" demo
-else
-    echo "no C compiler: the demo is left out"
-fi
+}
+callers_in_c
 
-minor=$(cargo --version 2> /dev/null | sed -n 's/^cargo 1\.\([0-9]*\)\..*/\1/p')
 if [ "${minor:-0}" -lt 88 ]; then
     echo "no cargo of Rust 1.88 or later: the Cargo package, and syn and quote over it, are left out"
     finish
 fi
-export CARGO_TARGET_DIR=$room/target
 package() { (cd proc-macro2 && cargo test --offline --quiet "$@"); }
 exempt() { RUSTFLAGS="--cfg procmacro2_semver_exempt" RUSTDOCFLAGS="--cfg procmacro2_semver_exempt" package; }
 try "the Cargo package" package

@@ -1,9 +1,8 @@
 //! Inside a macro: the compiler's own tokens.
-use crate::literal;
-use crate::session;
 #[cfg(span_locations)]
 use crate::LineColumn;
-use crate::{Spacing, TokenTree};
+use crate::{LexError, TokenTree};
+use proved::pm_span::Span as Place;
 use std::panic;
 use std::str::FromStr;
 use std::sync::atomic::{AtomicU8, Ordering};
@@ -36,12 +35,12 @@ fn look() -> bool {
 }
 
 /// Has all new tokens be the wrapper's own.
-pub(crate) fn stay_outside() {
+pub fn stay_outside() {
     WHERE.store(OUTSIDE, Ordering::Relaxed);
 }
 
 /// Looks again whose new tokens are to be.
-pub(crate) fn look_again() {
+pub fn look_again() {
     look();
 }
 
@@ -52,28 +51,28 @@ pub(crate) fn mixed() -> ! {
     panic!("compiler/fallback mismatch: tokens that were made inside a macro and outside of it met")
 }
 
-/// A stream of the compiler, and trees that are to go behind it. They go there together, since each call costs the
+/// A stream of the compiler, and trees that are to go after it. They go there together, since each call costs the
 /// same whatever it takes along.
 #[derive(Clone)]
 pub(crate) struct Stream {
     stream: proc_macro::TokenStream,
-    behind: Vec<proc_macro::TokenTree>,
+    after: Vec<proc_macro::TokenTree>,
 }
 
 impl Stream {
     pub(crate) fn new(stream: proc_macro::TokenStream) -> Stream {
         Stream {
             stream,
-            behind: Vec::new(),
+            after: Vec::new(),
         }
     }
 
     pub(crate) fn is_empty(&self) -> bool {
-        self.behind.is_empty() && self.stream.is_empty()
+        self.after.is_empty() && self.stream.is_empty()
     }
 
     pub(crate) fn push(&mut self, tree: TokenTree) {
-        self.behind.push(tree_of(tree));
+        self.after.push(tree_of(tree));
     }
 
     pub(crate) fn append(&mut self, streams: impl Iterator<Item = proc_macro::TokenStream>) {
@@ -82,8 +81,8 @@ impl Stream {
     }
 
     fn settle(&mut self) {
-        if !self.behind.is_empty() {
-            self.stream.extend(self.behind.drain(..));
+        if !self.after.is_empty() {
+            self.stream.extend(self.after.drain(..));
         }
     }
 
@@ -96,39 +95,21 @@ impl Stream {
 /// The compiler's tree.
 pub(crate) fn tree_of(tree: TokenTree) -> proc_macro::TokenTree {
     match tree {
-        TokenTree::Group(group) => proc_macro::TokenTree::Group(group.into_compiler()),
-        TokenTree::Ident(ident) => proc_macro::TokenTree::Ident(ident.into_compiler()),
-        TokenTree::Punct(punct) => {
-            let spacing = match punct.spacing() {
-                Spacing::Alone => proc_macro::Spacing::Alone,
-                Spacing::Joint => proc_macro::Spacing::Joint,
-            };
-            let mut mark = proc_macro::Punct::new(punct.as_char(), spacing);
-            mark.set_span(punct.span().into_compiler());
-            proc_macro::TokenTree::Punct(mark)
-        }
-        TokenTree::Literal(literal) => proc_macro::TokenTree::Literal(literal.into_compiler()),
+        TokenTree::Group(group) => proc_macro::TokenTree::Group(group.repr.into_compiler()),
+        TokenTree::Ident(ident) => proc_macro::TokenTree::Ident(ident.repr.into_compiler()),
+        TokenTree::Punct(punct) => proc_macro::TokenTree::Punct(punct.repr.into_compiler()),
+        TokenTree::Literal(literal) => proc_macro::TokenTree::Literal(literal.repr.into_compiler()),
     }
 }
 
-/// What the compiler reads of a text: `None` where it or the library finds a fault.
+/// What the compiler reads of a text.
 ///
-/// The library looks first, since some faults end the compilation although the caller would have gone on.
-pub(crate) fn stream_of(text: &str) -> Option<Result<proc_macro::TokenStream, proc_macro::LexError>> {
-    session::with(|session| session.read(text)).ok()?;
-    read(text)
-}
-
-/// The literal that the compiler reads of a text, likewise.
-pub(crate) fn literal_of(text: &str) -> Option<Result<proc_macro::Literal, proc_macro::LexError>> {
-    if !literal::is_whole(text) {
-        return None;
-    }
-    read(text)
-}
-
-fn read<T: FromStr>(text: &str) -> Option<Result<T, T::Err>> {
-    panic::catch_unwind(|| text.parse::<T>()).ok()
+/// The proved functions look first whether it is `readable`, since some faults end the compilation although the caller
+/// would have gone on.
+pub(crate) fn read<T: FromStr<Err = proc_macro::LexError>>(text: &str, readable: bool) -> Result<T, LexError> {
+    let read = if readable { panic::catch_unwind(|| text.parse::<T>()).ok() } else { None };
+    let fault = || Err(LexError::own(Place::call_site()));
+    read.map_or_else(fault, |read| read.map_err(LexError::compiler))
 }
 
 /// A place of the compiler, whose columns count from 1.

@@ -15,22 +15,18 @@ pub fn invalidate_current_thread_spans() {
         !crate::compiler::inside(),
         "proc_macro2::extra::invalidate_current_thread_spans is not available in procedural macros"
     );
-    crate::session::with(|session| session.forget());
+    crate::map::with(|map| map.invalidate());
 }
 
 /// The span of a group, with those of its two delimiters.
 #[derive(Clone, Copy)]
 pub struct DelimSpan {
-    join: Span,
-    open: Span,
-    close: Span,
+    pub(crate) join: Span,
+    pub(crate) open: Span,
+    pub(crate) close: Span,
 }
 
 impl DelimSpan {
-    pub(crate) fn new(join: Span, open: Span, close: Span) -> DelimSpan {
-        DelimSpan { join, open, close }
-    }
-
     /// The span of the whole group.
     pub fn join(&self) -> Span {
         self.join

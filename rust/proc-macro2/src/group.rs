@@ -1,68 +1,28 @@
 //! Groups of trees.
 use crate::compiler;
 use crate::extra::DelimSpan;
-use crate::span::{Place, Repr as SpanRepr};
-use crate::trees::Trees;
-use crate::{Span, TokenStream};
+use crate::map::sure;
+use crate::print;
+use crate::repr::{token, Repr};
+use crate::span::Repr as SpanRepr;
+use crate::{Delimiter, Span, TokenStream};
 use proc_macro::Delimiter as CompilerDelimiter;
+use proved::pm_stream::Group as Own;
 use std::fmt::{self, Debug, Display};
-
-/// How a group is delimited.
-#[derive(Clone, Copy, Debug, PartialEq, Eq)]
-pub enum Delimiter {
-    /// `( .. )`
-    Parenthesis,
-    /// `{ .. }`
-    Brace,
-    /// `[ .. ]`
-    Bracket,
-    /// Nothing is written: the group only holds its trees together, as a macro's variable does.
-    None,
-}
 
 /// Trees between delimiters.
 #[derive(Clone)]
 pub struct Group {
-    repr: Repr,
+    pub(crate) repr: Repr<proc_macro::Group, Own>,
 }
 
-#[derive(Clone)]
-enum Repr {
-    Compiler(proc_macro::Group),
-    Own(OwnGroup),
-}
-
-/// A group outside of macros.
-#[derive(Clone)]
-pub(crate) struct OwnGroup {
-    delimiter: Delimiter,
-    trees: Trees,
-    span: Place,
-}
-
-impl OwnGroup {
-    pub(crate) fn new(delimiter: Delimiter, trees: Trees, span: Place) -> OwnGroup {
-        OwnGroup {
-            delimiter,
-            trees,
-            span,
-        }
-    }
-
-    pub(crate) fn delimiter(&self) -> Delimiter {
-        self.delimiter
-    }
-
-    pub(crate) fn trees(&self) -> &Trees {
-        &self.trees
-    }
-}
+token!(Group, Own);
 
 impl Group {
     /// A group of these trees, with the span of the macro's call.
     pub fn new(delimiter: Delimiter, stream: TokenStream) -> Group {
-        match stream.into_repr() {
-            crate::stream::Repr::Compiler(stream) => {
+        match stream.repr {
+            Repr::Compiler(stream) => {
                 let delimiter = match delimiter {
                     Delimiter::Parenthesis => CompilerDelimiter::Parenthesis,
                     Delimiter::Brace => CompilerDelimiter::Brace,
@@ -71,41 +31,7 @@ impl Group {
                 };
                 Group::compiler(proc_macro::Group::new(delimiter, stream.finish()))
             }
-            crate::stream::Repr::Own(trees) => Group::own(OwnGroup::new(delimiter, trees, Place::NOWHERE)),
-        }
-    }
-
-    pub(crate) fn compiler(group: proc_macro::Group) -> Group {
-        Group {
-            repr: Repr::Compiler(group),
-        }
-    }
-
-    pub(crate) fn own(group: OwnGroup) -> Group {
-        Group {
-            repr: Repr::Own(group),
-        }
-    }
-
-    pub(crate) fn into_compiler(self) -> proc_macro::Group {
-        match self.repr {
-            Repr::Compiler(group) => group,
-            Repr::Own(_) => compiler::mixed(),
-        }
-    }
-
-    pub(crate) fn as_own(&self) -> &OwnGroup {
-        match &self.repr {
-            Repr::Own(group) => group,
-            Repr::Compiler(_) => compiler::mixed(),
-        }
-    }
-
-    /// Its trees, where it was made outside of macros.
-    pub(crate) fn own_trees(&mut self) -> Option<&mut Trees> {
-        match &mut self.repr {
-            Repr::Own(group) => Some(&mut group.trees),
-            Repr::Compiler(_) => None,
+            Repr::Own(stream) => Group::own(Own::new(delimiter, stream)),
         }
     }
 
@@ -118,7 +44,7 @@ impl Group {
                 CompilerDelimiter::Bracket => Delimiter::Bracket,
                 CompilerDelimiter::None => Delimiter::None,
             },
-            Repr::Own(group) => group.delimiter,
+            Repr::Own(group) => group.delimiter(),
         }
     }
 
@@ -126,15 +52,7 @@ impl Group {
     pub fn stream(&self) -> TokenStream {
         match &self.repr {
             Repr::Compiler(group) => TokenStream::compiler(group.stream()),
-            Repr::Own(group) => TokenStream::own(group.trees.clone()),
-        }
-    }
-
-    /// Where it stands, delimiters and all.
-    pub fn span(&self) -> Span {
-        match &self.repr {
-            Repr::Compiler(group) => Span::compiler(group.span()),
-            Repr::Own(group) => Span::own(group.span),
+            Repr::Own(group) => TokenStream::own(sure(group.stream())),
         }
     }
 
@@ -142,7 +60,7 @@ impl Group {
     pub fn span_open(&self) -> Span {
         match &self.repr {
             Repr::Compiler(group) => Span::compiler(group.span_open()),
-            Repr::Own(group) => Span::own(group.span.opening()),
+            Repr::Own(group) => Span::own(group.span_open()),
         }
     }
 
@@ -150,22 +68,14 @@ impl Group {
     pub fn span_close(&self) -> Span {
         match &self.repr {
             Repr::Compiler(group) => Span::compiler(group.span_close()),
-            Repr::Own(group) => Span::own(group.span.closing()),
+            Repr::Own(group) => Span::own(group.span_close()),
         }
     }
 
     /// Its span, together with those of its delimiters.
     pub fn delim_span(&self) -> DelimSpan {
-        DelimSpan::new(self.span(), self.span_open(), self.span_close())
-    }
-
-    /// Sets where it stands. The trees inside keep their spans.
-    pub fn set_span(&mut self, span: Span) {
-        match (&mut self.repr, span.repr) {
-            (Repr::Compiler(group), SpanRepr::Compiler(span)) => group.set_span(span),
-            (Repr::Own(group), SpanRepr::Own(span)) => group.span = span,
-            _ => compiler::mixed(),
-        }
+        let (join, open, close) = (self.span(), self.span_open(), self.span_close());
+        DelimSpan { join, open, close }
     }
 }
 
@@ -174,7 +84,7 @@ impl Display for Group {
     fn fmt(&self, f: &mut fmt::Formatter) -> fmt::Result {
         match &self.repr {
             Repr::Compiler(group) => Display::fmt(group, f),
-            Repr::Own(group) => group.trees.print(Some(group.delimiter), f),
+            Repr::Own(group) => print::in_chunks(group, f),
         }
     }
 }
@@ -183,13 +93,7 @@ impl Debug for Group {
     fn fmt(&self, f: &mut fmt::Formatter) -> fmt::Result {
         match &self.repr {
             Repr::Compiler(group) => Debug::fmt(group, f),
-            Repr::Own(group) => {
-                let mut debug = f.debug_struct("Group");
-                debug.field("delimiter", &group.delimiter);
-                debug.field("stream", &group.trees);
-                group.span.show(&mut debug);
-                debug.finish()
-            }
+            Repr::Own(group) => print::show_group(group, f),
         }
     }
 }

@@ -1,10 +1,12 @@
 //! Identifiers.
 use crate::compiler;
-use crate::ffi;
-use crate::session;
-use crate::span::{Place, Repr as SpanRepr};
-use crate::text::Text;
+use crate::print;
+use crate::repr::{token, Repr};
+use crate::span::Repr as SpanRepr;
 use crate::Span;
+use proved::pm_span::Span as Place;
+use proved::pm_token::{Ident as Own, IdentError};
+use proved::shim::alloc::Global;
 use std::cmp::Ordering;
 use std::fmt::{self, Debug, Display};
 use std::hash::{Hash, Hasher};
@@ -14,32 +16,10 @@ use std::hash::{Hash, Hasher};
 /// A lifetime is none: it is the mark `'` and an identifier. `true` and `false` are identifiers.
 #[derive(Clone)]
 pub struct Ident {
-    repr: Repr,
+    pub(crate) repr: Repr<proc_macro::Ident, Own>,
 }
 
-#[derive(Clone)]
-enum Repr {
-    Compiler(proc_macro::Ident),
-    Own(OwnIdent),
-}
-
-/// An identifier outside of macros.
-#[derive(Clone)]
-pub(crate) struct OwnIdent {
-    /// As it is written, with its `r#` if it is raw.
-    text: Text,
-    span: Place,
-}
-
-impl OwnIdent {
-    pub(crate) fn new(text: Text, span: Place) -> OwnIdent {
-        OwnIdent { text, span }
-    }
-
-    pub(crate) fn as_str(&self) -> &str {
-        self.text.as_str()
-    }
-}
+token!(Ident, Own);
 
 impl Ident {
     /// The plain identifier of this name.
@@ -49,10 +29,12 @@ impl Ident {
     /// Where the name is empty, a number, or no name of the language.
     #[track_caller]
     pub fn new(string: &str, span: Span) -> Ident {
-        check(string, false);
         match span.repr {
-            SpanRepr::Compiler(span) => Ident::compiler(proc_macro::Ident::new(string, span)),
-            SpanRepr::Own(span) => Ident::own(OwnIdent::new(Text::from(string), span)),
+            SpanRepr::Own(place) => Ident::own(made(Own::new(Global, string, place), string)),
+            SpanRepr::Compiler(span) => {
+                made(Own::new(Global, string, Place::call_site()), string);
+                Ident::compiler(proc_macro::Ident::new(string, span))
+            }
         }
     }
 
@@ -63,92 +45,53 @@ impl Ident {
     /// As [`new`](Ident::new), and where the name is `_`, `super`, `self`, `Self` or `crate`.
     #[track_caller]
     pub fn new_raw(string: &str, span: Span) -> Ident {
-        check(string, true);
         match span.repr {
-            SpanRepr::Compiler(span) => Ident::compiler(proc_macro::Ident::new_raw(string, span)),
-            SpanRepr::Own(span) => Ident::own(OwnIdent::new(Text::from(format!("r#{string}")), span)),
+            SpanRepr::Own(place) => Ident::own(made(Own::new_raw(Global, string, place), string)),
+            SpanRepr::Compiler(span) => {
+                made(Own::new_raw(Global, string, Place::call_site()), string);
+                Ident::compiler(proc_macro::Ident::new_raw(string, span))
+            }
         }
     }
 
-    pub(crate) fn compiler(ident: proc_macro::Ident) -> Ident {
-        Ident {
-            repr: Repr::Compiler(ident),
-        }
-    }
-
-    pub(crate) fn own(ident: OwnIdent) -> Ident {
-        Ident {
-            repr: Repr::Own(ident),
-        }
-    }
-
-    pub(crate) fn into_compiler(self) -> proc_macro::Ident {
-        match self.repr {
-            Repr::Compiler(ident) => ident,
-            Repr::Own(_) => compiler::mixed(),
-        }
-    }
-
-    pub(crate) fn as_own(&self) -> &OwnIdent {
+    /// Shows it as a tree of a stream is shown.
+    pub(crate) fn show_tree(&self, f: &mut fmt::Formatter) -> fmt::Result {
         match &self.repr {
-            Repr::Own(ident) => ident,
-            Repr::Compiler(_) => compiler::mixed(),
-        }
-    }
-
-    /// Does something with the text of the identifier.
-    fn with_text<T>(&self, act: impl FnOnce(&str) -> T) -> T {
-        match &self.repr {
-            Repr::Compiler(ident) => act(&ident.to_string()),
-            Repr::Own(ident) => act(ident.as_str()),
-        }
-    }
-
-    /// Where it stands.
-    pub fn span(&self) -> Span {
-        match &self.repr {
-            Repr::Compiler(ident) => Span::compiler(ident.span()),
-            Repr::Own(ident) => Span::own(ident.span),
-        }
-    }
-
-    /// Sets where it stands, and inside a macro how it is resolved.
-    pub fn set_span(&mut self, span: Span) {
-        match (&mut self.repr, span.repr) {
-            (Repr::Compiler(ident), SpanRepr::Compiler(span)) => ident.set_span(span),
-            (Repr::Own(ident), SpanRepr::Own(span)) => ident.span = span,
-            _ => compiler::mixed(),
+            Repr::Compiler(ident) => Debug::fmt(ident, f),
+            Repr::Own(ident) => print::show_ident(ident, f),
         }
     }
 }
 
-/// Panics where the library says that no identifier has the name.
+/// The identifier of a name, which panics where the name has a fault.
 #[track_caller]
-fn check(name: &str, raw: bool) {
-    // SAFETY: the pointer and the length are the name's.
-    match unsafe { ffi::pm_ident_check(name.as_ptr(), name.len(), raw) } {
-        ffi::DONE => {}
-        ffi::NAME_EMPTY => panic!("Ident is not allowed to be empty; use Option<Ident>"),
-        ffi::NAME_NUMBER => panic!("Ident cannot be a number; use Literal instead"),
-        ffi::NAME_INVALID => panic!("{name:?} is not a valid Ident"),
-        ffi::NAME_RESERVED => panic!("`r#{name}` cannot be a raw identifier"),
-        code => session::refused(code),
+fn made(ident: Result<Own, IdentError>, name: &str) -> Own {
+    match ident {
+        Ok(ident) => ident,
+        Err(IdentError::Empty) => panic!("Ident is not allowed to be empty; use Option<Ident>"),
+        Err(IdentError::Number) => panic!("Ident cannot be a number; use Literal instead"),
+        Err(IdentError::Invalid) => panic!("{name:?} is not a valid Ident"),
+        Err(IdentError::Reserved) => panic!("`r#{name}` cannot be a raw identifier"),
+        Err(IdentError::Memory(never)) => match never {},
     }
 }
 
 impl PartialEq for Ident {
     fn eq(&self, other: &Ident) -> bool {
-        self.with_text(|text| other.with_text(|other| text == other))
+        match (&self.repr, &other.repr) {
+            (Repr::Own(ident), Repr::Own(other)) => ident == other,
+            _ => self.cmp(other) == Ordering::Equal,
+        }
     }
 }
 
 /// Whether the text is how the identifier is written.
-impl<T> PartialEq<T> for Ident
-where
-    T: ?Sized + AsRef<str>,
-{
+impl<T: ?Sized + AsRef<str>> PartialEq<T> for Ident {
     fn eq(&self, other: &T) -> bool {
-        self.with_text(|text| text == other.as_ref())
+        match &self.repr {
+            Repr::Own(ident) => ident.eq_str(other.as_ref()),
+            Repr::Compiler(ident) => ident.to_string() == other.as_ref(),
+        }
     }
 }
 
@@ -162,13 +105,20 @@ impl PartialOrd for Ident {
 
 impl Ord for Ident {
     fn cmp(&self, other: &Ident) -> Ordering {
-        self.with_text(|text| other.with_text(|other| text.cmp(other)))
+        match (&self.repr, &other.repr) {
+            (Repr::Own(ident), Repr::Own(other)) => ident.cmp(other),
+            _ => self.to_string().cmp(&other.to_string()),
+        }
     }
 }
 
+/// Feeds the hasher the text of the identifier.
 impl Hash for Ident {
     fn hash<H: Hasher>(&self, hasher: &mut H) {
-        self.with_text(|text| text.hash(hasher));
+        match &self.repr {
+            Repr::Own(ident) => ident.hash(hasher),
+            Repr::Compiler(ident) => ident.to_string().hash(hasher),
+        }
     }
 }
 
@@ -176,7 +126,7 @@ impl Display for Ident {
     fn fmt(&self, f: &mut fmt::Formatter) -> fmt::Result {
         match &self.repr {
             Repr::Compiler(ident) => Display::fmt(ident, f),
-            Repr::Own(ident) => f.write_str(ident.as_str()),
+            Repr::Own(ident) => Display::fmt(ident, f),
         }
     }
 }
@@ -184,29 +134,8 @@ impl Display for Ident {
 impl Debug for Ident {
     fn fmt(&self, f: &mut fmt::Formatter) -> fmt::Result {
         match &self.repr {
-            Repr::Compiler(ident) => Debug::fmt(ident, f),
-            Repr::Own(ident) if cfg!(span_locations) => ident.show(f),
-            Repr::Own(ident) => f.debug_tuple("Ident").field(&format_args!("{}", ident.as_str())).finish(),
-        }
-    }
-}
-
-impl OwnIdent {
-    /// Shows it with its span.
-    pub(crate) fn show(&self, f: &mut fmt::Formatter) -> fmt::Result {
-        let mut debug = f.debug_struct("Ident");
-        debug.field("sym", &format_args!("{}", self.as_str()));
-        self.span.show(&mut debug);
-        debug.finish()
-    }
-}
-
-impl Ident {
-    /// Shows it as a tree of a stream is shown.
-    pub(crate) fn show_tree(&self, f: &mut fmt::Formatter) -> fmt::Result {
-        match &self.repr {
-            Repr::Compiler(ident) => Debug::fmt(ident, f),
-            Repr::Own(ident) => ident.show(f),
+            Repr::Own(_) if !cfg!(span_locations) => f.debug_tuple("Ident").field(&format_args!("{self}")).finish(),
+            _ => self.show_tree(f),
         }
     }
 }

@@ -1,34 +1,24 @@
 //! Why a text is refused.
-use crate::local::Local;
-use crate::span::Place;
+use crate::repr::Repr;
 use crate::Span;
+use proved::pm_span::Span as Place;
 use std::error::Error;
 use std::fmt::{self, Debug, Display};
 
 /// A text that couldn't be read.
 pub struct LexError {
-    repr: Repr,
-    _local: Local,
-}
-
-enum Repr {
-    Compiler(proc_macro::LexError),
-    Own(Place),
+    repr: Repr<proc_macro::LexError, Place>,
 }
 
 impl LexError {
     pub(crate) fn compiler(error: proc_macro::LexError) -> LexError {
-        LexError {
-            repr: Repr::Compiler(error),
-            _local: Local::HERE,
-        }
+        let repr = Repr::Compiler(error);
+        LexError { repr }
     }
 
     pub(crate) fn own(place: Place) -> LexError {
-        LexError {
-            repr: Repr::Own(place),
-            _local: Local::HERE,
-        }
+        let repr = Repr::Own(place);
+        LexError { repr }
     }
 
     /// Where the fault stands: with span locations and outside of macros right before what can't be read, else
@@ -45,7 +35,7 @@ impl Debug for LexError {
     fn fmt(&self, f: &mut fmt::Formatter) -> fmt::Result {
         match &self.repr {
             Repr::Compiler(error) => Debug::fmt(error, f),
-            Repr::Own(place) => f.debug_struct("LexError").field("span", place).finish(),
+            Repr::Own(place) => f.debug_struct("LexError").field("span", &Span::own(*place)).finish(),
         }
     }
 }

@@ -1,81 +1,57 @@
 //! Literals.
 use crate::compiler;
-use crate::ffi;
 use crate::lex_error::LexError;
-use crate::session;
-use crate::span::{Place, Repr as SpanRepr};
-use crate::text::Text;
+use crate::map::{self, sure};
+use crate::print;
+use crate::repr::{token, Repr};
+use crate::span::Repr as SpanRepr;
 use crate::Span;
+#[cfg(procmacro2_semver_exempt)]
+use proved::literal_escaper::EscapeError;
+#[cfg(procmacro2_semver_exempt)]
+use proved::pm_token::ConversionErrorKind as OwnErrorKind;
+use proved::pm_span::Span as Place;
+use proved::pm_token::Literal as Own;
+use proved::shim::alloc::Global;
 use std::ffi::CStr;
 use std::fmt::{self, Debug, Display};
-#[cfg(span_locations)]
-use std::ops::Bound;
 use std::ops::RangeBounds;
 use std::str::FromStr;
 
 /// A literal: a string, a character, a number, by its text.
 #[derive(Clone)]
 pub struct Literal {
-    repr: Repr,
+    pub(crate) repr: Repr<proc_macro::Literal, Own>,
 }
 
-#[derive(Clone)]
-enum Repr {
-    Compiler(proc_macro::Literal),
-    Own(OwnLiteral),
-}
+token!(Literal, Own);
 
-/// A literal outside of macros.
-#[derive(Clone)]
-pub(crate) struct OwnLiteral {
-    text: Text,
-    span: Place,
-}
-
-impl OwnLiteral {
-    pub(crate) fn new(text: Text, span: Place) -> OwnLiteral {
-        OwnLiteral { text, span }
-    }
-
-    pub(crate) fn as_str(&self) -> &str {
-        self.text.as_str()
-    }
-}
-
-/// Whether the text is a literal, or `-` and a number.
-pub(crate) fn is_whole(text: &str) -> bool {
-    // SAFETY: the pointer and the length are the text's.
-    match unsafe { ffi::pm_literal_check(text.as_ptr(), text.len()) } {
-        ffi::DONE => true,
-        ffi::NO_MEMORY => session::refused(ffi::NO_MEMORY),
-        _ => false,
-    }
-}
-
-macro_rules! numbers {
-    ($($type:ident: $suffixed:ident, $unsuffixed:ident;)*) => {$(
-        #[doc = concat!("The literal of the number with its type, as `1", stringify!($type), "`.")]
-        ///
-        /// In a stream a negative one stands as the mark `-` and the rest.
-        pub fn $suffixed(n: $type) -> Literal {
+macro_rules! literals {
+    ($($(#[$doc:meta])* $name:ident($value:ident: $type:ty) => $given:expr;)*) => {$(
+        $(#[$doc])*
+        pub fn $name($value: $type) -> Literal {
             if compiler::inside() {
-                Literal::compiler(proc_macro::Literal::$suffixed(n))
+                Literal::compiler(proc_macro::Literal::$name($value))
             } else {
-                Literal::made(format!(concat!("{}", stringify!($type)), n))
-            }
-        }
-
-        /// The literal of the number without its type, as `1`.
-        ///
-        /// In a stream a negative one stands as the mark `-` and the rest.
-        pub fn $unsuffixed(n: $type) -> Literal {
-            if compiler::inside() {
-                Literal::compiler(proc_macro::Literal::$unsuffixed(n))
-            } else {
-                Literal::made(n.to_string())
+                Literal::own(sure(Own::$name(Global, $given)))
             }
         }
     )*};
+}
+
+macro_rules! numbers {
+    ($($type:ident: $suffixed:ident, $unsuffixed:ident;)*) => {
+        literals! {$(
+            #[doc = concat!("The literal of the number with its type, as `1", stringify!($type), "`.")]
+            ///
+            /// In a stream a negative one stands as the mark `-` and the rest.
+            $suffixed(n: $type) => n;
+            /// The literal of the number without its type, as `1`.
+            ///
+            /// In a stream a negative one stands as the mark `-` and the rest.
+            $unsuffixed(n: $type) => n;
+        )*}
+    };
 }
 
 macro_rules! floats {
@@ -90,7 +66,7 @@ macro_rules! floats {
             if compiler::inside() {
                 Literal::compiler(proc_macro::Literal::$suffixed(f))
             } else {
-                Literal::made(format!(concat!("{}", stringify!($type)), f))
+                Literal::made(&format!(concat!("{}", stringify!($type)), f))
             }
         }
 
@@ -104,11 +80,9 @@ macro_rules! floats {
             if compiler::inside() {
                 return Literal::compiler(proc_macro::Literal::$unsuffixed(f));
             }
-            let mut text = f.to_string();
-            if !text.contains('.') {
-                text.push_str(".0");
-            }
-            Literal::made(text)
+            let text = f.to_string();
+            let end = if text.contains('.') { "" } else { ".0" };
+            Literal::made(&(text + end))
         }
     )*};
 }
@@ -134,161 +108,66 @@ impl Literal {
         f64: f64_suffixed, f64_unsuffixed;
     }
 
-    /// The string literal of a text.
-    pub fn string(string: &str) -> Literal {
-        if compiler::inside() {
-            return Literal::compiler(proc_macro::Literal::string(string));
-        }
-        Literal::made(session::with(|session| {
-            // SAFETY: the pointer and the length are the text's.
-            session.make(|session, back| unsafe { ffi::pm_string(session, back, string.as_ptr(), string.len()) })
-        }))
+    literals! {
+        /// The string literal of a text.
+        string(string: &str) => string;
+        /// The literal of a character.
+        character(ch: char) => ch;
+        /// The literal of a byte, as `b'a'`.
+        byte_character(byte: u8) => byte;
+        /// The byte string literal of some bytes.
+        byte_string(bytes: &[u8]) => bytes;
+        /// The C string literal of a C string.
+        c_string(string: &CStr) => string.to_bytes();
     }
 
-    /// The literal of a character.
-    pub fn character(ch: char) -> Literal {
-        if compiler::inside() {
-            return Literal::compiler(proc_macro::Literal::character(ch));
-        }
-        Literal::made(session::with(|session| {
-            // SAFETY: the handle is the session's.
-            session.make(|session, back| unsafe { ffi::pm_character(session, back, ch as u32) })
-        }))
-    }
-
-    /// The literal of a byte, as `b'a'`.
-    pub fn byte_character(byte: u8) -> Literal {
-        if compiler::inside() {
-            return Literal::compiler(proc_macro::Literal::byte_character(byte));
-        }
-        Literal::made(session::with(|session| {
-            // SAFETY: the handle is the session's.
-            session.make(|session, back| unsafe { ffi::pm_byte_character(session, back, byte) })
-        }))
-    }
-
-    /// The byte string literal of some bytes.
-    pub fn byte_string(bytes: &[u8]) -> Literal {
-        if compiler::inside() {
-            return Literal::compiler(proc_macro::Literal::byte_string(bytes));
-        }
-        Literal::made(session::with(|session| {
-            // SAFETY: the pointer and the length are those of the bytes.
-            session.make(|session, back| unsafe { ffi::pm_byte_string(session, back, bytes.as_ptr(), bytes.len()) })
-        }))
-    }
-
-    /// The C string literal of a C string.
-    pub fn c_string(string: &CStr) -> Literal {
-        if compiler::inside() {
-            return Literal::compiler(proc_macro::Literal::c_string(string));
-        }
-        let bytes = string.to_bytes();
-        Literal::made(session::with(|session| {
-            // SAFETY: the pointer and the length are those of the bytes.
-            session.make(|session, back| unsafe { ffi::pm_c_string(session, back, bytes.as_ptr(), bytes.len()) })
-        }))
-    }
-
-    pub(crate) fn compiler(literal: proc_macro::Literal) -> Literal {
-        Literal {
-            repr: Repr::Compiler(literal),
-        }
-    }
-
-    pub(crate) fn own(literal: OwnLiteral) -> Literal {
-        Literal {
-            repr: Repr::Own(literal),
-        }
-    }
-
-    fn made(text: String) -> Literal {
-        Literal::own(OwnLiteral::new(Text::from(text), Place::NOWHERE))
-    }
-
-    pub(crate) fn into_compiler(self) -> proc_macro::Literal {
-        match self.repr {
-            Repr::Compiler(literal) => literal,
-            Repr::Own(_) => compiler::mixed(),
-        }
-    }
-
-    pub(crate) fn as_own(&self) -> &OwnLiteral {
-        match &self.repr {
-            Repr::Own(literal) => literal,
-            Repr::Compiler(_) => compiler::mixed(),
-        }
-    }
-
-    /// Whether a `-` stands before it, and the rest.
-    pub(crate) fn split_minus(self) -> (bool, Literal) {
-        let number = match &self.repr {
-            Repr::Own(literal) => literal.as_str().strip_prefix('-').map(|number| (Text::from(number), literal.span)),
-            Repr::Compiler(_) => None,
-        };
-        match number {
-            Some((text, span)) => (true, Literal::own(OwnLiteral::new(text, span))),
-            None => (false, self),
-        }
-    }
-
-    /// Where it stands.
-    pub fn span(&self) -> Span {
-        match &self.repr {
-            Repr::Compiler(literal) => Span::compiler(literal.span()),
-            Repr::Own(literal) => Span::own(literal.span),
-        }
-    }
-
-    /// Sets where it stands.
-    pub fn set_span(&mut self, span: Span) {
-        match (&mut self.repr, span.repr) {
-            (Repr::Compiler(literal), SpanRepr::Compiler(span)) => literal.set_span(span),
-            (Repr::Own(literal), SpanRepr::Own(span)) => literal.span = span,
-            _ => compiler::mixed(),
-        }
+    /// The literal of a text that is one, with no place.
+    fn made(text: &str) -> Literal {
+        Literal::own(sure(Own::from_str_unchecked(Global, text)))
     }
 
     /// The span of a part of the literal, which is told in characters from where its span begins; `None` where the
-    /// part ends before it begins or behind the literal, where there are no span locations, and inside a macro, where
+    /// part ends before it begins or after the literal, where there are no span locations, and inside a macro, where
     /// a stable compiler doesn't tell.
     pub fn subspan<R: RangeBounds<usize>>(&self, range: R) -> Option<Span> {
-        #[cfg(span_locations)]
-        if let Repr::Own(literal) = &self.repr {
-            let Place { lo, hi } = literal.span;
-            let at = |chars: usize| lo.checked_add(u32::try_from(chars).ok()?);
-            let start = match range.start_bound() {
-                Bound::Included(&first) => at(first)?,
-                Bound::Excluded(&before) => at(before.checked_add(1)?)?,
-                Bound::Unbounded => lo,
-            };
-            let end = match range.end_bound() {
-                Bound::Included(&last) => at(last.checked_add(1)?)?,
-                Bound::Excluded(&after) => at(after)?,
-                Bound::Unbounded => hi,
-            };
-            return (start <= end && end <= hi).then(|| Span::own(Place::new(start, end)));
+        match &self.repr {
+            Repr::Own(literal) if cfg!(span_locations) => {
+                literal.subspan(range.start_bound().cloned(), range.end_bound().cloned()).map(Span::own)
+            }
+            _ => None,
         }
-        let _ = range;
-        None
     }
 
     /// The value of a string literal.
     #[cfg(procmacro2_semver_exempt)]
-    pub fn str_value(&self) -> Result<String, crate::ConversionErrorKind> {
-        crate::values::str_value(&self.to_string())
+    pub fn str_value(&self) -> Result<String, ConversionErrorKind> {
+        self.value(|literal| literal.str_value(Global)).map(|value| value.into_rust())
     }
 
     /// The value of a C string literal, with the zero that ends it.
     #[cfg(procmacro2_semver_exempt)]
-    pub fn cstr_value(&self) -> Result<Vec<u8>, crate::ConversionErrorKind> {
-        crate::values::cstr_value(&self.to_string())
+    pub fn cstr_value(&self) -> Result<Vec<u8>, ConversionErrorKind> {
+        self.value(|literal| literal.cstr_value(Global)).map(|value| value.into_rust())
     }
 
     /// The value of a byte string literal.
     #[cfg(procmacro2_semver_exempt)]
-    pub fn byte_str_value(&self) -> Result<Vec<u8>, crate::ConversionErrorKind> {
-        crate::values::byte_str_value(&self.to_string())
+    pub fn byte_str_value(&self) -> Result<Vec<u8>, ConversionErrorKind> {
+        self.value(|literal| literal.byte_str_value(Global)).map(|value| value.into_rust())
+    }
+
+    /// What the proved literal of its text answers.
+    #[cfg(procmacro2_semver_exempt)]
+    fn value<T>(&self, ask: impl FnOnce(&Own) -> Result<T, OwnErrorKind>) -> Result<T, ConversionErrorKind> {
+        let answer = match &self.repr {
+            Repr::Own(literal) => ask(literal),
+            Repr::Compiler(literal) => ask(&sure(Own::from_str_unchecked(Global, &literal.to_string()))),
+        };
+        answer.map_err(|kind| match kind {
+            OwnErrorKind::FailedToUnescape(fault) => ConversionErrorKind::FailedToUnescape(fault),
+            OwnErrorKind::InvalidLiteralKind => ConversionErrorKind::InvalidLiteralKind,
+            OwnErrorKind::Memory(never) => match never {},
+        })
     }
 
     /// The literal of a text that is known to be one. For `quote!` alone.
@@ -296,14 +175,26 @@ impl Literal {
     /// # Safety
     ///
     /// The text is a literal.
+    // It does nothing unsafe: the public crate's is declared so, and callers expect it.
     #[doc(hidden)]
+    #[allow(unsafe_code)]
     pub unsafe fn from_str_unchecked(repr: &str) -> Literal {
         if compiler::inside() {
             Literal::compiler(repr.parse().expect("the text is a literal"))
         } else {
-            Literal::made(String::from(repr))
+            Literal::made(repr)
         }
     }
+}
+
+/// Why a literal has no value.
+#[cfg(procmacro2_semver_exempt)]
+#[derive(Debug, PartialEq, Eq)]
+pub enum ConversionErrorKind {
+    /// It is of the kind that was asked for, but its content has this fault.
+    FailedToUnescape(EscapeError),
+    /// It is of another kind, or has a suffix.
+    InvalidLiteralKind,
 }
 
 impl FromStr for Literal {
@@ -312,20 +203,14 @@ impl FromStr for Literal {
     /// The literal that the whole text is, or `-` and a number. Nothing else may stand there, not even white space.
     fn from_str(repr: &str) -> Result<Literal, LexError> {
         if compiler::inside() {
-            return match compiler::literal_of(repr) {
-                Some(Ok(literal)) => Ok(Literal::compiler(literal)),
-                Some(Err(error)) => Err(LexError::compiler(error)),
-                None => Err(LexError::own(Place::NOWHERE)),
-            };
+            return compiler::read(repr, Own::is_whole(repr)).map(Literal::compiler);
         }
-        #[cfg(span_locations)]
-        let place = session::with(|session| session.read_literal(repr));
-        #[cfg(not(span_locations))]
-        let place = is_whole(repr).then_some(Place::NOWHERE);
-        match place {
-            Some(place) => Ok(Literal::own(OwnLiteral::new(Text::from(repr), place))),
-            None => Err(LexError::own(Place::NOWHERE)),
-        }
+        let read = if cfg!(span_locations) {
+            map::with(|map| Own::from_str(repr, map)).ok()
+        } else {
+            Own::is_whole(repr).then(|| sure(Own::from_str_unchecked(Global, repr)))
+        };
+        read.map(Literal::own).ok_or_else(|| LexError::own(Place::call_site()))
     }
 }
 
@@ -333,7 +218,7 @@ impl Display for Literal {
     fn fmt(&self, f: &mut fmt::Formatter) -> fmt::Result {
         match &self.repr {
             Repr::Compiler(literal) => Display::fmt(literal, f),
-            Repr::Own(literal) => Display::fmt(literal.as_str(), f),
+            Repr::Own(literal) => Display::fmt(literal.text(), f),
         }
     }
 }
@@ -342,12 +227,7 @@ impl Debug for Literal {
     fn fmt(&self, f: &mut fmt::Formatter) -> fmt::Result {
         match &self.repr {
             Repr::Compiler(literal) => Debug::fmt(literal, f),
-            Repr::Own(literal) => {
-                let mut debug = f.debug_struct("Literal");
-                debug.field("lit", &format_args!("{}", literal.as_str()));
-                literal.span.show(&mut debug);
-                debug.finish()
-            }
+            Repr::Own(literal) => print::show_literal(literal, f),
         }
     }
 }

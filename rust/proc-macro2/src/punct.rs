@@ -1,26 +1,18 @@
 //! Punctuation marks.
-use crate::Span;
+use crate::compiler;
+use crate::repr::{token, Repr};
+use crate::span::Repr as SpanRepr;
+use crate::{Spacing, Span};
+use proved::pm_token::Punct as Own;
 use std::fmt::{self, Debug, Display};
-
-/// Whether a mark goes together with what follows right after it.
-#[derive(Clone, Copy, Debug, PartialEq, Eq)]
-pub enum Spacing {
-    /// It doesn't, or another kind of token follows: `+` in `+ =`, `+ident` and `+()`.
-    Alone,
-    /// Another mark follows: `+` in `+=`. So has a `'` that begins a lifetime.
-    Joint,
-}
 
 /// A punctuation mark, which is one character.
 #[derive(Clone)]
 pub struct Punct {
-    mark: char,
-    spacing: Spacing,
-    span: Span,
+    pub(crate) repr: Repr<proc_macro::Punct, Own>,
 }
 
-/// The characters that are marks.
-const MARKS: &str = "!#$%&'*+,-./:;<=>?@^|~";
+token!(Punct, Own);
 
 impl Punct {
     /// The mark of this character, with the span of the macro's call.
@@ -28,53 +20,51 @@ impl Punct {
     /// # Panics
     ///
     /// Where the character is none of the marks of Rust.
+    #[inline]
+    #[track_caller]
     pub fn new(ch: char, spacing: Spacing) -> Punct {
-        assert!(MARKS.contains(ch), "unsupported proc macro punctuation character {ch:?}");
-        Punct::mark(ch, spacing)
-    }
-
-    /// The mark of a character that is one.
-    pub(crate) fn mark(mark: char, spacing: Spacing) -> Punct {
-        Punct {
-            mark,
-            spacing,
-            span: Span::call_site(),
+        assert!(Own::is_punct_char(ch), "unsupported proc macro punctuation character {ch:?}");
+        if compiler::inside() {
+            let spacing = match spacing {
+                Spacing::Alone => proc_macro::Spacing::Alone,
+                Spacing::Joint => proc_macro::Spacing::Joint,
+            };
+            return Punct::compiler(proc_macro::Punct::new(ch, spacing));
         }
+        Punct::own(Own::new(ch, spacing))
     }
 
     /// Its character.
     pub fn as_char(&self) -> char {
-        self.mark
+        match &self.repr {
+            Repr::Own(punct) => punct.as_char(),
+            Repr::Compiler(punct) => punct.as_char(),
+        }
     }
 
     /// Whether it goes together with what follows right after it.
     pub fn spacing(&self) -> Spacing {
-        self.spacing
-    }
-
-    /// Where it stands.
-    pub fn span(&self) -> Span {
-        self.span
-    }
-
-    /// Sets where it stands.
-    pub fn set_span(&mut self, span: Span) {
-        self.span = span;
+        match &self.repr {
+            Repr::Own(punct) => punct.spacing(),
+            Repr::Compiler(punct) => match punct.spacing() {
+                proc_macro::Spacing::Alone => Spacing::Alone,
+                proc_macro::Spacing::Joint => Spacing::Joint,
+            },
+        }
     }
 }
 
 impl Display for Punct {
     fn fmt(&self, f: &mut fmt::Formatter) -> fmt::Result {
-        Display::fmt(&self.mark, f)
+        Display::fmt(&self.as_char(), f)
     }
 }
 
 impl Debug for Punct {
     fn fmt(&self, f: &mut fmt::Formatter) -> fmt::Result {
         let mut debug = f.debug_struct("Punct");
-        debug.field("char", &self.mark);
-        debug.field("spacing", &self.spacing);
-        self.span.show(&mut debug);
+        debug.field("char", &self.as_char()).field("spacing", &self.spacing());
+        self.span().show(&mut debug);
         debug.finish()
     }
 }

@@ -1,71 +1,49 @@
 //! Streams of token trees.
 use crate::compiler;
 use crate::lex_error::LexError;
-use crate::parsed::Run;
-use crate::session::{self, ReadError};
-use crate::span::Place;
-use crate::trees::{Trees, TreesIter};
-use crate::{Group, Ident, Literal, Punct, Spacing, Span, TokenTree};
+use crate::map::{self, sure};
+use crate::print::{self, ShownStream};
+use crate::repr::Repr;
+use crate::{Group, Ident, Literal, Punct, TokenTree};
+use proved::pm_stream::token_stream::IntoIter as OwnIter;
+use proved::pm_stream::{TokenStream as Own, TokenTree as OwnTree};
+use proved::shim::alloc::Global;
 use std::fmt::{self, Debug, Display};
 use std::str::FromStr;
 
 /// Token trees in order, each a token or a group of trees between delimiters.
 #[derive(Clone)]
 pub struct TokenStream {
-    repr: Repr,
-}
-
-#[derive(Clone)]
-pub(crate) enum Repr {
-    Compiler(compiler::Stream),
-    Own(Trees),
+    pub(crate) repr: Repr<compiler::Stream, Own>,
 }
 
 impl TokenStream {
     /// A stream with no trees.
+    #[inline]
     pub fn new() -> TokenStream {
         if compiler::inside() {
             TokenStream::compiler(proc_macro::TokenStream::new())
         } else {
-            TokenStream::own(Trees::Empty)
+            TokenStream::own(Own::new(Global))
         }
     }
 
     pub(crate) fn compiler(stream: proc_macro::TokenStream) -> TokenStream {
-        TokenStream {
-            repr: Repr::Compiler(compiler::Stream::new(stream)),
-        }
+        let repr = Repr::Compiler(compiler::Stream::new(stream));
+        TokenStream { repr }
     }
 
-    pub(crate) fn own(trees: Trees) -> TokenStream {
-        TokenStream {
-            repr: Repr::Own(trees),
-        }
-    }
-
-    pub(crate) fn into_repr(self) -> Repr {
-        self.repr
+    #[inline]
+    pub(crate) fn own(stream: Own) -> TokenStream {
+        let repr = Repr::Own(stream);
+        TokenStream { repr }
     }
 
     /// Whether it has no trees.
     pub fn is_empty(&self) -> bool {
         match &self.repr {
             Repr::Compiler(stream) => stream.is_empty(),
-            Repr::Own(trees) => trees.is_empty(),
-        }
-    }
-
-    fn into_compiler(self) -> proc_macro::TokenStream {
-        match self.repr {
-            Repr::Compiler(stream) => stream.finish(),
-            Repr::Own(_) => compiler::mixed(),
-        }
-    }
-
-    fn into_own(self) -> Trees {
-        match self.repr {
-            Repr::Own(trees) => trees,
-            Repr::Compiler(_) => compiler::mixed(),
+            Repr::Own(stream) => stream.is_empty(),
         }
     }
 }
@@ -79,20 +57,13 @@ impl Default for TokenStream {
 impl FromStr for TokenStream {
     type Err = LexError;
 
-    /// The trees of a text. It is read by the proved library, and inside a macro then by the compiler.
+    /// The trees of a text. It is read by the proved functions, and inside a macro then by the compiler.
     fn from_str(src: &str) -> Result<TokenStream, LexError> {
         if compiler::inside() {
-            return match compiler::stream_of(src) {
-                Some(Ok(stream)) => Ok(TokenStream::compiler(stream)),
-                Some(Err(error)) => Err(LexError::compiler(error)),
-                None => Err(LexError::own(Place::NOWHERE)),
-            };
+            return compiler::read(src, map::is_readable(src)).map(TokenStream::compiler);
         }
-        match session::with(|session| session.read(src)) {
-            Ok(parsed) => Ok(TokenStream::own(Trees::Parsed(Run::all(parsed)))),
-            Err(ReadError::Fault(position)) => Err(LexError::own(Place::new(position, position))),
-            Err(ReadError::MapFull) => Err(LexError::own(Place::NOWHERE)),
-        }
+        let read = map::read(src).map(TokenStream::own);
+        read.map_err(|error| LexError::own(map::place_of(error)))
     }
 }
 
@@ -100,8 +71,7 @@ impl FromStr for TokenStream {
 impl From<proc_macro::TokenStream> for TokenStream {
     fn from(stream: proc_macro::TokenStream) -> TokenStream {
         if cfg!(procmacro2_semver_exempt) {
-            let text = stream.to_string();
-            text.parse().expect("the compiler prints what can be read")
+            stream.to_string().parse().expect("the compiler prints what can be read")
         } else {
             TokenStream::compiler(stream)
         }
@@ -113,10 +83,7 @@ impl From<TokenStream> for proc_macro::TokenStream {
     fn from(stream: TokenStream) -> proc_macro::TokenStream {
         match stream.repr {
             Repr::Compiler(stream) => stream.finish(),
-            Repr::Own(_) => {
-                let text = stream.to_string();
-                text.parse().expect("the compiler reads what is printed")
-            }
+            Repr::Own(_) => stream.to_string().parse().expect("the compiler reads what is printed"),
         }
     }
 }
@@ -149,7 +116,7 @@ impl Extend<TokenTree> for TokenStream {
         let trees = trees.into_iter();
         match &mut self.repr {
             Repr::Compiler(stream) => trees.for_each(|tree| stream.push(tree)),
-            Repr::Own(own) => trees.for_each(|tree| own.push(tree)),
+            Repr::Own(own) => sure(own.extend_trees(trees.map(into_own))),
         }
     }
 }
@@ -158,8 +125,8 @@ impl Extend<TokenStream> for TokenStream {
     fn extend<I: IntoIterator<Item = TokenStream>>(&mut self, streams: I) {
         let streams = streams.into_iter();
         match &mut self.repr {
-            Repr::Compiler(stream) => stream.append(streams.map(TokenStream::into_compiler)),
-            Repr::Own(own) => streams.for_each(|stream| own.append(stream.into_own())),
+            Repr::Compiler(stream) => stream.append(streams.map(|more| more.repr.into_compiler().finish())),
+            Repr::Own(own) => sure(own.extend_streams(streams.map(|more| more.repr.into_own()))),
         }
     }
 }
@@ -181,7 +148,9 @@ impl Display for TokenStream {
     fn fmt(&self, f: &mut fmt::Formatter) -> fmt::Result {
         match &self.repr {
             Repr::Compiler(stream) => Display::fmt(&stream.clone().finish(), f),
-            Repr::Own(trees) => trees.print(None, f),
+            // Few trees are soon written, so that room for many costs more than it spares.
+            Repr::Own(stream) if stream.trees().len() < 8 => Display::fmt(stream, f),
+            Repr::Own(stream) => print::in_chunks(stream, f),
         }
     }
 }
@@ -190,7 +159,7 @@ impl Debug for TokenStream {
     fn fmt(&self, f: &mut fmt::Formatter) -> fmt::Result {
         match &self.repr {
             Repr::Compiler(stream) => Debug::fmt(&stream.clone().finish(), f),
-            Repr::Own(trees) => Debug::fmt(trees, f),
+            Repr::Own(stream) => Debug::fmt(&ShownStream(stream), f),
         }
     }
 }
@@ -198,13 +167,7 @@ impl Debug for TokenStream {
 /// The trees of a stream that are left, in order. A group comes whole.
 #[derive(Clone)]
 pub struct IntoIter {
-    left: Left,
-}
-
-#[derive(Clone)]
-enum Left {
-    Compiler(proc_macro::token_stream::IntoIter),
-    Own(TreesIter),
+    left: Repr<proc_macro::token_stream::IntoIter, OwnIter>,
 }
 
 impl IntoIterator for TokenStream {
@@ -212,12 +175,11 @@ impl IntoIterator for TokenStream {
     type IntoIter = IntoIter;
 
     fn into_iter(self) -> IntoIter {
-        IntoIter {
-            left: match self.repr {
-                Repr::Compiler(stream) => Left::Compiler(stream.finish().into_iter()),
-                Repr::Own(trees) => Left::Own(trees.into_iter()),
-            },
-        }
+        let left = match self.repr {
+            Repr::Compiler(stream) => Repr::Compiler(stream.finish().into_iter()),
+            Repr::Own(stream) => Repr::Own(sure(stream.into_iter())),
+        };
+        IntoIter { left }
     }
 }
 
@@ -226,15 +188,15 @@ impl Iterator for IntoIter {
 
     fn next(&mut self) -> Option<TokenTree> {
         match &mut self.left {
-            Left::Own(trees) => trees.next(),
-            Left::Compiler(trees) => trees.next().map(of_compiler),
+            Repr::Own(trees) => trees.next().map(of_own),
+            Repr::Compiler(trees) => trees.next().map(of_compiler),
         }
     }
 
     fn size_hint(&self) -> (usize, Option<usize>) {
         match &self.left {
-            Left::Own(trees) => trees.size_hint(),
-            Left::Compiler(trees) => trees.size_hint(),
+            Repr::Own(trees) => trees.size_hint(),
+            Repr::Compiler(trees) => trees.size_hint(),
         }
     }
 }
@@ -245,15 +207,29 @@ fn of_compiler(tree: proc_macro::TokenTree) -> TokenTree {
         proc_macro::TokenTree::Group(group) => TokenTree::Group(Group::compiler(group)),
         proc_macro::TokenTree::Ident(ident) => TokenTree::Ident(Ident::compiler(ident)),
         proc_macro::TokenTree::Literal(literal) => TokenTree::Literal(Literal::compiler(literal)),
-        proc_macro::TokenTree::Punct(punct) => {
-            let spacing = match punct.spacing() {
-                proc_macro::Spacing::Alone => Spacing::Alone,
-                proc_macro::Spacing::Joint => Spacing::Joint,
-            };
-            let mut mark = Punct::mark(punct.as_char(), spacing);
-            mark.set_span(Span::compiler(punct.span()));
-            TokenTree::Punct(mark)
-        }
+        proc_macro::TokenTree::Punct(punct) => TokenTree::Punct(Punct::compiler(punct)),
+    }
+}
+
+/// A tree of the proved functions.
+#[inline]
+fn of_own(tree: OwnTree) -> TokenTree {
+    match tree {
+        OwnTree::Group(group) => TokenTree::Group(Group::own(group)),
+        OwnTree::Ident(ident) => TokenTree::Ident(Ident::own(ident)),
+        OwnTree::Punct(punct) => TokenTree::Punct(Punct::own(punct)),
+        OwnTree::Literal(literal) => TokenTree::Literal(Literal::own(literal)),
+    }
+}
+
+/// The tree of the proved functions.
+#[inline(always)]
+fn into_own(tree: TokenTree) -> OwnTree {
+    match tree {
+        TokenTree::Group(group) => OwnTree::Group(group.repr.into_own()),
+        TokenTree::Ident(ident) => OwnTree::Ident(ident.repr.into_own()),
+        TokenTree::Punct(punct) => OwnTree::Punct(punct.repr.into_own()),
+        TokenTree::Literal(literal) => OwnTree::Literal(literal.repr.into_own()),
     }
 }
 

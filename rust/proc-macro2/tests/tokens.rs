@@ -130,7 +130,7 @@ fn groups_may_nest_deep() {
 }
 
 #[test]
-fn each_thread_has_a_session() {
+fn each_thread_has_a_map() {
     let threads: Vec<_> = (0..4)
         .map(|n| std::thread::spawn(move || parse(&format!("x{n}")).to_string()))
         .collect();

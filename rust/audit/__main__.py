@@ -1,0 +1,251 @@
+#!/usr/bin/env python3
+"""Lists every token in which rust/proved and the proved sources differ, and fails where a change isn't known.
+
+    python3 rust/audit            compares, and tells the changes that whitelist.txt lacks, each with its places
+    python3 rust/audit --list     all changes, with how often each occurs
+    python3 rust/audit --test     tests itself: changes that are planted are told
+
+It shares no code with rust/erase. Each file's first line says from which source it was made. Of that source it leaves out
+comments and what only proofs read: clauses, ghost items and the attributes `tactic` and `cycle`. The tokens that are
+left are compared in order.
+
+A line of whitelist.txt is a change: the tokens of the source, `=>`, and those in their place. NAME is any one name and
+PATH any path, each the same on both sides; NAMES are any names with commas between them, and CRATE is the source's crate.
+A line `in SOURCE` says that the changes below it, up to an empty line, are known in that source alone.
+"""
+import collections
+import difflib
+import pathlib
+import re
+import sys
+
+TOP = pathlib.Path(__file__).resolve().parents[2]
+PROVED = TOP / 'rust/proved'
+KNOWN = pathlib.Path(__file__).parent / 'whitelist.txt'
+MADE = re.compile(r'// Made from (\S+) by rust/erase')
+
+# One alternative each for comments, texts and characters, lifetimes, paths and numbers, marks.
+TOKEN = re.compile(r'''
+    (?P<comment> //[^\n]* )
+  | (?P<text> [bc]?r(?P<hashes>\#*)".*?"(?P=hashes) | [bc]?"(?:[^"\\]|\\.)*" | b?'(?:[^'\\]|\\.[^']*)' )
+  | (?P<lifetime> '\w+ )
+  | (?P<word> \w+ (?: ::\w+ )* )
+  | (?P<mark> :: | -> | => | \.\.= | \.\. | \S )
+''', re.X | re.S)
+
+
+def tokens(text):
+    """The tokens of a text with the lines where they begin, without comments and without what only proofs read."""
+    out, at, line, counted = [], 0, 1, 0
+    while True:
+        match = TOKEN.search(text, at)
+        if not match:
+            return out
+        line += text.count('\n', counted, match.start())
+        counted = match.start()
+        at = match.end()
+        token = match.group()
+        if match.lastgroup == 'comment' or match.group('comment'):
+            continue
+        if token in ('requires', 'ensures', 'ghost'):
+            at = past_proof(text, match.start(), token)
+            while token == 'ghost' and [t for t, _ in out[-1:]] == ['pub']:
+                out.pop()
+            continue
+        out.append((token, line))
+
+
+def past_proof(text, start, word):
+    """Where the clause or the ghost item ends that begins at `start`.
+
+    A clause ends with its braces. A ghost item ends with the `;` or `,` after what it has in braces, or before the `}`
+    around it.
+    """
+    depth = 0
+    for match in re.compile(r'--[^\n]*|"(?:[^"\\]|\\.)*"|[{};,]').finditer(text, start):
+        mark = match.group()
+        if mark == '{':
+            depth += 1
+        elif mark == '}' and depth == 0:
+            return match.start()
+        elif mark == '}':
+            depth -= 1
+            if depth == 0 and word != 'ghost':
+                return match.end()
+        elif mark in ';,' and depth == 0:
+            return match.end()
+    sys.exit(f'a `{word}` that nothing ends')
+
+
+def without_attributes(found):
+    """The tokens without the attributes that only the prover reads."""
+    out, at = [], 0
+    while at < len(found):
+        words = [token for token, _ in found[at:at + 4]]
+        if words[:3] in (['#', '[', 'tactic'], ['#', '[', 'cycle']) or words == ['#', '!', '[', 'tactic']:
+            depth = 0
+            while True:
+                depth += (found[at][0] == '[') - (found[at][0] == ']')
+                at += 1
+                if found[at - 1][0] == ']' and depth == 0:
+                    break
+            continue
+        out.append(found[at])
+        at += 1
+    return out
+
+
+def last_name(token):
+    """The last name of a path, by which tokens are put beside each other, or another token itself."""
+    return token.rsplit('::', 1)[-1] or token
+
+
+def changes(source, made):
+    """How many tokens the source has, how many of them stay, and each change with its two lines."""
+    old, new = without_attributes(tokens(source)), tokens(made)
+    rows = [[last_name(token) for token, _ in side] for side in (old, new)]
+    out, same = [], 0
+    for kind, first, last, start, end in difflib.SequenceMatcher(None, *rows, autojunk=False).get_opcodes():
+        lines = [side[min(at, len(side) - 1)][1] for side, at in ((old, first), (new, start))]
+        if kind == 'equal':
+            pairs_of_both = zip(old[first:last], new[start:end])
+            renamed = [(one[0], other[0], one[1], other[1]) for one, other in pairs_of_both if one[0] != other[0]]
+            same += last - first - len(renamed)
+            out += [(f'{one} => {other}', *at) for one, other, *at in renamed]
+        elif kind == 'replace':
+            words = [' '.join(token for token, _ in part) for part in (old[first:last], new[start:end])]
+            out.append((' => '.join(words), *lines))
+        else:
+            side, begins, ends = (old, first, last) if kind == 'delete' else (new, start, end)
+            for part in whole_items([token for token, _ in side], begins, ends):
+                out.append((f'{part} =>' if kind == 'delete' else f'=> {part}', *lines))
+    return len(old), same, out
+
+
+def whole_items(words, first, last):
+    """The items in a range that was put in or left out, each as a text.
+
+    The range is moved, where the same tokens stand before or after it, so that it begins with an item.
+    """
+    begins = ('#', 'use', 'impl', '<', ',', '+', ':')
+    for shift in range(-8, 9):
+        low, high = sorted((first, first + shift))
+        moved = words[low:high] == words[low + last - first:high + last - first] if first + shift >= 0 else False
+        if moved and words[first + shift] in begins and words[first] not in begins:
+            first, last = first + shift, last + shift
+            break
+    parts, depth, start = [], 0, first
+    for at in range(first, last):
+        depth += (words[at] in ('(', '[', '{')) - (words[at] in (')', ']', '}'))
+        if depth == 0 and words[at] in (';', ']', '}') and (words[start] != 'use' or words[at] == ';'):
+            parts.append(' '.join(words[start:at + 1]))
+            start = at + 1
+    return parts + ([' '.join(words[start:last])] if start < last else [])
+
+
+def known_changes():
+    """The known changes, each with the source that it is bound to, or an empty text."""
+    out, source = [], ''
+    for line in KNOWN.read_text().splitlines():
+        if not line:
+            source = ''
+        elif line.startswith('in '):
+            source = line.removeprefix('in ')
+        elif '=>' in line:
+            out.append((line, source))
+    return out
+
+
+def is_known(change, source, known):
+    """Whether a change in this source is what a line of the whitelist says."""
+    line, only = known
+    pattern = re.escape(line).replace('CRATE', source.split('/')[1])
+    for word, form in (('NAMES', r'\w+(?: , \w+)*'), ('NAME', r'(?P<name>\w+)'), ('PATH', r'(?P<path>\w+(?:::\w+)*)')):
+        pattern = pattern.replace(word, form, 1).replace(word, f'(?P={word.lower()})')
+    return only in ('', source) and re.fullmatch(pattern, change) is not None
+
+
+def pairs():
+    """Each made file with its source."""
+    for path in sorted(PROVED.rglob('*.rs')):
+        text = path.read_text()
+        made = MADE.match(text)
+        if made and 'target' not in path.parts:
+            yield path, text, TOP / made.group(1)
+
+
+def missing(sources):
+    """The sources of the crates that were made, of which no file was made."""
+    crates = {source.relative_to(TOP).parts[1] for source in sources}
+    every = {path for crate in crates for path in (TOP / 'crates' / crate / 'src').rglob('*.rt')
+             if path.name != 'tests.rt' and 'tests' not in path.relative_to(TOP).parts}
+    return sorted(str(path.relative_to(TOP)) for path in every - sources)
+
+
+# A source, the Rust that is made from it, and changes of that which have to be told.
+SOURCE = """
+use std::fmt;
+#[derive(Debug, Drop)]
+pub struct A { pub ghost small: { x < 9 }, x: u8, }
+/// One more.
+fn more(a: &A) -> u8 requires { a.x < 9 } ensures { result ≡ a.x + 1 } { crate::one::add(a.x, 1) }
+"""
+RUST = """
+use crate::shim::fmt;
+#[derive(Debug)]
+pub struct A { x: u8, }
+/// One more.
+fn more(a: &A) -> u8 { crate::lexical::one::add(a.x, 1) }
+"""
+PLANTED = [('1)', '2)'), ('a.x', 'a.y'), (', 1', ''), ('&A', '&mut A'), ('lexical::one', 'pm_span::one'), ('shim::fmt', 'fmt'),
+           ('fn more', '#[inline] fn more'), ('add', 'sub'), ('Debug', 'Debug, Clone'), ('x: u8,', ''), ('{ c', '{ a.x; c')]
+
+
+def test():
+    """How many of the planted changes are not told, and whether the Rust as it is made passes."""
+    known, wrong = known_changes(), 0
+    for old, new in [('', '')] + PLANTED:
+        told = [change for change, *_ in changes(SOURCE, RUST.replace(old, new))[2]
+                if not any(is_known(change, 'crates/lexical/src/a.rt', line) for line in known)]
+        if bool(told) != bool(old):
+            wrong += 1
+            print(f'{old!r} made {new!r}: {told}')
+    print(f'{len(PLANTED) + 1 - wrong} tests of rust/audit passed, {wrong} failed')
+    return wrong
+
+
+def main():
+    if sys.argv[1:] == ['--test']:
+        sys.exit(test())
+    if sys.argv[1:] not in ([], ['--list']):
+        sys.exit(__doc__)
+    seen, places, sources = collections.Counter(), collections.defaultdict(list), set()
+    total = kept = 0
+    for path, text, source in pairs():
+        sources.add(source)
+        count, same, changed = changes(source.read_text(), text)
+        total += count
+        kept += same
+        for change, line, made_line in changed:
+            seen[change] += 1
+            places[change].append((str(source.relative_to(TOP)), line, f'{path.relative_to(TOP)}:{made_line}'))
+    print(f'{total} tokens of {len(sources)} sources, {kept} unchanged ({100 * kept / max(total, 1):.2f} %)')
+    if sys.argv[1:]:
+        for change, number in seen.most_common():
+            print(f'{number:6}  {change}')
+        return
+    known = known_changes()
+    unknown = [(change, place) for change in seen for place in places[change]
+               if not any(is_known(change, place[0], line) for line in known)]
+    for change, (source, line, made) in unknown:
+        print(f'{source}:{line} and {made}: no known change: {change}')
+    for line in known:
+        if not any(is_known(change, place[0], line) for change in seen for place in places[change]):
+            print(f'known, and nowhere now: {line[0]}')
+    left_out = missing(sources)
+    for source in left_out:
+        print(f'nothing was made of {source}')
+    sys.exit(1 if unknown or left_out or not sources else 0)
+
+
+main()

@@ -1,0 +1,127 @@
+#!/usr/bin/env python3
+"""Makes the Rust of rust/proved from the proved sources of crates/.
+
+    python3 rust/erase            writes the files anew
+    python3 rust/erase --check    compares them with what is there, and fails where one differs
+    python3 rust/erase --test     tests the eraser itself
+
+What a rule dropped or renamed is counted on standard error. Where a form is met that no rule knows, each place is told
+as FILE:LINE and nothing is written. rules.py has the rules, checks.py what is rejected, known.py the names of std.
+"""
+import collections
+import pathlib
+import sys
+
+import checks
+import rules
+import selftest
+from source import Rejected, Token, text_of, tokens_of
+
+TOP = pathlib.Path(__file__).resolve().parents[2]
+PACKAGE = TOP / 'rust/proved'
+
+# The library crates, lowest first, whose text becomes modules of the package.
+LIBRARIES = ['lexical', 'literal_escaper', 'pm_span', 'pm_token', 'pm_stream', 'proc_macro2', 'quoting']
+# The crates that only a test of the package takes.
+TESTED = ['replay']
+
+
+def erased(text, crate, source, package):
+    """The Rust of a source, and what is rejected in it."""
+    file = rules.File(crate, tokens_of(text), package)
+    for rule in rules.RULES[:-1]:
+        rule(file)
+    rejected = checks.rejections(file)
+    rules.RULES[-1](file)
+    checks.reject_ghost_left(file.tokens)
+    return headed(file, source), rejected
+
+
+def headed(file, source):
+    """The text of a file, with the line that says what it was made from, and what it imports beside its own imports."""
+    root = 'proved' if file.package.below else 'crate'
+    names = ', '.join(file.prelude)
+    uses = [f'use {root}::shim::prelude::{"{%s}" % names if "," in names else names};'] if names else []
+    tokens = file.tokens
+    at = 0
+    while at < len(tokens) and (tokens[at].kind == 'white' or tokens[at].text.startswith('//!')):
+        at += 1
+    front, rest = text_of(tokens[:at]).rstrip(), text_of(tokens[at:]).rstrip()
+    made = f'// Made from {source} by rust/erase: change that file, not this one.'
+    return '\n'.join([f'{made}\n{front}'.rstrip(), '', *uses, *([''] if uses else []), rest]) + '\n'
+
+
+def is_left_out(path):
+    return path.name == 'tests.rt' or 'tests' in path.parts
+
+
+def erase_all(crates, below, target, counts, problems):
+    """The files of these crates: from the path of each to its text."""
+    package = rules.Package(counts, crates, below)
+    sources = {}
+    for crate in crates + below:
+        for path in sorted((TOP / 'crates' / crate / 'src').rglob('*.rt')):
+            if not is_left_out(path.relative_to(TOP)):
+                sources[path] = crate
+    tokens = {}
+    for path in list(sources):
+        try:
+            tokens[path] = tokens_of(path.read_text())
+        except Rejected as error:
+            problems.append(f'{path.relative_to(TOP)}:{error.line}: {error.what}')
+            del sources[path]
+    for learn in (package.learn, package.learn_fields):
+        for path in sources:
+            code = [Token(t.kind, t.text, t.line) for t in tokens[path] if t.kind not in ('clause', 'ghost')]
+            learn(code)
+    out = {}
+    for path, crate in sources.items():
+        if crate not in crates:
+            continue
+        source = path.relative_to(TOP)
+        inside = path.relative_to(TOP / 'crates' / crate / 'src').with_suffix('.rs')
+        place = target / f'{crate}.rs' if str(inside) == 'lib.rs' else target / crate / inside
+        try:
+            out[place], rejected = erased(path.read_text(), crate, source, package)
+            problems += [f'{source}:{line}: {what}' for line, what in rejected]
+        except Rejected as error:
+            problems.append(f'{source}:{error.line}: {error.what}')
+    return out
+
+
+def compare(files, folders):
+    """The paths at which what is made and what is there differ."""
+    there = {path for folder in folders for path in folder.rglob('*.rs')}
+    return sorted(str(path.relative_to(TOP)) for path in there | set(files)
+                  if path not in files or not path.exists() or path.read_text() != files[path])
+
+
+def main():
+    if sys.argv[1:] == ['--test']:
+        sys.exit(selftest.run())
+    if sys.argv[1:] not in ([], ['--check']):
+        sys.exit(__doc__)
+    counts, problems = collections.Counter(), []
+    files = erase_all(LIBRARIES, [], PACKAGE / 'src', counts, problems)
+    files.update(erase_all(TESTED, LIBRARIES, PACKAGE / 'tests/conformance', counts, problems))
+    if problems:
+        print('\n'.join(problems))
+        sys.exit(f'{len(problems)} places are rejected: rust/erase has no rule for them')
+    folders = [PACKAGE / 'src' / crate for crate in LIBRARIES]
+    folders += [PACKAGE / 'tests/conformance' / crate for crate in TESTED]
+    if sys.argv[1:] == ['--check']:
+        differing = compare(files, folders)
+        for path in differing:
+            print(f'{path}: not what rust/erase makes')
+        sys.exit(f'{len(differing)} files differ: run python3 rust/erase' if differing else 0)
+    for folder in folders:
+        for path in folder.rglob('*.rs'):
+            path.unlink()
+    for path, text in files.items():
+        path.parent.mkdir(parents=True, exist_ok=True)
+        path.write_text(text)
+    for name, number in counts.most_common():
+        print(f'{number:6} {name}', file=sys.stderr)
+
+
+main()

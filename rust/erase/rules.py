@@ -1,0 +1,460 @@
+"""The rules by which Rattle's text becomes Rust: a closed list, in the order in which they are applied.
+
+Each rule's documentation ends with an example, which the self-test applies. What no rule knows is rejected by `checks`.
+"""
+import re
+
+import known
+from source import Rejected, Token, is_code, text_of, tokens_of, without
+
+RULES = []
+
+
+def rule(function):
+    """Puts a rule at the end of the list. Its name is the function's, with hyphens."""
+    RULES.append(function)
+    return function
+
+
+class File:
+    """A source that is being erased: its crate and its tokens, and the package that it becomes a part of."""
+
+    def __init__(self, crate, tokens, package):
+        self.crate = crate
+        self.tokens = tokens
+        self.package = package
+        self.prelude = []
+
+    def count(self, name, number=1):
+        self.package.counts[name] += number
+
+
+class Package:
+    """What is known of all the files: the crates, the types with a destructor, and how the shim is named."""
+
+    def __init__(self, counts, erased=(), below=()):
+        self.counts = counts
+        self.erased = set(erased)
+        self.below = set(below)
+        self.destructors = {}
+        self.functions = set()
+
+    def learn(self, tokens):
+        """Takes note of the functions and of the types with a destructor that a file has."""
+        for at, token in enumerate(tokens):
+            if token.text == 'fn' and token.kind == 'name':
+                self.functions.add(tokens[following(tokens, at)].text)
+            for end in found(tokens, at, 'impl Drop for'):
+                self.destructors.setdefault(tokens[following(tokens, end)].text, {})
+
+    def learn_fields(self, tokens):
+        """Takes note of the fields of the types with a destructor."""
+        for at, token in enumerate(tokens):
+            name = following(tokens, at)
+            if token.text != 'struct' or tokens[name].text not in self.destructors:
+                continue
+            opener = following(tokens, name)
+            body = text_of(t for t in tokens[opener + 1:closing(tokens, opener)] if t.kind != 'comment')
+            self.destructors[tokens[name].text] = dict(re.findall(r'(\w+)\s*:\s*((?:[^,<]|<.*?>+)+),', body))
+
+
+def following(tokens, at):
+    """The index of the next token that is code, or the last index."""
+    at += 1
+    while at < len(tokens) - 1 and not is_code(tokens[at]):
+        at += 1
+    return min(at, len(tokens) - 1)
+
+
+def preceding(tokens, at):
+    at -= 1
+    while at > 0 and not is_code(tokens[at]):
+        at -= 1
+    return at
+
+
+def found(tokens, at, words):
+    """The index of the last of these words, in a list of one, if they are the code from `at` on, and else no index."""
+    for number, word in enumerate(words.split()):
+        if number:
+            at = following(tokens, at)
+        if tokens[at].text != word:
+            return []
+    return [at]
+
+
+def closing(tokens, at):
+    """The index of the bracket that closes the one at `at`."""
+    opener = tokens[at].text
+    closer = {'(': ')', '[': ']', '{': '}', '<': '>'}[opener]
+    depth = 0
+    for index in range(at, len(tokens)):
+        if tokens[index].kind != 'mark':
+            continue
+        if tokens[index].text == opener:
+            depth += 1
+        elif tokens[index].text == closer and not (closer == '>' and tokens[index - 1].text in '-='):
+            depth -= 1
+            if depth == 0:
+                return index
+    raise Rejected(tokens[at].line, f'a `{opener}` that nothing closes')
+
+
+def next_mark(tokens, at, mark):
+    while tokens[at].text != mark:
+        at += 1
+    return at
+
+
+def impls(tokens, trait):
+    """The `impl`s of a trait: for each the indices of `impl`, of its braces, and the type that it is for."""
+    for at, token in enumerate(tokens):
+        if token.text != 'impl' or token.kind != 'name':
+            continue
+        opener = next_mark(tokens, at, '{')
+        head = re.search(r'\b%s for\s+(.*?)\s*$' % trait, text_of(tokens[at:opener]), re.S)
+        if head:
+            yield at, opener, closing(tokens, opener), head.group(1)
+
+
+def replaced(tokens, edits):
+    """The tokens with each range of indices (first, last) replaced by a text."""
+    out, at = [], 0
+    for (first, last), text in sorted(edits.items()):
+        out += tokens[at:first] + [Token(t.kind, t.text, tokens[first].line) for t in tokens_of(text)]
+        at = last + 1
+    return out + tokens[at:]
+
+
+@rule
+def clauses(file):
+    """Leaves out what is promised and required.
+
+        fn half(x: u8) -> u8 requires { x < 9 } ensures ok { result ≡ x } { x / 2 }
+        => fn half(x: u8) -> u8 { x / 2 }
+    """
+    goes = {at for at, token in enumerate(file.tokens) if token.kind == 'clause'}
+    file.count('clauses', len(goes))
+    file.tokens = without(file.tokens, goes)
+
+
+@rule
+def ghost(file):
+    """Leaves out ghost imports, members and fields.
+
+        ghost use a.b.{◌≡◌}; struct A { x: u8, pub ghost small: { x < 9 }, }
+        => struct A { x: u8, }
+    """
+    goes = {at for at, token in enumerate(file.tokens) if token.kind == 'ghost'}
+    file.count('ghost', len(goes))
+    file.tokens = without(file.tokens, goes)
+
+
+@rule
+def proof_attributes(file):
+    """Leaves out the attributes that only the prover reads: `tactic` and `cycle`.
+
+        #[tactic(auto, using(crate::proofs::A::b))] fn one() {}
+        => fn one() {}
+    """
+    goes = set()
+    for at, token in enumerate(file.tokens):
+        for words in ('# [ tactic', '# ! [ tactic', '# [ cycle'):
+            for end in found(file.tokens, at, words):
+                goes |= set(range(at, closing(file.tokens, preceding(file.tokens, end)) + 1))
+                file.count('proof-attributes')
+    file.tokens = without(file.tokens, goes)
+
+
+@rule
+def formatting(file):
+    """Names Rust's formatter where Rattle's is told to leave an item as it is.
+
+        #[rattlefmt::skip] static A: u8 = 1;
+        => #[rustfmt::skip] static A: u8 = 1;
+    """
+    for at, token in enumerate(file.tokens):
+        if token.text == 'rattlefmt' and found(file.tokens, at, 'rattlefmt : : skip'):
+            token.text = 'rustfmt'
+            file.count('formatting')
+
+
+@rule
+def models(file):
+    """Leaves out how a value is seen by proofs: `impl Model`, which is empty without what is ghost, and its import.
+
+        use std::marker::Model; impl Model for A { ghost Value = { ℕ }; } struct A;
+        => struct A;
+    """
+    goes = set()
+    for at, token in enumerate(file.tokens):
+        for end in found(file.tokens, at, 'use std : : marker : : Model ;'):
+            goes |= set(range(at, end + 1))
+    for at, opener, closer, _ in impls(file.tokens, 'Model'):
+        if not any(is_code(token) for token in file.tokens[opener + 1:closer]):
+            goes |= set(range(at, closer + 1))
+            file.count('models')
+    file.tokens = without(file.tokens, goes)
+
+
+@rule
+def tests(file):
+    """Leaves out the modules of tests, which take the runtime.
+
+        #[cfg(test)] mod tests; fn one() {}
+        => fn one() {}
+    """
+    goes = set()
+    for at, token in enumerate(file.tokens):
+        for end in found(file.tokens, at, '# [ cfg ( test ) ] mod tests ;'):
+            goes |= set(range(at, end + 1))
+            file.count('tests')
+    file.tokens = without(file.tokens, goes)
+
+
+@rule
+def drop_derives(file):
+    """Leaves `Drop` out of derives: Rust drops every value.
+
+        #[derive(Debug, Drop)] struct A; #[derive(Drop)] struct B;
+        => #[derive(Debug)] struct A; struct B;
+    """
+    goes = set()
+    for at, token in enumerate(file.tokens):
+        for end in found(file.tokens, at, '# [ derive ('):
+            closer = closing(file.tokens, end)
+            names = [index for index in range(end, closer) if file.tokens[index].kind == 'name']
+            for index in names:
+                if file.tokens[index].text == 'Drop':
+                    file.count('drop-derives')
+                    if len(names) == 1:
+                        goes |= set(range(at, following(file.tokens, closer) + 1))
+                    else:
+                        first = index == names[0]
+                        goes |= set(range(index, names[1])) if first else set(range(preceding(file.tokens, index),
+                                                                                    index + 1))
+    file.tokens = without(file.tokens, goes)
+
+
+@rule
+def drop_bounds(file):
+    """Leaves out the bound `Drop`, which every type of Rust meets.
+
+        fn pass<R: BufRead + Drop, T: Drop>(r: R, t: T) {}
+        => fn pass<R: BufRead, T>(r: R, t: T) {}
+    """
+    goes = set()
+    for at, token in enumerate(file.tokens):
+        for end in found(file.tokens, at, '+ Drop') + found(file.tokens, at, ': Drop'):
+            if file.tokens[following(file.tokens, end)].text in ('>', ',') and file.tokens[at - 1].text != ':':
+                goes |= set(range(at, end + 1))
+                if file.tokens[at - 1].kind == 'white':
+                    goes.add(at - 1)
+                file.count('drop-bounds')
+    file.tokens = without(file.tokens, goes)
+
+
+def taken(value, fields, bound):
+    """The text that moves these fields out of a value, each under its name in `bound`, and leaves empty ones."""
+    return 'let (%s) = (%s);' % (', '.join(bound[field] for field in fields),
+                                 ', '.join(f'{value}.{field}.take()' if kind == 'take' else f'{value}.{field}'
+                                           for field, kind in fields.items()))
+
+
+def ways_out(file, line, name):
+    """How each field of a type with a destructor leaves it: an `Option` is taken, and the allocator is copied."""
+    fields = {}
+    for field, kind in file.package.destructors[name].items():
+        if kind == 'Global':
+            fields[field] = 'copy'
+        elif kind.startswith('Option<'):
+            fields[field] = 'take'
+        else:
+            raise Rejected(line, f'a `Drop` of {name} that takes apart the field {field}, no `Option`')
+    return fields
+
+
+def bindings(file, line, name, pattern, fields):
+    """The names that a pattern without braces binds each field to."""
+    bound = {}
+    for part in filter(None, (part.strip() for part in pattern.split(','))):
+        field, _, other = part.partition(':')
+        bound[field.strip()] = (other or field).strip()
+    if set(bound) != set(fields) or not all(re.fullmatch(r'\w+', other) for other in bound.values()):
+        raise Rejected(line, f'a pattern of {name} that does not name each field')
+    return bound
+
+
+@rule
+def destructors(file):
+    """Lends to a destructor what Rattle gives it, and takes a value with one apart field by field.
+
+    Rust moves no field out of such a value. So an `Option` is taken, which leaves `None`, and the allocator is copied.
+    What is left is dropped and has nothing to drop.
+
+        struct A { a: Option<u8>, } impl Drop for A { fn drop(self) { let A { a } = self; } } fn f(v: A) { let A { a } = v; }
+        => struct A { a: Option<u8>, } impl Drop for A { fn drop(&mut self) { let (a) = (self.a.take()); } } fn f(v: A) { let (a) = { let mut whole = v; (whole.a.take()) }; }
+    """
+    tokens, edits, inside = file.tokens, {}, set()
+    for at, opener, closer, name in impls(tokens, 'Drop'):
+        start = next_mark(tokens, opener, 'drop')
+        if not found(tokens, start, 'drop ( self ) {') or not found(tokens, following(tokens, next_mark(
+                tokens, start, '{')), f'let {name} {{'):
+            raise Rejected(tokens[at].line, f'a `Drop` of {name} that does not begin by taking it apart')
+        own = next_mark(tokens, start, 'self')
+        edits[own, own] = '&mut self'
+        inside |= set(range(opener, closer))
+        file.count('destructors')
+    for at, token in enumerate(tokens):
+        name = tokens[following(tokens, at)].text if token.text == 'let' else ''
+        if name not in file.package.destructors or not found(tokens, at, f'let {name} {{'):
+            continue
+        opener = next_mark(tokens, at, '{')
+        closer = closing(tokens, opener)
+        end = next_mark(tokens, closer, ';')
+        fields = ways_out(file, token.line, name)
+        bound = bindings(file, token.line, name, text_of(tokens[opener + 1:closer]), fields)
+        value = text_of(tokens[following(tokens, following(tokens, closer)):end])
+        if value == 'self' and at in inside:
+            edits[at, end] = taken('self', fields, bound)
+        else:
+            left, right = taken('whole', fields, bound).split(' = ')
+            edits[at, end] = f'{left} = {{ let mut whole = {value}; {right[:-1]} }};'
+        file.count('destructors')
+    file.tokens = replaced(tokens, edits)
+
+
+@rule
+def utf8(file):
+    """Calls the shim's `from_utf8_unchecked` as a safe function: it looks at the bytes.
+
+        fn text(b: &[u8]) -> &str { unsafe { str::from_utf8_unchecked(b) } }
+        => fn text(b: &[u8]) -> &str { str::from_utf8_unchecked(b) }
+    """
+    tokens, edits = file.tokens, {}
+    for at, token in enumerate(tokens):
+        if token.kind != 'name' or token.text != 'unsafe':
+            continue
+        for end in found(tokens, at, 'unsafe { str : : from_utf8_unchecked ('):
+            opener = next_mark(tokens, at, '{')
+            if following(tokens, closing(tokens, end)) == closing(tokens, opener):
+                edits[at, closing(tokens, opener)] = text_of(tokens[opener + 1:closing(tokens, opener)]).strip()
+                file.count('utf8')
+    file.tokens = replaced(tokens, edits)
+
+
+@rule
+def debug(file):
+    """Writes `Debug` over Rust's formatter, so that it goes with what is derived.
+
+        impl Debug for A { fn fmt<W: fmt::Write>(&self, f: &mut fmt::Formatter<W>) -> fmt::Result { Ok(()) } }
+        => impl Debug for A { fn fmt(&self, f: &mut core::fmt::Formatter<'_>) -> fmt::Result { Ok(()) } }
+    """
+    tokens, edits = file.tokens, {}
+    for _, opener, closer, _ in impls(tokens, 'Debug'):
+        for at in range(opener, closer):
+            for end in found(tokens, at, '< W : fmt : : Write >'):
+                edits[at, end] = ''
+                file.count('debug')
+            for end in found(tokens, at, 'fmt : : Formatter < W >'):
+                edits[at, end] = "core::fmt::Formatter<'_>"
+    file.tokens = replaced(tokens, edits)
+
+
+@rule
+def debug_helpers(file):
+    """Writes a function over `DebugStruct` over Rust's.
+
+        fn show<W: fmt::Write>(d: &mut fmt::DebugStruct<'_, W>) {}
+        => fn show(d: &mut core::fmt::DebugStruct<'_, '_>) {}
+    """
+    tokens, edits = file.tokens, {}
+    for at, token in enumerate(tokens):
+        if token.text != 'fn' or token.kind != 'name':
+            continue
+        generics = following(tokens, following(tokens, at))
+        for end in found(tokens, generics, '< W : fmt : : Write >'):
+            head = range(end, closing(tokens, following(tokens, end)))
+            shown = [(at, last) for at in head for last in found(tokens, at, "fmt : : DebugStruct < '_ , W >")]
+            for place in shown:
+                edits[place] = "core::fmt::DebugStruct<'_, '_>"
+                edits[generics, end] = ''
+                file.count('debug-helpers')
+    file.tokens = replaced(tokens, edits)
+
+
+@rule
+def display(file):
+    """Gives Rust's `Display` to each type with Rattle's, whose writer is generic: by a macro of the shim.
+
+    A `.fmt` in such an `impl` is of the trait that it is an `impl` of, in both languages.
+
+        impl fmt::Display for A { fn fmt<W: fmt::Write>(&self, f: &mut fmt::Formatter<W>) -> fmt::Result { Ok(()) } }
+        => impl fmt::Display for A { fn fmt<W: fmt::Write>(&self, f: &mut fmt::Formatter<W>) -> fmt::Result { Ok(()) } }
+           shim::display!(A);
+    """
+    tokens, edits = file.tokens, {}
+    for at, _, closer, name in impls(tokens, 'Display'):
+        if not re.fullmatch(r'\w+', name):
+            raise Rejected(tokens[at].line, f'a `Display` for {name}, a type with parameters')
+        edits[closer, closer] = '}\n\nshim::display!(%s);' % name
+        file.count('display')
+    file.tokens = replaced(tokens, edits)
+
+
+# What every source of Rattle names without an import, where Rust has another thing of that name or none.
+PRELUDE = ('Box', 'Clone', 'Extend', 'FromIterator', 'String', 'Vec')
+
+
+@rule
+def prelude(file):
+    """Imports from the shim what Rattle's prelude has and Rust's has otherwise, as far as the file names it.
+
+        fn copy(t: &A) -> Result<Box<A>, E> { t.clone() }
+        => use crate::shim::prelude::{Box, Clone}; fn copy(t: &A) -> Result<Box<A>, E> { t.clone() }
+    """
+    tokens, used = file.tokens, set()
+    for at, token in enumerate(tokens):
+        if token.kind != 'name':
+            continue
+        if token.text in PRELUDE and (token.text != 'Clone' or found(tokens, preceding(tokens, at), 'impl Clone for')):
+            used.add(token.text)
+        elif token.text == 'clone' and tokens[preceding(tokens, at)].text == '.':
+            used.add('Clone')
+        elif token.text == 'format' and found(tokens, at, 'format ! ( in'):
+            used.add('format')
+    file.prelude = sorted(used)
+    file.count('prelude', len(used))
+
+
+@rule
+def paths(file):
+    """Names the shim for std and for the toolchain's crates, and for each crate its module in this package.
+
+        use std::alloc::Global; use crate::bytes::{one, skip}; use memchr::memchr; fn f() { lexical::is_mark('+'); }
+        => use crate::shim::alloc::Global; use crate::lexical::bytes::{one, skip}; use crate::shim::memchr::memchr; fn f() { crate::lexical::is_mark('+'); }
+    """
+    package, tokens, edits = file.package, file.tokens, {}
+    root = 'proved' if package.below else 'crate'
+    for at, token in enumerate(tokens):
+        if token.kind == 'comment' and '(crate::' in token.text:
+            token.text = token.text.replace('(crate::', f'(crate::{file.crate}::')
+        if token.kind != 'name' or not found(tokens, following(tokens, at), ': :'):
+            continue
+        if at > 1 and tokens[at - 1].text == ':' and tokens[at - 2].text == ':':
+            continue
+        if token.text == 'crate':
+            edits[at, at] = f'crate::{file.crate}'
+            file.count('own-paths')
+        elif token.text == 'std':
+            edits[at, at] = f'{root}::shim'
+            file.count('std-paths')
+        elif token.text in known.TOOLCHAIN_CRATES:
+            edits[at, at] = f'{root}::shim::{token.text}'
+            file.count('toolchain-paths')
+        elif token.text in package.below or token.text in package.erased:
+            edits[at, at] = f'{root if token.text in package.below else "crate"}::{token.text}'
+            file.count('crate-paths')
+        elif token.text == 'shim':
+            edits[at, at] = f'{root}::shim'
+    file.tokens = replaced(tokens, edits)

@@ -1,0 +1,188 @@
+"""The eraser's own tests: each rule's example, the layout that is left, and each form that is rejected."""
+import collections
+
+import checks
+import rules
+from source import Rejected, is_code, text_of, tokens_of
+
+# Texts, and what is said of each: the forms that no rule knows, or that Rust reads otherwise.
+REJECTED = [
+    ('fn f() { unsafe { g() } }', '`unsafe`'),
+    ('fn f(b: &[u8]) -> &str { unsafe { str::from_utf8_unchecked(b); str::from_utf8_unchecked(b) } }', '`unsafe`'),
+    ('unsafe fn f() {}', '`unsafe`'),
+    ('fn f(x: u8) { prove!(x < 9); }', '`prove!`'),
+    ('fn f(x: u8) { prove_eq!(x, 9); }', '`prove_eq!`'),
+    ('fn f(x: u8) { assert!(x < 9); }', 'the macro `assert!`'),
+    ('fn f() { format!("a"); }', 'without its allocator'),
+    ('fn f() { vec![in alloc; 1, 2]?; }', 'the macro `vec!`'),
+    ('#[derive(Clone)] struct A;', '`Clone` without `Copy`'),
+    ('#[derive(Default)] struct A;', 'a derive of `Default`'),
+    ('#[repr(C)] struct A;', 'the attribute `repr`'),
+    ('#[cfg(feature)] fn f() {}', 'the attribute `cfg`'),
+    ('#[test] fn f(rt: HostRuntime) {}', 'the attribute `test`'),
+    ('fn f(rt: &impl Abort) {}', 'a handle'),
+    ('struct A { a: u8, } impl Drop for A { fn drop(self) { let A { a } = self; } }', 'the field a, no `Option`'),
+    ('struct A { a: Option<u8>, } impl Drop for A { fn drop(self) { f(self); } }', 'does not begin by taking it apart'),
+    ('struct A { a: Option<u8>, b: Option<u8>, } impl Drop for A { fn drop(self) { let A { a, .. } = self; } }',
+     'does not name each field'),
+    ('struct A { a: Option<u8>, } impl Drop for A { fn drop(self) { let A { a } = self; } } '
+     'fn f(v: A) { let A { a: Some(b) } = v; }', 'does not name each field'),
+    ('fn f() { for x in 250u8.. { g(x); } }', 'a range without an end'),
+    ('fn f() { g((250u8..).take(9)); }', 'a range without an end'),
+    ('fn f(a: u8) { let r = a..; }', 'a range without an end'),
+    ('fn f(v: &[A]) { v.iter().map(|a| a.clone()); }', 'a closure that clones'),
+    ('fn f(v: &[A]) { v.iter().cloned(); }', '`cloned`'),
+    ('fn f(v: &A) { Clone::clone(v)?; }', '`Clone::clone` by its path'),
+    ('fn f<T: Clone>(t: T) {}', 'the bound `Clone`'),
+    ('fn f(a: A) -> A { A { b: 1, ..a } }', 'whose other fields come from another'),
+    ('trait T { fn f(&self) { g(); } }', "a trait's method with a body"),
+    ('trait T { fn len(&self) -> usize; }', "a trait's method `len`, as std has one"),
+    ('impl<A> T for A { fn f(&self) {} }', 'an `impl` for a type parameter'),
+    ('impl<A> T for &A { fn f(&self) {} }', 'an `impl` for a type parameter'),
+    ('fn f(t: &dyn T) {}', 'a trait object'),
+    ('fn f(g: fn(u8) -> u8) {}', 'a pointer to a function'),
+    ('static mut A: u8 = 1;', '`static mut`'),
+    ('extern "C" { fn f(); }', '`extern`'),
+    ('macro_rules! m { () => {} }', 'a macro of its own'),
+    ('use std::collections::HashMap;', '`std::collections::HashMap`'),
+    ('use std::collections::{BTreeMap, BTreeSet};', '`std::collections::BTreeSet`'),
+    ('use std::io; fn f() { io::stdin(); }', '`std::io::stdin`'),
+    ('use anyhow::Error;', 'the crate or module `anyhow`'),
+    ('mod memchr;', 'a module with the name of the crate `memchr`'),
+    ('fn f(s: &str) { s.to_uppercase(); }', 'the method `to_uppercase`'),
+    ('fn f(c: char) { c.is_alphabetic(); }', 'the method `is_alphabetic`'),
+    ('fn f() { u16::try_from(1u8); }', '`u16::try_from`'),
+    ('use std::fmt; fn f<W: fmt::Write>(a: &A, f: &mut fmt::Formatter<W>) { a.fmt(f); }', 'of `Debug` or of `Display`'),
+    ('use std::fmt; use std::fmt::Display; impl fmt::Debug for A { fn fmt<W: fmt::Write>(&self, f: '
+     '&mut fmt::Formatter<W>) -> fmt::Result { self.0.fmt(f) } }', 'of `Debug` or of `Display`'),
+    ("impl<'a> fmt::Display for A<'a> { fn fmt<W: fmt::Write>(&self, f: &mut fmt::Formatter<W>) -> fmt::Result { g() } }",
+     'a type with parameters'),
+    ('impl Model for A { fn f() {} }', 'a `Model` that holds code'),
+    ('fn f() /* a */ {}', 'a block comment'),
+    ('fn f() ≡ {}', 'the character ≡'),
+    ('fn f() requires x < 9 {}', 'a clause of another form'),
+    ('struct A { ghost x, }', 'a ghost item of another form'),
+    ('fn f() ensures { a', '`{` that nothing closes'),
+]
+
+# A text with what proofs read, and the same without it, line by line.
+LAYOUT = '''\
+//! A file.
+#![tactic(auto)]
+
+ghost use a.b.{◌≡◌};
+
+use crate::bytes::one;
+
+/// A place.
+#[derive(Drop)]
+pub struct Place {
+    /// What follows.
+    pub rest: u8,
+    // It is small.
+    pub ghost small: { rest < 9 },
+}
+
+impl Place {
+    ghost use a.{x};
+
+    /// The rest.
+    pub fn rest(&self) -> u8
+        requires { x }
+
+        // It is what it is.
+        ensures value { result ≡ self.now.rest }
+
+        ensures other { "}" }
+    {
+        self.rest
+    }
+}
+
+trait Unit {
+    ghost unit: { ℕ };
+
+    fn unit() -> u8
+        ensures { result ≡ unit };
+}
+''', '''\
+//! A file.
+
+use crate::lexical::bytes::one;
+
+/// A place.
+pub struct Place {
+    /// What follows.
+    pub rest: u8,
+    // It is small.
+}
+
+impl Place {
+    /// The rest.
+    pub fn rest(&self) -> u8
+
+        // It is what it is.
+    {
+        self.rest
+    }
+}
+
+trait Unit {
+    fn unit() -> u8;
+}
+'''
+
+
+def applied(text):
+    """A text with all rules applied, as a source of `lexical`, and what is rejected in it."""
+    package = rules.Package(collections.Counter(), ['lexical', 'pm_span'])
+    tokens = tokens_of(text)
+    code = [token for token in tokens if token.kind not in ('clause', 'ghost')]
+    package.learn(code)
+    package.learn_fields(code)
+    file = rules.File('lexical', tokens, package)
+    for rule in rules.RULES[:-1]:
+        rule(file)
+    rejected = checks.rejections(file)
+    rules.RULES[-1](file)
+    imports = f'use crate::shim::prelude::{{{", ".join(file.prelude)}}}; ' if file.prelude else ''
+    return imports + text_of(file.tokens), [what for _, what in rejected]
+
+
+def said_of(text):
+    try:
+        return applied(text)[1]
+    except Rejected as error:
+        return [error.what]
+
+
+def code_of(text):
+    return [token.text for token in tokens_of(text) if is_code(token)]
+
+
+def example(rule):
+    """The example at the end of a rule's documentation: a text, and what it becomes."""
+    return rule.__doc__.rstrip().rsplit('\n\n', 1)[1].split('\n        => ', 1)
+
+
+def run():
+    """Runs all tests, tells what fails, and answers how many do."""
+    failures = []
+    for rule in rules.RULES:
+        before, after = example(rule)
+        seen, _ = applied(before)
+        if code_of(seen) != code_of(after.replace(' shim::', ' crate::shim::')):
+            failures.append(f'the example of {rule.__name__} becomes\n    {seen}')
+        if code_of(seen) == code_of(before):
+            failures.append(f'the example of {rule.__name__} is not changed')
+    for text, what in REJECTED:
+        said = said_of(text)
+        if not any(what in one for one in said):
+            failures.append(f'not rejected as {what}: {text}\n    said: {said}')
+    seen, rejected = applied(LAYOUT[0])
+    if seen != LAYOUT[1] or rejected:
+        failures.append(f'the layout is\n{seen}{rejected}')
+    print(*failures, sep='\n')
+    total = 2 * len(rules.RULES) + len(REJECTED) + 1
+    print(f'{total - len(failures)} tests of rust/erase passed, {len(failures)} failed')
+    return len(failures)

@@ -1,0 +1,129 @@
+#!/usr/bin/env python3
+"""The facts about characters that rust/proved asks: tables made by asking the toolchain's proved crates.
+
+    python3 rust/facts            writes rust/proved/src/tables.rs anew
+    python3 rust/facts --check    compares it with what is there, and fails where it differs
+
+A small program over `unicode_ident` and `ucd_category` is proved and run, by `rt run` in a temporary folder. It asks
+about every code point, and tells where an answer changes. No source of these crates is read.
+"""
+import os
+import pathlib
+import subprocess
+import sys
+import tempfile
+import textwrap
+
+TABLES = pathlib.Path(__file__).resolve().parents[1] / 'proved/src/tables.rs'
+
+PROGRAM = '''\
+#![tactic(auto)]
+
+use std::io;
+use std::io::{BufWriter, Write};
+use std::process::ExitCode;
+use ucd_category::GeneralCategory;
+
+fn main(rt: HostRuntime) -> io::Result<ExitCode> {
+    let mut writer = BufWriter::new(rt.alloc(), rt.stdout())?;
+    writeln!(writer, "version {:?}", unicode_ident::UNICODE_VERSION)?;
+    let mut before = (false, false, GeneralCategory::Surrogate);
+    for code in 0..0x11_0000u32 {
+        let facts = match char::from_u32(code) {
+            Some(c) => (
+                unicode_ident::is_xid_start(c),
+                unicode_ident::is_xid_continue(c),
+                GeneralCategory::for_char(c),
+            ),
+            None => (false, false, GeneralCategory::Surrogate),
+        };
+        if facts != before {
+            let (starts, continues, category) = facts;
+            writeln!(writer, "{code} {starts} {continues} {category:?}")?;
+            before = facts;
+        }
+    }
+    writer.flush()?;
+    Ok(ExitCode::SUCCESS)
+}
+'''
+
+# The categories that `pm_token` asks about, by the rule `hidden`. All others are one.
+ASKED = ['NonspacingMark', 'EnclosingMark', 'SpaceSeparator', 'LineSeparator', 'ParagraphSeparator', 'Control', 'Format',
+         'PrivateUse', 'Unassigned']
+
+END = 0x110000
+
+
+def answers():
+    """The version of Unicode, and for each code point where an answer changes: it, and the three answers."""
+    with tempfile.TemporaryDirectory() as room:
+        crate = pathlib.Path(room, 'crates/ask')
+        (crate / 'src').mkdir(parents=True)
+        (crate / 'src/main.rt').write_text(PROGRAM)
+        pathlib.Path(room, 'crates.txt').write_text('ask: ucd_category unicode_ident\n')
+        pathlib.Path(room, 'HANDLES').write_text('Handles allowed: none.\n')
+        run = subprocess.run(['rt', 'run'], cwd=crate, capture_output=True, text=True, env=os.environ, check=False)
+        if run.returncode != 0:
+            sys.exit(run.stderr + 'the program that asks the proved crates was not run')
+    version, *lines = run.stdout.splitlines()
+    rows = [line.split(' ') for line in lines]
+    return version.split(' ', 1)[1], [(int(code), starts == 'true', continues == 'true', category)
+                                      for code, starts, continues, category in rows]
+
+
+def ranges(rows, column):
+    """The inclusive ranges of code points for which a column is so, in order."""
+    out = []
+    for row, code_after in zip(rows, [row[0] for row in rows[1:]] + [END]):
+        if row[column] and out and out[-1][1] == row[0] - 1:
+            out[-1] = (out[-1][0], code_after - 1)
+        elif row[column]:
+            out.append((row[0], code_after - 1))
+    return out
+
+
+def runs(rows):
+    """Where the category changes, as far as it is asked: the code point, and its number among them."""
+    out = []
+    for code, _, _, category in rows:
+        number = ASKED.index(category) if category in ASKED else len(ASKED)
+        if not out or out[-1][1] != number:
+            out.append((code, number))
+    return out
+
+
+def table(doc, name, kind, pairs):
+    """The text of a table of pairs, as many on a line as fit in 120 columns."""
+    written = ', '.join(f'({first:#x},\N{NO-BREAK SPACE}{second:#x})' for first, second in pairs)
+    lines = textwrap.fill(written, 116, break_long_words=False).replace('\N{NO-BREAK SPACE}', ' ')
+    return (f'/// {doc}\n#[rustfmt::skip]\npub(crate) static {name}: [{kind}; {len(pairs)}] = [\n'
+            + textwrap.indent(lines, '    ') + ',\n];\n')
+
+
+def tables():
+    version, rows = answers()
+    return '\n'.join([
+        f'''// Made by rust/facts, which asks the proved crates about every code point: change nothing here.
+//! Facts about characters, by Unicode {'.'.join(part.strip(' ()') for part in version.split(','))}. LICENSE-UNICODE is \
+the license of the data that they come from.
+''',
+        table('What may begin an identifier: ranges, their ends included, in order.', 'IDENTIFIER_START', '(u32, u32)',
+              ranges(rows, 1)),
+        table('What an identifier may go on with: ranges, their ends included, in order.', 'IDENTIFIER_CONTINUE',
+              '(u32, u32)', ranges(rows, 2)),
+        table('Where the category changes, in order: from which code point on, and its number in `CATEGORIES`.',
+              'CATEGORY_RUNS', '(u32, u8)', runs(rows)),
+    ])
+
+
+def main():
+    if sys.argv[1:] not in ([], ['--check']):
+        sys.exit(__doc__)
+    text = tables()
+    if sys.argv[1:]:
+        sys.exit(0 if TABLES.read_text() == text else f'{TABLES} is not what the proved crates answer: run rust/facts')
+    TABLES.write_text(text)
+
+
+main()

@@ -1,0 +1,73 @@
+//! Tokens of two kinds: the compiler's, inside macros, and those of the proved functions.
+use crate::compiler;
+use crate::map::sure;
+use proved::shim;
+
+/// A token, a stream or an error of the compiler's or of the proved functions.
+pub(crate) enum Repr<C, O> {
+    Compiler(C),
+    Own(O),
+}
+
+impl<C, O> Repr<C, O> {
+    pub(crate) fn into_compiler(self) -> C {
+        match self {
+            Repr::Compiler(token) => token,
+            Repr::Own(_) => compiler::mixed(),
+        }
+    }
+
+    #[inline]
+    pub(crate) fn into_own(self) -> O {
+        match self {
+            Repr::Own(token) => token,
+            Repr::Compiler(_) => compiler::mixed(),
+        }
+    }
+}
+
+impl<C: Clone, O: shim::clone::Clone> Clone for Repr<C, O> {
+    #[inline]
+    fn clone(&self) -> Repr<C, O> {
+        match self {
+            Repr::Own(token) => Repr::Own(sure(token.clone())),
+            Repr::Compiler(token) => Repr::Compiler(token.clone()),
+        }
+    }
+}
+
+/// What the four kinds of trees have in common.
+macro_rules! token {
+    ($name:ident, $own:ty) => {
+        impl $name {
+            pub(crate) fn compiler(token: proc_macro::$name) -> $name {
+                let repr = Repr::Compiler(token);
+                $name { repr }
+            }
+
+            #[inline]
+            pub(crate) fn own(token: $own) -> $name {
+                let repr = Repr::Own(token);
+                $name { repr }
+            }
+
+            /// Where it stands: of a group delimiters and all.
+            pub fn span(&self) -> Span {
+                match &self.repr {
+                    Repr::Compiler(token) => Span::compiler(token.span()),
+                    Repr::Own(token) => Span::own(token.span()),
+                }
+            }
+
+            /// Sets where it stands, and inside a macro how it is resolved. The trees in a group keep their spans.
+            pub fn set_span(&mut self, span: Span) {
+                match (&mut self.repr, span.repr) {
+                    (Repr::Compiler(token), SpanRepr::Compiler(span)) => token.set_span(span),
+                    (Repr::Own(token), SpanRepr::Own(span)) => token.set_span(span),
+                    _ => compiler::mixed(),
+                }
+            }
+        }
+    };
+}
+pub(crate) use token;

@@ -1,0 +1,65 @@
+// Made from crates/lexical/src/docs.rt by rust/erase: change that file, not this one.
+//! Doc comments.
+
+use crate::lexical::cursor::Cursor;
+use crate::lexical::piece::PieceKind;
+use crate::lexical::search::skip_to;
+use crate::lexical::text::{before, begins, without_return};
+
+/// Whether the comment documents what it stands in.
+fn is_inner(comment: &str) -> bool
+{
+    begins(comment, "//!") || begins(comment, "/*!")
+}
+
+/// Whether the comment is a doc comment, by the rule `doc-comment`.
+fn is_doc(comment: &str) -> bool
+{
+    let outer = begins(comment, "///") || begins(comment, "/**");
+    let plain = begins(comment, "////") || begins(comment, "/***") || begins(comment, "/**/");
+    is_inner(comment) || outer && !plain
+}
+
+/// The text of a doc comment before `rest`, by the rule `doc-text`.
+fn doc_text<'a>(comment: &'a str, rest: &str) -> &'a str
+{
+    let said = &comment[3..];
+    if begins(comment, "/*") {
+        before(said, "*/")
+    } else if begins(rest, "\n") {
+        without_return(said)
+    } else {
+        said
+    }
+}
+
+/// Whether a CR stands in the text that no LF follows there.
+fn has_bare_return(text: &str) -> bool
+{
+    let mut at = skip_to(Cursor::new(text), b'\r');
+    while let Some((_, after)) = at.advance() {
+        if !begins(after.rest, "\n") {
+            return true;
+        }
+        at = skip_to(after, b'\r');
+    }
+    false
+}
+
+/// What kind of piece the comment before `rest` is. It is none where a doc comment has a CR that
+/// no LF follows in its text.
+pub fn comment_kind<'a>(comment: &'a str, rest: &str) -> Option<PieceKind<'a>>
+{
+    if !is_doc(comment) {
+        return Some(PieceKind::Gap);
+    }
+    let text = doc_text(comment, rest);
+    if has_bare_return(text) {
+        return None;
+    }
+    let kind = PieceKind::Doc {
+        inner: is_inner(comment),
+        text,
+    };
+    Some(kind)
+}

@@ -1,0 +1,112 @@
+// Made from crates/lexical/src/escapes.rt by rust/erase: change that file, not this one.
+//! Escapes: what stands after a backslash.
+
+use crate::lexical::bytes::{Base, Class, one, skip};
+use crate::lexical::cursor::Cursor;
+use crate::lexical::quoted::StringKind;
+use crate::lexical::skip::one as one_that;
+use crate::lexical::text::{before, begins, split_first};
+
+/// Whether the letter is a simple escape, by the rule `simple-escape`.
+fn is_letter(c: char, kind: StringKind) -> bool
+{
+    match c {
+        'n' | 'r' | 't' | '\\' | '\'' | '"' => true,
+        '0' => !matches!(kind, StringKind::C),
+        _ => false,
+    }
+}
+
+/// The place after the letter of a simple escape.
+fn simple(at: Cursor<'_>, kind: StringKind) -> Option<Cursor<'_>>
+{
+    one_that(at, |c| is_letter(c, kind))
+}
+
+/// The place after two hex digits.
+fn hex_pair(at: Cursor<'_>) -> Option<Cursor<'_>>
+{
+    one(one(at, Class::HexDigit)?, Class::HexDigit)
+}
+
+/// The place after two hex digits that may stand after `x`.
+fn pair(at: Cursor<'_>, kind: StringKind) -> Option<Cursor<'_>>
+{
+    match kind {
+        StringKind::Plain => one(one(at, Class::DigitOf(Base::Octal))?, Class::HexDigit),
+        StringKind::Byte => hex_pair(at),
+        StringKind::C => {
+            if begins(at.rest, "00") {
+                return None;
+            }
+            hex_pair(at)
+        }
+    }
+}
+
+/// The place after `x` and its two digits, by the rule `hex-escape`.
+fn hex(at: Cursor<'_>, kind: StringKind) -> Option<Cursor<'_>>
+{
+    pair(at.past("x")?, kind)
+}
+
+/// Whether the escape of a character may give this one.
+fn allows(kind: StringKind, value: u32) -> bool
+{
+    match kind {
+        StringKind::Plain => true,
+        StringKind::Byte => false,
+        StringKind::C => value > 0,
+    }
+}
+
+/// How many hex digits a character's code may have at most.
+const MOST_DIGITS: u32 = 6;
+
+/// Whether the hex digits, six at most, write a character that is allowed.
+fn writes_character(text: &str, kind: StringKind) -> bool
+{
+    let mut value: u32 = 0;
+    let mut count: u32 = 0;
+    let mut rest = text;
+    while let Some((c, after)) = split_first(rest) {
+        rest = after;
+        if let Some(digit) = c.to_digit(16) {
+            value = 16 * value + digit;
+            count += 1;
+        }
+        if count > MOST_DIGITS || value > 0x10_FFFF {
+            return false;
+        }
+    }
+    char::from_u32(value).is_some() && allows(kind, value)
+}
+
+/// The place after the code of a character: a hex digit and all the hex digits and `_` that follow it.
+fn code(at: Cursor<'_>, kind: StringKind) -> Option<Cursor<'_>>
+{
+    let first = one(at, Class::HexDigit)?;
+    let end = skip(first, Class::CodeDigit);
+    if !writes_character(before(at.rest, end.rest), kind) {
+        return None;
+    }
+    Some(end)
+}
+
+/// The place after `u{`, a character's code and `}`, by the rule `unicode-escape`.
+fn unicode(at: Cursor<'_>, kind: StringKind) -> Option<Cursor<'_>>
+{
+    code(at.past("u{")?, kind)?.past("}")
+}
+
+/// The place after an escape: a letter, `x` and two digits, or the code of a character.
+pub fn escape(at: Cursor<'_>, kind: StringKind) -> Option<Cursor<'_>>
+{
+    if let Some(end) = simple(at, kind) {
+        return Some(end);
+    }
+    match hex(at, kind) {
+        Some(end) => Some(end),
+        None => unicode(at, kind),
+    }
+}

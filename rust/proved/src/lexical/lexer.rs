@@ -1,0 +1,102 @@
+// Made from crates/lexical/src/lexer.rt by rust/erase: change that file, not this one.
+//! Which piece stands at the front of a text.
+
+use crate::lexical::class::{Start, start_of};
+use crate::lexical::comments::comment;
+use crate::lexical::cursor::Cursor;
+use crate::lexical::identifiers::{identifier, name};
+use crate::lexical::literals::{literal, quoted};
+use crate::lexical::marks::{begins_comment, follows_quote, mark};
+use crate::lexical::numbers::number;
+use crate::lexical::piece::{Piece, PieceKind};
+
+/// A literal that was read, if one was, as a piece: its kind, and the place after it.
+fn as_literal(end: Option<Cursor<'_>>) -> Option<(PieceKind<'_>, Cursor<'_>)>
+{
+    Some((PieceKind::Literal, end?))
+}
+
+/// The piece that stands at the place, by its first character: its kind, and the place after it.
+/// `at_front` says whether that is place 0 of a source.
+fn read_piece(at: Cursor<'_>, at_front: bool) -> Option<(PieceKind<'_>, Cursor<'_>)>
+{
+    let (first, after) = at.advance()?;
+    match start_of(first) {
+        Start::White => Some((PieceKind::Gap, after)),
+        Start::Letter => match identifier(at, first, after) {
+            Some(name) => Some(name),
+            None => as_literal(quoted(at)),
+        },
+        Start::Digit => as_literal(number(at)),
+        Start::Opener => match at.past("(/*ERROR*/)") {
+            Some(end) => Some((PieceKind::Literal, end)),
+            None => Some((PieceKind::Opener(first), after)),
+        },
+        Start::Closer => Some((PieceKind::Closer(first), after)),
+        Start::Slash => {
+            if begins_comment(at.rest) {
+                return comment(at);
+            }
+            Some((mark(first, after.rest), after))
+        }
+        Start::Quote => {
+            if !follows_quote(after) {
+                return as_literal(quoted(at));
+            }
+            let kind = PieceKind::Mark {
+                joint: true,
+                mark: '\'',
+            };
+            Some((kind, after))
+        }
+        Start::DoubleQuote => as_literal(quoted(at)),
+        Start::FrontMark => {
+            if !at_front {
+                return None;
+            }
+            Some((PieceKind::FrontMark, after))
+        }
+        Start::Mark => Some((mark(first, after.rest), after)),
+        Start::Other => None,
+    }
+}
+
+/// The piece of the grammar that stands at the front of `text`, which is all that follows some
+/// place of a source. `first` says whether that is place 0.
+///
+/// It answers `None` where no piece stands: at the end of the source, and where what follows begins
+/// no piece, as at an unclosed string. A closer that matches nothing is a piece. At most one piece
+/// stands at a place, as [`one_piece`](crate::lexical::laws::one_piece) says.
+/// At `+=` the mark `+` stands, Joint, of 1 byte and 1 character. At `/* /* */` none stands, as one
+/// comment is open at the end.
+pub fn piece_at(text: &str, first: bool) -> Option<Piece<'_>>
+{
+    let (kind, end) = read_piece(Cursor::new(text), first)?;
+    let piece = Piece {
+        kind,
+        bytes: end.bytes_in(text),
+        chars: end.chars_before,
+    };
+    Some(piece)
+}
+
+/// How many bytes the literal has that stands at the front of `text`, its suffix with it, by the
+/// rule `literal`.
+///
+/// It answers `None` where none stands. At `b"a"b+` it answers 5, at `1.0e+-5` it answers 4, and at
+/// `0b12` that none stands.
+pub fn literal_at(text: &str) -> Option<usize>
+{
+    let after = literal(Cursor::new(text))?;
+    Some(after.bytes_in(text))
+}
+
+/// How many bytes the name has that stands at the front of `text`, by the rule `name`: a character
+/// that may begin an identifier and all that go on with it.
+///
+/// It answers `None` where no such character stands. At `r#a` it answers 1.
+pub fn name_at(text: &str) -> Option<usize>
+{
+    let end = name(Cursor::new(text))?;
+    Some(end.bytes_in(text))
+}

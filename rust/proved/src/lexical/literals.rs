@@ -1,0 +1,51 @@
+// Made from crates/lexical/src/literals.rt by rust/erase: change that file, not this one.
+//! Literals.
+
+use crate::lexical::cursor::Cursor;
+use crate::lexical::numbers::number;
+use crate::lexical::quoted::{StringKind, string};
+use crate::lexical::raw_strings::raw_string;
+use crate::lexical::single_quotes::single;
+
+/// The place after the literal between quotes that stands at the place, by the rule
+/// `quoted-literal`.
+pub fn quoted(at: Cursor<'_>) -> Option<Cursor<'_>>
+{
+    if let Some(end) = any_string(at, "\"", "r", StringKind::Plain) {
+        return Some(end);
+    }
+    if let Some(end) = single(at, "'", StringKind::Plain) {
+        return Some(end);
+    }
+    if let Some(end) = any_string(at, "b\"", "br", StringKind::Byte) {
+        return Some(end);
+    }
+    match single(at, "b'", StringKind::Byte) {
+        Some(end) => Some(end),
+        None => any_string(at, "c\"", "cr", StringKind::C),
+    }
+}
+
+/// The place after the string that stands at the place: with escapes, which the text `front` opens,
+/// or raw, which `raw_front` opens.
+fn any_string<'a>(
+    at: Cursor<'a>,
+    front: &str,
+    raw_front: &str,
+    kind: StringKind,
+) -> Option<Cursor<'a>>
+{
+    match string(at, front, kind) {
+        Some(end) => Some(end),
+        None => raw_string(at, raw_front, kind),
+    }
+}
+
+/// The place after the literal that stands at the place, by the rule `literal`.
+pub fn literal(at: Cursor<'_>) -> Option<Cursor<'_>>
+{
+    match quoted(at) {
+        Some(end) => Some(end),
+        None => number(at),
+    }
+}

@@ -1,0 +1,49 @@
+// Made from crates/lexical/src/marks.rt by rust/erase: change that file, not this one.
+//! Marks.
+
+use crate::lexical::bytes::{Class, holds};
+use crate::lexical::cursor::Cursor;
+use crate::lexical::identifiers::written;
+use crate::lexical::piece::PieceKind;
+use crate::lexical::text::{begins, split_first};
+
+/// Whether the character is one of the 22 marks, by the rule `marks`.
+pub fn is_mark(c: char) -> bool
+{
+    holds(Class::Mark, c)
+}
+
+/// Whether a comment begins the text.
+pub fn begins_comment(text: &str) -> bool
+{
+    begins(text, "//") || begins(text, "/*")
+}
+
+/// The kind of the mark that stands before `rest`, by the rules `mark` and `joint`.
+pub fn mark<'a>(mark: char, rest: &str) -> PieceKind<'a>
+{
+    let joint = match split_first(rest) {
+        Some((next, _)) => is_mark(next) && !begins_comment(rest),
+        None => false,
+    };
+    PieceKind::Mark { joint, mark }
+}
+
+/// Whether no character follows the place that bars a `'` before the identifier that ends there.
+fn is_unbarred(end: Cursor<'_>, raw: bool) -> bool
+{
+    match end.advance() {
+        Some((next, _)) => next != '\'' && (raw || next != '#'),
+        None => true,
+    }
+}
+
+/// Whether a lone quote may stand before the place, by the rule `lone-quote`.
+pub fn follows_quote(at: Cursor<'_>) -> bool
+{
+    let raw = begins(at.rest, "r#");
+    match written(at, raw) {
+        Some(end) => is_unbarred(end, raw),
+        None => false,
+    }
+}

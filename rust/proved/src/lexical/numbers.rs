@@ -1,0 +1,124 @@
+// Made from crates/lexical/src/numbers.rt by rust/erase: change that file, not this one.
+//! Numbers.
+
+use crate::lexical::bytes::{Base, Class, is_next, one, skip};
+use crate::lexical::cursor::Cursor;
+use crate::lexical::quoted::suffix;
+use crate::lexical::text::begins;
+
+/// The place after the digits that stand at the place, by the rule `digits`.
+fn digits(at: Cursor<'_>) -> Option<Cursor<'_>>
+{
+    let after = one(at, Class::Digit)?;
+    Some(skip(after, Class::DigitOrUnderscore))
+}
+
+/// The place after the suffix of a number, by the rule `number-end`.
+fn end(at: Cursor<'_>) -> Option<Cursor<'_>>
+{
+    let end = suffix(at);
+    if is_next(end, Class::IdentifierContinue) {
+        None
+    } else {
+        Some(end)
+    }
+}
+
+/// The place after the dot of a number, by the rule `dot`.
+fn dot(at: Cursor<'_>) -> Option<Cursor<'_>>
+{
+    let end = at.past(".")?;
+    if is_next(end, Class::BarsDot) {
+        None
+    } else {
+        Some(end)
+    }
+}
+
+/// The place after the exponent that stands at the place, by the rule `exponent`.
+fn exponent(at: Cursor<'_>) -> Option<Cursor<'_>>
+{
+    let letter = one(at, Class::ExponentLetter)?;
+    let sign = skip(letter, Class::Underscore);
+    let after = match one(sign, Class::Sign) {
+        Some(after) => after,
+        None => sign,
+    };
+    digits(skip(after, Class::Underscore))
+}
+
+/// The place after a dot and what follows it in a number.
+fn fraction(at: Cursor<'_>) -> Option<Cursor<'_>>
+{
+    let after = skip(dot(at)?, Class::DigitOrUnderscore);
+    match exponent(after) {
+        Some(after) => end(after),
+        None => end(after),
+    }
+}
+
+/// The place after what makes a float of the digits before it.
+fn float_tail(at: Cursor<'_>) -> Option<Cursor<'_>>
+{
+    match fraction(at) {
+        Some(end) => Some(end),
+        None => end(exponent(at)?),
+    }
+}
+
+/// The place after the number that stands at the place and begins with no prefix of a base.
+fn decimal(at: Cursor<'_>) -> Option<Cursor<'_>>
+{
+    let after = digits(at)?;
+    match float_tail(after) {
+        Some(end) => Some(end),
+        None => end(after),
+    }
+}
+
+/// The place after the digits of the base, where none follows that is too large, by the rule
+/// `base-digits`.
+fn digits_in(at: Cursor<'_>, base: Base) -> Option<Cursor<'_>>
+{
+    let first = one(skip(at, Class::Underscore), Class::DigitOf(base))?;
+    let end = skip(first, Class::DigitOrUnderscoreOf(base));
+    if is_next(end, Class::Digit) {
+        None
+    } else {
+        Some(end)
+    }
+}
+
+/// The place after the prefix of a base and its digits.
+fn prefixed<'a>(at: Cursor<'a>, prefix: &str, base: Base) -> Option<Cursor<'a>>
+{
+    digits_in(at.past(prefix)?, base)
+}
+
+/// The place after the digits of base 16, 8 or 2 with its prefix, by the rule `based`.
+fn based(at: Cursor<'_>) -> Option<Cursor<'_>>
+{
+    if let Some(end) = prefixed(at, "0x", Base::Hexadecimal) {
+        return Some(end);
+    }
+    match prefixed(at, "0o", Base::Octal) {
+        Some(end) => Some(end),
+        None => prefixed(at, "0b", Base::Binary),
+    }
+}
+
+/// Whether the prefix of a base begins the text.
+fn begins_based(text: &str) -> bool
+{
+    begins(text, "0x") || begins(text, "0o") || begins(text, "0b")
+}
+
+/// The place after the number that stands at the place, by the rule `number`.
+pub fn number(at: Cursor<'_>) -> Option<Cursor<'_>>
+{
+    if begins_based(at.rest) {
+        end(based(at)?)
+    } else {
+        decimal(at)
+    }
+}

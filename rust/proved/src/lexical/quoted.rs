@@ -1,0 +1,94 @@
+// Made from crates/lexical/src/quoted.rt by rust/erase: change that file, not this one.
+//! Strings with escapes.
+
+use crate::lexical::cursor::Cursor;
+use crate::lexical::escapes::escape;
+use crate::lexical::identifiers::name;
+use crate::lexical::search::skip_to_any;
+use crate::lexical::skip::{one, skip_while};
+
+/// What a string is made of.
+#[derive(Clone, Copy)]
+pub enum StringKind {
+    /// Characters.
+    Plain,
+    /// Bytes: characters past ASCII don't stand for themselves.
+    Byte,
+    /// The bytes of a string of C: no zero.
+    C,
+}
+
+/// The place after the suffix of a literal, by the rule `suffix`.
+pub fn suffix(at: Cursor<'_>) -> Cursor<'_>
+{
+    match name(at) {
+        Some(end) => end,
+        None => at,
+    }
+}
+
+/// Whether the character stands for itself.
+fn stands_for_itself(c: char, kind: StringKind) -> bool
+{
+    match c {
+        '"' | '\\' | '\r' => false,
+        _ => match kind {
+            StringKind::Plain => true,
+            StringKind::Byte => c.is_ascii(),
+            StringKind::C => c != '\0',
+        },
+    }
+}
+
+/// The place after a character that stands for itself.
+fn plain(at: Cursor<'_>, kind: StringKind) -> Option<Cursor<'_>>
+{
+    one(at, |c| stands_for_itself(c, kind))
+}
+
+/// The place after all the characters that stand for themselves.
+fn skip_plain(at: Cursor<'_>, kind: StringKind) -> Cursor<'_>
+{
+    match kind {
+        StringKind::Plain => skip_to_any(at, b'"', b'\\', b'\r'),
+        _ => skip_while(at, |c| stands_for_itself(c, kind)),
+    }
+}
+
+/// The place after what may stand after a backslash in a string.
+fn escaped(at: Cursor<'_>, kind: StringKind) -> Option<Cursor<'_>>
+{
+    if let Some(end) = at.past("\n") {
+        return Some(end);
+    }
+    match at.past("\r\n") {
+        Some(end) => Some(end),
+        None => escape(at, kind),
+    }
+}
+
+/// The place after a unit of a string, by the rules `string-unit`, `byte-string-unit` and
+/// `c-string-unit`.
+fn unit(at: Cursor<'_>, kind: StringKind) -> Option<Cursor<'_>>
+{
+    if let Some(end) = plain(at, kind) {
+        return Some(end);
+    }
+    match at.past("\r\n") {
+        Some(end) => Some(end),
+        None => escaped(at.past("\\")?, kind),
+    }
+}
+
+/// The place after the string with escapes that stands at the place, which the text `front` opens,
+/// by the rules `string`, `byte-string` and `c-string`.
+pub fn string<'a>(at: Cursor<'a>, front: &str, kind: StringKind) -> Option<Cursor<'a>>
+{
+    let inside = at.past(front)?;
+    let mut end = skip_plain(inside, kind);
+    while let Some(after) = unit(end, kind) {
+        end = skip_plain(after, kind);
+    }
+    let closed = end.past("\"")?;
+    Some(suffix(closed))
+}

@@ -1,0 +1,72 @@
+// Made from crates/lexical/src/raw_strings.rt by rust/erase: change that file, not this one.
+//! Strings without escapes.
+
+use crate::lexical::bytes::{Class, skip};
+use crate::lexical::cursor::Cursor;
+use crate::lexical::quoted::{StringKind, suffix};
+use crate::lexical::search::skip_to_either;
+use crate::lexical::skip::skip_while;
+use crate::lexical::text::{before, begins};
+
+/// How many hash signs a raw string may have at most.
+const MOST_HASHES: usize = 255;
+
+/// The hash signs that stand at the place, 255 at most, and the place after them, by the rule
+/// `raw-hashes`.
+fn hashes(at: Cursor<'_>) -> Option<(&str, Cursor<'_>)>
+{
+    let end = skip(at, Class::Hash);
+    let hashes = before(at.rest, end.rest);
+    if hashes.len() > MOST_HASHES {
+        return None;
+    }
+    Some((hashes, end))
+}
+
+/// Whether the character may stand in a raw string.
+fn may_stand(c: char, kind: StringKind) -> bool
+{
+    match kind {
+        StringKind::Plain => true,
+        StringKind::Byte => c.is_ascii(),
+        StringKind::C => c != '\0',
+    }
+}
+
+/// The place after all the characters that may stand in a raw string, up to a quote or a CR.
+fn skip_plain(at: Cursor<'_>, kind: StringKind) -> Cursor<'_>
+{
+    match kind {
+        StringKind::Plain => skip_to_either(at, b'"', b'\r'),
+        _ => skip_while(at, |c| may_stand(c, kind) && !(c == '"' || c == '\r')),
+    }
+}
+
+/// The place after a unit of a raw string with these hash signs, by the rule `raw-unit`.
+fn raw_unit<'a>(at: Cursor<'a>, kind: StringKind, hashes: &str) -> Option<Cursor<'a>>
+{
+    let (c, after) = at.advance()?;
+    if c == '"' && begins(after.rest, hashes) {
+        return None;
+    }
+    if c == '\r' {
+        return at.past("\r\n");
+    }
+    if may_stand(c, kind) {
+        Some(after)
+    } else {
+        None
+    }
+}
+
+/// The place after the raw string that stands at the place, which the text `front` opens, by the
+/// rules `raw-string`, `raw-byte-string` and `raw-c-string`.
+pub fn raw_string<'a>(at: Cursor<'a>, front: &str, kind: StringKind) -> Option<Cursor<'a>>
+{
+    let (hashes, quote) = hashes(at.past(front)?)?;
+    let mut end = quote.past("\"")?;
+    while let Some(after) = raw_unit(end, kind, hashes) {
+        end = skip_plain(after, kind);
+    }
+    Some(suffix(end.past("\"")?.past(hashes)?))
+}

@@ -1,0 +1,39 @@
+// Made from crates/lexical/src/single_quotes.rt by rust/erase: change that file, not this one.
+//! Characters and bytes.
+
+use crate::lexical::cursor::Cursor;
+use crate::lexical::escapes::escape;
+use crate::lexical::quoted::{StringKind, suffix};
+use crate::lexical::skip::one;
+
+/// Whether the character stands for itself between single quotes.
+fn stands_bare(c: char, kind: StringKind) -> bool
+{
+    match c {
+        '\'' | '\\' | '\n' | '\r' | '\t' => false,
+        _ => !matches!(kind, StringKind::Byte) || c.is_ascii(),
+    }
+}
+
+/// The place after one character that may stand bare.
+fn bare(at: Cursor<'_>, kind: StringKind) -> Option<Cursor<'_>>
+{
+    one(at, |c| stands_bare(c, kind))
+}
+
+/// The place after one character that may stand bare, or a backslash and an escape.
+fn unit(at: Cursor<'_>, kind: StringKind) -> Option<Cursor<'_>>
+{
+    match bare(at, kind) {
+        Some(end) => Some(end),
+        None => escape(at.past("\\")?, kind),
+    }
+}
+
+/// The place after the literal between single quotes that stands at the place, which the text
+/// `front` opens, by the rules `character` and `byte`.
+pub fn single<'a>(at: Cursor<'a>, front: &str, kind: StringKind) -> Option<Cursor<'a>>
+{
+    let end = unit(at.past(front)?, kind)?;
+    Some(suffix(end.past("'")?))
+}

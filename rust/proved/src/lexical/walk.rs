@@ -1,0 +1,70 @@
+// Made from crates/lexical/src/walk.rt by rust/erase: change that file, not this one.
+//! All pieces of a text, one after the other.
+
+use crate::lexical::lexer::piece_at;
+use crate::lexical::piece::Piece;
+
+/// A piece of a text, with its place.
+#[derive(Clone, Copy, Debug, PartialEq, Eq)]
+pub struct PlacedPiece<'a> {
+    /// What kind of piece it is, and how many bytes and characters it has.
+    pub piece: Piece<'a>,
+    /// Its text, cut from the source.
+    pub text: &'a str,
+    /// How many bytes of the source stand before it.
+    pub place: usize,
+}
+
+/// The pieces of a text that are left. [`pieces`] makes it.
+pub struct PieceWalk<'a> {
+    rest: &'a str,
+    // How many bytes of the text stand before the rest, and whether it is the whole text.
+    place: usize,
+    at_front: bool,
+    // The rest is a text, and the count of bytes cannot wrap.
+}
+
+/// All pieces of a source text in order, gaps and comments too, for [`PieceWalk::next_piece`] to give
+/// one by one. It takes no memory.
+///
+/// Of `a /**/+` they are `a` at byte 0, a gap at 1, the gap `/**/` at 2 and the mark `+` at 6.
+pub fn pieces(text: &str) -> PieceWalk<'_>
+{
+    // Its contract bounds how many bytes a text has.
+    let _bytes = text.as_bytes().iter();
+    PieceWalk {
+        rest: text,
+        place: 0,
+        at_front: true,
+    }
+}
+
+impl<'a> PieceWalk<'a> {
+    /// The piece at the front of the rest, which it then passes: its text and the new rest, joined,
+    /// are the old rest.
+    ///
+    /// It answers `None` where no piece stands, as [`piece_at`](crate::lexical::piece_at) says, and then
+    /// changes nothing: at the end of the text, or where what follows begins no piece.
+    /// Of `+ "a` it gives the mark and the gap, and then `None`, with the rest `"a`.
+    pub fn next_piece(&mut self) -> Option<PlacedPiece<'a>>
+    {
+        let piece = piece_at(self.rest, self.at_front)?;
+        let next = PlacedPiece {
+            piece,
+            text: &self.rest[..piece.bytes],
+            place: self.place,
+        };
+        *self = PieceWalk {
+            rest: &self.rest[piece.bytes..],
+            place: self.place + piece.bytes,
+            at_front: false,
+        };
+        Some(next)
+    }
+
+    /// What follows the pieces that it gave: the end of the text, empty once they cover all of it.
+    pub fn rest(&self) -> &'a str
+    {
+        self.rest
+    }
+}

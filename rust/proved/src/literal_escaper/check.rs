@@ -1,0 +1,94 @@
+// Made from crates/literal_escaper/src/check.rt by rust/erase: change that file, not this one.
+//! The errors of contents.
+
+use crate::literal_escaper::cooked::{Cooked, next_item};
+use crate::literal_escaper::errors::EscapeError;
+use crate::literal_escaper::kind::{Bytes, CStr, CheckRaw, Str, Unescape};
+use crate::literal_escaper::mode::Mode;
+use crate::literal_escaper::place::Place;
+use crate::literal_escaper::raw::next_raw_item;
+use crate::literal_escaper::single::unescape_single;
+use crate::shim::ops::Range;
+
+/// The error of a content that is one unit, if it has one.
+fn error_of_single<K: Unescape>(src: &str) -> Option<(Range<usize>, EscapeError)>
+{
+    let (unit, end) = unescape_single::<K>(Place::new(src));
+    match unit {
+        Ok(_) => None,
+        Err(e) => Some((0..end.offset(), e)),
+    }
+}
+
+/// The next error of a content with escapes.
+fn next_error<K: Unescape>(content: &mut Cooked<'_>) -> Option<(Range<usize>, EscapeError)>
+{
+    while let Some((range, unit)) = next_item::<K>(content) {
+        if let Err(e) = unit {
+            return Some((range, e));
+        }
+    }
+    None
+}
+
+/// The next error of a raw content.
+fn next_raw_error<K: CheckRaw>(place: &mut Place<'_>) -> Option<(Range<usize>, EscapeError)>
+{
+    while let Some((range, unit)) = next_raw_item::<K>(place) {
+        if let Err(e) = unit {
+            return Some((range, e));
+        }
+    }
+    None
+}
+
+/// The errors of a content that are left.
+pub struct CheckForErrors<'a> {
+    mode: Mode,
+    single: Option<(Range<usize>, EscapeError)>,
+    content: Cooked<'a>,
+}
+
+impl Iterator for CheckForErrors<'_> {
+    type Item = (Range<usize>, EscapeError);
+
+    fn next(&mut self) -> Option<(Range<usize>, EscapeError)> {
+        match self.mode {
+            Mode::Char | Mode::Byte => self.single.take(),
+            Mode::Str => next_error::<Str>(&mut self.content),
+            Mode::RawStr => next_raw_error::<Str>(&mut self.content.place),
+            Mode::ByteStr => next_error::<Bytes>(&mut self.content),
+            Mode::RawByteStr => next_raw_error::<Bytes>(&mut self.content.place),
+            Mode::CStr => next_error::<CStr>(&mut self.content),
+            Mode::RawCStr => next_raw_error::<CStr>(&mut self.content.place),
+        }
+    }
+}
+
+impl<'a> CheckForErrors<'a> {
+    /// The errors of the whole content.
+    fn new(src: &'a str, mode: Mode) -> Self
+    {
+        let single = match mode {
+            Mode::Char => error_of_single::<Str>(src),
+            Mode::Byte => error_of_single::<Bytes>(src),
+            _ => None,
+        };
+        CheckForErrors {
+            mode,
+            single,
+            content: Cooked::new(src),
+        }
+    }
+}
+
+/// The errors and warnings of a content of this kind, each with the range of bytes where it stands,
+/// by the rule `content-errors`. For a character or a byte there is one at most, from the front of the
+/// content to after the last character that was read.
+///
+/// `abc` for a character gives 0..2 `MoreThanOneChar`; `a"` for a string gives 1..2 `EscapeOnlyChar`,
+/// and for a raw string nothing.
+pub fn check_for_errors(src: &str, mode: Mode) -> CheckForErrors<'_>
+{
+    CheckForErrors::new(src, mode)
+}

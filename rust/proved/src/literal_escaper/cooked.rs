@@ -1,0 +1,43 @@
+// Made from crates/literal_escaper/src/cooked.rt by rust/erase: change that file, not this one.
+//! Contents with escapes.
+
+use crate::literal_escaper::errors::EscapeError;
+use crate::literal_escaper::front::{Front, Item, next_front};
+use crate::literal_escaper::kind::Unescape;
+use crate::literal_escaper::place::Place;
+use crate::shim::ops::Range;
+
+/// A content with escapes, from a place on.
+pub struct Cooked<'a> {
+    /// The place.
+    pub place: Place<'a>,
+    /// Where the warning about a white character stands that comes before what follows the place.
+    pub warning: Option<Range<usize>>,
+}
+
+impl<'a> Cooked<'a> {
+    /// The whole content.
+    pub fn new(content: &'a str) -> Self
+    {
+        Cooked {
+            place: Place::new(content),
+            warning: None,
+        }
+    }
+}
+
+/// The next item of the content.
+pub fn next_item<K: Unescape>(content: &mut Cooked<'_>) -> Option<Item<K::Unit>>
+{
+    if let Some(range) = content.warning.take() {
+        return Some((range, Err(EscapeError::UnskippedWhitespaceWarning)));
+    }
+    let Front {
+        item,
+        warning,
+        after,
+    } = next_front::<K>(content.place);
+    content.place = after;
+    content.warning = warning;
+    item
+}

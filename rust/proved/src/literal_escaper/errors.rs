@@ -1,0 +1,68 @@
+// Made from crates/literal_escaper/src/errors.rt by rust/erase: change that file, not this one.
+//! What can be wrong with the content of a literal.
+
+/// A fault in the content of a literal, or a warning about it.
+#[derive(Debug, PartialEq, Eq)]
+pub enum EscapeError {
+    /// No character where one was wanted: the content of `''`.
+    ZeroChars,
+    /// A character after the one that was wanted: `ab` in `'ab'`.
+    MoreThanOneChar,
+    /// A backslash with nothing after it: `\` at the end.
+    LoneSlash,
+    /// A backslash before a character that begins no escape: `\z`, or `\` before a CR.
+    InvalidEscape,
+    /// A CR that is read by itself in a content with escapes, also before LF: `a` CR LF. It is no part of
+    /// an escape, nor is it skipped after a backslash and LF.
+    BareCarriageReturn,
+    /// A CR in a raw content: `a` CR.
+    BareCarriageReturnInRawString,
+    /// A character that has to be escaped there: `"` in a string, `'` or a tab in a character.
+    EscapeOnlyChar,
+    /// The text ends before the second digit of a hex escape: `\x1`.
+    TooShortHexEscape,
+    /// A character that is no hex digit in a hex escape: `\xz`.
+    InvalidCharInHexEscape,
+    /// A hex escape past ASCII where characters are wanted: `\x80` in a string.
+    OutOfRangeHexEscape,
+    /// No `{` behind `\u`: `\u41`.
+    NoBraceInUnicodeEscape,
+    /// A character in the braces that is no hex digit: `\u{4g}`.
+    InvalidCharInUnicodeEscape,
+    /// Braces with nothing inside: `\u{}`.
+    EmptyUnicodeEscape,
+    /// The text ends before the closing brace: `\u{41`.
+    UnclosedUnicodeEscape,
+    /// An underscore right after the opening brace: `\u{_41}`.
+    LeadingUnderscoreUnicodeEscape,
+    /// More than six hex digits in the braces: `\u{0000041}`.
+    OverlongUnicodeEscape,
+    /// The code of a surrogate: `\u{D800}`.
+    LoneSurrogateUnicodeEscape,
+    /// A number above 10FFFF: `\u{110000}`.
+    OutOfRangeUnicodeEscape,
+    /// An escape of a character where bytes are wanted: `\u{41}` in a byte string.
+    UnicodeEscapeInByte,
+    /// A character past ASCII where bytes are wanted: `é` in a byte string.
+    NonAsciiCharInByte,
+    /// A zero in a C string: `\0`.
+    NulInCStr,
+    /// A warning: after a skipped line end and its blanks stands a white character that isn't
+    /// skipped, such as U+00A0.
+    UnskippedWhitespaceWarning,
+    /// A warning: more than one line end is skipped, as in `\` LF LF.
+    MultipleSkippedLinesWarning,
+}
+
+impl EscapeError {
+    /// Whether it is a fault, and not one of the two warnings, by the rule `fatal`: `true` for
+    /// `LoneSlash`, `false` for `MultipleSkippedLinesWarning`.
+    pub fn is_fatal(&self) -> bool
+    {
+        match self {
+            EscapeError::UnskippedWhitespaceWarning => false,
+            EscapeError::MultipleSkippedLinesWarning => false,
+            _ => true,
+        }
+    }
+}

@@ -1,0 +1,43 @@
+// Made from crates/literal_escaper/src/mode.rt by rust/erase: change that file, not this one.
+//! Kinds of literals.
+
+/// A kind of literal whose content can be checked for errors.
+#[derive(Clone, Copy, Debug, PartialEq, Eq)]
+pub enum Mode {
+    /// A character: `'a'`.
+    Char,
+    /// A byte: `b'a'`.
+    Byte,
+    /// A string: `"a"`.
+    Str,
+    /// A raw string: `r"a"`.
+    RawStr,
+    /// A byte string: `b"a"`.
+    ByteStr,
+    /// A raw byte string: `br"a"`.
+    RawByteStr,
+    /// A C string: `c"a"`.
+    CStr,
+    /// A raw C string: `cr"a"`.
+    RawCStr,
+}
+
+impl Mode {
+    /// Whether such a literal stands between double quotes: `false` for a character and a byte, and
+    /// `true` for the rest.
+    pub fn in_double_quotes(self) -> bool
+    {
+        !matches!(self, Mode::Char | Mode::Byte)
+    }
+
+    /// What stands before the literal's first quote or its `r`: `b`, `c` or nothing. `c` for a C
+    /// string, also a raw one.
+    pub fn prefix_noraw(self) -> &'static str
+    {
+        match self {
+            Mode::CStr | Mode::RawCStr => "c",
+            Mode::Byte | Mode::ByteStr | Mode::RawByteStr => "b",
+            Mode::Char | Mode::Str | Mode::RawStr => "",
+        }
+    }
+}

@@ -1,0 +1,26 @@
+// Made from crates/literal_escaper/src/raw.rt by rust/erase: change that file, not this one.
+//! Raw contents.
+
+use crate::literal_escaper::errors::EscapeError;
+use crate::literal_escaper::front::Item;
+use crate::literal_escaper::kind::CheckRaw;
+use crate::literal_escaper::place::Place;
+
+/// The unit of a character of a raw content.
+fn unit<K: CheckRaw>(c: char) -> Result<K::Unit, EscapeError>
+{
+    if c == '\r' {
+        Err(EscapeError::BareCarriageReturnInRawString)
+    } else {
+        K::of_char(c)
+    }
+}
+
+/// The next item of a raw content, and the place after it.
+pub fn next_raw_item<K: CheckRaw>(place: &mut Place<'_>) -> Option<Item<K::Unit>>
+{
+    let (c, after) = place.advance()?;
+    let range = place.offset()..after.offset();
+    *place = after;
+    Some((range, unit::<K>(c)))
+}

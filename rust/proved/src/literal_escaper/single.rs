@@ -1,0 +1,34 @@
+// Made from crates/literal_escaper/src/single.rt by rust/erase: change that file, not this one.
+//! Contents that are one unit.
+
+use crate::literal_escaper::errors::EscapeError;
+use crate::literal_escaper::escape::escape;
+use crate::literal_escaper::kind::Unescape;
+use crate::literal_escaper::place::Place;
+
+/// The unit of a character and what follows it.
+fn first_unit<K: Unescape>(c: char, after: Place<'_>) -> (Result<K::Unit, EscapeError>, Place<'_>)
+{
+    match c {
+        '\\' => escape::<K>(after),
+        '\n' | '\t' | '\'' => (Err(EscapeError::EscapeOnlyChar), after),
+        '\r' => (Err(EscapeError::BareCarriageReturn), after),
+        _ => (K::of_char(c), after),
+    }
+}
+
+/// The one unit of the content, by the rule `single-item`, and the place after what was read.
+pub fn unescape_single<K: Unescape>(at: Place<'_>) -> (Result<K::Unit, EscapeError>, Place<'_>)
+{
+    let Some((c, after)) = at.advance() else {
+        return (Err(EscapeError::ZeroChars), at);
+    };
+    let (unit, end) = first_unit::<K>(c, after);
+    if unit.is_err() {
+        return (unit, end);
+    }
+    match end.advance() {
+        None => (unit, end),
+        Some((_, past)) => (Err(EscapeError::MoreThanOneChar), past),
+    }
+}

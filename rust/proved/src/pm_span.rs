@@ -1,0 +1,18 @@
+// Made from crates/pm_span/src/lib.rt by rust/erase: change that file, not this one.
+//! Places in source texts: positions, lines and columns, and the map of the files that were read.
+//!
+//! A rule is named by its label in backquotes, such as `next-position`. `docs/GRAMMAR.md` has all of them, each
+//! with its definition.
+
+mod file_info;
+pub mod laws;
+pub mod location;
+mod lookups;
+pub mod parts;
+pub mod source_map;
+pub mod spans;
+mod text;
+
+pub use location::LineColumn;
+pub use source_map::SourceMap;
+pub use spans::Span;

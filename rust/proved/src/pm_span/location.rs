@@ -1,0 +1,11 @@
+// Made from crates/pm_span/src/location.rt by rust/erase: change that file, not this one.
+//! Lines and columns.
+
+/// A place in a text, as people count it.
+#[derive(Clone, Copy, Debug, PartialEq, Eq, PartialOrd, Ord, Hash)]
+pub struct LineColumn {
+    /// The line, from 1 on.
+    pub line: usize,
+    /// The column in characters, from 0 on.
+    pub column: usize,
+}

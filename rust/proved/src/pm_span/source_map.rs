@@ -1,0 +1,133 @@
+// Made from crates/pm_span/src/source_map.rt by rust/erase: change that file, not this one.
+//! The map of the texts that were read.
+
+use crate::shim::prelude::Vec;
+
+use crate::pm_span::file_info::FileInfo;
+use crate::pm_span::location::LineColumn;
+use crate::pm_span::spans::Span;
+use crate::pm_span::text::has_fewer;
+use crate::shim::alloc::{AllocError, Global};
+
+/// The texts that were read, each a file at positions of its own.
+///
+/// Positions count characters. File 0 is the empty text at 0..0 (`file-0`), and each later file
+/// begins one past the end of the file before it (`next-position`), so that a position lies in
+/// one file only. After the texts `ab` and `c` the files stand at 0..0, 1..3 and 4..5.
+#[derive(Debug)]
+pub struct SourceMap {
+    alloc: Global,
+    /// The files from 1 on.
+    files: Vec<FileInfo>,
+    /// The last position that may be given.
+    limit: u32,
+}
+
+impl SourceMap {
+    /// A map with no file but file 0, whose positions go up to 4294967295; takes no memory.
+    pub fn new(alloc: Global) -> SourceMap
+    {
+        SourceMap::with_limit(alloc, u32::MAX)
+    }
+
+    /// A map with no file but file 0, whose positions go up to `limit`; takes no memory.
+    ///
+    /// A text whose file would end past the limit doesn't fit (`fits`). With the limit 5, `abcd`
+    /// stands at 1..5, and then not even the empty text fits.
+    pub fn with_limit(alloc: Global, limit: u32) -> SourceMap
+    {
+        SourceMap {
+            alloc,
+            files: Vec::new(alloc),
+            limit,
+        }
+    }
+
+    /// Takes all files but file 0 away, and keeps the limit.
+    ///
+    /// The next text begins at 1 again, so the spans of the texts before may be held by chance alone.
+    pub fn invalidate(&mut self)
+    {
+        self.files.clear();
+    }
+
+    /// Whether some file of the map has all the positions of the span (`holds`).
+    ///
+    /// A file has the position at its end too. With the one text `ab` the map holds 0..0, 1..3
+    /// and 3..3, and neither 0..1 nor 3..4.
+    pub fn holds(&self, span: Span) -> bool
+    {
+        let (lo, hi) = span.bounds();
+        let (_, file) = self.file_of(lo);
+        match file {
+            None => hi == 0,
+            Some(file) => hi <= file.hi(),
+        }
+    }
+
+    /// The last file that begins at or before the position, and its number before it; `None` for file 0.
+    pub(crate) fn file_of(&self, position: u32) -> (usize, Option<&FileInfo>)
+    {
+        let number = self.files.partition_point(|file| file.lo() <= position);
+        if number == 0 {
+            (number, None)
+        } else {
+            (number, Some(&self.files[number - 1]))
+        }
+    }
+
+    /// The last position of the last file.
+    fn last_hi(&self) -> u32
+    {
+        match self.files.last() {
+            None => 0,
+            Some(file) => file.hi(),
+        }
+    }
+
+    /// The line and column of a position of the map.
+    pub(crate) fn line_column(&self, position: u32) -> LineColumn
+    {
+        let (_, file) = self.file_of(position);
+        match file {
+            None => LineColumn { line: 1, column: 0 },
+            Some(file) => file.line_column(position - file.lo()),
+        }
+    }
+
+    /// The bytes before a position of the map in its file, which may keep what it found.
+    pub(crate) fn byte_offset(&mut self, position: u32) -> usize
+    {
+        let (number, _) = self.file_of(position);
+        if number == 0 {
+            return 0;
+        }
+        let file = &mut self.files[number - 1];
+        file.find_byte_offset(position - file.lo())
+    }
+
+    /// Where the file of this text would begin, if it fits.
+    pub(crate) fn fits(&self, text: &str) -> Option<u32>
+    {
+        let last = self.last_hi();
+        if last < self.limit && has_fewer(text, (self.limit - last) as usize) {
+            Some(last + 1)
+        } else {
+            None
+        }
+    }
+
+    /// What the map's memory is taken from.
+    pub(crate) fn allocator(&self) -> Global {
+        self.alloc
+    }
+
+    /// Adds the text as the next file; a refused growth leaves the map as it was.
+    pub(crate) fn add_file(&mut self, text: &str) -> Result<(), AllocError>
+    {
+        let lo = self.last_hi() + 1;
+        let file = FileInfo::new(self.alloc, text, lo)?;
+        self.files.push(file)?;
+        Ok(())
+    }
+}

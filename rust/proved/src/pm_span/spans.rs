@@ -1,0 +1,84 @@
+// Made from crates/pm_span/src/spans.rt by rust/erase: change that file, not this one.
+//! Where tokens stand.
+
+use crate::shim::prelude::String;
+
+use crate::shim::fmt;
+
+/// Where a token stands: positions of a source map, from `lo` up to `hi`, in characters.
+#[derive(Clone, Copy)]
+pub struct Span {
+    lo: u32,
+    hi: u32,
+}
+
+impl Span {
+    /// The span 0..0, in the empty file 0, which every map holds: that of what was read from no text.
+    pub fn call_site() -> Span
+    {
+        Span { lo: 0, hi: 0 }
+    }
+
+    /// The span 0..0, as [`call_site`](Span::call_site): in a compiler, that of names with mixed hygiene.
+    pub fn mixed_site() -> Span
+    {
+        Span::call_site()
+    }
+
+    /// The span 0..0, as [`call_site`](Span::call_site): in a compiler, that of names that resolve where a
+    /// macro is defined.
+    pub fn def_site() -> Span
+    {
+        Span::mixed_site()
+    }
+
+    /// This span, resolved as the other one is.
+    ///
+    /// No names are resolved here, so it is this span: 1..2 resolved at 3..4 is 1..2.
+    pub fn resolved_at(self, _other: Span) -> Span
+    {
+        // Only a place is known of a span.
+        self
+    }
+
+    /// The other span, resolved as this one is.
+    ///
+    /// No names are resolved here, so it is the other span: 1..2 located at 3..4 is 3..4.
+    pub fn located_at(self, other: Span) -> Span
+    {
+        // Nothing of this span is kept.
+        other
+    }
+
+    /// The path of the file on disk that the span is in: always `None`, as every text is handed in.
+    pub fn local_file(self) -> Option<String>
+    {
+        None
+    }
+
+    pub(crate) fn new(lo: u32, hi: u32) -> Span
+    {
+        Span { lo, hi }
+    }
+
+    /// Where the span begins and ends.
+    pub(crate) fn bounds(self) -> (u32, u32)
+    {
+        (self.lo, self.hi)
+    }
+
+    /// Whether two spans have the same positions.
+    pub fn eq(&self, other: &Span) -> bool
+    {
+        self.lo == other.lo && self.hi == other.hi
+    }
+}
+
+/// Shows the positions, in characters, as `bytes(1..2)`.
+impl fmt::Debug for Span {
+    fn fmt(&self, f: &mut core::fmt::Formatter<'_>) -> fmt::Result {
+        let lo = self.lo;
+        let hi = self.hi;
+        write!(f, "bytes({lo}..{hi})")
+    }
+}

@@ -1,0 +1,46 @@
+// Made from crates/pm_span/src/text.rt by rust/erase: change that file, not this one.
+//! The characters and the lines of texts.
+
+/// How many characters the text has, which are as many as its bytes or fewer.
+pub fn char_count(text: &str) -> usize
+{
+    if text.is_ascii() {
+        return text.len();
+    }
+    text.chars().count()
+}
+
+/// Whether the text has fewer characters than `count`.
+///
+/// They are counted only where its bytes, which are at least as many, don't answer it.
+pub(crate) fn has_fewer(text: &str, count: usize) -> bool
+{
+    text.len() < count || char_count(text) < count
+}
+
+/// The first line of the text, without its line feed, and what follows that; `None` where the text
+/// is one line.
+pub(crate) fn split_line(text: &str) -> Option<(&str, &str)>
+{
+    text.split_once('\n')
+}
+
+/// The text after its first `count` characters.
+pub(crate) fn skip_chars(text: &str, count: usize) -> &str
+{
+    let mut rest = text.chars();
+    for _ in 0..count {
+        let _ = rest.next();
+    }
+    rest.as_str()
+}
+
+/// The text before its last `count` characters.
+pub(crate) fn skip_chars_back(text: &str, count: usize) -> &str
+{
+    let mut front = text.chars();
+    for _ in 0..count {
+        let _ = front.next_back();
+    }
+    front.as_str()
+}

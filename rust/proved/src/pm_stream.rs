@@ -1,0 +1,23 @@
+// Made from crates/pm_stream/src/lib.rt by rust/erase: change that file, not this one.
+//! Streams of token trees: read from text, and printed.
+//!
+//! A rule is named by its label in backquotes, such as `parses-to`. `docs/GRAMMAR.md` has all of them, each
+//! with its definition.
+
+mod build;
+mod debug;
+mod display;
+mod doc;
+pub mod extra;
+pub mod fused;
+pub mod laws;
+mod parse;
+pub mod parts;
+mod same;
+mod stream;
+pub mod token_stream;
+mod walk;
+mod well_spaced;
+
+pub use stream::{Group, TokenStream, TokenTree};
+pub use walk::Walk;

@@ -1,0 +1,127 @@
+// Made from crates/pm_stream/src/build.rt by rust/erase: change that file, not this one.
+//! Building and changing streams.
+
+mod collects;
+
+use crate::pm_stream::stream::{Group, TokenStream, TokenTree};
+use crate::pm_token::{Ident, Literal, Punct};
+use crate::shim::alloc::{AllocError, Global};
+
+impl TokenStream {
+    /// The stream of this tree, by the rule `split`. Fails where memory runs out.
+    ///
+    /// The literal `-3i32` gives two trees, the mark `-` Alone and the literal `3i32`, both with the
+    /// span of that literal. Any other tree gives itself.
+    pub fn from_tree(alloc: Global, tree: TokenTree) -> Result<TokenStream, AllocError>
+    {
+        let mut stream = TokenStream::new(alloc);
+        stream.put(tree)?;
+        Ok(stream)
+    }
+
+    /// The stream of these trees, in order, each by the rule `split`. Fails where memory runs out,
+    /// which it doesn't for no trees.
+    pub fn from_trees<I: IntoIterator<Item = TokenTree>>(
+        alloc: Global,
+        trees: I,
+    ) -> Result<TokenStream, AllocError>
+    {
+        let mut stream = TokenStream::new(alloc);
+        stream.extend_trees(trees)?;
+        Ok(stream)
+    }
+
+    /// The stream of the trees of these streams, one stream after another. Fails where memory runs
+    /// out, which it doesn't for no streams.
+    ///
+    /// The trees of a stream that shares them with no other are moved, not copied.
+    pub fn from_streams<I: IntoIterator<Item = TokenStream>>(
+        alloc: Global,
+        streams: I,
+    ) -> Result<TokenStream, AllocError>
+    {
+        let mut stream = TokenStream::new(alloc);
+        stream.extend_streams(streams)?;
+        Ok(stream)
+    }
+
+    /// Puts these trees after its own, in order, each by the rule `split`.
+    ///
+    /// Where memory runs out the trees before that which found none stay, both halves of a negative
+    /// literal or none. It doesn't run out for no trees. Other streams that share the trees keep
+    /// what they had.
+    pub fn extend_trees<I: IntoIterator<Item = TokenTree>>(
+        &mut self,
+        trees: I,
+    ) -> Result<(), AllocError>
+    {
+        for tree in trees {
+            self.put(tree)?;
+        }
+        Ok(())
+    }
+
+    /// Puts the trees of these streams after its own, one stream after another.
+    ///
+    /// Where memory runs out the streams before that which found none stay whole, and no tree of that
+    /// one. The trees of a stream that shares them with no other are moved, not copied.
+    pub fn extend_streams<I: IntoIterator<Item = TokenStream>>(
+        &mut self,
+        streams: I,
+    ) -> Result<(), AllocError>
+    {
+        for stream in streams {
+            self.append(stream)?;
+        }
+        Ok(())
+    }
+
+    /// Puts these groups after its trees, as [`extend_trees`](TokenStream::extend_trees) does.
+    pub fn extend_groups<I: IntoIterator<Item = Group>>(
+        &mut self,
+        groups: I,
+    ) -> Result<(), AllocError>
+    {
+        for group in groups {
+            self.put(TokenTree::Group(group))?;
+        }
+        Ok(())
+    }
+
+    /// Puts these identifiers after its trees, as [`extend_trees`](TokenStream::extend_trees) does.
+    pub fn extend_idents<I: IntoIterator<Item = Ident>>(
+        &mut self,
+        idents: I,
+    ) -> Result<(), AllocError>
+    {
+        for ident in idents {
+            self.put(TokenTree::Ident(ident))?;
+        }
+        Ok(())
+    }
+
+    /// Puts these marks after its trees, as [`extend_trees`](TokenStream::extend_trees) does.
+    pub fn extend_puncts<I: IntoIterator<Item = Punct>>(
+        &mut self,
+        puncts: I,
+    ) -> Result<(), AllocError>
+    {
+        for punct in puncts {
+            self.put(TokenTree::Punct(punct))?;
+        }
+        Ok(())
+    }
+
+    /// Puts these literals after its trees, as [`extend_trees`](TokenStream::extend_trees) does: a
+    /// negative one as its `-` and the rest.
+    pub fn extend_literals<I: IntoIterator<Item = Literal>>(
+        &mut self,
+        literals: I,
+    ) -> Result<(), AllocError>
+    {
+        for literal in literals {
+            self.put(TokenTree::Literal(literal))?;
+        }
+        Ok(())
+    }
+}

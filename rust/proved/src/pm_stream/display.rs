@@ -1,0 +1,156 @@
+// Made from crates/pm_stream/src/display.rt by rust/erase: change that file, not this one.
+//! How streams are printed.
+//!
+//! Groups may nest as deep as a text is long, so what is left to print after a group stands in a
+//! list and not on the stack.
+
+use crate::shim::prelude::Vec;
+
+use crate::pm_stream::stream::{Group, TokenStream, TokenTree};
+use crate::pm_token::{Delimiter, Spacing};
+use crate::shim::alloc::Global;
+use crate::shim::fmt;
+use crate::shim::fmt::Display;
+
+// A group that is being printed, and the trees that follow it.
+struct Level<'a> {
+    delimiter: Delimiter,
+    after: &'a [TokenTree],
+}
+
+fn print_trees<W: fmt::Write>(
+    alloc: Global,
+    trees: &[TokenTree],
+    within: bool,
+    f: &mut fmt::Formatter<W>,
+) -> fmt::Result
+{
+    let mut outer = Vec::new(alloc);
+    let mut gap = within;
+    let mut left = trees;
+    loop {
+        if let Some((tree, after)) = left.split_first() {
+            print_space(gap, f)?;
+            print_front(tree, f)?;
+            gap = gap_within(tree);
+            left = after;
+            if let TokenTree::Group(group) = tree {
+                let delimiter = group.delimiter();
+                if outer.push(Level { delimiter, after }).is_err() {
+                    return Err(fmt::Error);
+                }
+                left = group.stream_ref().trees();
+            }
+        } else {
+            let Some(level) = outer.pop() else {
+                return Ok(());
+            };
+            print_ending(level.delimiter, f)?;
+            gap = true;
+            left = level.after;
+        }
+    }
+}
+
+fn print_space<W: fmt::Write>(gap: bool, f: &mut fmt::Formatter<W>) -> fmt::Result
+{
+    if gap { f.write_str(" ") } else { Ok(()) }
+}
+
+// A token, or what a group begins with.
+fn print_front<W: fmt::Write>(tree: &TokenTree, f: &mut fmt::Formatter<W>) -> fmt::Result
+{
+    match tree {
+        TokenTree::Group(group) => print_opening(group.delimiter(), f),
+        TokenTree::Ident(ident) => ident.fmt(f),
+        TokenTree::Punct(punct) => punct.fmt(f),
+        TokenTree::Literal(literal) => literal.fmt(f),
+    }
+}
+
+// What a group begins with.
+fn print_opening<W: fmt::Write>(delimiter: Delimiter, f: &mut fmt::Formatter<W>) -> fmt::Result
+{
+    f.write_str(opener(delimiter))
+}
+
+// What a group ends with, and in a Brace the space before it.
+fn print_ending<W: fmt::Write>(delimiter: Delimiter, f: &mut fmt::Formatter<W>) -> fmt::Result
+{
+    f.write_str(closer(delimiter))
+}
+
+pub(crate) fn opener(delimiter: Delimiter) -> &'static str
+{
+    match delimiter {
+        Delimiter::Parenthesis => "(",
+        Delimiter::Brace => "{",
+        Delimiter::Bracket => "[",
+        Delimiter::None => "",
+    }
+}
+
+pub(crate) fn closer(delimiter: Delimiter) -> &'static str
+{
+    match delimiter {
+        Delimiter::Parenthesis => ")",
+        Delimiter::Brace => " }",
+        Delimiter::Bracket => "]",
+        Delimiter::None => "",
+    }
+}
+
+pub(crate) fn is_brace(delimiter: Delimiter) -> bool
+{
+    delimiter == Delimiter::Brace
+}
+
+// Whether a space goes before what is printed next, within a group or after a token.
+fn gap_within(tree: &TokenTree) -> bool
+{
+    match tree {
+        TokenTree::Group(group) => is_brace(group.delimiter()),
+        TokenTree::Punct(punct) => punct.spacing() == Spacing::Alone,
+        _ => true,
+    }
+}
+
+/// The trees by the rule `printed`: one space between two, but none after a Joint mark. A group is
+/// written with its delimiters, a Brace with spaces inside them, so that `{x}` is printed `{ x }`
+/// and `{}` is `{ }`. Fails where the writer does, or where memory for the list of the groups that
+/// are being printed is refused; the text may be written in part then.
+impl Display for TokenStream {
+    fn fmt<W: fmt::Write>(&self, f: &mut fmt::Formatter<W>) -> fmt::Result {
+        print_trees(self.alloc(), self.trees(), false, f)
+    }
+}
+
+crate::shim::display!(TokenStream);
+
+/// A token, or a group with its delimiters, by the rule `printed`.
+impl Display for TokenTree {
+    fn fmt<W: fmt::Write>(&self, f: &mut fmt::Formatter<W>) -> fmt::Result {
+        match self {
+            TokenTree::Group(group) => group.fmt(f),
+            TokenTree::Ident(ident) => ident.fmt(f),
+            TokenTree::Punct(punct) => punct.fmt(f),
+            TokenTree::Literal(literal) => literal.fmt(f),
+        }
+    }
+}
+
+crate::shim::display!(TokenTree);
+
+/// The trees between the delimiters, by the rule `printed`. A group without delimiters is its trees
+/// alone. Fails as a stream does.
+impl Display for Group {
+    fn fmt<W: fmt::Write>(&self, f: &mut fmt::Formatter<W>) -> fmt::Result {
+        let delimiter = self.delimiter();
+        let stream = self.stream_ref();
+        print_opening(delimiter, f)?;
+        print_trees(stream.alloc(), stream.trees(), is_brace(delimiter), f)?;
+        print_ending(delimiter, f)
+    }
+}
+
+crate::shim::display!(Group);

@@ -1,0 +1,71 @@
+// Made from crates/pm_stream/src/doc.rt by rust/erase: change that file, not this one.
+//! The tokens of a doc comment.
+
+use crate::shim::prelude::Vec;
+
+use crate::pm_stream::stream::{Group, TokenStream, TokenTree};
+use crate::pm_span::Span;
+use crate::pm_token::parts::{ident, punct, string_literal};
+use crate::pm_token::{Delimiter, Ident, Literal, Punct, Spacing};
+use crate::shim::alloc::{AllocError, Global};
+
+/// The group `[doc = ".."]` of the text (`doc-tokens`), where it and each tree in it has this span.
+pub(crate) fn doc_group(alloc: Global, text: &str, span: Span) -> Result<Group, AllocError>
+{
+    let doc = ident(alloc, "doc", false, span)?;
+    let equals = punct('=', Spacing::Alone, span);
+    let text = string_literal(alloc, text, span)?;
+    let mut trees = Vec::with_capacity(alloc, 3)?;
+    trees.push(TokenTree::Ident(doc))?;
+    trees.push(TokenTree::Punct(equals))?;
+    trees.push(TokenTree::Literal(text))?;
+    let stream = TokenStream::from_vec(alloc, trees)?;
+    Ok(Group::from_parts(Delimiter::Bracket, stream, span))
+}
+
+impl Group {
+    /// The literal of a doc comment's group, and `None` of every other group. Of `[doc = "x"]` it is `"x"`.
+    ///
+    /// A doc comment is read as `#`, perhaps `!`, and this group: in brackets the identifier `doc`, the mark `=` Alone
+    /// and a literal (`doc-tokens`). What stands before the group doesn't count, so the one of the attribute
+    /// `#[doc = "x"]` has its literal too.
+    pub fn doc(&self) -> Option<&Literal>
+
+        // The group holds the three trees, and is printed as `[doc = `, the literal and `]`.
+    {
+        let Delimiter::Bracket = self.delimiter() else {
+            return None;
+        };
+        doc_in(self.stream_ref().trees())
+    }
+}
+
+// The literal of the three trees `doc`, `=` Alone and a literal, and `None` of others.
+fn doc_in(trees: &[TokenTree]) -> Option<&Literal>
+{
+    let [
+        TokenTree::Ident(name),
+        TokenTree::Punct(mark),
+        TokenTree::Literal(literal),
+    ] = trees
+    else {
+        return None;
+    };
+    if is_doc(name) && is_equals(mark) {
+        Some(literal)
+    } else {
+        None
+    }
+}
+
+// Whether it is the identifier `doc`.
+fn is_doc(name: &Ident) -> bool
+{
+    name.eq_str("doc")
+}
+
+// Whether it is the mark `=` Alone.
+fn is_equals(mark: &Punct) -> bool
+{
+    mark.as_char() == '=' && mark.spacing() == Spacing::Alone
+}

@@ -1,0 +1,246 @@
+// Made from crates/pm_stream/src/parse.rt by rust/erase: change that file, not this one.
+//! The parser: from the pieces of a text to its token trees.
+
+use crate::shim::prelude::Vec;
+
+use crate::pm_stream::doc::doc_group;
+use crate::pm_stream::stream::{Group, TokenStream, TokenTree};
+use crate::lexical::{Piece, PieceKind, past_white, piece_at};
+use crate::pm_span::parts::{add_file, allocator, fits, span_of};
+use crate::pm_span::{SourceMap, Span};
+use crate::pm_token::parts::{fault, ident, literal, punct};
+use crate::pm_token::{Delimiter, ParseError, Spacing};
+use crate::shim::alloc::{AllocError, Global};
+
+impl TokenStream {
+    /// The token trees of a text, which becomes the next file of the map (`parses-to`). The stream is
+    /// `built`.
+    ///
+    /// Spans count characters, from the position on where the file begins, and the map holds the
+    /// span of each tree. A fault (`fault`) has an empty span: where no piece of the grammar stands,
+    /// before a closer that doesn't close the innermost open group, or else before the last opener
+    /// that no closer matches. The text is a file of the map then too, so that the place can be
+    /// asked. `MapFull` is answered exactly where the text would end past the map's limit (`fits`),
+    /// and `Memory` where a growth was refused; both leave the map as it was.
+    ///
+    /// In a new map `a += b` gives four trees, the first the identifier `a` at 1..2. The fault of
+    /// `(]` is 2..2, that of `a ( b` is 3..3.
+    pub fn from_str(text: &str, map: &mut SourceMap) -> Result<TokenStream, ParseError>
+
+        // The fault has one place, and the map holds it.
+    {
+        let Some(lo) = fits(map, text) else {
+            return Err(ParseError::MapFull);
+        };
+        let parsed = parse(allocator(map), lo, text);
+        if let Err(ParseError::Memory(_)) = &parsed {
+            return parsed;
+        }
+        add_file(map, text)?;
+        parsed
+    }
+
+    /// The token trees of a text that becomes no file of a map (`parses-to`). The stream is `built`.
+    ///
+    /// Answers and spans are those of [`from_str`](TokenStream::from_str) with a new map, but no map holds
+    /// the spans. It takes no copy of the text and looks for no lines, so what only prints trees reads a text
+    /// by it in less time. Where a fault stands is asked of a map: `from_str` finds it at the same position.
+    ///
+    /// `a += b` gives four trees, the first the identifier `a` at 1..2. The fault of `(]` is 2..2.
+    pub fn parse_unmapped(alloc: Global, text: &str) -> Result<TokenStream, ParseError>
+    {
+        let Some(lo) = fits(&SourceMap::new(alloc), text) else {
+            return Err(ParseError::MapFull);
+        };
+        parse(alloc, lo, text)
+    }
+}
+
+/// The trees of a text that begins at the position `base`.
+pub(crate) fn parse(alloc: Global, base: u32, text: &str) -> Result<TokenStream, ParseError>
+{
+    let mut reading = Reading::new(alloc);
+    let mut rest = text;
+    let mut at = base;
+    let mut first = true;
+    while let Some(piece) = piece_at(rest, first) {
+        reading.take(piece, rest, at)?;
+        let behind = &rest[piece.bytes..];
+        // White characters are gaps, which say nothing, and are passed over all at once.
+        let (after, white) = past_white(behind);
+        rest = after;
+        at += (piece.chars + white) as u32;
+        first = false;
+    }
+    reading.end(rest, at)
+}
+
+/// What was read so far.
+struct Reading {
+    alloc: Global,
+    /// The groups that are open, the innermost last.
+    frames: Vec<Frame>,
+    /// The trees of all of them and those outside every group, the innermost group's last.
+    trees: Vec<TokenTree>,
+    // Each group's trees come after those before it.
+}
+
+/// A group whose closer is still to come.
+struct Frame {
+    /// How many trees are before its own.
+    before: usize,
+    /// What stands around its trees.
+    delimiter: Delimiter,
+    /// Where its opener begins.
+    lo: u32,
+}
+
+impl Reading {
+    /// Nothing was read.
+    fn new(alloc: Global) -> Reading
+    {
+        Reading {
+            alloc,
+            frames: Vec::new(alloc),
+            trees: Vec::new(alloc),
+        }
+    }
+
+    /// Takes the piece at the front of the text, which begins at `lo`. A closer that doesn't close
+    /// the innermost open group is a fault.
+    fn take(&mut self, piece: Piece, text: &str, lo: u32) -> Result<(), ParseError>
+    {
+        let hi = lo + piece.chars as u32;
+        match piece.kind {
+            PieceKind::Opener(c) => self.open(delimiter(c), lo)?,
+            PieceKind::Closer(c) => self.close(delimiter(c), lo, hi)?,
+            PieceKind::Doc { inner, text } => self.push_doc(inner, text, span_of(lo, hi))?,
+            PieceKind::Mark { joint, mark } => self.push_mark(mark, joint, span_of(lo, hi))?,
+            PieceKind::Name { raw, name } => {
+                let name = ident(self.alloc, name, raw, span_of(lo, hi))?;
+                self.push(TokenTree::Ident(name))?;
+            }
+            PieceKind::Literal => self.push_literal(&text[..piece.bytes], span_of(lo, hi))?,
+            PieceKind::FrontMark | PieceKind::Gap => {}
+        }
+        Ok(())
+    }
+
+    /// Takes a tree that may be put into a stream.
+    // Inlined so that the tree is made in its place in the list.
+    #[inline(always)]
+    fn push(&mut self, tree: TokenTree) -> Result<(), AllocError>
+    {
+        // Proofs learn by it that the tree is built.
+        let _ = tree.span();
+        self.trees.push(tree)?;
+        Ok(())
+    }
+
+    /// Takes a mark.
+    fn push_mark(&mut self, mark: char, joint: bool, span: Span) -> Result<(), AllocError>
+    {
+        self.push(TokenTree::Punct(punct(mark, spacing(joint), span)))
+    }
+
+    /// Takes a literal of this text, by the rule `literal-token`.
+    // Out of line, as are doc comments and closers: most pieces are none of these, and pass by at less cost.
+    #[inline(never)]
+    fn push_literal(&mut self, text: &str, span: Span) -> Result<(), AllocError>
+    {
+        let literal = literal(self.alloc, text, span)?;
+        self.push(TokenTree::Literal(literal))
+    }
+
+    /// Takes a doc comment: the mark `#`, the mark `!` if it is inner, and the group of its text.
+    #[inline(never)]
+    fn push_doc(&mut self, inner: bool, text: &str, span: Span) -> Result<(), AllocError>
+    {
+        self.push_mark('#', false, span)?;
+        if inner {
+            self.push_mark('!', false, span)?;
+        }
+        let group = doc_group(self.alloc, text, span)?;
+        self.push(TokenTree::Group(group))
+    }
+
+    /// Takes an opener that begins at `lo`.
+    fn open(&mut self, delimiter: Delimiter, lo: u32) -> Result<(), AllocError>
+    {
+        let before = self.trees.len();
+        self.frames.push(Frame {
+            before,
+            delimiter,
+            lo,
+        })?;
+        Ok(())
+    }
+
+    /// Takes a closer from `lo` to `hi`. It is a fault unless it closes the innermost open group.
+    #[inline(never)]
+    fn close(&mut self, delimiter: Delimiter, lo: u32, hi: u32) -> Result<(), ParseError>
+    {
+        let Some(frame) = self.frames.pop() else {
+            return Err(fault_at(lo));
+        };
+        if frame.delimiter != delimiter {
+            return Err(fault_at(lo));
+        }
+        let trees = self.trees.split_off(frame.before)?;
+        let stream = TokenStream::from_vec(self.alloc, trees)?;
+        let group = Group::from_parts(delimiter, stream, span_of(frame.lo, hi));
+        self.trees.push(TokenTree::Group(group))?;
+        Ok(())
+    }
+
+    /// The stream of what was read, where nothing is left of the text. What is left at the position
+    /// is a fault there, as no piece stands at its front.
+    fn end(self, rest: &str, at: u32) -> Result<TokenStream, ParseError>
+    {
+        if !rest.is_empty() {
+            return Err(fault_at(at));
+        }
+        self.finish()
+    }
+
+    /// The stream of what was read. A group that is still open is a fault: where the innermost
+    /// begins.
+    fn finish(self) -> Result<TokenStream, ParseError>
+    {
+        let Reading {
+            alloc,
+            mut frames,
+            trees,
+        } = self;
+        if let Some(frame) = frames.pop() {
+            return Err(fault_at(frame.lo));
+        }
+        Ok(TokenStream::from_vec(alloc, trees)?)
+    }
+}
+
+/// The delimiter of which `c` is the opener or the closer.
+pub(crate) fn delimiter(c: char) -> Delimiter
+{
+    match c {
+        '(' | ')' => Delimiter::Parenthesis,
+        '{' | '}' => Delimiter::Brace,
+        _ => Delimiter::Bracket,
+    }
+}
+
+/// The spacing of a mark.
+fn spacing(joint: bool) -> Spacing
+{
+    if joint {
+        Spacing::Joint
+    } else {
+        Spacing::Alone
+    }
+}
+
+/// The fault at a position.
+pub(crate) fn fault_at(position: u32) -> ParseError
+{
+    ParseError::Lex(fault(span_of(position, position)))
+}

@@ -1,0 +1,32 @@
+// Made from crates/pm_stream/src/parts.rt by rust/erase: change that file, not this one.
+//! What the crates above make streams of, and users don't.
+
+use crate::shim::prelude::Vec;
+
+use crate::pm_stream::parse::parse;
+use crate::pm_stream::stream::{Group, TokenStream, TokenTree};
+use crate::pm_span::Span;
+use crate::pm_token::{Delimiter, ParseError};
+use crate::shim::alloc::{AllocError, Global};
+
+/// The group of these parts.
+pub fn group(delimiter: Delimiter, stream: TokenStream, span: Span) -> Group
+{
+    Group::from_parts(delimiter, stream, span)
+}
+
+/// The stream of these trees. Fails where memory runs out.
+pub fn stream(alloc: Global, trees: Vec<TokenTree>) -> Result<TokenStream, AllocError>
+{
+    TokenStream::from_vec(alloc, trees)
+}
+
+/// The token trees of a text that is no file of a map (`parses-to`). Spans count its characters from `base` on, and no
+/// map holds them, but for chance. A fault has an empty span, where `TokenStream::from_str` would find it in a file that
+/// begins at `base`. `MapFull` is never answered, and `Memory` where a growth was refused.
+///
+/// It takes no copy of the text.
+pub fn parse_at(alloc: Global, base: u32, text: &str) -> Result<TokenStream, ParseError>
+{
+    parse(alloc, base, text)
+}

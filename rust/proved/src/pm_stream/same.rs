@@ -1,0 +1,88 @@
+// Made from crates/pm_stream/src/same.rt by rust/erase: change that file, not this one.
+//! Whether two streams have the same tokens.
+//!
+//! Groups may nest as deep as a text is long, so what is left after a group stands in a list and
+//! not on the stack. If memory for the list is refused, the function calls itself for the group,
+//! so that it answers all the same.
+
+use crate::shim::prelude::Vec;
+
+use crate::pm_stream::stream::{TokenStream, TokenTree};
+use crate::pm_token::{Literal, Punct};
+use crate::shim::alloc::Global;
+
+// Two lists of trees that are to be compared.
+#[derive(Clone, Copy)]
+struct Lists<'a> {
+    trees: &'a [TokenTree],
+    others: &'a [TokenTree],
+}
+
+impl TokenStream {
+    /// Whether both have the `same` trees but for their spans: whether they are equal once every span
+    /// in them, at any depth, is 0..0.
+    ///
+    /// It always answers, whatever memory there is, and in time proportional to the number of trees
+    /// of the smaller one and the length of their texts.
+    ///
+    /// What `a` and `  a` parse to is the same. `(a)` and `[a]` are not, nor are `+ =` and `+=`, where
+    /// one `+` is Alone and the other Joint.
+    pub fn same_tokens(&self, other: &TokenStream) -> bool
+    {
+        are_same(self.alloc(), self.trees(), other.trees())
+    }
+}
+
+// Whether these trees are those of the other list, up to spans.
+fn are_same(alloc: Global, trees: &[TokenTree], others: &[TokenTree]) -> bool
+{
+    let mut outer = Vec::new(alloc);
+    let mut left = Lists { trees, others };
+    loop {
+        let Some((tree, trees)) = left.trees.split_first() else {
+            if !left.others.is_empty() {
+                return false;
+            }
+            let Some(after) = outer.pop() else {
+                return true;
+            };
+            left = after;
+            continue;
+        };
+        let Some((other, others)) = left.others.split_first() else {
+            return false;
+        };
+        if !begin_alike(tree, other) {
+            return false;
+        }
+        let after = Lists { trees, others };
+        let inside = Lists {
+            trees: tree.inside(),
+            others: other.inside(),
+        };
+        left = after;
+        if inside.trees.is_empty() && inside.others.is_empty() {
+            continue;
+        }
+        if outer.push(after).is_ok() {
+            left = inside;
+        } else if !are_same(alloc, inside.trees, inside.others) {
+            return false;
+        }
+    }
+}
+
+// Whether both are the same token, or groups with the same delimiter.
+fn begin_alike(tree: &TokenTree, other: &TokenTree) -> bool
+{
+    match (tree, other) {
+        (TokenTree::Group(group), TokenTree::Group(other)) => group.delimiter()
+            == other.delimiter(),
+        (TokenTree::Ident(ident), TokenTree::Ident(other)) => *ident == *other,
+        (TokenTree::Punct(punct), TokenTree::Punct(other)) => {
+            punct.as_char() == other.as_char() && punct.spacing() == other.spacing()
+        }
+        (TokenTree::Literal(literal), TokenTree::Literal(other)) => literal.text() == other.text(),
+        _ => false,
+    }
+}

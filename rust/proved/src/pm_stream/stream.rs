@@ -1,0 +1,291 @@
+// Made from crates/pm_stream/src/stream.rt by rust/erase: change that file, not this one.
+//! Streams of token trees.
+
+use crate::shim::prelude::{Clone, Vec};
+
+mod changes;
+mod clones;
+mod conversions;
+mod owned;
+
+use crate::pm_span::Span;
+use crate::pm_span::parts::bounds;
+use crate::pm_token::{Delimiter, Ident, Literal, Punct};
+use crate::shim::alloc::{AllocError, Global};
+use crate::shim::rc::Rc;
+
+/// Token trees in order, each a token or a group of trees between delimiters.
+pub struct TokenStream {
+    alloc: Global,
+    trees: Option<Rc<Vec<TokenTree>>>,
+}
+
+/// A token, or a group of trees between delimiters.
+pub enum TokenTree {
+    /// Trees between delimiters.
+    Group(Group),
+    /// An identifier or a keyword.
+    Ident(Ident),
+    /// A punctuation mark.
+    Punct(Punct),
+    /// A literal.
+    Literal(Literal),
+}
+
+/// Trees between delimiters.
+pub struct Group {
+    delimiter: Delimiter,
+    stream: TokenStream,
+    span: Span,
+}
+
+// A walk from the last tree to the first, into each group that has no other owner. The way back is
+// kept in the lists themselves, in the place of the group that the walk went into: so a stream is
+// dropped in little stack and no memory, however deep its groups nest.
+impl Drop for TokenStream {
+    fn drop(&mut self) {
+        let (alloc, trees) = (self.alloc, self.trees.take());
+        let Some(mut shared) = trees else {
+            return;
+        };
+        let Some(last) = take_last(&mut shared) else {
+            return;
+        };
+        let mut here = TokenStream {
+            alloc,
+            trees: Some(shared),
+        };
+        let mut outer = last.into_inside(alloc);
+        // A step takes a tree, or the way back that an earlier step put in its place. So there are at
+        // most two for each tree, and one that ends the walk: fewer than the bound, which no memory has
+        // trees for. It spares a measure of the walk; what it left would be dropped by other walks.
+        for _ in 0..u64::MAX {
+            let Some(tree) = here.take_last() else {
+                let Some(way) = outer.take_last() else {
+                    return;
+                };
+                here = outer;
+                outer = way.into_inside(alloc);
+                continue;
+            };
+            let TokenTree::Group(group) = tree else {
+                continue;
+            };
+            let inside = group.stream;
+            if inside.is_empty() {
+                continue;
+            }
+            match here.push_outer(outer) {
+                Ok(()) => {
+                    outer = here;
+                    here = inside;
+                }
+                Err(back) => outer = back,
+            }
+        }
+    }
+}
+
+// The last tree of a list that has no other owner.
+fn take_last(shared: &mut Rc<Vec<TokenTree>>) -> Option<TokenTree>
+{
+    match Rc::get_mut(shared) {
+        Some(own) => own.pop(),
+        None => None,
+    }
+}
+
+// Puts a tree after the others, in a list that has no other owner.
+fn put_last(shared: &mut Rc<Vec<TokenTree>>, tree: TokenTree) -> Result<(), TokenTree>
+{
+    match Rc::get_mut(shared) {
+        Some(own) => match own.push(tree) {
+            Ok(()) => Ok(()),
+            Err(refused) => Err(refused.value),
+        },
+        None => Err(tree),
+    }
+}
+
+impl TokenStream {
+    /// A stream with no trees. It takes no memory.
+    pub fn new(alloc: Global) -> TokenStream
+    {
+        TokenStream { alloc, trees: None }
+    }
+
+    /// The stream of these trees. An empty list takes no memory; any other is moved into memory that
+    /// streams share, and is lost where that is refused.
+    pub(crate) fn from_vec(alloc: Global, trees: Vec<TokenTree>) -> Result<TokenStream, AllocError>
+    {
+        if trees.is_empty() {
+            return Ok(TokenStream::new(alloc));
+        }
+        Ok(TokenStream {
+            alloc,
+            trees: Some(Rc::new(alloc, trees)?),
+        })
+    }
+
+    /// Whether it has no trees.
+    pub fn is_empty(&self) -> bool
+    {
+        self.trees().is_empty()
+    }
+
+    /// Its trees, in order. Proofs learn by it what every stream is (`built`), and that each of its
+    /// trees may be put into a stream again. A map that holds all spans of the stream holds those of
+    /// each tree.
+    pub fn trees(&self) -> &[TokenTree]
+    {
+        listed(&self.trees)
+    }
+
+    // The last tree, where the trees have no other owner.
+    fn take_last(&mut self) -> Option<TokenTree>
+    {
+        let Some(shared) = &mut self.trees else {
+            return None;
+        };
+        take_last(shared)
+    }
+
+    // Puts a group of the outer trees after its own, or gives them back.
+    fn push_outer(&mut self, outer: TokenStream) -> Result<(), TokenStream>
+    {
+        let alloc = self.alloc;
+        let Some(shared) = &mut self.trees else {
+            return Err(outer);
+        };
+        outer.built();
+        let way = Group {
+            delimiter: Delimiter::None,
+            stream: outer,
+            span: Span::call_site(),
+        };
+        if let Err(back) = put_last(shared, TokenTree::Group(way)) {
+            return Err(back.into_inside(alloc));
+        }
+        Ok(())
+    }
+
+    /// Where its memory comes from.
+    pub(crate) fn alloc(&self) -> Global {
+        self.alloc
+    }
+
+    // What is true of every stream. It computes nothing: it hands the type's invariant to proofs.
+    fn built(&self)
+    {
+        let _ = &self.trees;
+    }
+}
+
+fn listed(trees: &Option<Rc<Vec<TokenTree>>>) -> &[TokenTree]
+{
+    match trees {
+        Some(trees) => trees.as_slice(),
+        None => &[],
+    }
+}
+
+impl TokenTree {
+    /// Where it stands. Proofs learn by it that a tree that may be put into a stream is `built`.
+    pub fn span(&self) -> Span
+    {
+        match self {
+            TokenTree::Group(group) => group.span(),
+            TokenTree::Ident(ident) => ident.span(),
+            TokenTree::Punct(punct) => punct.span(),
+            TokenTree::Literal(literal) => literal.span(),
+        }
+    }
+
+    /// Sets where the tree stands, and changes nothing else. The trees in a group keep their spans.
+    pub fn set_span(&mut self, span: Span)
+    {
+        match self {
+            TokenTree::Group(group) => group.set_span(span),
+            TokenTree::Ident(ident) => ident.set_span(span),
+            TokenTree::Punct(punct) => punct.set_span(span),
+            TokenTree::Literal(literal) => literal.set_span(span),
+        }
+    }
+
+    /// The trees within a group, and none of a token.
+    pub(crate) fn inside(&self) -> &[TokenTree]
+    {
+        match self {
+            TokenTree::Group(group) => group.stream.trees(),
+            TokenTree::Ident(_) | TokenTree::Punct(_) | TokenTree::Literal(_) => &[],
+        }
+    }
+
+    // The trees within a group, and none of a token.
+    fn into_inside(self, alloc: Global) -> TokenStream
+    {
+        match self {
+            TokenTree::Group(group) => group.stream,
+            TokenTree::Ident(_) | TokenTree::Punct(_) | TokenTree::Literal(_) => TokenStream::new(
+                alloc,
+            ),
+        }
+    }
+}
+
+impl Group {
+    /// The group of these parts.
+    pub(crate) fn from_parts(delimiter: Delimiter, stream: TokenStream, span: Span) -> Group
+    {
+        Group {
+            delimiter,
+            stream,
+            span,
+        }
+    }
+
+    /// A group of these trees between these delimiters, with the span 0..0. It takes no memory.
+    ///
+    /// Of `Delimiter::Parenthesis` and the stream `x` it is `(x)`. The trees keep their spans.
+    pub fn new(delimiter: Delimiter, stream: TokenStream) -> Group
+    {
+        Group::from_parts(delimiter, stream, Span::call_site())
+    }
+
+    /// What stands around its trees.
+    pub fn delimiter(&self) -> Delimiter
+    {
+        self.delimiter
+    }
+
+    /// Its trees, without the delimiters. They are `built`, as those of every stream.
+    pub fn stream_ref(&self) -> &TokenStream
+    {
+        self.stream.built();
+        &self.stream
+    }
+
+    /// Its trees, without the delimiters, as a stream of their own: `x` of `(x)`.
+    ///
+    /// They are shared until one of the two is changed, so that this takes no memory. It fails only where
+    /// the trees have more owners than can be counted. [`stream_ref`](Group::stream_ref) lends them.
+    pub fn stream(&self) -> Result<TokenStream, AllocError>
+    {
+        self.stream.clone()
+    }
+
+    /// Where it stands, delimiters and all. Proofs learn by it what every group is (`built`).
+    pub fn span(&self) -> Span
+    {
+        // They compute nothing: proofs learn what is inside, and that the span is in order.
+        self.stream.built();
+        bounds(self.span);
+        self.span
+    }
+
+    /// Sets where the group stands, and changes nothing else. The trees in it keep their spans.
+    pub fn set_span(&mut self, span: Span)
+    {
+        self.span = span;
+    }
+}

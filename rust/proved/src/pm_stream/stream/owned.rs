@@ -1,0 +1,33 @@
+// Made from crates/pm_stream/src/stream/owned.rt by rust/erase: change that file, not this one.
+//! The trees of a stream as a list of one owner.
+
+use crate::shim::prelude::Vec;
+
+use super::{TokenStream, TokenTree};
+use crate::shim::alloc::{AllocError, Global};
+use crate::shim::rc::Rc;
+
+impl TokenStream {
+    /// Its trees, in order. A list that no other stream shares is taken over. Another is copied, which
+    /// fails where memory runs out.
+    pub(crate) fn into_list(self) -> Result<Vec<TokenTree>, AllocError>
+    {
+        let (alloc, trees) = { let mut whole = self; (whole.alloc, whole.trees.take()) };
+        owned(alloc, trees)
+    }
+}
+
+// The trees that a stream holds: the list itself where this was its last owner, and else a copy.
+fn owned(alloc: Global, trees: Option<Rc<Vec<TokenTree>>>) -> Result<Vec<TokenTree>, AllocError>
+{
+    match trees {
+        None => Ok(Vec::new(alloc)),
+        Some(shared) => unshared(shared),
+    }
+}
+
+/// The list itself where this was its last owner, and else a copy.
+pub(super) fn unshared(shared: Rc<Vec<TokenTree>>) -> Result<Vec<TokenTree>, AllocError>
+{
+    Rc::unwrap_or_clone(shared)
+}

@@ -1,0 +1,77 @@
+// Made from crates/pm_token/src/errors.rt by rust/erase: change that file, not this one.
+//! Why a text is refused.
+
+use crate::pm_span::Span;
+use crate::shim::alloc::{AllocError, AllocFailed};
+use crate::shim::error::Error;
+use crate::shim::fmt;
+
+/// A text that couldn't be read: its fault, by the place where it stands.
+#[derive(Debug)]
+pub struct LexError {
+    span: Span,
+}
+
+impl LexError {
+    pub(crate) fn at(span: Span) -> LexError
+    {
+        LexError { span }
+    }
+
+    /// Where the fault stands, in characters. That of a token stream has an empty span, by the rule
+    /// `fault`: before the character that can't be read, before the closer that doesn't close the
+    /// innermost open group, or before the last opener that no closer matches. That of a literal has
+    /// the span 0..0, which tells no place.
+    pub fn span(&self) -> Span
+    {
+        self.span
+    }
+}
+
+impl fmt::Display for LexError {
+    fn fmt<W: fmt::Write>(&self, f: &mut fmt::Formatter<W>) -> fmt::Result {
+        f.write_str("cannot parse string into token stream")
+    }
+}
+
+crate::shim::display!(LexError);
+
+impl Error for LexError {}
+
+/// Why a text was not parsed.
+#[derive(Debug)]
+pub enum ParseError {
+    /// The text has a fault, and is a file of the map. The fault of a stream says its place there;
+    /// that of a literal is 0..0.
+    Lex(LexError),
+    /// The text would end past the map's limit (`fits`). The map is as before.
+    MapFull,
+    /// Memory ran out. The map is as before.
+    Memory(AllocError),
+}
+
+impl fmt::Display for ParseError {
+    fn fmt<W: fmt::Write>(&self, f: &mut fmt::Formatter<W>) -> fmt::Result {
+        match self {
+            ParseError::Lex(error) => error.fmt(f),
+            ParseError::MapFull => f.write_str("map full"),
+            ParseError::Memory(_) => f.write_str("no memory"),
+        }
+    }
+}
+
+crate::shim::display!(ParseError);
+
+impl Error for ParseError {}
+
+impl From<AllocError> for ParseError {
+    fn from(error: AllocError) -> ParseError {
+        ParseError::Memory(error)
+    }
+}
+
+impl<T> From<AllocFailed<T>> for ParseError {
+    fn from(error: AllocFailed<T>) -> ParseError {
+        ParseError::Memory(AllocError::from(error))
+    }
+}

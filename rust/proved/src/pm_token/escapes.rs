@@ -1,0 +1,195 @@
+// Made from crates/pm_token/src/escapes.rt by rust/erase: change that file, not this one.
+//! How literals between quotes are written.
+
+use crate::shim::prelude::String;
+
+mod bytes;
+mod c_strings;
+
+use crate::pm_token::symbols::Symbol;
+use crate::shim::alloc::{AllocError, Global};
+use crate::shim::ucd_category::GeneralCategory;
+
+/// A text while it is written, seen as its characters.
+pub struct Draft {
+    text: String,
+}
+
+impl Draft {
+    /// Nothing yet.
+    pub(crate) fn new(alloc: Global) -> Draft
+    {
+        Draft {
+            text: String::new(alloc),
+        }
+    }
+
+    /// Nothing yet, with room for so many bytes. Fails where memory runs out.
+    pub fn with_room(alloc: Global, bytes: usize) -> Result<Draft, AllocError>
+    {
+        Ok(Draft {
+            text: String::with_capacity(alloc, bytes)?,
+        })
+    }
+
+    /// What is written, as the text of a token. Fails where memory runs out.
+    pub(crate) fn finish(self, alloc: Global) -> Result<Symbol, AllocError>
+    {
+        Symbol::from_string(alloc, self.text)
+    }
+
+    /// The text. It takes no memory.
+    pub fn into_string(self) -> String
+    {
+        self.text
+    }
+
+    /// Writes the text. Fails where memory runs out.
+    pub fn push_text(&mut self, text: &str) -> Result<(), AllocError>
+    {
+        self.text.push_str(text)
+    }
+
+    /// Writes the string literal of the text. Fails where memory runs out.
+    pub fn push_string(&mut self, text: &str) -> Result<(), AllocError>
+    {
+        self.push('"')?;
+        self.push_content('"', text)?;
+        self.push('"')
+    }
+
+    /// Writes the character.
+    pub fn push(&mut self, c: char) -> Result<(), AllocError>
+    {
+        self.text.push(c)
+    }
+
+    /// Writes a backslash and the letter.
+    pub(crate) fn push_short(&mut self, letter: char) -> Result<(), AllocError>
+    {
+        self.push('\\')?;
+        self.push(letter)
+    }
+
+    /// Writes `\x00`.
+    pub(crate) fn push_long_zero(&mut self) -> Result<(), AllocError>
+    {
+        self.push_short('x')?;
+        self.push('0')?;
+        self.push('0')
+    }
+
+    /// Writes the character by its number, as `\u{1f}`.
+    fn push_unicode(&mut self, c: char) -> Result<(), AllocError>
+    {
+        for unit in c.escape_unicode() {
+            self.push(unit)?;
+        }
+        Ok(())
+    }
+
+    /// Writes a character of a string that has no short escape.
+    fn push_char(&mut self, c: char) -> Result<(), AllocError>
+    {
+        if is_bare(c) {
+            self.push(c)
+        } else {
+            self.push_unicode(c)
+        }
+    }
+
+    /// Writes the character between these quotes, where the rest of the content follows.
+    pub(crate) fn push_escaped(
+        &mut self,
+        quote: char,
+        c: char,
+        rest: &str,
+    ) -> Result<(), AllocError>
+    {
+        match c {
+            '\0' if begins_octal(rest) => self.push_long_zero(),
+            '\0' => self.push_short('0'),
+            '\t' => self.push_short('t'),
+            '\r' => self.push_short('r'),
+            '\n' => self.push_short('n'),
+            '\\' => self.push_short('\\'),
+            _ if c == quote => self.push_short(quote),
+            _ => self.push_char(c),
+        }
+    }
+
+    /// Writes the front of the text that stands for itself between these quotes, as far as it is ASCII, and answers
+    /// what follows it.
+    fn push_plain<'a>(&mut self, quote: char, text: &'a str) -> Result<&'a str, AllocError>
+    {
+        let size = count_plain(text.as_bytes(), quote);
+        let (front, rest) = text.split_at(size);
+        self.text.push_str(front)?;
+        Ok(rest)
+    }
+
+    /// Writes the characters of the text between these quotes.
+    pub fn push_content(&mut self, quote: char, text: &str) -> Result<(), AllocError>
+    {
+        let mut rest = self.push_plain(quote, text)?.chars();
+        while let Some(c) = rest.next() {
+            self.push_escaped(quote, c, rest.as_str())?;
+            rest = self.push_plain(quote, rest.as_str())?.chars();
+        }
+        Ok(())
+    }
+}
+
+/// How many bytes at the front are ASCII characters that stand for themselves between these quotes.
+fn count_plain(bytes: &[u8], quote: char) -> usize
+{
+    let mut count = 0;
+    while count < bytes.len() {
+        if !stands_for_itself(bytes[count], quote) {
+            break;
+        }
+        count += 1;
+    }
+    count
+}
+
+/// Whether the byte is an ASCII character that prints and is neither this quote nor a backslash.
+fn stands_for_itself(byte: u8, quote: char) -> bool
+{
+    byte >= b' ' && byte < 0x7F && byte != b'\\' && char::from(byte) != quote
+}
+
+/// Whether the text begins with one of the digits 0 to 7.
+fn begins_octal(text: &str) -> bool
+{
+    match text.chars().next() {
+        Some(c) => c.is_digit(8),
+        None => false,
+    }
+}
+
+/// Whether the character stands for itself, by the rule `bare`.
+fn is_bare(c: char) -> bool
+{
+    if c.is_ascii() {
+        return c >= ' ' && c != '\u{7F}';
+    }
+    !hides(GeneralCategory::for_char(c))
+}
+
+/// Whether characters of the category show on their neighbours or not at all, by the rule `hidden`.
+fn hides(category: GeneralCategory) -> bool
+{
+    matches!(
+        category,
+        GeneralCategory::NonspacingMark
+            | GeneralCategory::EnclosingMark
+            | GeneralCategory::SpaceSeparator
+            | GeneralCategory::LineSeparator
+            | GeneralCategory::ParagraphSeparator
+            | GeneralCategory::Control
+            | GeneralCategory::Format
+            | GeneralCategory::PrivateUse
+            | GeneralCategory::Unassigned
+    )
+}

@@ -1,0 +1,127 @@
+// Made from crates/pm_token/src/identifiers.rt by rust/erase: change that file, not this one.
+//! Identifiers.
+
+use crate::shim::prelude::Clone;
+
+mod comparisons;
+mod faults;
+
+use crate::pm_token::parts::show_span;
+use crate::pm_token::symbols::Name;
+pub use faults::IdentError;
+use faults::fault;
+use crate::pm_span::Span;
+use crate::pm_span::parts::bounds;
+use crate::shim::alloc::{AllocError, Global};
+use crate::shim::fmt;
+
+/// An identifier or a keyword, raw or plain.
+pub struct Ident {
+    name: Name,
+    span: Span,
+}
+
+impl Ident {
+    /// The identifier of this name, which has no `r#`.
+    pub(crate) fn from_parts(
+        alloc: Global,
+        name: &str,
+        raw: bool,
+        span: Span,
+    ) -> Result<Ident, AllocError>
+    {
+        Ok(Ident {
+            name: Name::new(alloc, name, raw)?,
+            span,
+        })
+    }
+
+    /// The identifier of this name, if the name has no fault.
+    fn checked(alloc: Global, name: &str, raw: bool, span: Span) -> Result<Ident, IdentError>
+    {
+        match fault(name, raw) {
+            Some(error) => Err(error),
+            None => Ok(Ident::from_parts(alloc, name, raw, span)?),
+        }
+    }
+
+    /// The plain identifier of this name, which stands at this span.
+    ///
+    /// Refused, by the rule `identifier-fault`, with the first of these that holds: `Empty` where the
+    /// name has no character; `Number` where it has ASCII digits only; `Invalid` where it isn't a
+    /// character that may begin an identifier and then characters that may go on with one. Only a
+    /// name without a fault is refused for `Memory`. `255` is a `Number`, and `r#a` is `Invalid`.
+    pub fn new(alloc: Global, name: &str, span: Span) -> Result<Ident, IdentError>
+    {
+        Ident::checked(alloc, name, false, span)
+    }
+
+    /// The raw identifier of this name, given without `r#`, which stands at this span.
+    ///
+    /// Refused as by [`new`](Ident::new), and then with `Reserved` where the name is `_`, `super`,
+    /// `self`, `Self` or `crate`. `fn` makes `r#fn`.
+    pub fn new_raw(alloc: Global, name: &str, span: Span) -> Result<Ident, IdentError>
+    {
+        Ident::checked(alloc, name, true, span)
+    }
+
+    /// Whether `text` is how the identifier is written: a raw `a` is `r#a`, and not `a`.
+    pub fn eq_str(&self, text: &str) -> bool
+    {
+        let name = self.name.as_str();
+        if !self.name.is_raw() {
+            return name == text;
+        }
+        match text.strip_prefix("r#") {
+            Some(rest) => name == rest,
+            None => false,
+        }
+    }
+
+    /// Where it stands. Proofs learn by it what every identifier is (`built`).
+    pub fn span(&self) -> Span
+    {
+        let Ident { span, .. } = self;
+        // It computes nothing: proofs learn that the span is in order.
+        bounds(*span);
+        *span
+    }
+
+    /// Sets where it stands.
+    pub fn set_span(&mut self, span: Span)
+    {
+        self.span = span;
+    }
+}
+
+/// The same identifier, with the same span. A name of more than 22 bytes takes memory, and the copy fails where that
+/// runs out.
+impl Clone for Ident {
+    fn clone(&self) -> Result<Ident, AllocError> {
+        Ok(Ident {
+            name: self.name.clone()?,
+            span: self.span,
+        })
+    }
+}
+
+impl fmt::Display for Ident {
+    fn fmt<W: fmt::Write>(&self, f: &mut fmt::Formatter<W>) -> fmt::Result {
+        if self.name.is_raw() {
+            f.write_str("r#")?;
+        }
+        self.name.fmt(f)
+    }
+}
+
+crate::shim::display!(Ident);
+
+/// Shows the identifier as it is written, and its span unless that is 0..0.
+impl fmt::Debug for Ident {
+    fn fmt(&self, f: &mut core::fmt::Formatter<'_>) -> fmt::Result {
+        let mut debug = f.debug_struct("Ident");
+        debug.field("sym", &format_args!("{self}"));
+        show_span(&mut debug, self.span);
+        debug.finish()
+    }
+}

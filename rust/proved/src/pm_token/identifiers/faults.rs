@@ -1,0 +1,81 @@
+// Made from crates/pm_token/src/identifiers/faults.rt by rust/erase: change that file, not this one.
+//! Which names identifiers refuse.
+
+use crate::lexical::{is_reserved, name_at};
+use crate::shim::alloc::AllocError;
+use crate::shim::error::Error;
+use crate::shim::fmt;
+
+/// Why an identifier was not made: the first of these that holds of its name.
+#[derive(Debug)]
+pub enum IdentError {
+    /// It has no character.
+    Empty,
+    /// It has ASCII digits only, as `255`.
+    Number,
+    /// It isn't a character that may begin an identifier and then characters that may go on with
+    /// one, as `a#`.
+    Invalid,
+    /// It is `_`, `super`, `self`, `Self` or `crate`, which no raw identifier is called.
+    Reserved,
+    /// Memory ran out, and none of the others holds.
+    Memory(AllocError),
+}
+
+impl fmt::Display for IdentError {
+    fn fmt<W: fmt::Write>(&self, f: &mut fmt::Formatter<W>) -> fmt::Result {
+        match self {
+            IdentError::Empty => f.write_str("an identifier has at least one character"),
+            IdentError::Number => f.write_str("a number is no identifier"),
+            IdentError::Invalid => f.write_str("not a valid identifier"),
+            IdentError::Reserved => f.write_str("this name is reserved, and can't be raw"),
+            IdentError::Memory(_) => f.write_str("no memory"),
+        }
+    }
+}
+
+crate::shim::display!(IdentError);
+
+impl Error for IdentError {}
+
+impl From<AllocError> for IdentError {
+    fn from(error: AllocError) -> IdentError {
+        IdentError::Memory(error)
+    }
+}
+
+/// Whether the text has no character.
+fn is_empty(text: &str) -> bool
+{
+    text.is_empty()
+}
+
+/// Whether the text has ASCII digits only.
+fn is_number(text: &str) -> bool
+{
+    text.chars().all(|c| c.is_ascii_digit())
+}
+
+/// Whether the whole text is a name.
+fn is_name(text: &str) -> bool
+{
+    name_at(text) == Some(text.len())
+}
+
+/// Why no identifier has the name, by the rule `identifier-fault`.
+pub(crate) fn fault(name: &str, raw: bool) -> Option<IdentError>
+{
+    if is_empty(name) {
+        return Some(IdentError::Empty);
+    }
+    if is_number(name) {
+        return Some(IdentError::Number);
+    }
+    if !is_name(name) {
+        return Some(IdentError::Invalid);
+    }
+    if raw && is_reserved(name) {
+        return Some(IdentError::Reserved);
+    }
+    None
+}

@@ -1,0 +1,87 @@
+// Made from crates/pm_token/src/literals.rt by rust/erase: change that file, not this one.
+//! Literals.
+
+use crate::shim::prelude::Clone;
+
+mod conversion;
+mod integers;
+mod negative;
+mod quoted;
+mod subspan;
+mod values;
+mod whole;
+
+pub use crate::pm_token::literals::conversion::ConversionErrorKind;
+use crate::pm_token::parts::show_span;
+use crate::pm_token::symbols::Symbol;
+use crate::pm_span::Span;
+use crate::pm_span::parts::bounds;
+use crate::shim::alloc::{AllocError, Global};
+use crate::shim::fmt;
+
+/// A literal: a string, a character, a number, by its text.
+pub struct Literal {
+    text: Symbol,
+    span: Span,
+}
+
+impl Literal {
+    /// The literal of this text, where it stands. Fails where memory runs out.
+    pub(crate) fn from_parts(alloc: Global, text: &str, span: Span) -> Result<Literal, AllocError>
+    {
+        Ok(Literal {
+            text: Symbol::new(alloc, text)?,
+            span,
+        })
+    }
+
+    /// The literal as it is written, with its quotes, its suffix and the `-` that may stand before it.
+    pub fn text(&self) -> &str
+    {
+        self.text.as_str()
+    }
+
+    /// Where it stands. Proofs learn by it what the text of every literal is: a `literal-token` or,
+    /// outside of streams, a `negative-literal`.
+    pub fn span(&self) -> Span
+    {
+        // It computes nothing: proofs learn that the span is in order.
+        bounds(self.span);
+        self.span
+    }
+
+    /// Sets where it stands, and changes nothing else.
+    pub fn set_span(&mut self, span: Span)
+    {
+        self.span = span;
+    }
+}
+
+/// The same literal, with the same span. A text of more than 22 bytes takes memory, and the copy fails where that runs
+/// out.
+impl Clone for Literal {
+    fn clone(&self) -> Result<Literal, AllocError> {
+        Ok(Literal {
+            text: self.text.clone()?,
+            span: self.span,
+        })
+    }
+}
+
+impl fmt::Display for Literal {
+    fn fmt<W: fmt::Write>(&self, f: &mut fmt::Formatter<W>) -> fmt::Result {
+        self.text.fmt(f)
+    }
+}
+
+crate::shim::display!(Literal);
+
+/// Shows the literal as it is written, and its span unless that is 0..0.
+impl fmt::Debug for Literal {
+    fn fmt(&self, f: &mut core::fmt::Formatter<'_>) -> fmt::Result {
+        let mut debug = f.debug_struct("Literal");
+        debug.field("lit", &format_args!("{self}"));
+        show_span(&mut debug, self.span);
+        debug.finish()
+    }
+}

@@ -1,0 +1,91 @@
+// Made from crates/pm_token/src/literals/quoted.rt by rust/erase: change that file, not this one.
+//! The literals of texts, characters and bytes.
+
+use crate::pm_token::escapes::Draft;
+use crate::pm_token::literals::Literal;
+use crate::pm_span::Span;
+use crate::shim::alloc::{AllocError, Global};
+
+/// The literals of texts, characters and bytes.
+impl Literal {
+    /// The string literal of the text, by the rule `string-text`, with the span 0..0. For CR, a quote
+    /// and U+0301 it is `"\r\"\u{301}"`. Fails where memory runs out.
+    pub fn string(alloc: Global, text: &str) -> Result<Literal, AllocError>
+    {
+        Literal::string_at(alloc, text, Span::call_site())
+    }
+
+    /// The string literal of the text, where it stands. Fails where memory runs out.
+    pub(crate) fn string_at(alloc: Global, text: &str, span: Span) -> Result<Literal, AllocError>
+    {
+        // Most texts have nothing to escape. One that has grows.
+        let mut draft = Draft::with_room(alloc, text.len() + 2)?;
+        draft.push('"')?;
+        draft.push_content('"', text)?;
+        draft.push('"')?;
+        Ok(Literal {
+            text: draft.finish(alloc)?,
+            span,
+        })
+    }
+
+    /// The literal of the character, by the rule `character-text`, with the span 0..0. For `'` it is
+    /// `'\''`, for `"` it is `'"'`. Fails where memory runs out.
+    pub fn character(alloc: Global, c: char) -> Result<Literal, AllocError>
+    {
+        let mut draft = Draft::new(alloc);
+        draft.push('\'')?;
+        draft.push_escaped('\'', c, "")?;
+        draft.push('\'')?;
+        Ok(Literal {
+            text: draft.finish(alloc)?,
+            span: Span::call_site(),
+        })
+    }
+
+    /// The literal of the byte, by the rule `byte-text`, with the span 0..0. For 0x1F it is
+    /// `b'\x1F'`. Fails where memory runs out.
+    pub fn byte_character(alloc: Global, byte: u8) -> Result<Literal, AllocError>
+    {
+        let mut draft = Draft::new(alloc);
+        draft.push('b')?;
+        draft.push('\'')?;
+        draft.push_byte(b'\'', byte, &[])?;
+        draft.push('\'')?;
+        Ok(Literal {
+            text: draft.finish(alloc)?,
+            span: Span::call_site(),
+        })
+    }
+
+    /// The byte string literal of the bytes, by the rule `byte-string-text`, with the span 0..0. For
+    /// `"`, 0 and `7` it is `b"\"\x007"`. Fails where memory runs out.
+    pub fn byte_string(alloc: Global, bytes: &[u8]) -> Result<Literal, AllocError>
+    {
+        let mut draft = Draft::new(alloc);
+        draft.push('b')?;
+        draft.push('"')?;
+        draft.push_bytes(b'"', bytes)?;
+        draft.push('"')?;
+        Ok(Literal {
+            text: draft.finish(alloc)?,
+            span: Span::call_site(),
+        })
+    }
+
+    /// The C string literal of the bytes, none of which is zero, by the rule `c-string-text`: the
+    /// zero that ends a C string is no part of its literal, whose span is 0..0. For 0x7F, 0xFF and
+    /// the bytes of U+0333 it is `c"\u{7f}\xFF\u{333}"`. Fails where memory runs out.
+    pub fn c_string(alloc: Global, bytes: &[u8]) -> Result<Literal, AllocError>
+    {
+        let mut draft = Draft::new(alloc);
+        draft.push('c')?;
+        draft.push('"')?;
+        draft.push_c_string(bytes)?;
+        draft.push('"')?;
+        Ok(Literal {
+            text: draft.finish(alloc)?,
+            span: Span::call_site(),
+        })
+    }
+}

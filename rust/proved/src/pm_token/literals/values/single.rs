@@ -1,0 +1,24 @@
+// Made from crates/pm_token/src/literals/values/single.rt by rust/erase: change that file, not this one.
+//! The values of the texts of characters and bytes.
+
+use crate::pm_token::literals::conversion::ConversionErrorKind;
+use crate::pm_token::literals::values::content::single_content;
+use crate::literal_escaper::{unescape_byte, unescape_char};
+
+/// The unit between the quotes of a character's text, by the rule `character-value`.
+pub fn character_of(text: &str) -> Result<char, ConversionErrorKind>
+{
+    match single_content(text, "'") {
+        Some(content) => Ok(unescape_char(content)?),
+        None => Err(ConversionErrorKind::InvalidLiteralKind),
+    }
+}
+
+/// The unit between the quotes of a byte's text, by the rule `byte-value`.
+pub fn byte_of(text: &str) -> Result<u8, ConversionErrorKind>
+{
+    match single_content(text, "b'") {
+        Some(content) => Ok(unescape_byte(content)?),
+        None => Err(ConversionErrorKind::InvalidLiteralKind),
+    }
+}

@@ -1,0 +1,83 @@
+// Made from crates/pm_token/src/literals/whole.rt by rust/erase: change that file, not this one.
+//! Literals from their text.
+
+use crate::pm_token::errors::{LexError, ParseError};
+use crate::pm_token::literals::Literal;
+use crate::lexical::literal_at;
+use crate::pm_span::parts::{add_file, allocator, char_count, fits, span_of};
+use crate::pm_span::{SourceMap, Span};
+use crate::shim::alloc::{AllocError, Global};
+
+impl Literal {
+    /// The literal that the whole text is, or `-` and one that begins with a digit
+    /// (`whole-literal`). The text becomes the next file of the map, and the literal's span is all
+    /// of it.
+    ///
+    /// Nothing may stand before or after the literal, not even white space. Any other text is
+    /// refused as `Lex` with the span 0..0, and is a file of the map then too. `MapFull` is answered
+    /// exactly where the text would end past the map's limit (`fits`), and `Memory` where a growth
+    /// was refused; both leave the map as it was.
+    ///
+    /// In a new map `-1u12` gives the literal of this text at 1..6. `- 1` and `-""` are refused.
+    pub fn from_str(text: &str, map: &mut SourceMap) -> Result<Literal, ParseError>
+    {
+        let Some(lo) = fits(map, text) else {
+            return Err(ParseError::MapFull);
+        };
+        let span = span_of(lo, lo + char_count(text) as u32);
+        let literal = Literal::whole_at(allocator(map), text, span);
+        if let Err(ParseError::Memory(_)) = &literal {
+            return literal;
+        }
+        add_file(map, text)?;
+        literal
+    }
+
+    /// The literal that the whole text is, which stands at this span. Any other text is a fault.
+    fn whole_at(alloc: Global, text: &str, span: Span) -> Result<Literal, ParseError>
+    {
+        if !Literal::is_whole(text) {
+            return Err(ParseError::Lex(LexError::at(Span::call_site())));
+        }
+        Ok(Literal::from_parts(alloc, text, span)?)
+    }
+
+    /// The literal of this text, which is a whole one (`is_whole`), with the span 0..0. Fails where
+    /// memory runs out. For `1.5` it is `1.5`.
+    pub fn from_str_unchecked(alloc: Global, text: &str) -> Result<Literal, AllocError>
+    {
+        Literal::from_parts(alloc, text, Span::call_site())
+    }
+
+    /// Whether the text is a literal, or `-` and one that begins with a digit (`whole-literal`):
+    /// the texts that `from_str` accepts. It is so of `1u8`, `-0.1` and `"a"`, and not of `- 1`,
+    /// `1 ` or `-""`.
+    pub fn is_whole(text: &str) -> bool
+    {
+        match behind_minus(text) {
+            Some(number) => begins_with_digit(number) && is_literal(number),
+            None => is_literal(text),
+        }
+    }
+}
+
+/// What follows the `-` that the text begins with.
+fn behind_minus(text: &str) -> Option<&str>
+{
+    text.strip_prefix('-')
+}
+
+/// Whether an ASCII digit stands at the front of the text.
+fn begins_with_digit(text: &str) -> bool
+{
+    match text.chars().next() {
+        Some(c) => c.is_ascii_digit(),
+        None => false,
+    }
+}
+
+/// Whether the whole text is a literal of the grammar.
+fn is_literal(text: &str) -> bool
+{
+    literal_at(text) == Some(text.len())
+}

@@ -1,0 +1,143 @@
+// Made from crates/pm_token/src/marks.rt by rust/erase: change that file, not this one.
+//! Punctuation marks.
+
+use crate::shim::prelude::Clone;
+
+use crate::pm_token::parts::show_span;
+use crate::pm_span::Span;
+use crate::pm_span::parts::bounds;
+use crate::shim::alloc::AllocError;
+use crate::shim::fmt;
+
+/// Whether a mark goes together with what follows right after it, as far as the text tells.
+#[derive(Clone, Copy, Debug, PartialEq, Eq)]
+pub enum Spacing {
+    /// It doesn't. The marks that a doc comment gives are Alone too.
+    Alone,
+    /// One of the 22 mark characters follows, and no comment begins there (`joint`); or the mark is a
+    /// `'` with its identifier (`lone-quote`). At `+=` the `+` is Joint, and at `'a` the `'`.
+    Joint,
+}
+
+/// A punctuation mark, which is one character, by the rule `marks`.
+pub struct Punct {
+    mark: char,
+    spacing: Spacing,
+    span: Span,
+}
+
+impl Punct {
+    /// Whether the character is one of the 22 punctuation marks (`marks`).
+    ///
+    /// `+` and `'` are, and `_`, `(` and `"` are not.
+    pub fn is_punct_char(c: char) -> bool
+    {
+        crate::lexical::is_mark(c)
+    }
+
+    /// The punctuation mark of this character, with the span 0..0. It takes no memory.
+    ///
+    /// The character is one of the 22 `marks`: [`Punct::is_punct_char`] is the test. Of `'+'` it prints
+    /// `+`, whatever its spacing.
+    pub fn new(mark: char, spacing: Spacing) -> Punct
+    {
+        Punct::from_parts(mark, spacing, Span::call_site())
+    }
+
+    pub(crate) fn from_parts(mark: char, spacing: Spacing, span: Span) -> Punct
+    {
+        Punct {
+            mark,
+            spacing,
+            span,
+        }
+    }
+
+    /// The mark's character.
+    pub fn as_char(&self) -> char
+    {
+        self.mark
+    }
+
+    /// Whether it goes together with what follows right after it.
+    pub fn spacing(&self) -> Spacing
+    {
+        self.spacing
+    }
+
+    /// Where it stands. Proofs learn by it what every mark is (`built`).
+    pub fn span(&self) -> Span
+    {
+        // It computes nothing: proofs learn that the span is in order.
+        bounds(self.span);
+        self.span
+    }
+
+    /// Sets where it stands, and changes nothing else.
+    pub fn set_span(&mut self, span: Span)
+    {
+        self.span = span;
+    }
+}
+
+/// The same mark, with the same span. It takes no memory.
+impl Clone for Punct {
+    fn clone(&self) -> Result<Punct, AllocError> {
+        Ok(Punct {
+            mark: self.mark,
+            spacing: self.spacing,
+            span: self.span,
+        })
+    }
+}
+
+impl fmt::Display for Punct {
+    fn fmt<W: fmt::Write>(&self, f: &mut fmt::Formatter<W>) -> fmt::Result {
+        f.write_str(text_of(self.mark))
+    }
+}
+
+crate::shim::display!(Punct);
+
+/// The text of a mark.
+// A text of one byte is written by one store, where a character would be encoded first.
+#[inline(always)]
+fn text_of(mark: char) -> &'static str
+{
+    match mark {
+        '~' => "~",
+        '!' => "!",
+        '@' => "@",
+        '#' => "#",
+        '$' => "$",
+        '%' => "%",
+        '^' => "^",
+        '&' => "&",
+        '*' => "*",
+        '-' => "-",
+        '=' => "=",
+        '+' => "+",
+        '|' => "|",
+        ';' => ";",
+        ':' => ":",
+        ',' => ",",
+        '<' => "<",
+        '.' => ".",
+        '>' => ">",
+        '/' => "/",
+        '?' => "?",
+        '\'' => "'",
+        _ => unreachable!(),
+    }
+}
+
+/// Shows the mark, its spacing, and its span unless that is 0..0.
+impl fmt::Debug for Punct {
+    fn fmt(&self, f: &mut core::fmt::Formatter<'_>) -> fmt::Result {
+        let mut debug = f.debug_struct("Punct");
+        debug.field("char", &self.mark);
+        debug.field("spacing", &self.spacing);
+        show_span(&mut debug, self.span);
+        debug.finish()
+    }
+}

@@ -1,0 +1,56 @@
+// Made from crates/pm_token/src/parts.rt by rust/erase: change that file, not this one.
+//! What the crates above make tokens of, and users don't.
+
+use crate::pm_token::errors::LexError;
+pub use crate::pm_token::escapes::Draft;
+use crate::pm_token::identifiers::Ident;
+use crate::pm_token::literals::Literal;
+use crate::pm_token::marks::{Punct, Spacing};
+use crate::pm_span::Span;
+use crate::pm_span::parts::bounds;
+use crate::shim::alloc::{AllocError, Global};
+use crate::shim::fmt;
+
+/// The identifier of this name, which has no `r#` even if it is raw. Fails where memory runs out.
+pub fn ident(alloc: Global, name: &str, raw: bool, span: Span) -> Result<Ident, AllocError>
+{
+    Ident::from_parts(alloc, name, raw, span)
+}
+
+/// The mark of this character.
+pub fn punct(mark: char, spacing: Spacing, span: Span) -> Punct
+{
+    Punct::from_parts(mark, spacing, span)
+}
+
+/// The literal of this text, by the rule `literal-token`. Fails where memory runs out.
+pub fn literal(alloc: Global, text: &str, span: Span) -> Result<Literal, AllocError>
+{
+    Literal::from_parts(alloc, text, span)
+}
+
+/// The `-` of a negative literal, Alone, and the rest, both with the literal's span. Of any other
+/// literal there is no mark, and the rest is the literal. It takes no memory.
+pub fn split_minus(literal: Literal) -> (Option<Punct>, Literal)
+{
+    literal.split_minus()
+}
+
+/// The string literal of the text. Fails where memory runs out.
+pub fn string_literal(alloc: Global, text: &str, span: Span) -> Result<Literal, AllocError>
+{
+    Literal::string_at(alloc, text, span)
+}
+
+/// The fault that stands at this span.
+pub fn fault(span: Span) -> LexError
+{
+    LexError::at(span)
+}
+
+/// Shows a token's span, unless it is 0..0.
+pub fn show_span(debug: &mut core::fmt::DebugStruct<'_, '_>, span: Span) {
+    if bounds(span) != (0, 0) {
+        debug.field("span", &span);
+    }
+}

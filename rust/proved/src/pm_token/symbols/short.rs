@@ -1,0 +1,62 @@
+// Made from crates/pm_token/src/symbols/short.rt by rust/erase: change that file, not this one.
+//! Short texts, which stand in place.
+
+use crate::shim::str;
+
+/// How many bytes a short text has at most. With its length and the tag of an enum it is as long as three pointers.
+pub(crate) const ROOM: usize = 22;
+
+/// A text of at most 22 bytes.
+pub(crate) struct Short {
+    len: u8,
+    bytes: [u8; ROOM],
+}
+
+impl Short {
+    /// A copy of the text.
+    pub(crate) fn new(text: &str) -> Short
+    {
+        let mut bytes = [0; ROOM];
+        bytes[..text.len()].copy_from_slice(text.as_bytes());
+        Short {
+            len: text.len() as u8,
+            bytes,
+        }
+    }
+
+    /// The text.
+    pub(crate) fn as_str(&self) -> &str
+    {
+        // The invariant says that the bytes are UTF-8, so they aren't looked at again.
+        str::from_utf8_unchecked(&self.bytes[..self.len as usize])
+    }
+
+    /// Takes away the `-` that the text begins with, and answers whether there was one.
+    pub(crate) fn strip_minus(&mut self) -> bool
+    {
+        let Some(rest) = past_minus(self.as_str()) else {
+            return false;
+        };
+        *self = Short::new(rest);
+        true
+    }
+
+    /// The same text.
+    pub(crate) fn copy(&self) -> Short
+    {
+        Short {
+            len: self.len,
+            bytes: self.bytes,
+        }
+    }
+}
+
+/// The text after the `-` that it begins with, if there is one.
+fn past_minus(text: &str) -> Option<&str>
+{
+    let mut rest = text.chars();
+    match rest.next() {
+        Some('-') => Some(rest.as_str()),
+        _ => None,
+    }
+}

@@ -1,0 +1,17 @@
+// Made from crates/quoting/src/lib.rt by rust/erase: change that file, not this one.
+//! A builder of streams that are faithful in print: what it answers comes back from its printed text.
+
+mod errors;
+mod faults;
+mod holes;
+pub mod laws;
+mod neighbours;
+mod quote;
+mod respace;
+mod start;
+mod template;
+mod weave;
+
+pub use errors::{QuoteError, TemplateError};
+pub use holes::Hole;
+pub use quote::Quote;

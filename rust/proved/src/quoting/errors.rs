@@ -1,0 +1,96 @@
+// Made from crates/quoting/src/errors.rt by rust/erase: change that file, not this one.
+//! Why a quote gives no stream, and why a template is not filled.
+
+use crate::proc_macro2::{ParseError, Span};
+use crate::shim::alloc::AllocError;
+use crate::shim::error::Error;
+use crate::shim::fmt;
+
+/// Why a quote gives no stream: the first fault in reading order, a group coming before its contents, or
+/// that memory ran out.
+#[derive(Debug)]
+pub enum QuoteError {
+    /// A group has no delimiters, so that its printed text does not show it.
+    NoneGroup,
+    /// A `'` has nothing after it that it belongs to: neither an identifier nor a literal that begins with
+    /// `b"`, `c"`, `r"`, `br"` or `cr"` is next in its list.
+    LoneQuote,
+    /// Memory ran out.
+    Memory(AllocError),
+}
+
+impl fmt::Display for QuoteError {
+    fn fmt<W: fmt::Write>(&self, f: &mut fmt::Formatter<W>) -> fmt::Result {
+        match self {
+            QuoteError::NoneGroup => f.write_str("a group has no delimiters"),
+            QuoteError::LoneQuote => f.write_str("no name and no literal follows a `'`"),
+            QuoteError::Memory(_) => f.write_str("no memory"),
+        }
+    }
+}
+
+crate::shim::display!(QuoteError);
+
+impl Error for QuoteError {}
+
+impl From<AllocError> for QuoteError {
+    fn from(error: AllocError) -> QuoteError {
+        QuoteError::Memory(error)
+    }
+}
+
+/// Why a template is not filled: its first fault in reading order with the place in the template, that its text has a
+/// fault, or that memory ran out.
+#[derive(Debug)]
+pub enum TemplateError {
+    /// No hole has the name that stands here, after a `#`.
+    NoHole(Span),
+    /// The name of a list stands here, outside of repetitions.
+    LoneList(Span),
+    /// The parentheses of a repetition that names no list.
+    NoList(Span),
+    /// The name of a list stands here whose length isn't that of the first list named in the repetition.
+    UnequalLists(Span),
+    /// The parentheses of a repetition inside a repetition.
+    Nested(Span),
+    /// A group inside of 64 others.
+    TooDeep(Span),
+    /// The text of the template was not parsed.
+    Parse(ParseError),
+    /// Memory ran out.
+    Memory(AllocError),
+}
+
+impl fmt::Display for TemplateError {
+    fn fmt<W: fmt::Write>(&self, f: &mut fmt::Formatter<W>) -> fmt::Result {
+        match self {
+            TemplateError::NoHole(_) => f.write_str("no hole of this name"),
+            TemplateError::LoneList(_) => f.write_str("a list outside of a repetition"),
+            TemplateError::NoList(_) => f.write_str("a repetition that names no list"),
+            TemplateError::UnequalLists(_) => f.write_str("lists of different lengths"),
+            TemplateError::Nested(_) => f.write_str("a repetition inside a repetition"),
+            TemplateError::TooDeep(_) => f.write_str("groups nested too deep"),
+            TemplateError::Parse(error) => error.fmt(f),
+            TemplateError::Memory(_) => f.write_str("no memory"),
+        }
+    }
+}
+
+crate::shim::display!(TemplateError);
+
+impl Error for TemplateError {}
+
+impl From<AllocError> for TemplateError {
+    fn from(error: AllocError) -> TemplateError {
+        TemplateError::Memory(error)
+    }
+}
+
+impl From<ParseError> for TemplateError {
+    fn from(error: ParseError) -> TemplateError {
+        match error {
+            ParseError::Memory(error) => TemplateError::Memory(error),
+            error => TemplateError::Parse(error),
+        }
+    }
+}

@@ -1,0 +1,81 @@
+// Made from crates/quoting/src/start.rt by rust/erase: change that file, not this one.
+//! What has a meaning in a template.
+
+use crate::quoting::holes::Name;
+use crate::proc_macro2::{Delimiter, Group, Punct, TokenTree};
+
+// What has a meaning in a template, and the trees after it.
+#[derive(Clone, Copy)]
+pub(crate) enum Start<'a> {
+    // `#` and the name of a hole.
+    Names(Name<'a>, &'a [TokenTree]),
+    // `#( .. )*`, or with a mark before `*`.
+    Repeats(Repetition<'a>, &'a [TokenTree]),
+}
+
+// What is repeated, and the mark that stands between the turns.
+#[derive(Clone, Copy)]
+pub(crate) struct Repetition<'a> {
+    pub(crate) body: &'a Group,
+    pub(crate) separator: Option<&'a Punct>,
+}
+
+// What the tree begins before these. `None` where it stands for itself.
+pub(crate) fn start_at<'a>(tree: &TokenTree, after: &'a [TokenTree]) -> Option<Start<'a>>
+{
+    if !is_mark(tree, '#') {
+        return None;
+    }
+    let (first, rest) = after.split_first()?;
+    if let TokenTree::Group(body) = first {
+        return repetition_of(body, rest);
+    }
+    Some(Start::Names(name_of(first)?, rest))
+}
+
+// The repetition of the group before these trees, where there is one.
+fn repetition_of<'a>(body: &'a Group, after: &'a [TokenTree]) -> Option<Start<'a>>
+{
+    if body.delimiter() != Delimiter::Parenthesis {
+        return None;
+    }
+    let (first, rest) = after.split_first()?;
+    if is_mark(first, '*') {
+        let separator = None;
+        return Some(Start::Repeats(Repetition { body, separator }, rest));
+    }
+    let (second, rest) = rest.split_first()?;
+    let TokenTree::Punct(mark) = first else {
+        return None;
+    };
+    if !is_mark(second, '*') {
+        return None;
+    }
+    let separator = Some(mark);
+    Some(Start::Repeats(Repetition { body, separator }, rest))
+}
+
+// The name that the tree is: an identifier, or a literal of digits alone.
+fn name_of(tree: &TokenTree) -> Option<Name<'_>>
+{
+    match tree {
+        TokenTree::Ident(ident) => Some(Name::Word(ident)),
+        TokenTree::Literal(literal) if all_digits(literal.text()) => Some(Name::Digits(literal)),
+        _ => None,
+    }
+}
+
+// Whether there are ASCII digits alone.
+fn all_digits(text: &str) -> bool
+{
+    text.chars().all(|c| c.is_ascii_digit())
+}
+
+// Whether the tree is this mark, Joint or Alone.
+fn is_mark(tree: &TokenTree, mark: char) -> bool
+{
+    match tree {
+        TokenTree::Punct(punct) => punct.as_char() == mark,
+        _ => false,
+    }
+}

@@ -1,0 +1,102 @@
+//! Maps and queues.
+
+use super::alloc::{AllocError, AllocFailed, Global};
+use super::clone::Clone;
+use super::vec::Vec;
+use core::fmt;
+use core::ops::RangeBounds;
+use std::collections::btree_map::Range;
+
+/// A map in the order of its keys. Contract: it is seen as its entries, in that order.
+pub struct BTreeMap<K, V>(std::collections::BTreeMap<K, V>);
+
+impl<K: Ord, V> BTreeMap<K, V> {
+    /// Contract: no entry, and no memory taken.
+    pub fn new(_: Global) -> BTreeMap<K, V> {
+        BTreeMap(std::collections::BTreeMap::new())
+    }
+
+    /// Contract: the key has the value then, and all others have what they had. It answers what the key had.
+    pub fn insert(&mut self, key: K, value: V) -> Result<Option<V>, AllocFailed<(K, V)>> {
+        Ok(self.0.insert(key, value))
+    }
+
+    /// Contract: the entries whose keys are in the range, in order, from both ends.
+    pub fn range<R: RangeBounds<K>>(&self, keys: R) -> Range<'_, K, V> {
+        self.0.range(keys)
+    }
+}
+
+impl<K: fmt::Debug, V: fmt::Debug> fmt::Debug for BTreeMap<K, V> {
+    fn fmt(&self, f: &mut fmt::Formatter<'_>) -> fmt::Result {
+        self.0.fmt(f)
+    }
+}
+
+/// A queue with two ends. Contract: it is seen as its items, in order.
+pub struct VecDeque<T>(std::collections::VecDeque<T>);
+
+impl<T> VecDeque<T> {
+    /// Contract: the same items, in order, and no memory taken.
+    #[inline]
+    pub fn from_vec(items: Vec<T>) -> VecDeque<T> {
+        VecDeque(items.into_rust().into())
+    }
+
+    /// Contract: takes the first item away and answers it, or answers `None` where there is none.
+    #[inline]
+    pub fn pop_front(&mut self) -> Option<T> {
+        self.0.pop_front()
+    }
+
+    /// Contract: the number of items.
+    #[inline]
+    #[allow(clippy::len_without_is_empty)]
+    pub fn len(&self) -> usize {
+        self.0.len()
+    }
+}
+
+/// Contract: copies of the items, in order.
+impl<T: Clone> Clone for VecDeque<T> {
+    fn clone(&self) -> Result<VecDeque<T>, AllocError> {
+        let copies: Result<_, AllocError> = self.0.iter().map(T::clone).collect();
+        Ok(VecDeque(copies?))
+    }
+}
+
+impl<T: fmt::Debug> fmt::Debug for VecDeque<T> {
+    fn fmt(&self, f: &mut fmt::Formatter<'_>) -> fmt::Result {
+        self.0.fmt(f)
+    }
+}
+
+#[cfg(test)]
+mod tests {
+    use super::*;
+
+    #[test]
+    fn a_map_has_the_last_value_of_each_key_in_order() {
+        let mut map = BTreeMap::new(Global);
+        for (key, value) in [(3, 'c'), (1, 'a'), (3, 'd')] {
+            let _ = map.insert(key, value);
+        }
+        let entries: std::vec::Vec<_> = map.range(..).collect();
+        assert_eq!(entries, [(&1, &'a'), (&3, &'d')]);
+        assert_eq!(map.range(..=2).next_back(), Some((&1, &'a')));
+        assert_eq!(map.range(2..).next(), Some((&3, &'d')));
+        assert_eq!(format!("{map:?}"), "{1: 'a', 3: 'd'}");
+    }
+
+    #[test]
+    fn a_queue_gives_its_items_from_the_front() -> Result<(), AllocError> {
+        let mut items = Vec::new(Global);
+        items.push(1)?;
+        items.push(2)?;
+        let mut queue = VecDeque::from_vec(items);
+        assert_eq!(format!("{queue:?}"), "[1, 2]");
+        assert_eq!((queue.pop_front(), queue.len()), (Some(1), 1));
+        assert_eq!((queue.pop_front(), queue.pop_front()), (Some(2), None));
+        Ok(())
+    }
+}

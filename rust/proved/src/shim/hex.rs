@@ -1,0 +1,22 @@
+//! Bytes in hex.
+
+use super::alloc::{AllocError, Global};
+use super::string::String;
+
+/// Contract: two lower-case digits for each byte, in order.
+pub fn encode(alloc: Global, bytes: &[u8]) -> Result<String, AllocError> {
+    let mut text = String::new(alloc);
+    for byte in bytes {
+        write!(text, "{byte:02x}")?;
+    }
+    Ok(text)
+}
+
+#[cfg(test)]
+mod tests {
+    #[test]
+    fn each_byte_has_two_digits() {
+        let Ok(text) = super::encode(super::Global, &[0, 0xA5, 0xFF]);
+        assert_eq!(text.as_str(), "00a5ff");
+    }
+}

@@ -1,0 +1,90 @@
+//! A value with several owners.
+
+use super::alloc::{AllocError, Global};
+use super::clone::Clone;
+use core::ops::Deref;
+
+/// A value with several owners, in one thread. Contract: it is seen as the value.
+pub struct Rc<T>(std::rc::Rc<T>);
+
+impl<T> Rc<T> {
+    /// Contract: the value, with one owner.
+    #[inline(always)]
+    pub fn new(_: Global, value: T) -> Result<Rc<T>, AllocError> {
+        Ok(Rc(std::rc::Rc::new(value)))
+    }
+
+    /// Contract: the value, to be changed, where there is no other owner, and else `None`.
+    #[inline(always)]
+    pub fn get_mut(this: &mut Rc<T>) -> Option<&mut T> {
+        std::rc::Rc::get_mut(&mut this.0)
+    }
+}
+
+impl<T: Clone> Rc<T> {
+    /// Contract: the value, to be changed. Where there are other owners it is a copy, which this one owns from then on.
+    #[inline]
+    pub fn make_mut(this: &mut Rc<T>) -> Result<&mut T, AllocError> {
+        if std::rc::Rc::get_mut(&mut this.0).is_none() {
+            this.0 = std::rc::Rc::new(this.0.as_ref().clone()?);
+        }
+        match std::rc::Rc::get_mut(&mut this.0) {
+            Some(value) => Ok(value),
+            None => unreachable!("a new value has one owner"),
+        }
+    }
+
+    /// Contract: the value where there is no other owner, and else a copy.
+    #[inline]
+    pub fn unwrap_or_clone(this: Rc<T>) -> Result<T, AllocError> {
+        match std::rc::Rc::try_unwrap(this.0) {
+            Ok(value) => Ok(value),
+            Err(shared) => shared.as_ref().clone(),
+        }
+    }
+}
+
+/// Contract: one more owner of the same value.
+impl<T> Clone for Rc<T> {
+    #[inline(always)]
+    fn clone(&self) -> Result<Rc<T>, AllocError> {
+        Ok(Rc(std::rc::Rc::clone(&self.0)))
+    }
+}
+
+impl<T> Deref for Rc<T> {
+    type Target = T;
+
+    #[inline(always)]
+    fn deref(&self) -> &T {
+        &self.0
+    }
+}
+
+#[cfg(test)]
+mod tests {
+    use super::super::vec::Vec;
+    use super::*;
+
+    #[test]
+    fn owners_share_until_one_changes_the_value() -> Result<(), AllocError> {
+        let mut one = Rc::new(Global, Vec::new(Global))?;
+        Rc::make_mut(&mut one)?.push(Rc::new(Global, 1)?)?;
+        let mut other = one.clone()?;
+        assert!(Rc::get_mut(&mut other).is_none());
+        Rc::make_mut(&mut other)?.push(Rc::new(Global, 2)?)?;
+        assert_eq!((one.len(), other.len()), (1, 2));
+        assert!(Rc::get_mut(&mut one).is_some());
+        Ok(())
+    }
+
+    #[test]
+    fn the_last_owner_gets_the_value_itself() -> Result<(), AllocError> {
+        let one = Rc::new(Global, Vec::<Rc<u8>>::with_capacity(Global, 1)?)?;
+        let other = one.clone()?;
+        let place = other.as_ptr();
+        assert_ne!(Rc::unwrap_or_clone(one)?.as_ptr(), place);
+        assert_eq!(Rc::unwrap_or_clone(other)?.as_ptr(), place);
+        Ok(())
+    }
+}
