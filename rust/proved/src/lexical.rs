@@ -13,6 +13,7 @@
 mod bytes;
 mod class;
 mod comments;
+mod contents;
 mod cursor;
 mod docs;
 mod escapes;

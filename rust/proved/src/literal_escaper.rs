@@ -9,11 +9,13 @@
 
 mod check;
 mod check_raw;
+mod classes;
 mod cooked;
 mod errors;
 mod escape;
 mod front;
 mod kind;
+pub mod laws;
 mod mixed_unit;
 mod mode;
 mod num;

@@ -10,6 +10,7 @@ mod quote;
 mod respace;
 mod start;
 mod template;
+mod turns;
 mod weave;
 
 pub use errors::{QuoteError, TemplateError};

@@ -54,6 +54,7 @@ pub fn continues_identifier(c: char) -> bool
 }
 
 /// What the first character of a text says of the piece that may stand there.
+#[inline(always)]
 pub fn start_of(c: char) -> Start
 {
     if holds(Class::IdentifierStart, c) {

@@ -53,6 +53,7 @@ fn skip_comment(at: Cursor<'_>) -> Option<Cursor<'_>>
 
 /// The comment that stands at the place, a gap or a doc comment: its kind, and the place after it.
 /// None stands where a doc comment has a CR that no LF follows in its text.
+#[inline(never)]
 pub fn comment(at: Cursor<'_>) -> Option<(PieceKind<'_>, Cursor<'_>)>
 {
     let end = skip_comment(at)?;

@@ -15,6 +15,7 @@ pub struct Cursor<'a> {
 
 impl<'a> Cursor<'a> {
     /// The front of a text.
+    #[inline(always)]
     pub fn new(text: &'a str) -> Self
     {
         // Its contract bounds how many bytes a text has, and so how many characters.
@@ -26,6 +27,7 @@ impl<'a> Cursor<'a> {
     }
 
     /// The character after the place, and the place after that character.
+    #[inline(always)]
     pub fn advance(self) -> Option<(char, Self)>
     {
         let (first, rest) = split_first(self.rest)?;
@@ -37,6 +39,7 @@ impl<'a> Cursor<'a> {
     }
 
     /// The place after the ASCII text `front`, where that stands at the place.
+    #[inline(always)]
     pub fn past(self, front: &str) -> Option<Self>
     {
         let rest = strip(self.rest, front)?;
@@ -57,6 +60,7 @@ impl<'a> Cursor<'a> {
     }
 
     /// How many bytes of the text stand before the place, which lies in it.
+    #[inline(always)]
     pub fn bytes_in(self, text: &str) -> usize
     {
         text.len() - self.rest.len()

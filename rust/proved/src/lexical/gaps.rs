@@ -8,6 +8,7 @@ use crate::lexical::bytes::{Class, holds_ascii};
 ///
 /// Where none stands, it is the whole text, after 0 characters. At two spaces and `a b` it answers
 /// `a b` and 2.
+#[inline(always)]
 pub fn past_white(text: &str) -> (&str, usize)
 {
     let mut white = 0;

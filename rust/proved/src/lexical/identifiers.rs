@@ -15,6 +15,7 @@ pub fn name(at: Cursor<'_>) -> Option<Cursor<'_>>
 
 /// Whether the text begins as a literal with letters before its quote does, by the rule
 /// `reserved-prefix`.
+#[inline(always)]
 fn begins_literal(text: &str, first: char) -> bool
 {
     match first {
@@ -40,6 +41,7 @@ pub fn is_reserved(name: &str) -> bool
 }
 
 /// The place after the name of a raw identifier that stands at the place, after `r#`.
+#[inline(never)]
 pub fn raw_name(at: Cursor<'_>) -> Option<Cursor<'_>>
 {
     let end = name(at)?;
@@ -62,6 +64,7 @@ pub fn written(at: Cursor<'_>, raw: bool) -> Option<Cursor<'_>>
 
 /// The identifier that stands at the place, by the rule `identifier`: its kind, and the place after
 /// it. `first` is the character at the place, and `after` the place after that.
+#[inline(always)]
 pub fn identifier<'a>(
     at: Cursor<'a>,
     first: char,

@@ -11,6 +11,7 @@ use crate::lexical::numbers::number;
 use crate::lexical::piece::{Piece, PieceKind};
 
 /// A literal that was read, if one was, as a piece: its kind, and the place after it.
+#[inline(always)]
 fn as_literal(end: Option<Cursor<'_>>) -> Option<(PieceKind<'_>, Cursor<'_>)>
 {
     Some((PieceKind::Literal, end?))
@@ -18,6 +19,7 @@ fn as_literal(end: Option<Cursor<'_>>) -> Option<(PieceKind<'_>, Cursor<'_>)>
 
 /// The piece that stands at the place, by its first character: its kind, and the place after it.
 /// `at_front` says whether that is place 0 of a source.
+#[inline(always)]
 fn read_piece(at: Cursor<'_>, at_front: bool) -> Option<(PieceKind<'_>, Cursor<'_>)>
 {
     let (first, after) = at.advance()?;
@@ -69,6 +71,7 @@ fn read_piece(at: Cursor<'_>, at_front: bool) -> Option<(PieceKind<'_>, Cursor<'
 /// stands at a place, as [`one_piece`](crate::lexical::laws::one_piece) says.
 /// At `+=` the mark `+` stands, Joint, of 1 byte and 1 character. At `/* /* */` none stands, as one
 /// comment is open at the end.
+#[inline(always)]
 pub fn piece_at(text: &str, first: bool) -> Option<Piece<'_>>
 {
     let (kind, end) = read_piece(Cursor::new(text), first)?;

@@ -9,6 +9,7 @@ use crate::lexical::single_quotes::single;
 
 /// The place after the literal between quotes that stands at the place, by the rule
 /// `quoted-literal`.
+#[inline(never)]
 pub fn quoted(at: Cursor<'_>) -> Option<Cursor<'_>>
 {
     if let Some(end) = any_string(at, "\"", "r", StringKind::Plain) {

@@ -8,18 +8,21 @@ use crate::lexical::piece::PieceKind;
 use crate::lexical::text::{begins, split_first};
 
 /// Whether the character is one of the 22 marks, by the rule `marks`.
+#[inline(always)]
 pub fn is_mark(c: char) -> bool
 {
     holds(Class::Mark, c)
 }
 
 /// Whether a comment begins the text.
+#[inline(always)]
 pub fn begins_comment(text: &str) -> bool
 {
     begins(text, "//") || begins(text, "/*")
 }
 
 /// The kind of the mark that stands before `rest`, by the rules `mark` and `joint`.
+#[inline(always)]
 pub fn mark<'a>(mark: char, rest: &str) -> PieceKind<'a>
 {
     let joint = match split_first(rest) {
@@ -39,6 +42,7 @@ fn is_unbarred(end: Cursor<'_>, raw: bool) -> bool
 }
 
 /// Whether a lone quote may stand before the place, by the rule `lone-quote`.
+#[inline(never)]
 pub fn follows_quote(at: Cursor<'_>) -> bool
 {
     let raw = begins(at.rest, "r#");

@@ -114,6 +114,7 @@ fn begins_based(text: &str) -> bool
 }
 
 /// The place after the number that stands at the place, by the rule `number`.
+#[inline(never)]
 pub fn number(at: Cursor<'_>) -> Option<Cursor<'_>>
 {
     if begins_based(at.rest) {

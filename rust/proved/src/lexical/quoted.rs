@@ -1,11 +1,12 @@
 // Made from crates/lexical/src/quoted.rt by rust/erase: change that file, not this one.
 //! Strings with escapes.
 
+use crate::lexical::contents::{count_allowed, may_stand};
 use crate::lexical::cursor::Cursor;
 use crate::lexical::escapes::escape;
 use crate::lexical::identifiers::name;
-use crate::lexical::search::skip_to_any;
-use crate::lexical::skip::{one, skip_while};
+use crate::lexical::skip::one;
+use crate::shim::memchr::memchr3;
 
 /// What a string is made of.
 #[derive(Clone, Copy)]
@@ -32,11 +33,7 @@ fn stands_for_itself(c: char, kind: StringKind) -> bool
 {
     match c {
         '"' | '\\' | '\r' => false,
-        _ => match kind {
-            StringKind::Plain => true,
-            StringKind::Byte => c.is_ascii(),
-            StringKind::C => c != '\0',
-        },
+        _ => may_stand(c, kind),
     }
 }
 
@@ -46,13 +43,12 @@ fn plain(at: Cursor<'_>, kind: StringKind) -> Option<Cursor<'_>>
     one(at, |c| stands_for_itself(c, kind))
 }
 
-/// The place after all the characters that stand for themselves.
+/// The place after all the characters that stand for themselves, up to a quote, a backslash or a CR.
 fn skip_plain(at: Cursor<'_>, kind: StringKind) -> Cursor<'_>
 {
-    match kind {
-        StringKind::Plain => skip_to_any(at, b'"', b'\\', b'\r'),
-        _ => skip_while(at, |c| stands_for_itself(c, kind)),
-    }
+    let bytes = at.rest.as_bytes();
+    let size = memchr3(b'"', b'\\', b'\r', bytes).unwrap_or(bytes.len());
+    at.after_bytes(count_allowed(&bytes[..size], kind))
 }
 
 /// The place after what may stand after a backslash in a string.

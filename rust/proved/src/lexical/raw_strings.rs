@@ -2,11 +2,11 @@
 //! Strings without escapes.
 
 use crate::lexical::bytes::{Class, skip};
+use crate::lexical::contents::{count_allowed, may_stand};
 use crate::lexical::cursor::Cursor;
 use crate::lexical::quoted::{StringKind, suffix};
-use crate::lexical::search::skip_to_either;
-use crate::lexical::skip::skip_while;
 use crate::lexical::text::{before, begins};
+use crate::shim::memchr::memchr2;
 
 /// How many hash signs a raw string may have at most.
 const MOST_HASHES: usize = 255;
@@ -23,23 +23,12 @@ fn hashes(at: Cursor<'_>) -> Option<(&str, Cursor<'_>)>
     Some((hashes, end))
 }
 
-/// Whether the character may stand in a raw string.
-fn may_stand(c: char, kind: StringKind) -> bool
-{
-    match kind {
-        StringKind::Plain => true,
-        StringKind::Byte => c.is_ascii(),
-        StringKind::C => c != '\0',
-    }
-}
-
 /// The place after all the characters that may stand in a raw string, up to a quote or a CR.
 fn skip_plain(at: Cursor<'_>, kind: StringKind) -> Cursor<'_>
 {
-    match kind {
-        StringKind::Plain => skip_to_either(at, b'"', b'\r'),
-        _ => skip_while(at, |c| may_stand(c, kind) && !(c == '"' || c == '\r')),
-    }
+    let bytes = at.rest.as_bytes();
+    let size = memchr2(b'"', b'\r', bytes).unwrap_or(bytes.len());
+    at.after_bytes(count_allowed(&bytes[..size], kind))
 }
 
 /// The place after a unit of a raw string with these hash signs, by the rule `raw-unit`.

@@ -4,7 +4,7 @@
 //! What is searched for is ASCII, so it is found among the bytes: no byte of another character is below 0x80.
 
 use crate::lexical::cursor::Cursor;
-use crate::shim::memchr::{memchr, memchr2, memchr3};
+use crate::shim::memchr::{memchr, memchr2};
 
 /// The place before the first `stop`, an ASCII character, or at the end of the text where none stands.
 pub fn skip_to(at: Cursor<'_>, stop: u8) -> Cursor<'_>
@@ -19,13 +19,5 @@ pub fn skip_to_either(at: Cursor<'_>, a: u8, b: u8) -> Cursor<'_>
 {
     let bytes = at.rest.as_bytes();
     let size = memchr2(a, b, bytes).unwrap_or(bytes.len());
-    at.after_bytes(size)
-}
-
-/// The place before the first of the three ASCII characters, or at the end of the text where none stands.
-pub fn skip_to_any(at: Cursor<'_>, a: u8, b: u8, c: u8) -> Cursor<'_>
-{
-    let bytes = at.rest.as_bytes();
-    let size = memchr3(a, b, c, bytes).unwrap_or(bytes.len());
     at.after_bytes(size)
 }

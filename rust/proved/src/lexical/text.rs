@@ -2,6 +2,7 @@
 //! The few steps over the bytes of a text.
 
 /// The first character of a text, and the text after it.
+#[inline(always)]
 pub fn split_first(text: &str) -> Option<(char, &str)>
 {
     let mut characters = text.chars();
@@ -25,6 +26,7 @@ pub fn char_count(text: &str) -> usize
 }
 
 /// Whether the text begins with the ASCII text `front`.
+#[inline(always)]
 pub fn begins(text: &str, front: &str) -> bool
 {
     text.starts_with(front)
@@ -37,12 +39,14 @@ pub fn is_text(text: &str, ascii: &str) -> bool
 }
 
 /// What stands before `rest`, an end of the text.
+#[inline(always)]
 pub fn before<'a>(text: &'a str, rest: &str) -> &'a str
 {
     &text[..text.len() - rest.len()]
 }
 
 /// What follows the ASCII text `front`, if the text begins with it.
+#[inline(always)]
 pub fn strip<'a>(text: &'a str, front: &str) -> Option<&'a str>
 {
     text.strip_prefix(front)

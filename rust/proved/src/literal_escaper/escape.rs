@@ -1,6 +1,7 @@
 // Made from crates/literal_escaper/src/escape.rt by rust/erase: change that file, not this one.
 //! Escapes: what stands after a backslash.
 
+use crate::literal_escaper::classes::{Class, holds};
 use crate::literal_escaper::errors::EscapeError;
 use crate::literal_escaper::kind::{Unescape, character_of};
 use crate::literal_escaper::place::Place;
@@ -8,13 +9,15 @@ use crate::literal_escaper::place::Place;
 /// The character that a letter after a backslash stands for, by the rule `item-letter`.
 fn simple_escape(c: char) -> Option<char>
 {
+    if !holds(Class::SimpleEscape, c) {
+        return None;
+    }
     match c {
         '0' => Some('\0'),
         'n' => Some('\n'),
         'r' => Some('\r'),
         't' => Some('\t'),
-        '\\' | '\'' | '"' => Some(c),
-        _ => None,
+        _ => Some(c),
     }
 }
 
@@ -89,16 +92,12 @@ fn digits(at: Place<'_>) -> Code<'_>
     let mut number: u32 = 0;
     let mut after = at;
     while let Some((c, next)) = after.advance() {
-        match c.to_digit(16) {
-            Some(digit) => {
-                count = one_more(count);
-                number = extended(number, digit);
-            }
-            None => {
-                if c != '_' {
-                    break;
-                }
-            }
+        if !holds(Class::CodeCharacter, c) {
+            break;
+        }
+        if let Some(digit) = c.to_digit(16) {
+            count = one_more(count);
+            number = extended(number, digit);
         }
         after = next;
     }
@@ -141,7 +140,7 @@ fn braced_escape<K: Unescape>(at: Place<'_>) -> (Result<K::Unit, EscapeError>, P
     if c == '}' {
         return (Err(EscapeError::EmptyUnicodeEscape), after);
     }
-    if !c.is_digit(16) {
+    if !holds(Class::HexDigit, c) {
         return (Err(EscapeError::InvalidCharInUnicodeEscape), after);
     }
     rest_of_code::<K>(at)

@@ -1,6 +1,7 @@
 // Made from crates/literal_escaper/src/front.rt by rust/erase: change that file, not this one.
 //! The front of a content with escapes.
 
+use crate::literal_escaper::classes::{Class, holds};
 use crate::literal_escaper::errors::EscapeError;
 use crate::literal_escaper::escape::escape;
 use crate::literal_escaper::kind::Unescape;
@@ -23,7 +24,7 @@ pub struct Front<'a, U: Copy> {
 /// Whether the character is skipped after a line end with a backslash before it.
 fn is_blank(c: char) -> bool
 {
-    matches!(c, ' ' | '\t' | '\n' | '\r')
+    holds(Class::Blank, c)
 }
 
 /// The place after the blanks, and whether a line end is among them.
@@ -45,7 +46,7 @@ fn skip_blanks(at: Place<'_>) -> (bool, Place<'_>)
 fn unskipped_white(start: Place<'_>, after: Place<'_>) -> Option<Range<usize>>
 {
     let (c, past) = after.advance()?;
-    if c.is_whitespace() {
+    if holds(Class::White, c) {
         Some(start.offset()..past.offset())
     } else {
         None
@@ -77,11 +78,13 @@ fn skip_line<'a, U: Copy>(at: Place<'a>, line: Place<'a>) -> Front<'a, U>
 /// The unit of a character and what follows it.
 fn read_unit<K: Unescape>(c: char, after: Place<'_>) -> (Result<K::Unit, EscapeError>, Place<'_>)
 {
+    if !holds(Class::StringSpecial, c) {
+        return (K::of_char(c), after);
+    }
     match c {
         '\\' => escape::<K>(after),
         '"' => (Err(EscapeError::EscapeOnlyChar), after),
-        '\r' => (Err(EscapeError::BareCarriageReturn), after),
-        _ => (K::of_char(c), after),
+        _ => (Err(EscapeError::BareCarriageReturn), after),
     }
 }
 

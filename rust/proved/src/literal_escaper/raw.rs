@@ -1,6 +1,7 @@
 // Made from crates/literal_escaper/src/raw.rt by rust/erase: change that file, not this one.
 //! Raw contents.
 
+use crate::literal_escaper::classes::{Class, holds};
 use crate::literal_escaper::errors::EscapeError;
 use crate::literal_escaper::front::Item;
 use crate::literal_escaper::kind::CheckRaw;
@@ -9,7 +10,7 @@ use crate::literal_escaper::place::Place;
 /// The unit of a character of a raw content.
 fn unit<K: CheckRaw>(c: char) -> Result<K::Unit, EscapeError>
 {
-    if c == '\r' {
+    if holds(Class::RawSpecial, c) {
         Err(EscapeError::BareCarriageReturnInRawString)
     } else {
         K::of_char(c)

@@ -1,6 +1,7 @@
 // Made from crates/literal_escaper/src/single.rt by rust/erase: change that file, not this one.
 //! Contents that are one unit.
 
+use crate::literal_escaper::classes::{Class, holds};
 use crate::literal_escaper::errors::EscapeError;
 use crate::literal_escaper::escape::escape;
 use crate::literal_escaper::kind::Unescape;
@@ -9,11 +10,13 @@ use crate::literal_escaper::place::Place;
 /// The unit of a character and what follows it.
 fn first_unit<K: Unescape>(c: char, after: Place<'_>) -> (Result<K::Unit, EscapeError>, Place<'_>)
 {
+    if !holds(Class::CharSpecial, c) {
+        return (K::of_char(c), after);
+    }
     match c {
         '\\' => escape::<K>(after),
-        '\n' | '\t' | '\'' => (Err(EscapeError::EscapeOnlyChar), after),
         '\r' => (Err(EscapeError::BareCarriageReturn), after),
-        _ => (K::of_char(c), after),
+        _ => (Err(EscapeError::EscapeOnlyChar), after),
     }
 }
 

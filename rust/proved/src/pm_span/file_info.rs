@@ -78,7 +78,7 @@ fn find_lines(alloc: Global, text: &str) -> Result<Lines, AllocError>
     })
 }
 
-/// Keeps both ends of a line. The first one is kept already where the line before it is.
+/// Keeps both ends of a line that isn't ASCII. The first one is kept already where the line before it is.
 fn push_ends(
     ends: &mut Vec<KnownPlace>,
     start: KnownPlace,

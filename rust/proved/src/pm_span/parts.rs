@@ -4,6 +4,7 @@
 use crate::pm_span::source_map::SourceMap;
 use crate::pm_span::spans::Span;
 pub use crate::pm_span::text::char_count;
+use crate::pm_span::text::has_fewer;
 use crate::shim::alloc::{AllocError, Global};
 
 /// The span of the positions from `lo` up to `hi`, in characters.
@@ -26,6 +27,17 @@ pub fn bounds(span: Span) -> (u32, u32)
 pub fn fits(map: &SourceMap, text: &str) -> Option<u32>
 {
     map.fits(text)
+}
+
+/// The position, in characters, where the file of this text would begin in a new map, if it fits there
+/// (`fits`): 1, without a map being made.
+pub fn fits_new(text: &str) -> Option<u32>
+{
+    if has_fewer(text, u32::MAX as usize) {
+        Some(1)
+    } else {
+        None
+    }
 }
 
 /// Adds the text, which fits, as the map's next file.

@@ -2,7 +2,8 @@
 //! How streams are printed.
 //!
 //! Groups may nest as deep as a text is long, so what is left to print after a group stands in a
-//! list and not on the stack.
+//! list and not on the stack. If memory for the list is refused, the function calls itself for the
+//! group, so that it prints all the same.
 
 use crate::shim::prelude::Vec;
 
@@ -36,10 +37,14 @@ fn print_trees<W: fmt::Write>(
             left = after;
             if let TokenTree::Group(group) = tree {
                 let delimiter = group.delimiter();
-                if outer.push(Level { delimiter, after }).is_err() {
-                    return Err(fmt::Error);
+                let inside = group.stream_ref().trees();
+                if outer.push(Level { delimiter, after }).is_ok() {
+                    left = inside;
+                } else {
+                    print_trees(alloc, inside, gap, f)?;
+                    print_ending(delimiter, f)?;
+                    gap = true;
                 }
-                left = group.stream_ref().trees();
             }
         } else {
             let Some(level) = outer.pop() else {
@@ -117,8 +122,8 @@ fn gap_within(tree: &TokenTree) -> bool
 
 /// The trees by the rule `printed`: one space between two, but none after a Joint mark. A group is
 /// written with its delimiters, a Brace with spaces inside them, so that `{x}` is printed `{ x }`
-/// and `{}` is `{ }`. Fails where the writer does, or where memory for the list of the groups that
-/// are being printed is refused; the text may be written in part then.
+/// and `{}` is `{ }`. Fails only where the writer does, whatever memory there is; the text may be
+/// written in part then.
 impl Display for TokenStream {
     fn fmt<W: fmt::Write>(&self, f: &mut fmt::Formatter<W>) -> fmt::Result {
         print_trees(self.alloc(), self.trees(), false, f)
@@ -127,7 +132,7 @@ impl Display for TokenStream {
 
 crate::shim::display!(TokenStream);
 
-/// A token, or a group with its delimiters, by the rule `printed`.
+/// A token, or a group with its delimiters, by the rule `printed`. Fails as a stream does.
 impl Display for TokenTree {
     fn fmt<W: fmt::Write>(&self, f: &mut fmt::Formatter<W>) -> fmt::Result {
         match self {

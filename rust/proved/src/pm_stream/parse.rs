@@ -6,7 +6,7 @@ use crate::shim::prelude::Vec;
 use crate::pm_stream::doc::doc_group;
 use crate::pm_stream::stream::{Group, TokenStream, TokenTree};
 use crate::lexical::{Piece, PieceKind, past_white, piece_at};
-use crate::pm_span::parts::{add_file, allocator, fits, span_of};
+use crate::pm_span::parts::{add_file, allocator, fits, fits_new, span_of};
 use crate::pm_span::{SourceMap, Span};
 use crate::pm_token::parts::{fault, ident, literal, punct};
 use crate::pm_token::{Delimiter, ParseError, Spacing};
@@ -42,14 +42,15 @@ impl TokenStream {
 
     /// The token trees of a text that becomes no file of a map (`parses-to`). The stream is `built`.
     ///
-    /// Answers and spans are those of [`from_str`](TokenStream::from_str) with a new map, but no map holds
-    /// the spans. It takes no copy of the text and looks for no lines, so what only prints trees reads a text
-    /// by it in less time. Where a fault stands is asked of a map: `from_str` finds it at the same position.
+    /// Answers and spans are those of [`from_str`](TokenStream::from_str) with a new map, but the text is no
+    /// file of any map, so no map is promised to hold the spans. It takes no copy of the text and looks for
+    /// no lines, so what only prints trees reads a text by it in less time. Where a fault stands is asked of
+    /// a map: `from_str` finds it at the same position.
     ///
     /// `a += b` gives four trees, the first the identifier `a` at 1..2. The fault of `(]` is 2..2.
     pub fn parse_unmapped(alloc: Global, text: &str) -> Result<TokenStream, ParseError>
     {
-        let Some(lo) = fits(&SourceMap::new(alloc), text) else {
+        let Some(lo) = fits_new(text) else {
             return Err(ParseError::MapFull);
         };
         parse(alloc, lo, text)

@@ -21,9 +21,9 @@ pub fn stream(alloc: Global, trees: Vec<TokenTree>) -> Result<TokenStream, Alloc
     TokenStream::from_vec(alloc, trees)
 }
 
-/// The token trees of a text that is no file of a map (`parses-to`). Spans count its characters from `base` on, and no
-/// map holds them, but for chance. A fault has an empty span, where `TokenStream::from_str` would find it in a file that
-/// begins at `base`. `MapFull` is never answered, and `Memory` where a growth was refused.
+/// The token trees of a text that is no file of a map (`parses-to`). Spans count its characters from `base` on,
+/// and no map is promised to hold them. A fault has an empty span, where `TokenStream::from_str` would find it in
+/// a file that begins at `base`. `MapFull` is never answered, and `Memory` where a growth was refused.
 ///
 /// It takes no copy of the text.
 pub fn parse_at(alloc: Global, base: u32, text: &str) -> Result<TokenStream, ParseError>

@@ -268,7 +268,8 @@ impl Group {
     /// Its trees, without the delimiters, as a stream of their own: `x` of `(x)`.
     ///
     /// They are shared until one of the two is changed, so that this takes no memory. It fails only where
-    /// the trees have more owners than can be counted. [`stream_ref`](Group::stream_ref) lends them.
+    /// the trees have more owners than can be counted, and never for a group without trees.
+    /// [`stream_ref`](Group::stream_ref) lends them.
     pub fn stream(&self) -> Result<TokenStream, AllocError>
     {
         self.stream.clone()

@@ -34,8 +34,8 @@ impl TokenStream {
 impl<'a> Walk<'a> {
     /// The next tree, or `None` after the last.
     ///
-    /// It takes memory only at a group, for what comes after that. Where memory is refused the walk
-    /// stays as it was.
+    /// It takes memory only at a group, for what comes after that, so it fails only where the next tree
+    /// is a group. Where memory is refused the walk stays as it was.
     pub fn next(&mut self) -> Result<Option<&'a TokenTree>, AllocError>
     {
         loop {

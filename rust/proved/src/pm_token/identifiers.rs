@@ -45,7 +45,8 @@ impl Ident {
         }
     }
 
-    /// The plain identifier of this name, which stands at this span.
+    /// The plain identifier of this name, which stands at this span. A keyword is one too: `fn` as the
+    /// name of a variable is found out only by who compiles what is printed.
     ///
     /// Refused, by the rule `identifier-fault`, with the first of these that holds: `Empty` where the
     /// name has no character; `Number` where it has ASCII digits only; `Invalid` where it isn't a
@@ -66,7 +67,12 @@ impl Ident {
     }
 
     /// Whether `text` is how the identifier is written: a raw `a` is `r#a`, and not `a`.
+    ///
+    /// Of a text that a program writes out, as in `name.eq_str("fn")`, a proof learns by `spelled` that
+    /// the identifier is written `fn`: `spelled (codes "fn")` computes to `codes "fn"`.
     pub fn eq_str(&self, text: &str) -> bool
+
+        // The same, in words that compute for an ASCII text that is known.
     {
         let name = self.name.as_str();
         if !self.name.is_raw() {

@@ -1,6 +1,18 @@
 // Made from crates/pm_token/src/laws.rt by rust/erase: change that file, not this one.
-//! What is proved of literals and their values together. The functions compute nothing: their contracts
-//! are the laws, which `specs/KindLaws.antt` and `specs/ValueLaws.antt` state.
+//! What is proved of literals and their values together, and of what is compared. The functions compute
+//! nothing: their contracts are the laws, those of literals by `specs/KindLaws.antt` and
+//! `specs/ValueLaws.antt`.
+
+use crate::pm_token::delimiters::Delimiter;
+use crate::pm_token::literals::ConversionErrorKind;
+use crate::pm_token::marks::Spacing;
+
+/// Two delimiters, two spacings, and two reasons why a literal has no value, are equal exactly if they
+/// are the same: of one kind, and for a fault of the content with the same fault.
+///
+/// Of the faults of `"\z"` and `"\x1"`, both `FailedToUnescape`, neither equals the other.
+pub fn equal_delimiters_spacings_and_errors()
+{}
 
 /// A literal that was made is one of its kind, with nothing after it: what `Literal::string` writes is a
 /// string, what `byte_string` and `c_string` write a byte string and a C string, and what `character` and

@@ -28,7 +28,8 @@ impl Text {
         }
     }
 
-    /// The text itself if it is long, and a copy if it is short. Fails where memory runs out.
+    /// The text itself if it is long, and a copy if it is short. Fails where memory runs out, which a
+    /// short text doesn't take.
     fn from_string(alloc: Global, text: String) -> Result<Text, AllocError>
     {
         if text.len() <= ROOM {

@@ -39,15 +39,19 @@ impl From<AllocError> for QuoteError {
     }
 }
 
-/// Why a template is not filled: its first fault in reading order with the place in the template, that its text has a
-/// fault, or that memory ran out.
+/// Why a template is not filled: its first fault with the place in the template, that its text was not parsed, or that
+/// memory ran out.
+///
+/// The first fault is the first in reading order, a group coming before its contents. So of `#( #missing )*` it is
+/// `NoList` at the parentheses, and `NoHole` at `missing` only where a list is named beside it. Of the faults at one
+/// pair of parentheses `Nested` comes first, then `TooDeep`, then `NoList`.
 #[derive(Debug)]
 pub enum TemplateError {
     /// No hole has the name that stands here, after a `#`.
     NoHole(Span),
     /// The name of a list stands here, outside of repetitions.
     LoneList(Span),
-    /// The parentheses of a repetition that names no list.
+    /// The parentheses of a repetition that names no list, at any depth inside of it.
     NoList(Span),
     /// The name of a list stands here whose length isn't that of the first list named in the repetition.
     UnequalLists(Span),
@@ -55,9 +59,10 @@ pub enum TemplateError {
     Nested(Span),
     /// A group inside of 64 others.
     TooDeep(Span),
-    /// The text of the template was not parsed.
+    /// The text of the template was not parsed: it has a fault, the map has no room for it, or memory ran out before it
+    /// was parsed.
     Parse(ParseError),
-    /// Memory ran out.
+    /// Memory ran out where the template was filled.
     Memory(AllocError),
 }
 
@@ -88,9 +93,6 @@ impl From<AllocError> for TemplateError {
 
 impl From<ParseError> for TemplateError {
     fn from(error: ParseError) -> TemplateError {
-        match error {
-            ParseError::Memory(error) => TemplateError::Memory(error),
-            error => TemplateError::Parse(error),
-        }
+        TemplateError::Parse(error)
     }
 }

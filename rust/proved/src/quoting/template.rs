@@ -13,12 +13,16 @@ const DEPTH_LIMIT: usize = 64;
 impl Quote {
     /// Puts the template after the other trees, its holes filled (`filled`).
     ///
-    /// `#name` and `#0` stand for the stream of the first hole of that name, `#( .. )*` for as many turns as the lists
-    /// named inside have streams, and `#( .. ),*` for the same with the mark between the turns. Any other `#` stands
-    /// for itself. All other trees are kept, with their spans; groups are filled inside. A mark right before a hole or a
-    /// repetition comes out Alone, so that it doesn't join what comes there.
+    /// `#name` and `#0` stand for the stream of the first hole of that name, `#( .. )*` for as many turns as the
+    /// lists named inside have streams, and `#( .. ),*` for the same with the mark between the turns. Any other `#`
+    /// stands for itself. All other trees are kept, with their spans; groups are filled inside. A mark right before a
+    /// hole or a repetition comes out Alone, so that it doesn't join what comes there.
     ///
-    /// Fails with the first fault in reading order, and where memory runs out. The quote then stays as it was.
+    /// Fails with the template's first fault (`TemplateError`), and where memory runs out. The quote then stays as it
+    /// was.
+    ///
+    /// With the lists `x` of `a` and `y` of `b`, `#( #x: #y ),*` is `a : b`. Without `y` it has the fault `NoHole` at
+    /// `y`, and with neither `NoList` at the parentheses.
     pub fn fill(&mut self, template: &TokenStream, holes: &[Hole<'_>]) -> Result<(), TemplateError>
     {
         let stream = woven(self.alloc(), template, holes, None, DEPTH_LIMIT)?;
@@ -29,9 +33,10 @@ impl Quote {
     /// Puts the template that the text parses to after the other trees, its holes filled, as `fill` does. The text
     /// becomes the next file of the map, and the spans of the template are places in it.
     ///
-    /// `Parse` tells why the text was not parsed: a fault of the text, which then is a file of the map too, or `MapFull`,
-    /// exactly where the text would end past the map's limit, which leaves the map as it was. After any failure the quote
-    /// is as it was. After a fault of the template the text stays in the map, and where memory ran out, if it was parsed.
+    /// `Parse` tells why the text was not parsed: `Lex` where it has a fault, `MapFull` exactly where it would end
+    /// past the map's limit, and `Memory` where memory for that ran out. Any other error is one of filling. The quote
+    /// is then as it was. So is the map after `Parse(MapFull)` and `Parse(Memory)`; after any other answer, the
+    /// `Memory` of filling among them, the text is its next file.
     ///
     /// With `x` for `name`, `fn #name() {}` is `fn x() {}`.
     pub fn parse(

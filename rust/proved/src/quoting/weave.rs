@@ -6,9 +6,10 @@
 use crate::shim::prelude::Clone;
 
 use crate::quoting::errors::TemplateError;
-use crate::quoting::holes::{Filling, Hole, Name};
+use crate::quoting::holes::Hole;
 use crate::quoting::respace::{put, regrouped, spaced};
 use crate::quoting::start::{Repetition, Start, start_at};
+use crate::quoting::turns::{checked, turns_of};
 use crate::proc_macro2::{Group, Punct, Spacing, TokenStream, TokenTree};
 use crate::shim::alloc::{AllocError, Global};
 
@@ -84,8 +85,7 @@ fn filled_inside(
     woven(alloc, group.stream_ref(), holes, turn, inner)
 }
 
-// The turns of a repetition, with the separator between them. There are as many as each list has streams that is named
-// inside.
+// The turns of a repetition, with the separator between them. That it names no list comes before what is wrong inside.
 fn repeated(
     alloc: Global,
     repetition: &Repetition<'_>,
@@ -101,9 +101,11 @@ fn repeated(
     let Some(inner) = depth.checked_sub(1) else {
         return Err(TemplateError::TooDeep(body.span()));
     };
-    let Some(turns) = counted(body.stream_ref().trees(), holes, inner, None)? else {
+    let trees = body.stream_ref().trees();
+    let Some(turns) = turns_of(alloc, trees, holes)? else {
         return Err(TemplateError::NoList(body.span()));
     };
+    checked(trees, holes, inner, turns)?;
     let mut out = TokenStream::new(alloc);
     for turn in 0..turns {
         separate(&mut out, repetition.separator, turn)?;
@@ -111,56 +113,6 @@ fn repeated(
         append(&mut out, part)?;
     }
     Ok(out)
-}
-
-// How many turns a repetition of these trees has: the length of the lists that are named, after a front that tells so
-// many. `None` where no list is named.
-fn counted(
-    trees: &[TokenTree],
-    holes: &[Hole<'_>],
-    depth: usize,
-    before: Option<usize>,
-) -> Result<Option<usize>, TemplateError>
-{
-    let mut turns = before;
-    let mut left = trees;
-    while let Some((tree, after)) = left.split_first() {
-        match start_at(tree, after) {
-            None => {
-                if let TokenTree::Group(group) = tree {
-                    let Some(inner) = depth.checked_sub(1) else {
-                        return Err(TemplateError::TooDeep(group.span()));
-                    };
-                    turns = counted(group.stream_ref().trees(), holes, inner, turns)?;
-                }
-                left = after;
-            }
-            Some(Start::Names(name, rest)) => {
-                turns = agreed(&name, holes, turns)?;
-                left = rest;
-            }
-            Some(Start::Repeats(repetition, _)) => {
-                return Err(TemplateError::Nested(repetition.body.span()));
-            }
-        }
-    }
-    Ok(turns)
-}
-
-// How many turns there are, as this name tells and those before it, which tell so many.
-fn agreed(
-    name: &Name<'_>,
-    holes: &[Hole<'_>],
-    turns: Option<usize>,
-) -> Result<Option<usize>, TemplateError>
-{
-    match (name.filling(holes), turns) {
-        (None, _) => Err(TemplateError::NoHole(name.span())),
-        (Some(Filling::One(_)), _) => Ok(turns),
-        (Some(Filling::Each(streams)), None) => Ok(Some(streams.len())),
-        (Some(Filling::Each(streams)), Some(length)) if streams.len() == length => Ok(turns),
-        (Some(Filling::Each(_)), Some(_)) => Err(TemplateError::UnequalLists(name.span())),
-    }
 }
 
 // Puts the separator at the end, Alone, before a turn that is not the first.

@@ -7,9 +7,13 @@ use super::{Group, TokenStream, TokenTree};
 use crate::shim::alloc::AllocError;
 
 /// The same trees. They are shared until one of the two streams is changed, so that this takes no
-/// memory, however many they are.
+/// memory, however many they are. It fails only where they have more owners than can be counted, and
+/// never without trees.
 impl Clone for TokenStream {
     fn clone(&self) -> Result<TokenStream, AllocError> {
+        if self.is_empty() {
+            return Ok(TokenStream::new(self.alloc));
+        }
         let trees = match &self.trees {
             Some(trees) => Some(trees.clone()?),
             None => None,

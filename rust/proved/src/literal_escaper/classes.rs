@@ -1,0 +1,111 @@
+// Made from crates/literal_escaper/src/classes.rt by rust/erase: change that file, not this one.
+//! Classes of characters in contents and escapes.
+//!
+//! An ASCII character is looked up by its byte in a table. One past ASCII is read whole.
+
+/// A class of characters that the rules of contents name.
+#[derive(Clone, Copy)]
+pub enum Class {
+    /// What is skipped after a line end with a backslash before it.
+    Blank,
+    /// White space.
+    White,
+    /// A hex digit.
+    HexDigit,
+    /// A hex digit or `_`, which may stand in the braces after the first digit.
+    CodeCharacter,
+    /// What stands for one character after a backslash.
+    SimpleEscape,
+    /// What doesn't stand for itself in a string.
+    StringSpecial,
+    /// What doesn't stand for itself in a character.
+    CharSpecial,
+    /// What doesn't stand for itself in a raw string.
+    RawSpecial,
+}
+
+// A byte may be of several classes, each of which is a bit.
+const BLANK: u8 = 1;
+
+const WHITE: u8 = 2;
+
+const HEX: u8 = 4;
+
+const CODE: u8 = 8;
+
+const SIMPLE: u8 = 16;
+
+const IN_STRING: u8 = 32;
+
+const IN_CHAR: u8 = 64;
+
+const IN_RAW: u8 = 128;
+
+/// No class.
+const NONE: u8 = 0;
+/// A tab and LF.
+const LINE: u8 = BLANK | WHITE | IN_CHAR;
+/// CR.
+const RETURN: u8 = BLANK | WHITE | IN_STRING | IN_CHAR | IN_RAW;
+/// A space.
+const SPACE: u8 = BLANK | WHITE;
+/// `"`.
+const DOUBLE: u8 = SIMPLE | IN_STRING;
+/// `'`.
+const QUOTE: u8 = SIMPLE | IN_CHAR;
+/// `\`.
+const SLASH: u8 = SIMPLE | IN_STRING | IN_CHAR;
+/// `0`.
+const ZERO: u8 = HEX | CODE | SIMPLE;
+/// The other hex digits.
+const DIGIT: u8 = HEX | CODE;
+
+/// The classes of each byte of ASCII.
+#[rustfmt::skip]
+static CLASSES: [u8; 128] = [
+    NONE, NONE, NONE, NONE, NONE, NONE, NONE, NONE,
+    NONE, LINE, LINE, WHITE, WHITE, RETURN, NONE, NONE,
+    NONE, NONE, NONE, NONE, NONE, NONE, NONE, NONE,
+    NONE, NONE, NONE, NONE, NONE, NONE, NONE, NONE,
+    SPACE, NONE, DOUBLE, NONE, NONE, NONE, NONE, QUOTE,
+    NONE, NONE, NONE, NONE, NONE, NONE, NONE, NONE,
+    ZERO, DIGIT, DIGIT, DIGIT, DIGIT, DIGIT, DIGIT, DIGIT,
+    DIGIT, DIGIT, NONE, NONE, NONE, NONE, NONE, NONE,
+    NONE, DIGIT, DIGIT, DIGIT, DIGIT, DIGIT, DIGIT, NONE,
+    NONE, NONE, NONE, NONE, NONE, NONE, NONE, NONE,
+    NONE, NONE, NONE, NONE, NONE, NONE, NONE, NONE,
+    NONE, NONE, NONE, NONE, SLASH, NONE, NONE, CODE,
+    NONE, DIGIT, DIGIT, DIGIT, DIGIT, DIGIT, DIGIT, NONE,
+    NONE, NONE, NONE, NONE, NONE, NONE, SIMPLE, NONE,
+    NONE, NONE, SIMPLE, NONE, SIMPLE, NONE, NONE, NONE,
+    NONE, NONE, NONE, NONE, NONE, NONE, NONE, NONE,
+];
+
+/// The bit of the class.
+#[inline(always)]
+fn bit(class: Class) -> u8
+{
+    match class {
+        Class::Blank => BLANK,
+        Class::White => WHITE,
+        Class::HexDigit => HEX,
+        Class::CodeCharacter => CODE,
+        Class::SimpleEscape => SIMPLE,
+        Class::StringSpecial => IN_STRING,
+        Class::CharSpecial => IN_CHAR,
+        Class::RawSpecial => IN_RAW,
+    }
+}
+
+/// Whether the character is of the class.
+#[inline(always)]
+pub fn holds(class: Class, c: char) -> bool
+{
+    if c.is_ascii() {
+        return CLASSES[c as usize] & bit(class) != 0;
+    }
+    match class {
+        Class::White => c.is_whitespace(),
+        _ => false,
+    }
+}

@@ -1,0 +1,175 @@
+// Made from crates/pm_stream/src/reprinting.rt by rust/erase: change that file, not this one.
+//! From a text to its printed text, with no trees in between.
+
+use crate::shim::prelude::{String, Vec};
+
+use crate::pm_stream::display::{closer, is_brace, opener};
+use crate::pm_stream::parse::{delimiter, fault_at};
+use crate::lexical::{Piece, PieceKind, past_white, piece_at};
+use crate::pm_span::parts::fits_new;
+use crate::pm_token::parts::Draft;
+use crate::pm_token::{Delimiter, ParseError};
+use crate::shim::alloc::{AllocError, Global};
+
+/// The printed text of a text: what Display writes of the stream that it parses to.
+///
+/// Trees are not made. It takes memory for the printed text, which is seldom longer than the source, and
+/// for a list of the groups that are open. Answers are those of
+/// [`parse_unmapped`](crate::pm_stream::TokenStream::parse_unmapped): `Lex` has the position of the fault, in
+/// characters from 1 on (`fault`), `MapFull` is answered exactly where the text would not fit a new map
+/// (`fits`), and `Memory` where a growth was refused.
+///
+/// `a+=b` gives `a += b`, and `{x}` gives `{ x }`. The fault of `(]` is 2..2.
+pub fn reprint(alloc: Global, text: &str) -> Result<String, ParseError>
+{
+    let Some(lo) = fits_new(text) else {
+        return Err(ParseError::MapFull);
+    };
+    reprint_at(alloc, lo, text)
+}
+
+/// The printed text of a text that begins at the position `base`.
+fn reprint_at(alloc: Global, base: u32, text: &str) -> Result<String, ParseError>
+{
+    let mut printing = Printing::with_room(alloc, text.len())?;
+    let mut rest = text;
+    let mut at = base;
+    let mut first = true;
+    while let Some(piece) = piece_at(rest, first) {
+        printing.take(piece, rest, at)?;
+        let tail = &rest[piece.bytes..];
+        // White characters are gaps, of which nothing is printed, and are passed over all at once.
+        let (after, white) = past_white(tail);
+        rest = after;
+        at += (piece.chars + white) as u32;
+        first = false;
+    }
+    printing.end(rest, at)
+}
+
+/// What was printed so far.
+struct Printing {
+    /// The groups that are open, the innermost last.
+    groups: Vec<OpenGroup>,
+    /// What is printed of what was read.
+    draft: Draft,
+    /// Whether a space goes before what is printed next.
+    gap: bool,
+}
+
+/// A group whose closer is still to come.
+struct OpenGroup {
+    /// What stands around it.
+    delimiter: Delimiter,
+    /// Where its opener begins.
+    lo: u32,
+}
+
+impl Printing {
+    /// Nothing was printed, and there is room for so many bytes.
+    fn with_room(alloc: Global, bytes: usize) -> Result<Printing, AllocError>
+    {
+        Ok(Printing {
+            groups: Vec::new(alloc),
+            draft: Draft::with_room(alloc, bytes)?,
+            gap: false,
+        })
+    }
+
+    /// Takes the piece at the front of the text, which begins at `lo`. A closer that doesn't close
+    /// the innermost open group is a fault.
+    fn take(&mut self, piece: Piece, text: &str, lo: u32) -> Result<(), ParseError>
+    {
+        match piece.kind {
+            PieceKind::Opener(c) => self.open(delimiter(c), lo)?,
+            PieceKind::Closer(c) => self.close(delimiter(c), lo)?,
+            PieceKind::Doc { inner, text } => self.push_doc(inner, text)?,
+            PieceKind::Mark { joint, mark } => {
+                let _ = mark;
+                self.push_token(&text[..piece.bytes], !joint)?;
+            }
+            PieceKind::Name { raw, name } => {
+                let _ = raw;
+                let _ = name;
+                self.push_token(&text[..piece.bytes], true)?;
+            }
+            PieceKind::Literal => self.push_token(&text[..piece.bytes], true)?,
+            PieceKind::FrontMark | PieceKind::Gap => {}
+        }
+        Ok(())
+    }
+
+    /// Prints the text, after a space if one goes before it.
+    fn write(&mut self, text: &str) -> Result<(), AllocError>
+    {
+        if self.gap {
+            self.draft.push(' ')?;
+        }
+        self.draft.push_text(text)
+    }
+
+    /// Prints a token of this text. `gap` says whether a space goes after it.
+    fn push_token(&mut self, text: &str, gap: bool) -> Result<(), AllocError>
+    {
+        self.write(text)?;
+        self.gap = gap;
+        Ok(())
+    }
+
+    /// Prints a doc comment: the mark `#`, the mark `!` if it is inner, and the group of its text.
+    #[inline(never)]
+    fn push_doc(&mut self, inner: bool, text: &str) -> Result<(), AllocError>
+    {
+        self.write(doc_front(inner))?;
+        self.draft.push_string(text)?;
+        self.draft.push(']')?;
+        self.gap = true;
+        Ok(())
+    }
+
+    /// Prints an opener that begins at `lo`.
+    fn open(&mut self, delimiter: Delimiter, lo: u32) -> Result<(), AllocError>
+    {
+        self.write(opener(delimiter))?;
+        self.gap = is_brace(delimiter);
+        self.groups.push(OpenGroup { delimiter, lo })?;
+        Ok(())
+    }
+
+    /// Prints a closer at `lo`. It is a fault unless it closes the innermost open group.
+    fn close(&mut self, delimiter: Delimiter, lo: u32) -> Result<(), ParseError>
+    {
+        let Some(group) = self.groups.pop() else {
+            return Err(fault_at(lo));
+        };
+        if group.delimiter != delimiter {
+            return Err(fault_at(lo));
+        }
+        self.draft.push_text(closer(delimiter))?;
+        self.gap = true;
+        Ok(())
+    }
+
+    /// What was printed, where nothing is left of the text and no group is open.
+    fn end(self, rest: &str, at: u32) -> Result<String, ParseError>
+    {
+        if !rest.is_empty() {
+            return Err(fault_at(at));
+        }
+        let Printing {
+            mut groups,
+            draft,
+            gap: _,
+        } = self;
+        if let Some(group) = groups.pop() {
+            return Err(fault_at(group.lo));
+        }
+        Ok(draft.into_string())
+    }
+}
+
+/// What a doc comment is printed as before its text.
+fn doc_front(inner: bool) -> &'static str
+{
+    if inner { "# ! [doc = " } else { "# [doc = " }
+}
