@@ -27,7 +27,7 @@ ORDERS = ("forwards", "backwards", "random")
 CALLS = {
     "source": ("from_str", "display", "clone", "drop", "into_iter"),
     "short": ("lines",),
-    "line": tuple(f"{call}-{order}" for call in ("byte_range", "source_text") for order in ORDERS),
+    "line": (*(f"{call}-{order}" for call in ("byte_range", "source_text") for order in ORDERS), "extend"),
 }
 # How many tokens a short text has at most.
 FEW = 10

@@ -21,6 +21,7 @@ pub fn measure(word: &str, count: u32, text: &str) -> Option<Measured> {
             "clone" => clone(&mut clock, text),
             "drop" => drop_stream(&mut clock, text),
             "into_iter" => into_iter(&mut clock, text),
+            "extend" => extend(&mut clock, text),
             "lines" => lines(&mut clock, text),
             _ => lookups(&mut clock, word, text)?,
         };
@@ -98,6 +99,18 @@ fn count_taken(trees: token_stream::IntoIter) -> usize {
         }
     }
     count
+}
+
+/// The trees of the text, those in groups left there, are put into a new stream, each by a call of its own.
+fn extend(clock: &mut Clock, text: &str) -> usize {
+    let trees = parsed(text).into_iter();
+    let mut stream = TokenStream::new();
+    clock.start();
+    for tree in trees {
+        stream.extend([tree]);
+    }
+    clock.stop();
+    stream.into_iter().count()
 }
 
 /// Each line is parsed as a text of its own, and its stream is dropped.

@@ -206,3 +206,19 @@ fn many_trees_take_a_step_each(rt: HostRuntime) -> Result<(), Fail> {
     assert_eq!(rt; stream.trees().len(), 100000);
     Ok(())
 }
+
+#[test]
+fn an_empty_group_gives_an_empty_stream(rt: HostRuntime) -> Result<(), AllocError> {
+    let delimiters = [
+        Delimiter::Parenthesis,
+        Delimiter::Bracket,
+        Delimiter::Brace,
+        Delimiter::None,
+    ];
+    for delimiter in delimiters {
+        let group = grouped(delimiter, TokenStream::new(rt.alloc()));
+        check_printed(&rt, &group.stream()?, "")?;
+        check_printed(&rt, &group.clone()?.stream()?, "")?;
+    }
+    Ok(())
+}

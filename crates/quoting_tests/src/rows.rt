@@ -211,3 +211,22 @@ fn errors_say_why(rt: HostRuntime) -> Result<(), Fail> {
     assert_eq!(rt; text.as_str(), "Parse(MapFull)");
     Ok(())
 }
+
+/// A quote of so many marks and groups of a name, in turn. Each mark is Joint, so that it is made Alone.
+fn long_quote(alloc: Global, pairs: u32) -> Result<Quote, Fail> {
+    let mut quote = Quote::new(alloc);
+    for _ in 0..pairs {
+        quote.push(TokenTree::Punct(Punct::new('+', Spacing::Joint)))?;
+        let inside = TokenStream::from_tree(alloc, name(alloc, "x")?)?;
+        quote.push(TokenTree::Group(Group::new(Delimiter::Parenthesis, inside)))?;
+    }
+    Ok(quote)
+}
+
+#[test]
+fn forty_thousand_trees_are_finished(rt: HostRuntime) -> Result<(), Fail> {
+    let stream = long_quote(rt.alloc(), 20_000)?.finish()?;
+    assert_eq!(rt; stream.trees().len(), 40_000);
+    assert!(rt; stream.is_well_spaced());
+    Ok(())
+}

@@ -14,7 +14,8 @@ fn ident(alloc: Global, name: &str) -> Result<Ident, IdentError> {
     Ident::new(alloc, name, Span::call_site())
 }
 
-fn minus_three(alloc: Global) -> Result<Literal, AllocError> {
+/// The literal `-3i32`.
+pub fn minus_three(alloc: Global) -> Result<Literal, AllocError> {
     Literal::i32_suffixed(alloc, -3)
 }
 
@@ -24,8 +25,8 @@ fn group_of_y(alloc: Global) -> Result<Group, Fail> {
     Ok(Group::new(Delimiter::Parenthesis, stream))
 }
 
-// `x`, `-3i32` and `(y)`.
-fn trees(alloc: Global) -> Result<[TokenTree; 3], Fail> {
+/// `x`, `-3i32` and `(y)`.
+pub fn trees(alloc: Global) -> Result<[TokenTree; 3], Fail> {
     Ok([
         TokenTree::Ident(ident(alloc, "x")?),
         TokenTree::Literal(minus_three(alloc)?),

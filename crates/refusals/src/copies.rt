@@ -1,5 +1,6 @@
 //! What is copied of a stream, and what is taken out of it.
 
+use crate::building::{minus_three, trees};
 use crate::fails::Fail;
 use crate::shown::show_stream;
 use crate::watched::watched;
@@ -27,6 +28,8 @@ fn copy<W: Write>(
     match call {
         "stream" => copy_stream(out, stream),
         "tree" => copy_tree(out, stream),
+        "extended" => copy_extended(alloc, out, stream.clone()?),
+        "minus_three" => copy_minus_three(alloc, out),
         "inside" => copy_inside(out, stream),
         "into_iter" => take_trees(out, stream.clone()?),
         "alone_into_iter" => take_trees(
@@ -47,11 +50,32 @@ fn copy_stream<W: Write>(out: &mut W, stream: &TokenStream) -> Result<(), Fail> 
     Ok(())
 }
 
+// Copies the stream after `x`, `-3i32` and `(y)` were put into it.
+fn copy_extended<W: Write>(
+    alloc: Global,
+    out: &mut W,
+    mut stream: TokenStream,
+) -> Result<(), Fail> {
+    stream.extend_trees(trees(alloc)?)?;
+    copy_stream(out, &stream)?;
+    show_stream(out, &stream)
+}
+
+// Copies the literal `-3i32`.
+fn copy_minus_three<W: Write>(alloc: Global, out: &mut W) -> Result<(), Fail> {
+    let tree = TokenTree::Literal(minus_three(alloc)?);
+    copy_one(out, &tree)
+}
+
 // Copies the first tree.
 fn copy_tree<W: Write>(out: &mut W, stream: &TokenStream) -> Result<(), Fail> {
     let Some(tree) = stream.trees().first() else {
         return Err(Fail::NoCase);
     };
+    copy_one(out, tree)
+}
+
+fn copy_one<W: Write>(out: &mut W, tree: &TokenTree) -> Result<(), Fail> {
     let answer = watched!(out; {
         let copy: Result<_, _> = tree.clone();
         copy

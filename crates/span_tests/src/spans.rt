@@ -277,3 +277,25 @@ fn a_map_shows_its_files(rt: HostRuntime) -> Result<(), Fail> {
     assert_eq!(rt; shown.as_str(), want, "of one file");
     Ok(())
 }
+
+/// A text of so many lines, each a name of 98 characters, of which the first takes two bytes.
+fn long_text(alloc: Global, lines: u32) -> Result<String, AllocError> {
+    let mut text = String::new(alloc);
+    for _ in 0..lines {
+        text.push_str("\u{e9}bcdefghijklmnopqrstuvwxyzabcdefghijklmnopqrstuvw")?;
+        text.push_str("abcdefghijklmnopqrstuvwxyzabcdefghijklmnopqrstuvw\n")?;
+    }
+    Ok(text)
+}
+
+#[test]
+fn a_text_past_a_mebibyte_becomes_a_file(rt: HostRuntime) -> Result<(), Fail> {
+    let mut map = SourceMap::new(rt.alloc());
+    let text = long_text(rt.alloc(), 20_000)?;
+    let stream = TokenStream::from_str(text.as_str(), &mut map)?;
+    assert_eq!(rt; stream.trees().len(), 20_000);
+    // The first character of the last line.
+    let places = [(20_000, 0), (20_000, 1), (1_999_900, 1_999_902)];
+    check_places(&rt, &mut map, (1_979_902, 1_979_903), places);
+    Ok(())
+}

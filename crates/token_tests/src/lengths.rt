@@ -46,3 +46,14 @@ fn a_literal_of_any_length_is_kept(rt: HostRuntime) -> Result<(), AllocError> {
     }
     Ok(())
 }
+
+#[test]
+fn a_text_of_100000_bytes_is_kept(rt: HostRuntime) -> Result<(), Fail> {
+    let mut text = String::new(rt.alloc());
+    for _ in 0..10_000 {
+        text.push_str("abcdefghij")?;
+    }
+    is_kept(&rt, rt.alloc(), text.as_str())?;
+    is_quoted(&rt, rt.alloc(), text.as_str())?;
+    Ok(())
+}
