@@ -225,6 +225,92 @@ fn each_fault_is_told_with_its_place(rt: HostRuntime) -> Result<(), Fail> {
 }
 
 #[test]
+fn parentheses_come_before_what_is_wrong_inside(rt: HostRuntime) -> Result<(), Fail> {
+    let alloc = rt.alloc();
+    let one = parsed(alloc, "a")?;
+    let (two, three) = (
+        [one.clone()?, one.clone()?],
+        [one.clone()?, one.clone()?, one.clone()?],
+    );
+    let holes = [
+        Hole::one("x", &one),
+        Hole::each("two", &two),
+        Hole::each("three", &three),
+        Hole::each("none", &[]),
+    ];
+    let no_hole = "no hole of this name";
+    let no_list = "a repetition that names no list";
+    let nested = "a repetition inside a repetition";
+    let rows = [
+        // No list is named, whatever else is wrong inside.
+        ("#( #missing )*", (no_list, 1, 13)),
+        ("#( [#missing] )*", (no_list, 1, 15)),
+        ("#( #missing #x ),*", (no_list, 1, 16)),
+        ("#( #( #x )* )*", (no_list, 1, 13)),
+        ("#( #( #missing )* )*", (no_list, 1, 19)),
+        ("#( )*", (no_list, 1, 4)),
+        // A list is named, at any depth and at any place, so the first fault is inside.
+        ("#( #missing #two )*", (no_hole, 4, 11)),
+        ("#( #two #missing )*", (no_hole, 9, 16)),
+        ("#( #missing [(#two)] )*", (no_hole, 4, 11)),
+        ("#( [#two] #missing )*", (no_hole, 11, 18)),
+        ("#( #none #missing )*", (no_hole, 10, 17)),
+        ("#( #( #two )* )*", (nested, 4, 12)),
+        ("#( #( #missing #two )* )*", (nested, 4, 21)),
+        (
+            "#( #three #two #missing )*",
+            ("lists of different lengths", 11, 14),
+        ),
+        // Of the faults of the inner parentheses this one comes first.
+        ("#( #two #( #x )* )*", (nested, 9, 15)),
+        // What stands before comes before.
+        ("#missing #( #x )*", (no_hole, 1, 8)),
+        ("#( #x )* #missing", (no_list, 1, 7)),
+        ("(#two) #( #x )*", ("a list outside of a repetition", 2, 5)),
+    ];
+    for (template, want) in rows {
+        check_fault(&rt, template, &holes, want)?;
+    }
+    Ok(())
+}
+
+#[test]
+fn a_list_is_found_deeper_than_groups_may_nest(rt: HostRuntime) -> Result<(), Fail> {
+    let alloc = rt.alloc();
+    let one = parsed(alloc, "a")?;
+    let two = [one.clone()?, one.clone()?];
+    let holes = [Hole::one("x", &one), Hole::each("two", &two)];
+    let too_deep = "groups nested too deep";
+    let rows = [
+        ("#( ", "#two", " )*", 64, (too_deep, 66, 72)),
+        (
+            "#( ",
+            "#x",
+            " )*",
+            64,
+            ("a repetition that names no list", 1, 135),
+        ),
+        // At one pair of parentheses depth comes before lists, and nested repetitions before depth.
+        ("", "#( #x )*", "", 64, (too_deep, 65, 71)),
+        (
+            "",
+            "#( #two #( #x )* )*",
+            "",
+            63,
+            ("a repetition inside a repetition", 72, 78),
+        ),
+        ("", "#( #two [#x] )*", "", 63, (too_deep, 71, 75)),
+    ];
+    for (before, inside, after, deep, want) in rows {
+        let open = "(".repeat(alloc, deep)?;
+        let close = ")".repeat(alloc, deep)?;
+        let template = format!(in alloc; "{before}{open}{inside}{close}{after}")?;
+        check_fault(&rt, template.as_str(), &holes, want)?;
+    }
+    Ok(())
+}
+
+#[test]
 fn groups_nest_64_deep(rt: HostRuntime) -> Result<(), Fail> {
     let alloc = rt.alloc();
     let open = "(".repeat(alloc, 65)?;

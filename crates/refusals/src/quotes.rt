@@ -10,8 +10,8 @@ use quoting::{Hole, Quote};
 use std::alloc::Global;
 use std::io::Write;
 
-/// A template with a name, a repetition and a group.
-const TEMPLATE: &str = "[#one] #(#each),*";
+/// A template with a name in a group, and a repetition with a group.
+const TEMPLATE: &str = "[#one] #((#each)),*";
 
 /// Pushes to a quote of `x (+ y)`, whose `+` is Joint, fills it, or asks it for its stream, and writes what it gives then.
 pub fn run<W: Write>(alloc: Global, out: &mut W, call: &str) -> Result<(), Fail> {

@@ -11,12 +11,24 @@ pub struct Struct<'a> {
     pub body: &'a [TokenTree],
 }
 
-/// A field of a struct.
+/// A field of a struct. Its attributes are passed over, `cfg` too.
 #[derive(Clone, Copy)]
 pub struct Field<'a> {
     pub name: &'a Ident,
     /// The trees of its type.
     pub kind: &'a [TokenTree],
+}
+
+impl Field<'_> {
+    /// Whether its type is a trait object of several bounds, as `dyn A + B`, which stands in parentheses after `&`.
+    pub fn has_several_bounds(&self) -> bool {
+        match self.kind {
+            [TokenTree::Ident(word), bounds @ ..] if word.eq_str("dyn") => {
+                bounds.iter().any(|tree| mark_of(tree) == '+')
+            }
+            _ => false,
+        }
+    }
 }
 
 /// The struct that these trees are: `struct`, its name and a group in braces. `None` of other trees,

@@ -67,7 +67,19 @@ fn push_getter(alloc: Global, field: &Field<'_>, code: &mut Code) -> Result<(), 
     code.mark(Punct::new('-', Spacing::Joint))?;
     code.mark(Punct::new('>', Spacing::Alone))?;
     code.mark(Punct::new('&', Spacing::Alone))?;
-    code.trees(field.kind)?;
+    push_type(alloc, field, code)?;
     code.group(Delimiter::Brace, &body)?;
+    Ok(())
+}
+
+// Puts the type of a field at the end, as it stands after `&`.
+fn push_type(alloc: Global, field: &Field<'_>, code: &mut Code) -> Result<(), WriteError> {
+    if !field.has_several_bounds() {
+        code.trees(field.kind)?;
+        return Ok(());
+    }
+    let mut bounds = Code::new(alloc);
+    bounds.trees(field.kind)?;
+    code.group(Delimiter::Parenthesis, &bounds)?;
     Ok(())
 }
