@@ -3,7 +3,6 @@ use Rattle.std.specs.Prelude.{ℕ, ◌≡◌, List, Result, Ok, Err}
 use Rattle.proc_macro2.specs.Files.{Files, with_file}
 use Rattle.proc_macro2.specs.Forest.{Forest}
 use Rattle.proc_macro2.specs.Parsing.{FaultAt, ParsesTo}
-use Rattle.proc_macro2.specs.declared.ParseError.{ParseError}
 use Rattle.proc_macro2.specs.declared.ParseError.TheVariants.{Lex, MapFull, Memory as NoMemory}
 use Rattle.quoting.specs.Filled.{filled}
 use Rattle.quoting.specs.Holes.{Named}

@@ -1,6 +1,6 @@
 use Rattle.std.proofs.Common.{sym, ◌∙◌}
-use Rattle.quoting.proofs.FaultLemmas.{after_less, inside_less, token_less}
-use Rattle.quoting.proofs.TurnLemmas.{after_turns, counted_here, end_turns, inside_turns, token_turns}
+use Rattle.quoting.proofs.FaultLemmas.{after_less, inside_less}
+use Rattle.quoting.proofs.TurnLemmas.{after_turns, inside_turns}
 use Rattle.quoting.proofs.turns.turns_of.Goals as goal
 
 pub loop-tree-smaller-in_default : goal.loop-tree-smaller-in_default

@@ -1,4 +1,4 @@
-use Rattle.std.proofs.Common.{◌≡◌, ◌∙◌, Ok, sym, ap, subst, arith, rules}
+use Rattle.std.proofs.Common.{◌≡◌, ◌∙◌, sym, ap, subst, arith, rules}
 use Rattle.quoting.specs.Given.{gives, rest_of, seen, separator_of}
 use Rattle.quoting.specs.Filled.{turns_from}
 use Rattle.proc_macro2.specs.Forest.{joined}
