@@ -1,1 +1,4 @@
-pub mod PageLemmas
+pub mod EscapeLemmas
+pub mod NestingLemmas
+pub mod PieceLemmas
+pub mod SeenLemmas

@@ -1,1 +1,6 @@
+pub mod Style
+pub mod Delimiters
+pub mod Nesting
+pub mod Pieces
 pub mod Page
+pub mod Seen

@@ -1,68 +1,142 @@
--- What is seen of what is written, by one who leaves out a page's tags or a terminal's colour sequences.
-use Rattle.std.specs.Prelude.{ℕ, ◌≡◌, Bool, false, true, not, ◌==◌, List, [], ◌∷◌, ◌++◌, IsTrue}
-use Rattle.std.specs.Prelude.{codes, nat_eq, if◌then◌else◌}
-use Rattle.std.specs.List.{list_all}
-use lib.Pointwise.{pointwise}
+-- What is written: a page for a browser, or a terminal's colours.
+use Rattle.std.specs.Prelude.{ℕ, ◌≡◌, ◌+◌, Bool, ◌==◌, List, [], ◌∷◌, ◌++◌, true, codes, length, if◌then◌else◌}
+use Rattle.std.specs.Fmt.{decimal}
+use Rattle.std.specs.Str.{chars}
+use Rattle.lexical.specs.Piece.{Piece}
+use Rattle.highlight.specs.Style.{class, colour}
+use Rattle.highlight.specs.Pieces.{AreAllPieces, Shown, all_shown}
+use Rattle.highlight.specs.declared.style.Style.{Style}
 use Rattle.highlight.specs.declared.format.Format.{Format}
 use Rattle.highlight.specs.declared.format.Format.TheVariants.{Html, Term}
 
--- what begins a tag: `<` (60) in a page, ESC (27) for a terminal
-abbrev pub opens_tag : Format → ℕ → Bool
-opens_tag Html c = c == 60
-opens_tag Term c = c == 27
+-- ---- the text of a piece
 
--- what ends it: `>` (62), `m` (109)
-abbrev pub closes_tag : Format → ℕ → Bool
-closes_tag Html c = c == 62
-closes_tag Term c = c == 109
+-- what a line begins with, so that it can be linked to
+abbrev pub anchor : ℕ → List ℕ
+anchor line = codes "<a id=L" ++ (decimal line ++ codes "></a>")
 
--- what begins an escape: `&` (38) in a page
-abbrev pub opens_escape : Format → ℕ → Bool
-opens_escape Html c = c == 38
-opens_escape Term c = false
+-- a byte, escaped: `<` (60), `>` (62), `&` (38), `"` (34)
+abbrev pub escape : ℕ → List ℕ
+escape c =
+    if c == 60 then codes "&lt;"
+    else (if c == 62 then codes "&gt;" else (if c == 38 then codes "&amp;"
+    else (if c == 34 then codes "&quot;" else c ∷ [])))
 
--- what an escape stands for, by its name between `&` and `;`
-abbrev pub unescaped : List ℕ → List ℕ
-unescaped name =
-    if pointwise nat_eq name (codes "lt") then codes "<"
-    else (if pointwise nat_eq name (codes "gt") then codes ">"
-    else (if pointwise nat_eq name (codes "amp") then codes "&"
-    else (if pointwise nat_eq name (codes "quot") then codes "\"" else [])))
+-- a text that begins on this line; each line feed (10) begins another
+abbrev pub escaped : ℕ → List ℕ → List ℕ
+escaped line [] = []
+escaped line (c ∷ rest) =
+    if c == 10 then c ∷ (anchor (line + 1) ++ escaped (line + 1) rest) else escape c ++ escaped line rest
 
--- where a reader stands: in text, in a tag, or in an escape of which these bytes are read
-pub data Place : Type 0 where
-  InText : Place
-  InTag : Place
-  InEscape : List ℕ → Place
+-- the line on which it ends
+abbrev pub line_after : ℕ → List ℕ → ℕ
+line_after line [] = line
+line_after line (c ∷ rest) = if c == 10 then line_after (line + 1) rest else line_after line rest
 
--- what is seen from there: tags are left out, and an escape, which `;` (59) ends, is what it stands for
-abbrev pub seen : Format → Place → List ℕ → List ℕ
-seen format place [] = []
-seen format InText (c ∷ rest) =
-    if opens_tag format c then seen format InTag rest
-    else (if opens_escape format c then seen format (InEscape []) rest else c ∷ seen format InText rest)
-seen format InTag (c ∷ rest) = if closes_tag format c then seen format InText rest else seen format InTag rest
-seen format (InEscape name) (c ∷ rest) =
-    if c == 59 then unescaped name ++ seen format InText rest else seen format (InEscape (name ++ c ∷ [])) rest
+-- only a page has lines
+abbrev pub line_past : Format → ℕ → List ℕ → ℕ
+line_past Html line text = line_after line text
+line_past Term line text = line
 
--- what is seen of all that is written
-abbrev pub plain : Format → List ℕ → List ℕ
-plain format = seen format InText
+-- ---- the marks around it
 
--- these bytes end no tag in which they stand
-abbrev pub stays_in_tag : Format → List ℕ → Bool
-stays_in_tag format = list_all (λ c. not (closes_tag format c))
+-- what has no class stands bare
+abbrev pub in_span : List ℕ → List ℕ → List ℕ
+in_span class text =
+    if length class == 0 then text else codes "<span class=" ++ (class ++ (codes ">" ++ (text ++ codes "</span>")))
 
--- a text that can be seen whole: for a terminal one without ESC, since nothing is escaped there
-abbrev pub can_be_seen : Format → List ℕ → Bool
-can_be_seen Html text = true
-can_be_seen Term text = list_all (λ c. not (c == 27)) text
+-- ESC is 27
+abbrev pub in_colour : List ℕ → List ℕ → List ℕ
+in_colour colour text =
+    if length colour == 0 then text
+    else (27 ∷ codes "[") ++ (colour ++ (codes "m" ++ (text ++ (27 ∷ codes "[0m"))))
 
--- of what is written, followed by anything, this text is seen
-abbrev pub Shows : Format → List ℕ → List ℕ → Type 0
-Shows format written text =
-    IsTrue (can_be_seen format text) → (rest : List ℕ) → plain format (written ++ rest) ≡ text ++ plain format rest
+abbrev pub marked_piece : Format → ℕ → Shown → List ℕ
+marked_piece Html line piece = in_span (class piece.0) (escaped line piece.1)
+marked_piece Term line piece = in_colour (colour piece.0) piece.1
 
--- what is written between the one and the other shows this text
-abbrev pub Adds : Format → List ℕ → List ℕ → List ℕ → Type 0
-Adds format before after text = (written : List ℕ) × (after ≡ before ++ written) × Shows format written text
+-- all of them, from this line on
+abbrev pub marked_pieces : Format → ℕ → List Shown → List ℕ
+marked_pieces format line [] = []
+marked_pieces format line (piece ∷ more) =
+    marked_piece format line piece ++ marked_pieces format (line_past format line piece.1) more
+
+-- the text marked: its pieces one after the other, and what follows them
+pub record IsMarked (format : Format) (text body : List ℕ) : Type 0 where
+  pub all : List Piece
+  pub rest : List ℕ
+  pub are : AreAllPieces true (chars text) all rest
+  pub is : body ≡ marked_pieces format 1 (all_shown all rest)
+
+-- ---- what stands around them
+
+-- texts, each ended by a line feed
+abbrev pub lines : List (List ℕ) → List ℕ
+lines [] = []
+lines (line ∷ more) = line ++ (10 ∷ lines more)
+
+-- a browser leaves out the line feed after `<pre>`, so that one at the front of the text stays
+unfoldable pub page_head : List ℕ
+page_head =
+    lines (codes "<!DOCTYPE html>"
+    ∷ codes "<html lang=\"en\">"
+    ∷ codes "<head>"
+    ∷ codes "<meta charset=\"utf-8\">"
+    ∷ codes "<meta name=\"viewport\" content=\"width=device-width, initial-scale=1\">"
+    ∷ codes "<title>Source text</title>"
+    ∷ codes "<style>"
+    ∷ codes ":root {"
+    ∷ codes "  color-scheme: light dark;"
+    ∷ codes "  --back: #ffffff; --text: #1f2328; --quiet: #6a737d; --doc: #4d6b57;"
+    ∷ codes "  --keyword: #8a1c8f; --raw: #6f42c1; --lifetime: #0b6e7f;"
+    ∷ codes "  --string: #1a6b2d; --character: #2f7d11; --number: #a04100; --mark: #4b5563;"
+    ∷ codes "  --fault: #ffffff; --fault-back: #c62828; --unread: #8b4a4a;"
+    ∷ codes "  --d0: #b07900; --d1: #9c27b0; --d2: #1565c0; --d3: #00838f; --d4: #558b2f; --d5: #d84315;"
+    ∷ codes "}"
+    ∷ codes "@media (prefers-color-scheme: dark) {"
+    ∷ codes "  :root {"
+    ∷ codes "    --back: #15181d; --text: #dfe3e8; --quiet: #8b949e; --doc: #9dbda8;"
+    ∷ codes "    --keyword: #dd9bf0; --raw: #b9a4f5; --lifetime: #6fd3e3;"
+    ∷ codes "    --string: #8fd19e; --character: #b5d98a; --number: #f0a873; --mark: #b3bac4;"
+    ∷ codes "    --fault: #ffffff; --fault-back: #c93c37; --unread: #d39c9c;"
+    ∷ codes "    --d0: #e6c15c; --d1: #dd9bf0; --d2: #7cb7ff; --d3: #5fd0d8; --d4: #a5d26b; --d5: #ff9e73;"
+    ∷ codes "  }"
+    ∷ codes "}"
+    ∷ codes "body { margin: 0; background: var(--back); color: var(--text); }"
+    ∷ codes "pre {"
+    ∷ codes "  margin: 0; padding: 1.25rem 1.5rem; tab-size: 4; counter-reset: line;"
+    ∷ codes "  font: 14px/1.5 ui-monospace, \"SF Mono\", Menlo, Consolas, \"DejaVu Sans Mono\", monospace;"
+    ∷ codes "}"
+    ∷ codes "a::before {"
+    ∷ codes "  counter-increment: line; content: counter(line); display: inline-block; width: 3em; padding-right: 1em;"
+    ∷ codes "  text-align: right; color: var(--quiet); font-style: normal; font-weight: 400;"
+    ∷ codes "}"
+    ∷ codes "a:target::before { color: var(--fault); background: var(--fault-back); }"
+    ∷ codes ".k { color: var(--keyword); font-weight: 600; }"
+    ∷ codes ".r { color: var(--raw); }"
+    ∷ codes ".l { color: var(--lifetime); }"
+    ∷ codes ".s, .rs, .bs, .cs { color: var(--string); }"
+    ∷ codes ".c, .b { color: var(--character); }"
+    ∷ codes ".i, .f, .e { color: var(--number); }"
+    ∷ codes ".lc, .bc { color: var(--quiet); font-style: italic; }"
+    ∷ codes ".dc { color: var(--doc); font-style: italic; }"
+    ∷ codes ".m { color: var(--mark); }"
+    ∷ codes ".d0 { color: var(--d0); } .d1 { color: var(--d1); } .d2 { color: var(--d2); }"
+    ∷ codes ".d3 { color: var(--d3); } .d4 { color: var(--d4); } .d5 { color: var(--d5); }"
+    ∷ codes ".x { color: var(--fault); background: var(--fault-back); border-radius: 2px; }"
+    ∷ codes ".u { color: var(--unread); }"
+    ∷ codes "</style>"
+    ∷ codes "</head>"
+    ∷ codes "<body>"
+    ∷ codes "<pre>" ∷ []) ++ codes "<a id=L1></a>"
+
+unfoldable pub page_foot : List ℕ
+page_foot = codes "</pre>\n</body>\n</html>\n"
+
+abbrev pub head : Format → List ℕ
+head Html = page_head
+head Term = []
+
+abbrev pub foot : Format → List ℕ
+foot Html = page_foot
+foot Term = []

@@ -18,7 +18,6 @@ mod writing;
 use answer::write_marked;
 use errors::HighlightError;
 use format::Format;
-use page::frame_of;
 use std::io::{BufWriter, Write};
 use std::process::ExitCode;
 use std::{env, fs, io};
@@ -46,8 +45,7 @@ fn run(rt: &HostRuntime) -> Result<(), HighlightError> {
         _ => return Err(HighlightError::Usage),
     };
     let mut writer = BufWriter::new(rt.alloc(), rt.stdout())?;
-    let frame = frame_of(format);
-    write_marked(rt.alloc(), format, frame, text.as_str(), &mut writer)?;
+    write_marked(rt.alloc(), format, text.as_str(), &mut writer)?;
     Ok(writer.flush()?)
 }
 

@@ -1,150 +1,107 @@
 //! A text with its pieces marked.
-ghost use Rattle.std.specs.Prelude.{◌≡◌, IfOk, IsTrue, OnOk, string_bytes};
-ghost use Rattle.highlight.specs.Page.{Adds, can_be_seen, plain};
+ghost use Rattle.std.specs.Prelude.{◌≡◌, ◌++◌, IfOk, List, OnOk, [], true, ℕ, reverse, string_bytes};
+ghost use Rattle.std.specs.Str.{chars};
+ghost use Rattle.lexical.specs.Found.{kind_of};
+ghost use Rattle.lexical.specs.Piece.{Piece};
+ghost use Rattle.highlight.specs.Delimiters.{delimiter_styles};
+ghost use Rattle.highlight.specs.Page.{IsMarked, marked_pieces};
+ghost use Rattle.highlight.specs.Pieces.{AreAllPieces, is_nil, is_quote, piece_style, styles_left, unread};
 
 use crate::format::Format;
 use crate::nesting::Nesting;
 use crate::style::{Style, style_of};
-use crate::writing::push_piece;
-use proc_macro2::{LineColumn, PieceKind, PlacedPiece, pieces};
+use crate::writing::Sheet;
+use proc_macro2::{PieceKind, PlacedPiece, pieces};
 use std::alloc::{AllocError, Global};
 
-/// The text with its pieces marked: without the marks it is the text.
+/// The text with its pieces marked.
 ///
-/// For a terminal that holds of a text without ESC, which is left as it is. A closer that
-/// matches no opener is marked as a fault, and so is an opener that is never closed, as far as that
-/// is known where the text isn't read whole. So is the first character of what begins no piece; what
-/// follows it is not read.
+/// A closer that matches no opener is marked as a fault, and so is an opener that is never closed, as
+/// far as that is known where the text isn't read whole. So is the first character of what begins no
+/// piece; what follows it is not read.
 pub fn marked(alloc: Global, format: Format, text: &str) -> Result<String, AllocError>
-    ensures { IfOk result (λ out. IsTrue (can_be_seen format text.now)
-        → plain format (string_bytes out) ≡ text.now) }
+    ensures { IfOk result (λ out. IsMarked format text.now (string_bytes out)) }
 {
-    let mut marker = Marker {
-        out: String::new(alloc),
-        format,
-        place: LineColumn { line: 1, column: 0 },
-        nesting: Nesting::new(alloc),
-        unclosed: unclosed(alloc, text)?,
+    let mut styling = Styling {
+        delimiters: styles_of_delimiters(alloc, text)?,
         is_after_quote: false,
     };
+    let mut sheet = Sheet::new(alloc, format);
     let mut walk = pieces(text);
     while let Some(next) = walk.next_piece() {
-        marker.push(next)?;
+        let style = styling.style_of(next);
+        sheet.push_piece(style, next.text)?;
     }
-    marker.push_rest(walk.rest())?;
-    Ok(marker.out)
+    push_rest(&mut sheet, walk.rest())?;
+    Ok(sheet.out)
 }
 
-// The places of the openers that are never closed, the first last.
-fn unclosed(alloc: Global, text: &str) -> Result<Vec<usize>, AllocError> {
+// The styles of the delimiters, the first last.
+fn styles_of_delimiters(alloc: Global, text: &str) -> Result<Vec<Style>, AllocError>
+    ensures { IfOk result (λ styles. (all : List Piece) × (rest : List ℕ)
+        × AreAllPieces true (chars text.now) all rest
+        × (reverse styles.items ≡ delimiter_styles (is_nil rest) [] [] all)) }
+{
     let mut nesting = Nesting::new(alloc);
     let mut walk = pieces(text);
     while let Some(next) = walk.next_piece() {
-        match next.piece.kind {
-            PieceKind::Opener(delimiter) => {
-                nesting.open(delimiter, next.place)?;
-            }
-            PieceKind::Closer(delimiter) => {
-                let _ = nesting.close(delimiter)?;
-            }
-            _ => {}
-        }
+        nesting.take(next.piece.kind)?;
     }
-    nesting.unclosed(walk.rest().is_empty())
+    let mut styles = nesting.into_styles(walk.rest().is_empty());
+    styles.reverse();
+    Ok(styles)
 }
 
-// What is written so far, and what is to be known of it to mark the next piece.
+// What is to be known to style the next piece.
 #[derive(Drop)]
-struct Marker {
-    out: String,
-    format: Format,
-    // Where the next piece begins.
-    place: LineColumn,
-    nesting: Nesting,
-    // The places of the openers from here on that no closer matches, the first last.
-    unclosed: Vec<usize>,
+struct Styling {
+    // The styles of the delimiters from here on, the first last.
+    delimiters: Vec<Style>,
     // Whether the last piece was the `'` of a lifetime.
     is_after_quote: bool,
 }
 
-impl Marker {
-    // Appends a piece.
-    fn push(&mut self, next: PlacedPiece<'_>) -> Result<(), AllocError>
-        ensures shown { OnOk result (Adds self.old.format (string_bytes self.old.out)
-            (string_bytes self.new.out) next.entry.text.now) }
-        ensures kept { self.new.format ≡ self.old.format }
-    {
-        let style = self.style_of(next)?;
-        self.push_styled(style, next.text)
-    }
-
-    // Appends what follows the pieces.
-    fn push_rest(&mut self, rest: &str) -> Result<(), AllocError>
-        ensures { OnOk result (Adds self.old.format (string_bytes self.old.out)
-            (string_bytes self.new.out) rest.now) }
-    {
-        let mut after = rest.chars();
-        let Some(first) = after.next() else {
-            return Ok(());
-        };
-        self.push_styled(Style::NoPiece, first.encode_utf8(&mut [0; 4]))?;
-        self.push_styled(Style::Unread, after.as_str())
-    }
-
-    // Appends a text of a style.
-    fn push_styled(&mut self, style: Style, text: &str) -> Result<(), AllocError>
-        ensures shown { OnOk result (Adds self.old.format (string_bytes self.old.out)
-            (string_bytes self.new.out) text.now) }
-        ensures kept { self.new.format ≡ self.old.format }
-    {
-        push_piece(&mut self.out, self.format, style, self.place, text)?;
-        self.place = past(self.place, text);
-        Ok(())
-    }
-
-    // What the piece is shown as.
-    fn style_of(&mut self, next: PlacedPiece<'_>) -> Result<Style, AllocError>
-        ensures out { string_bytes self.new.out ≡ string_bytes self.old.out }
-        ensures kept { self.new.format ≡ self.old.format }
+impl Styling {
+    // What the next piece is shown as.
+    fn style_of(&mut self, next: PlacedPiece<'_>) -> Style
+        ensures style { result ≡ piece_style (reverse self.old.delimiters.items) self.old.is_after_quote
+            (kind_of next.entry.piece.kind (chars next.entry.text.now)) next.entry.text.now }
+        ensures delimiters { reverse self.new.delimiters.items
+            ≡ styles_left (reverse self.old.delimiters.items) (kind_of next.entry.piece.kind (chars next.entry.text.now)) }
+        ensures quote { self.new.is_after_quote ≡ is_quote (kind_of next.entry.piece.kind (chars next.entry.text.now)) }
     {
         let is_after_quote = self.is_after_quote;
-        self.is_after_quote = false;
+        self.is_after_quote = is_quote(next.piece.kind);
         match next.piece.kind {
-            PieceKind::Opener(delimiter) => {
-                let depth = self.nesting.open(delimiter, next.place)?;
-                if self.unclosed.last().copied() == Some(next.place) {
-                    self.unclosed.pop();
-                    return Ok(Style::Unclosed);
-                }
-                Ok(Style::Delimiter(depth))
+            PieceKind::Opener(_) | PieceKind::Closer(_) => {
+                self.delimiters.pop().unwrap_or(Style::Unclosed)
             }
-            PieceKind::Closer(delimiter) => Ok(match self.nesting.close(delimiter)? {
-                Some(depth) => Style::Delimiter(depth),
-                None => Style::StrayCloser,
-            }),
-            PieceKind::Name { .. } if is_after_quote => Ok(Style::Lifetime),
-            kind => {
-                let style = style_of(kind, next.text);
-                self.is_after_quote = style == Style::Lifetime;
-                Ok(style)
-            }
+            PieceKind::Name { .. } if is_after_quote => Style::Lifetime,
+            kind => style_of(kind, next.text),
         }
     }
 }
 
-// The place after a text that begins at the place.
-fn past(place: LineColumn, text: &str) -> LineColumn {
-    let LineColumn {
-        mut line,
-        mut column,
-    } = place;
-    for c in text.chars() {
-        if c == '\n' {
-            line = line.saturating_add(1);
-            column = 0;
-        } else {
-            column = column.saturating_add(1);
-        }
+// Whether the piece is the mark `'`.
+fn is_quote(kind: PieceKind<'_>) -> bool
+    ensures { (text : List ℕ) → result ≡ is_quote (kind_of kind.entry text) }
+{
+    match kind {
+        PieceKind::Mark { mark, .. } => mark == '\'',
+        _ => false,
     }
-    LineColumn { line, column }
+}
+
+// Appends what follows the pieces.
+fn push_rest(sheet: &mut Sheet, rest: &str) -> Result<(), AllocError>
+    ensures { OnOk result (string_bytes sheet.new.out ≡ string_bytes sheet.old.out
+        ++ marked_pieces sheet.old.format sheet.old.line (unread (chars rest.now))) }
+{
+    let mut after = rest.chars();
+    let Some(first) = after.next() else {
+        return Ok(());
+    };
+    sheet.push_piece(Style::NoPiece, first.encode_utf8(&mut [0; 4]))?;
+    sheet.push_piece(Style::Unread, after.as_str())?;
+    Ok(())
 }

@@ -1,88 +1,190 @@
 //! Which delimiters match.
+ghost use Rattle.std.specs.Prelude.{◌≡◌, ◌++◌, [], ◌∷◌, IsTrue, List, OnOk, ℕ, if◌then◌else◌, length, slice_set};
+ghost use Rattle.highlight.specs.declared.style.Style.TheVariants.{Unclosed};
+ghost use Rattle.lexical.specs.Delimiter.{is_closer};
+ghost use Rattle.lexical.specs.Found.{kind_of};
+ghost use Rattle.highlight.specs.Delimiters.{closed, closer_of, from_match, spared, still_waiting, styles_past, waiting_past};
+ghost use Rattle.highlight.specs.Nesting.{ClosesByCloser, IsAwaited, flag, waiting_of};
 
+use crate::style::Style;
+use proc_macro2::PieceKind;
 use std::alloc::{AllocError, Global};
 
-/// The openers before a place of a text that no closer has matched yet.
+/// The delimiters before a place of a text, with the style of each so far.
 #[derive(Drop)]
 pub struct Nesting {
-    // The innermost last.
-    open: Vec<Opener>,
-    // The places of the openers that a closer passed over, since it matched one around them.
-    passed: Vec<usize>,
+    // An opener counts as never closed until a closer matches it.
+    styles: Vec<Style>,
+    // The openers that no closer has matched yet, the innermost last.
+    openers: Vec<Opener>,
+    awaited: Awaited,
 }
 
-/// An opener.
+/// An opener that waits for its closer.
 #[derive(Clone, Copy)]
-struct Opener {
-    delimiter: char,
-    // How many bytes of the text stand before it.
-    place: usize,
-    // The kinds of delimiters of it and of the openers around it, a bit for each.
-    kinds: u8,
+pub struct Opener {
+    closer: char,
+    // How many delimiters stand before it.
+    index: usize,
+    around: Awaited,
+}
+
+/// The closers for which some opener waits.
+#[derive(Clone, Copy)]
+pub struct Awaited {
+    round: bool,
+    square: bool,
+    curly: bool,
 }
 
 impl Nesting {
-    /// No opener.
-    pub fn new(alloc: Global) -> Nesting {
+    /// No delimiter.
+    pub fn new(alloc: Global) -> Nesting
+        ensures styles { result.styles.items ≡ [] }
+        ensures waiting { waiting_of result.openers.items ≡ [] }
+        ensures awaited { IsAwaited result.awaited result.openers.items }
+    {
         Nesting {
-            open: Vec::new(alloc),
-            passed: Vec::new(alloc),
+            styles: Vec::new(alloc),
+            openers: Vec::new(alloc),
+            awaited: Awaited {
+                round: false,
+                square: false,
+                curly: false,
+            },
         }
     }
 
-    /// Takes an opener, and answers how many openers stand around it.
-    pub fn open(&mut self, delimiter: char, place: usize) -> Result<usize, AllocError> {
-        let depth = self.open.len();
-        let around = self.open.last().map_or(0, |outer| outer.kinds);
-        let kinds = around | kind(delimiter);
-        self.open.push(Opener {
-            delimiter,
-            place,
-            kinds,
-        })?;
-        Ok(depth)
-    }
-
-    /// Takes a closer, and answers how many openers stand around it and the opener that it matches:
-    /// the innermost of its kind. Those inside that one are never closed.
+    /// Takes the next piece, of which a delimiter alone counts.
     ///
-    /// It answers `None` where no opener is of its kind, and changes nothing then.
-    pub fn close(&mut self, closer: char) -> Result<Option<usize>, AllocError> {
-        let Some(last) = self.open.last() else {
-            return Ok(None);
-        };
-        if last.kinds & kind(closer) == 0 {
-            return Ok(None);
+    /// A closer matches the innermost opener that waits for it; those inside that one are never closed.
+    pub fn take(&mut self, kind: PieceKind<'_>) -> Result<(), AllocError>
+        requires awaited { IsAwaited self.old.awaited self.old.openers.items }
+        requires kind { ClosesByCloser kind }
+        ensures styles { OnOk result ((text : List ℕ) → self.new.styles.items
+            ≡ styles_past (kind_of kind.entry text) self.old.styles.items (waiting_of self.old.openers.items)) }
+        ensures waiting { OnOk result ((text : List ℕ) → waiting_of self.new.openers.items
+            ≡ waiting_past (kind_of kind.entry text) self.old.styles.items (waiting_of self.old.openers.items)) }
+        ensures awaited { OnOk result (IsAwaited self.new.awaited self.new.openers.items) }
+    {
+        match kind {
+            PieceKind::Opener(opener) => self.open(opener),
+            PieceKind::Closer(closer) => self.close(closer),
+            _ => Ok(()),
         }
-        while let Some(opener) = self.open.pop() {
-            if kind(opener.delimiter) == kind(closer) {
-                return Ok(Some(self.open.len()));
-            }
-            self.passed.push(opener.place)?;
-        }
-        Ok(None)
     }
 
-    /// The places of the openers that are never closed, the first last. Those that are open count
-    /// where the text is read whole.
-    pub fn unclosed(self, is_whole: bool) -> Result<Vec<usize>, AllocError> {
-        let Nesting { open, mut passed } = self;
-        if is_whole {
-            for opener in open.iter() {
-                passed.push(opener.place)?;
+    // Takes an opener.
+    fn open(&mut self, opener: char) -> Result<(), AllocError>
+        requires { IsAwaited self.old.awaited self.old.openers.items }
+        ensures styles { OnOk result (self.new.styles.items ≡ self.old.styles.items ++ Unclosed ∷ []) }
+        ensures waiting { OnOk result (waiting_of self.new.openers.items
+            ≡ record { closer = closer_of opener; index = length self.old.styles.items }
+            ∷ waiting_of self.old.openers.items) }
+        ensures awaited { OnOk result (IsAwaited self.new.awaited self.new.openers.items) }
+    {
+        let closer = closer_of(opener);
+        let around = self.awaited;
+        self.openers.push(Opener {
+            closer,
+            index: self.styles.len(),
+            around,
+        })?;
+        self.awaited = Awaited {
+            round: closer == ')' || around.round,
+            square: closer == ']' || around.square,
+            curly: closer == '}' || around.curly,
+        };
+        Ok(self.styles.push(Style::Unclosed)?)
+    }
+
+    // Takes a closer.
+    fn close(&mut self, closer: char) -> Result<(), AllocError>
+        requires awaited { IsAwaited self.old.awaited self.old.openers.items }
+        requires closer { IsTrue (is_closer closer) }
+        ensures styles { OnOk result (self.new.styles.items
+            ≡ closed self.old.styles.items (from_match closer (waiting_of self.old.openers.items))) }
+        ensures waiting { OnOk result (waiting_of self.new.openers.items
+            ≡ still_waiting (waiting_of self.old.openers.items) (from_match closer (waiting_of self.old.openers.items))) }
+        ensures awaited { OnOk result (IsAwaited self.new.awaited self.new.openers.items) }
+    {
+        let style = self.matched(closer);
+        Ok(self.styles.push(style)?)
+    }
+
+    // Takes out the opener that the closer matches and those inside it, and answers the style of both.
+    fn matched(&mut self, closer: char) -> Style
+        requires awaited { IsAwaited self.old.awaited self.old.openers.items }
+        requires closer { IsTrue (is_closer closer) }
+        ensures styles { self.new.styles.items ++ result ∷ []
+            ≡ closed self.old.styles.items (from_match closer (waiting_of self.old.openers.items)) }
+        ensures waiting { waiting_of self.new.openers.items
+            ≡ still_waiting (waiting_of self.old.openers.items) (from_match closer (waiting_of self.old.openers.items)) }
+        ensures awaited { IsAwaited self.new.awaited self.new.openers.items }
+    {
+        if !self.awaited.has(closer) {
+            return Style::StrayCloser;
+        }
+        while let Some(opener) = self.openers.pop() {
+            self.awaited = opener.around;
+            if opener.closer == closer {
+                let style = Style::Delimiter(self.openers.len());
+                set_style(&mut self.styles, opener.index, style);
+                return style;
             }
         }
-        passed.sort()?;
-        passed.reverse();
-        Ok(passed)
+        Style::StrayCloser
+    }
+
+    /// The styles of all delimiters. Where the text isn't read whole, the openers that wait may be
+    /// closed in what follows.
+    pub fn into_styles(self, is_whole: bool) -> Vec<Style>
+        ensures { result.items
+            ≡ (if is_whole then self.styles.items else spared self.styles.items (waiting_of self.openers.items)) }
+    {
+        let Nesting {
+            mut styles,
+            mut openers,
+            ..
+        } = self;
+        if !is_whole {
+            while let Some(opener) = openers.pop() {
+                set_style(&mut styles, opener.index, Style::Delimiter(openers.len()));
+            }
+        }
+        styles
     }
 }
 
-// The kind of a delimiter, as a bit.
-fn kind(delimiter: char) -> u8 {
-    match delimiter {
-        '(' | ')' => 1,
-        '[' | ']' => 2,
-        _ => 4,
+impl Awaited {
+    // Whether some opener waits for the closer.
+    fn has(self, closer: char) -> bool
+        ensures { result ≡ flag closer self }
+    {
+        match closer {
+            ')' => self.round,
+            ']' => self.square,
+            _ => self.curly,
+        }
+    }
+}
+
+// Sets the style at the index, if one stands there.
+fn set_style(styles: &mut Vec<Style>, index: usize, style: Style)
+    ensures { styles.new.items ≡ slice_set styles.old.items index style }
+{
+    if index < styles.len() {
+        styles[index] = style;
+    }
+}
+
+// The closer of an opener.
+fn closer_of(opener: char) -> char
+    ensures { result ≡ closer_of opener }
+{
+    match opener {
+        '(' => ')',
+        '[' => ']',
+        _ => '}',
     }
 }

@@ -1,4 +1,6 @@
 //! What stands around the marked text.
+ghost use Rattle.std.specs.Prelude.{◌≡◌};
+ghost use Rattle.highlight.specs.Page.{foot, head};
 
 use crate::format::Format;
 
@@ -10,7 +12,10 @@ pub struct Frame {
 }
 
 /// The frame of a format: a page's head and foot, and nothing for a terminal.
-pub fn frame_of(format: Format) -> Frame {
+pub fn frame_of(format: Format) -> Frame
+    ensures head { result.head.now ≡ head format }
+    ensures foot { result.foot.now ≡ foot format }
+{
     match format {
         Format::Html => Frame {
             head: HEAD,
@@ -20,7 +25,8 @@ pub fn frame_of(format: Format) -> Frame {
     }
 }
 
-// A browser leaves out the line feed after `<pre>`, so that one at the front of the text stays.
+// A browser leaves out the line feed after `<pre>`, so that one at the front of the text stays. The
+// first line's anchor stands here; each other line's follows its line feed.
 const HEAD: &str = r#"<!DOCTYPE html>
 <html lang="en">
 <head>
@@ -47,26 +53,31 @@ const HEAD: &str = r#"<!DOCTYPE html>
 }
 body { margin: 0; background: var(--back); color: var(--text); }
 pre {
-  margin: 0; padding: 1.25rem 1.5rem; tab-size: 4;
+  margin: 0; padding: 1.25rem 1.5rem; tab-size: 4; counter-reset: line;
   font: 14px/1.5 ui-monospace, "SF Mono", Menlo, Consolas, "DejaVu Sans Mono", monospace;
 }
-.keyword { color: var(--keyword); font-weight: 600; }
-.raw-name { color: var(--raw); }
-.lifetime { color: var(--lifetime); }
-.string, .raw-string, .byte-string, .c-string { color: var(--string); }
-.character, .byte { color: var(--character); }
-.integer, .float, .error-literal { color: var(--number); }
-.line-comment, .block-comment { color: var(--quiet); font-style: italic; }
-.doc-comment { color: var(--doc); font-style: italic; }
-.mark { color: var(--mark); }
+a::before {
+  counter-increment: line; content: counter(line); display: inline-block; width: 3em; padding-right: 1em;
+  text-align: right; color: var(--quiet); font-style: normal; font-weight: 400;
+}
+a:target::before { color: var(--fault); background: var(--fault-back); }
+.k { color: var(--keyword); font-weight: 600; }
+.r { color: var(--raw); }
+.l { color: var(--lifetime); }
+.s, .rs, .bs, .cs { color: var(--string); }
+.c, .b { color: var(--character); }
+.i, .f, .e { color: var(--number); }
+.lc, .bc { color: var(--quiet); font-style: italic; }
+.dc { color: var(--doc); font-style: italic; }
+.m { color: var(--mark); }
 .d0 { color: var(--d0); } .d1 { color: var(--d1); } .d2 { color: var(--d2); }
 .d3 { color: var(--d3); } .d4 { color: var(--d4); } .d5 { color: var(--d5); }
-.fault { color: var(--fault); background: var(--fault-back); border-radius: 2px; }
-.unread { color: var(--unread); }
+.x { color: var(--fault); background: var(--fault-back); border-radius: 2px; }
+.u { color: var(--unread); }
 </style>
 </head>
 <body>
 <pre>
-"#;
+<a id=L1></a>"#;
 
 const FOOT: &str = "</pre>\n</body>\n</html>\n";

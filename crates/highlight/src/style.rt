@@ -1,7 +1,8 @@
 //! What a piece is shown as.
-ghost use Rattle.std.specs.Prelude.{IsTrue};
-ghost use Rattle.highlight.specs.Page.{stays_in_tag};
-ghost use Rattle.highlight.specs.declared.format.Format.TheVariants.{Html, Term};
+ghost use Rattle.std.specs.Prelude.{◌≡◌};
+ghost use Rattle.lexical.specs.Found.{kind_of};
+ghost use Rattle.std.specs.Str.{chars};
+ghost use Rattle.highlight.specs.Style.{class, colour, depth_class, depth_colour, gap_style, is_float, is_keyword, kind_style, literal_style};
 
 use proc_macro2::PieceKind;
 
@@ -41,54 +42,43 @@ pub enum Style {
 }
 
 impl Style {
-    /// The name of its class in a page.
+    /// The class of its `<span>` in a page, and of a fault its title too. White space and names have
+    /// none.
     pub fn class(self) -> &'static str
-        ensures { IsTrue (stays_in_tag Html result.now) }
+        ensures { result.now ≡ class self }
     {
         match self {
-            Style::Bare => "",
-            Style::Keyword => "keyword",
-            Style::Name => "name",
-            Style::RawName => "raw-name",
-            Style::Lifetime => "lifetime",
-            Style::Str => "string",
-            Style::RawStr => "raw-string",
-            Style::ByteStr => "byte-string",
-            Style::CStr => "c-string",
-            Style::Character => "character",
-            Style::Byte => "byte",
-            Style::Integer => "integer",
-            Style::Float => "float",
-            Style::ErrorLiteral => "error-literal",
-            Style::LineComment => "line-comment",
-            Style::BlockComment => "block-comment",
-            Style::Doc => "doc-comment",
-            Style::Mark => "mark",
+            Style::Bare | Style::Name => "",
+            Style::Keyword => "k",
+            Style::RawName => "r",
+            Style::Lifetime => "l",
+            Style::Str => "s",
+            Style::RawStr => "rs",
+            Style::ByteStr => "bs",
+            Style::CStr => "cs",
+            Style::Character => "c",
+            Style::Byte => "b",
+            Style::Integer => "i",
+            Style::Float => "f",
+            Style::ErrorLiteral => "e",
+            Style::LineComment => "lc",
+            Style::BlockComment => "bc",
+            Style::Doc => "dc",
+            Style::Mark => "m",
             Style::Delimiter(depth) => depth_class(depth),
-            Style::StrayCloser | Style::Unclosed | Style::NoPiece => "fault",
-            Style::Unread => "unread",
+            Style::StrayCloser => "x title=\"this closer matches no opener\"",
+            Style::Unclosed => "x title=\"this opener is never closed\"",
+            Style::NoPiece => "x title=\"no token stands here\"",
+            Style::Unread => "u",
         }
     }
 
-    /// What is wrong, to follow its place.
-    pub fn note(self) -> &'static str
-        ensures { IsTrue (stays_in_tag Html result.now) }
-    {
-        match self {
-            Style::StrayCloser => " this closer matches no opener",
-            Style::Unclosed => " this opener is never closed",
-            Style::NoPiece => " no token stands here",
-            Style::Unread => " not read",
-            _ => "",
-        }
-    }
-
-    /// The numbers of its colours on a terminal.
+    /// The numbers of its colours on a terminal. White space and names have none.
     pub fn colour(self) -> &'static str
-        ensures { IsTrue (stays_in_tag Term result.now) }
+        ensures { result.now ≡ colour self }
     {
         match self {
-            Style::Bare | Style::Name => "39",
+            Style::Bare | Style::Name => "",
             Style::Keyword => "1;35",
             Style::RawName => "4",
             Style::Lifetime => "36",
@@ -108,21 +98,21 @@ impl Style {
 
 // The class of a delimiter, six colours in turn.
 fn depth_class(depth: usize) -> &'static str
-    ensures { IsTrue (stays_in_tag Html result.now) }
+    ensures { result.now ≡ depth_class depth }
 {
     match depth % 6 {
-        0 => "delimiter d0",
-        1 => "delimiter d1",
-        2 => "delimiter d2",
-        3 => "delimiter d3",
-        4 => "delimiter d4",
-        _ => "delimiter d5",
+        0 => "d0",
+        1 => "d1",
+        2 => "d2",
+        3 => "d3",
+        4 => "d4",
+        _ => "d5",
     }
 }
 
 // The colour of a delimiter.
 fn depth_colour(depth: usize) -> &'static str
-    ensures { IsTrue (stays_in_tag Term result.now) }
+    ensures { result.now ≡ depth_colour depth }
 {
     match depth % 6 {
         0 => "33",
@@ -135,7 +125,9 @@ fn depth_colour(depth: usize) -> &'static str
 }
 
 /// What a piece that is no delimiter is shown as.
-pub fn style_of(kind: PieceKind<'_>, text: &str) -> Style {
+pub fn style_of(kind: PieceKind<'_>, text: &str) -> Style
+    ensures { result ≡ kind_style (kind_of kind.entry (chars text.now)) text.now }
+{
     match kind {
         PieceKind::FrontMark => Style::Bare,
         PieceKind::Gap => gap_style(text),
@@ -144,14 +136,17 @@ pub fn style_of(kind: PieceKind<'_>, text: &str) -> Style {
         PieceKind::Mark { mark: '\'', .. } => Style::Lifetime,
         PieceKind::Mark { .. } => Style::Mark,
         PieceKind::Name { raw: true, .. } => Style::RawName,
-        PieceKind::Name { raw: false, name } if KEYWORDS.contains(&name) => Style::Keyword,
+        PieceKind::Name { raw: false, .. } if is_keyword(text) => Style::Keyword,
         PieceKind::Name { .. } => Style::Name,
-        PieceKind::Opener(_) | PieceKind::Closer(_) => Style::Delimiter(0),
+        PieceKind::Opener(_) => Style::Unclosed,
+        PieceKind::Closer(_) => Style::StrayCloser,
     }
 }
 
 // A comment begins with a slash, which isn't white.
-fn gap_style(text: &str) -> Style {
+fn gap_style(text: &str) -> Style
+    ensures { result ≡ gap_style text.now }
+{
     match text.as_bytes() {
         [b'/', b'/', ..] => Style::LineComment,
         [b'/', ..] => Style::BlockComment,
@@ -159,7 +154,9 @@ fn gap_style(text: &str) -> Style {
     }
 }
 
-fn literal_style(text: &str) -> Style {
+fn literal_style(text: &str) -> Style
+    ensures { result ≡ literal_style text.now }
+{
     match text.as_bytes() {
         [b'"', ..] => Style::Str,
         [b'r', ..] => Style::RawStr,
@@ -168,25 +165,33 @@ fn literal_style(text: &str) -> Style {
         [b'c', ..] => Style::CStr,
         [b'\'', ..] => Style::Character,
         [b'(', ..] => Style::ErrorLiteral,
-        _ if text.contains('.') || has_exponent(text) => Style::Float,
+        _ if is_float(text) => Style::Float,
         _ => Style::Integer,
     }
 }
 
-// Whether the digits of a number without a dot are followed by an exponent, not by a suffix.
-fn has_exponent(number: &str) -> bool {
+// Whether a dot, or an exponent and not a suffix, follows the digits of a number.
+fn is_float(number: &str) -> bool
+    ensures { result ≡ is_float number.now }
+{
     let mut after_e = false;
     for byte in number.bytes() {
         match byte {
             b'0'..=b'9' if after_e => return true,
-            b'_' => {}
-            b'0'..=b'9' => {}
             b'+' | b'-' if after_e => {}
+            b'0'..=b'9' | b'_' => {}
+            b'.' if !after_e => return true,
             b'e' | b'E' if !after_e => after_e = true,
             _ => return false,
         }
     }
     false
+}
+
+fn is_keyword(text: &str) -> bool
+    ensures { result ≡ is_keyword text.now }
+{
+    KEYWORDS.contains(&text)
 }
 
 /// The words that are no names unless raw: the keywords of the edition 2024, reserved ones too.

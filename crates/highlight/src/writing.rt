@@ -1,95 +1,119 @@
 //! Appends pieces to what is written, marked.
-ghost use Rattle.std.specs.Prelude.{[], OnOk, encode_utf8, string_bytes};
-ghost use Rattle.highlight.specs.Page.{Adds};
-ghost use Rattle.highlight.specs.declared.format.Format.TheVariants.{Html};
+ghost use Rattle.std.specs.Prelude.{◌≡◌, ◌+◌, ◌++◌, [], OnOk, codes, encode_utf8, string_bytes};
+ghost use Rattle.highlight.specs.Page.{anchor, escaped, in_span, in_colour, line_after, line_past, marked_piece};
 
 use crate::format::Format;
 use crate::style::Style;
-use proc_macro2::LineColumn;
-use std::alloc::AllocError;
+use std::alloc::{AllocError, Global};
 
-/// Appends the text of a piece that begins at the place, marked by its style.
-pub fn push_piece(
-    out: &mut String,
+/// What is written so far.
+#[derive(Drop)]
+pub struct Sheet {
+    /// The text with its marks.
+    pub out: String,
+    /// The line on which the next piece begins, from 1.
+    pub line: usize,
     format: Format,
-    style: Style,
-    place: LineColumn,
-    text: &str,
-) -> Result<(), AllocError>
-    ensures { OnOk result (Adds format (string_bytes out.old) (string_bytes out.new) text.now) }
-{
-    if style == Style::Bare {
-        return push_text(out, format, text);
-    }
-    push_opening(out, format, style, place)?;
-    push_text(out, format, text)?;
-    push_closing(out, format)
 }
 
-// What stands before the text of a piece.
-fn push_opening(
-    out: &mut String,
-    format: Format,
-    style: Style,
-    place: LineColumn,
-) -> Result<(), AllocError>
-    ensures { OnOk result (Adds format (string_bytes out.old) (string_bytes out.new) []) }
-{
-    match format {
-        Format::Html => {
-            let LineColumn { line, column } = place;
-            let (class, note) = (style.class(), style.note());
-            write!(
-                out,
-                "<span class=\"{class}\" title=\"{line}:{column}{note}\">"
-            )
-        }
-        Format::Term => {
-            let colour = style.colour();
-            write!(out, "\x1b[{colour}m")
+impl Sheet {
+    /// Nothing, at line 1.
+    pub fn new(alloc: Global, format: Format) -> Sheet
+        ensures out { string_bytes result.out ≡ [] }
+        ensures line { result.line ≡ 1 }
+        ensures format { result.format ≡ format }
+    {
+        Sheet {
+            out: String::new(alloc),
+            line: 1,
+            format,
         }
     }
-}
 
-// What stands after it.
-fn push_closing(out: &mut String, format: Format) -> Result<(), AllocError>
-    ensures { OnOk result (Adds format (string_bytes out.old) (string_bytes out.new) []) }
-{
-    match format {
-        Format::Html => out.push_str("</span>"),
-        Format::Term => out.push_str("\x1b[0m"),
+    /// Appends the text of a piece, marked by its style.
+    pub fn push_piece(&mut self, style: Style, text: &str) -> Result<(), AllocError>
+        ensures shown { OnOk result (string_bytes self.new.out
+            ≡ string_bytes self.old.out ++ marked_piece self.old.format self.old.line (style, text.now)) }
+        ensures line { OnOk result (self.new.line ≡ line_past self.old.format self.old.line text.now) }
+        ensures kept { self.new.format ≡ self.old.format }
+    {
+        match self.format {
+            Format::Html => self.push_span(style.class(), text),
+            Format::Term => self.push_coloured(style.colour(), text),
+        }
     }
-}
 
-// The text itself, escaped in a page.
-#[tactic(auto, using(crate::proofs::PageLemmas::adds_uncoloured))]
-fn push_text(out: &mut String, format: Format, text: &str) -> Result<(), AllocError>
-    ensures { OnOk result (Adds format (string_bytes out.old) (string_bytes out.new) text.now) }
-{
-    match format {
-        Format::Html => push_escaped(out, text),
-        Format::Term => out.push_str(text),
+    // Appends the text in a `<span>` of the class, or bare where the class is empty.
+    fn push_span(&mut self, class: &str, text: &str) -> Result<(), AllocError>
+        ensures shown { OnOk result (string_bytes self.new.out
+            ≡ string_bytes self.old.out ++ in_span class.now (escaped self.old.line text.now)) }
+        ensures line { OnOk result (self.new.line ≡ line_after self.old.line text.now) }
+        ensures kept { self.new.format ≡ self.old.format }
+    {
+        if class.is_empty() {
+            return self.push_escaped(text);
+        }
+        write!(self.out, "<span class={class}>")?;
+        self.push_escaped(text)?;
+        self.out.push_str("</span>")?;
+        Ok(())
     }
-}
 
-fn push_escaped(out: &mut String, text: &str) -> Result<(), AllocError>
-    ensures { OnOk result (Adds Html (string_bytes out.old) (string_bytes out.new) text.now) }
-{
-    for c in text.chars() {
-        push_character(out, c)?;
+    // Appends the text in the colour, or bare where the colour is empty.
+    fn push_coloured(&mut self, colour: &str, text: &str) -> Result<(), AllocError>
+        ensures shown { OnOk result (string_bytes self.new.out
+            ≡ string_bytes self.old.out ++ in_colour colour.now text.now) }
+        ensures line { self.new.line ≡ self.old.line }
+        ensures kept { self.new.format ≡ self.old.format }
+    {
+        if colour.is_empty() {
+            return self.out.push_str(text);
+        }
+        write!(self.out, "\x1b[{colour}m{text}\x1b[0m")
     }
-    Ok(())
-}
 
-#[tactic(auto, using(crate::proofs::PageLemmas::adds_character))]
-fn push_character(out: &mut String, c: char) -> Result<(), AllocError>
-    ensures { OnOk result (Adds Html (string_bytes out.old) (string_bytes out.new) (encode_utf8 c)) }
-{
-    match c {
-        '<' => out.push_str("&lt;"),
-        '>' => out.push_str("&gt;"),
-        '&' => out.push_str("&amp;"),
-        '"' => out.push_str("&quot;"),
-        _ => out.push(c),
+    // Appends the text itself, escaped, with an anchor after each line feed.
+    fn push_escaped(&mut self, text: &str) -> Result<(), AllocError>
+        ensures shown { OnOk result (string_bytes self.new.out
+            ≡ string_bytes self.old.out ++ escaped self.old.line text.now) }
+        ensures line { OnOk result (self.new.line ≡ line_after self.old.line text.now) }
+        ensures kept { self.new.format ≡ self.old.format }
+    {
+        for c in text.chars() {
+            self.push_character(c)?;
+        }
+        Ok(())
+    }
+
+    // Appends a character.
+    #[tactic(auto, using(crate::proofs::EscapeLemmas::of_character))]
+    fn push_character(&mut self, c: char) -> Result<(), AllocError>
+        ensures shown { OnOk result (string_bytes self.new.out
+            ≡ string_bytes self.old.out ++ escaped self.old.line (encode_utf8 c)) }
+        ensures line { OnOk result (self.new.line ≡ line_after self.old.line (encode_utf8 c)) }
+        ensures kept { self.new.format ≡ self.old.format }
+    {
+        match c {
+            '\n' => self.push_line_feed(),
+            '<' => self.out.push_str("&lt;"),
+            '>' => self.out.push_str("&gt;"),
+            '&' => self.out.push_str("&amp;"),
+            '"' => self.out.push_str("&quot;"),
+            _ => self.out.push(c),
+        }
+    }
+
+    // Begins a line, with its anchor. A text with more lines than can be counted has no page in memory.
+    fn push_line_feed(&mut self) -> Result<(), AllocError>
+        ensures shown { OnOk result (string_bytes self.new.out
+            ≡ string_bytes self.old.out ++ (codes "\n" ++ anchor (self.old.line + 1))) }
+        ensures line { OnOk result (self.new.line ≡ self.old.line + 1) }
+        ensures kept { self.new.format ≡ self.old.format }
+    {
+        let Some(line) = self.line.checked_add(1) else {
+            return Err(AllocError);
+        };
+        self.line = line;
+        write!(self.out, "\n<a id=L{line}></a>")
     }
 }

@@ -1,18 +1,42 @@
-use Rattle.std.proofs.Common.{◌∙◌}
-use Rattle.highlight.proofs.PageLemmas.{Adds-trans, Adds-whole}
+use Rattle.std.proofs.Common.{◌≡◌, ◌++◌, ◌∙◌, [], ◌∷◌, ap, refl, reverse, string_bytes}
+use Rattle.std.specs.Str.{chars}
+use Rattle.std.proofs.lemmas.Str.{encodes-chars}
+use Rattle.lexical.specs.Found.{kind_of}
+use Rattle.lexical.specs.declared.walk.PieceWalk.{PieceWalk}
+use Rattle.highlight.specs.Page.{marked_pieces}
+use Rattle.highlight.specs.Pieces.{unread}
+use Rattle.highlight.proofs.PieceLemmas.{all_from, marked_end, marked_step}
 use Rattle.highlight.proofs.marking.marked.Goals as goal
 
 pub loop-next-preserved : goal.loop-next-preserved
-loop-next-preserved c =
-    let piece = rw c.loop-next.invariant.format at c.in_ok-push.ensures.shown in
-    record {
-      format = c.in_ok-push.ensures.kept ∙ c.loop-next.invariant.format;
-      shown = λ new more. c.loop-next.invariant.shown new
-          (rw c.in-Some.ensures.found.joined (Adds-trans c.args.format _ _ _ _ _ piece more));
-    }
+loop-next-preserved c = record {
+  format = c.in_ok-push_piece.ensures.kept ∙ c.loop-next.invariant.format;
+  shown = λ more rest are.
+      let words = chars c.in-Some.next.text.now in
+      let kind = kind_of c.in-Some.next.piece.kind words in
+      let before = c.loop-next.invariant.shown ((kind, words) ∷ more) rest
+          (all_from _ _ _ more rest c.in-Some.ensures.found are) in
+      (before.0, before.1,
+      marked_step c.args.format c.loop-next.sheet.format c.loop-next.sheet.line c.push_piece.new.self.line
+      (string_bytes c.loop-next.sheet.out) (string_bytes c.push_piece.new.self.out) _ c.in-Some.next.text.now words
+      c.style_of-style.result (reverse c.loop-next.styling.delimiters.items)
+      (reverse c.style_of-style.new.self.delimiters.items) c.loop-next.styling.is_after_quote
+      c.style_of-style.new.self.is_after_quote kind more rest
+      (encodes-chars _ c.in-Some.ensures.found.utf8) c.style_of-style.ensures.style c.style_of-style.ensures.delimiters
+      c.style_of-style.ensures.quote c.loop-next.invariant.format c.in_ok-push_piece.ensures.shown
+      c.in_ok-push_piece.ensures.line before.2);
+}
 
 pub returns : goal.returns
 returns c =
-    let here = rw c.loop-next.invariant.format at c.in_ok-push_rest.ensures in
-    let last = rw (c.rest.ensures.rest, c.in_default.ensures.unchanged) at here in
-    Adds-whole c.args.format _ _ (c.loop-next.invariant.shown _ last)
+    let all = c.loop-next.invariant.shown [] (chars c.loop-next.walk.rest.now) (refl, c.in_default.ensures.none) in
+    let delimiters = c.in_ok-styles_of_delimiters.ensures in
+    let same : c.rest.result.now ≡ c.loop-next.walk.rest.now =
+    c.rest.ensures.rest ∙ ap (λ (walk : PieceWalk). walk.rest.now) c.in_default.ensures.unchanged in
+    marked_end c.args.format c.loop-next.sheet.format c.args.text.now (string_bytes c.loop-next.sheet.out)
+    (string_bytes c.push_rest.new.sheet.out) c.loop-next.sheet.line
+    (reverse c.in_ok-styles_of_delimiters.field-0.items) (chars c.loop-next.walk.rest.now) delimiters.1 all.0 delimiters.0
+    all.1 delimiters.2 delimiters.3 c.loop-next.invariant.format
+    (c.in_ok-push_rest.ensures ∙ ap (λ l. string_bytes c.loop-next.sheet.out
+    ++ marked_pieces c.loop-next.sheet.format c.loop-next.sheet.line (unread (chars l))) same)
+    all.2

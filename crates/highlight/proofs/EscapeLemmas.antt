@@ -1,0 +1,140 @@
+-- Texts escaped, a part at a time.
+use Rattle.std.proofs.Common.{◌≡◌, ℕ, suc, ◌+◌, ◌<◌, ◌≤◌, true, false, ◌==◌, List, [], ◌∷◌, ◌++◌, codes, length, get_or}
+use Rattle.std.proofs.Common.{refl, sym, ap, ◌∙◌, arith, append_assoc, append-nil}
+use Rattle.std.specs.Prelude.{encode_utf8, if◌then◌else◌}
+use Rattle.std.proofs.lemmas.Bool.{ne_eqb}
+use Rattle.std.proofs.lemmas.Str.{inside_one}
+use Rattle.highlight.specs.Page.{anchor, escape, escaped, in_span, line_after}
+
+pub line_after-append : (line : ℕ) (s t : List ℕ) → line_after line (s ++ t) ≡ line_after (line_after line s) t
+line_after-append line [] t = refl
+line_after-append line (c ∷ s) t =
+    elim (c == 10) as (λ b. (if b then line_after (line + 1) (s ++ t) else line_after line (s ++ t))
+    ≡ line_after (if b then line_after (line + 1) s else line_after line s) t)
+    [ true ↦ line_after-append (line + 1) s t | false ↦ line_after-append line s t ]
+
+pub escaped-append : (line : ℕ) (s t : List ℕ)
+    → escaped line (s ++ t) ≡ escaped line s ++ escaped (line_after line s) t
+escaped-append line [] t = refl
+escaped-append line (c ∷ s) t =
+    elim (c == 10) as (λ b. (if b then c ∷ (anchor (line + 1) ++ escaped (line + 1) (s ++ t))
+    else escape c ++ escaped line (s ++ t))
+    ≡ (if b then c ∷ (anchor (line + 1) ++ escaped (line + 1) s) else escape c ++ escaped line s)
+    ++ escaped (if b then line_after (line + 1) s else line_after line s) t)
+    [ true ↦ ap (λ l. c ∷ l) (ap (λ l. anchor (line + 1) ++ l) (escaped-append (line + 1) s t)
+        ∙ sym (append_assoc (anchor (line + 1)) (escaped (line + 1) s) _))
+    | false ↦ ap (λ l. escape c ++ l) (escaped-append line s t) ∙ sym (append_assoc (escape c) (escaped line s) _) ]
+
+-- bytes of which none is escaped, and none is a line feed
+pub record IsBare (text : List ℕ) : Type 0 where
+  pub none : (k : ℕ) → k < length text → ((get_or text k 0 == 10) ≡ false) × (escape (get_or text k 0) ≡ get_or text k 0 ∷ [])
+
+bare_escaped : (line : ℕ) (text : List ℕ) → IsBare text → escaped line text ≡ text
+bare_escaped line [] bare = refl
+bare_escaped line (c ∷ text) bare =
+    let here = bare.none 0 (omega arith) in
+    let more = bare_escaped line text (record { none = λ k below. bare.none (suc k) (omega arith) }) in
+    rw (here.0, here.1) (ap (λ l. c ∷ l) more)
+
+bare_line : (line : ℕ) (text : List ℕ) → IsBare text → line_after line text ≡ line
+bare_line line [] bare = refl
+bare_line line (c ∷ text) bare =
+    let here = bare.none 0 (omega arith) in
+    rw here.0 (bare_line line text (record { none = λ k below. bare.none (suc k) (omega arith) }))
+
+-- the bytes of a character below 128 are itself
+character_bare : (c : ℕ) → (c ≡ 10 → ⊥) → (c ≡ 60 → ⊥) → (c ≡ 62 → ⊥) → (c ≡ 38 → ⊥) → (c ≡ 34 → ⊥)
+    → IsBare (encode_utf8 c)
+character_bare c feed less more ampersand quote = record { none = λ k below.
+    let is = inside_one c [] (encode_utf8 c) k (sym (append-nil _)) below in
+    let differs : (d : ℕ) → d < 128 → (c ≡ d → ⊥) → (get_or (encode_utf8 c) k 0 == d) ≡ false =
+    λ d small differs. ne_eqb _ d (λ e. differs (is (omega (arith, e)) ∙ e)) in
+    (differs 10 (omega arith) feed,
+    rw (differs 60 (omega arith) less, differs 62 (omega arith) more, differs 38 (omega arith) ampersand,
+    differs 34 (omega arith) quote)) }
+
+pub escaped_feed : (line c : ℕ) → c ≡ 10 → escaped line (encode_utf8 c) ≡ 10 ∷ anchor (line + 1)
+unfolding lib.Utf8.encode
+escaped_feed line c is = rw is (ap (λ l. 10 ∷ l) (append-nil (anchor (line + 1))))
+
+pub after_feed : (line c : ℕ) → c ≡ 10 → line_after line (encode_utf8 c) ≡ line + 1
+unfolding lib.Utf8.encode
+after_feed line c is = rw is refl
+
+pub escaped_less : (line c : ℕ) → c ≡ 60 → escaped line (encode_utf8 c) ≡ codes "&lt;"
+unfolding lib.Utf8.encode
+escaped_less line c is = rw is refl
+
+pub after_less : (line c : ℕ) → c ≡ 60 → line_after line (encode_utf8 c) ≡ line
+unfolding lib.Utf8.encode
+after_less line c is = rw is refl
+
+pub escaped_greater : (line c : ℕ) → c ≡ 62 → escaped line (encode_utf8 c) ≡ codes "&gt;"
+unfolding lib.Utf8.encode
+escaped_greater line c is = rw is refl
+
+pub after_greater : (line c : ℕ) → c ≡ 62 → line_after line (encode_utf8 c) ≡ line
+unfolding lib.Utf8.encode
+after_greater line c is = rw is refl
+
+pub escaped_ampersand : (line c : ℕ) → c ≡ 38 → escaped line (encode_utf8 c) ≡ codes "&amp;"
+unfolding lib.Utf8.encode
+escaped_ampersand line c is = rw is refl
+
+pub after_ampersand : (line c : ℕ) → c ≡ 38 → line_after line (encode_utf8 c) ≡ line
+unfolding lib.Utf8.encode
+after_ampersand line c is = rw is refl
+
+pub escaped_quote : (line c : ℕ) → c ≡ 34 → escaped line (encode_utf8 c) ≡ codes "&quot;"
+unfolding lib.Utf8.encode
+escaped_quote line c is = rw is refl
+
+pub after_quote : (line c : ℕ) → c ≡ 34 → line_after line (encode_utf8 c) ≡ line
+unfolding lib.Utf8.encode
+after_quote line c is = rw is refl
+
+pub escaped_character : (line c : ℕ) → (c ≡ 10 → ⊥) → (c ≡ 60 → ⊥) → (c ≡ 62 → ⊥) → (c ≡ 38 → ⊥) → (c ≡ 34 → ⊥)
+    → escaped line (encode_utf8 c) ≡ encode_utf8 c
+escaped_character line c feed less more ampersand quote =
+    bare_escaped line _ (character_bare c feed less more ampersand quote)
+
+pub line_after_character : (line c : ℕ) → (c ≡ 10 → ⊥) → (c ≡ 60 → ⊥) → (c ≡ 62 → ⊥) → (c ≡ 38 → ⊥) → (c ≡ 34 → ⊥)
+    → line_after line (encode_utf8 c) ≡ line
+line_after_character line c feed less more ampersand quote =
+    bare_line line _ (character_bare c feed less more ampersand quote)
+
+pub ruleset of_character = (escaped_feed, after_feed, escaped_less, after_less, escaped_greater, after_greater,
+    escaped_ampersand, after_ampersand, escaped_quote, after_quote, escaped_character, line_after_character)
+
+-- ---- a loop over a text's characters
+
+pub escaped_step : (before out : List ℕ) (line next : ℕ) (rest part after whole : List ℕ)
+    → rest ≡ part ++ after → out ≡ before ++ escaped line part → next ≡ line_after line part
+    → before ++ escaped line rest ≡ whole → out ++ escaped next after ≡ whole
+escaped_step before out line next rest part after whole split is moved all =
+    ap (λ l. l ++ escaped next after) is ∙ append_assoc before (escaped line part) (escaped next after)
+    ∙ ap (λ l. before ++ l) (ap (λ n. escaped line part ++ escaped n after) moved
+    ∙ sym (escaped-append line part after) ∙ ap (escaped line) (sym split))
+    ∙ all
+
+pub line_step : (line next : ℕ) (rest part after : List ℕ) (whole : ℕ)
+    → rest ≡ part ++ after → next ≡ line_after line part → line_after line rest ≡ whole → line_after next after ≡ whole
+line_step line next rest part after whole split moved all =
+    ap (λ n. line_after n after) moved ∙ sym (line_after-append line part after) ∙ ap (line_after line) (sym split) ∙ all
+
+pub escaped_end : (out : List ℕ) (line : ℕ) (rest whole : List ℕ) → rest ≡ [] → out ++ escaped line rest ≡ whole
+    → out ≡ whole
+escaped_end out line rest whole none all = sym (append-nil out) ∙ ap (λ l. out ++ escaped line l) (sym none) ∙ all
+
+pub line_end : (line : ℕ) (rest : List ℕ) (whole : ℕ) → rest ≡ [] → line_after line rest ≡ whole → line ≡ whole
+line_end line rest whole none all = ap (line_after line) (sym none) ∙ all
+
+-- ---- a text in its span
+
+pub span_parts : (before one two after class text : List ℕ) → (length class == 0) ≡ false
+    → one ≡ before ++ (codes "<span class=" ++ (class ++ codes ">")) → two ≡ one ++ text → after ≡ two ++ codes "</span>"
+    → after ≡ before ++ in_span class text
+span_parts before one two after class text some opened shown closed =
+    rw (some, closed, shown, opened, append_assoc, append_assoc)
+    (ap (λ l. before ++ l) (append_assoc (codes "<span class=") (class ++ codes ">") (text ++ codes "</span>")
+    ∙ ap (λ l. codes "<span class=" ++ l) (append_assoc class (codes ">") (text ++ codes "</span>"))))

@@ -1,0 +1,121 @@
+-- What the flags say of the openers that wait.
+use Rattle.std.proofs.Common.{◌≡◌, ℕ, ◌+◌, Bool, true, false, ◌==◌, ◌||◌, List, [], ◌∷◌, ◌++◌, suc, length, reverse, IsTrue}
+use Rattle.std.proofs.Common.{refl, sym, ap, ◌∙◌, arith}
+use Rattle.std.specs.Prelude.{if◌then◌else◌, slice_set}
+use Rattle.highlight.specs.declared.style.Style.{Style}
+use Rattle.highlight.specs.declared.style.Style.TheVariants.{Delimiter}
+use Rattle.std.proofs.lemmas.Bool.{eqb-true, cases_eq, ne_eqb, eq-eqb}
+use Rattle.std.proofs.lemmas.List.{reverse-append, length-reverse}
+use Rattle.lexical.specs.Delimiter.{is_closer}
+use Rattle.highlight.specs.Delimiters.{Waiting, closed, from_match, spared}
+use Rattle.highlight.specs.Nesting.{IsAwaited, Know, flag, outward, waiting_of}
+use Rattle.highlight.specs.declared.nesting.Opener.{Opener}
+use Rattle.highlight.specs.declared.nesting.Awaited.{Awaited}
+
+or_false : (x y : Bool) → (x || y) ≡ false → (x ≡ false) × (y ≡ false)
+or_false true y e = absurd (cc)
+or_false false y e = (refl, e)
+
+or_right : (x y : Bool) → x ≡ false → (x || y) ≡ true → y ≡ true
+or_right true y off e = absurd (cc)
+or_right false y off e = e
+
+pub reverse_more : (openers : List Opener) (opener : Opener) → reverse (openers ++ opener ∷ []) ≡ opener ∷ reverse openers
+reverse_more openers opener = reverse-append openers (opener ∷ [])
+
+pub waiting_more : (openers : List Opener) (opener : Opener)
+    → waiting_of (openers ++ opener ∷ []) ≡ record { closer = opener.closer; index = opener.index } ∷ waiting_of openers
+waiting_more openers opener = ap outward (reverse_more openers opener)
+
+length_outward : (openers : List Opener) → length (outward openers) ≡ length openers
+length_outward [] = refl
+length_outward (opener ∷ around) = ap (λ n. suc n) (length_outward around)
+
+pub length_waiting : (openers : List Opener) → length (waiting_of openers) ≡ length openers
+length_waiting openers = length_outward (reverse openers) ∙ length-reverse openers
+
+-- where the flags say none, no opener waits for the closer
+none_waits : (c : ℕ) (awaited : Awaited) (openers : List Opener) → IsTrue (is_closer c) → Know awaited openers
+    → flag c awaited ≡ false → from_match c (outward openers) ≡ []
+none_waits c awaited [] is know none = refl
+none_waits c awaited (opener ∷ around) is know none =
+    let both = or_false (opener.closer == c) (flag c opener.around) (sym (know.0 c is) ∙ none) in
+    rw both.0 (none_waits c opener.around around is know.1 both.1)
+
+pub no_match : (c : ℕ) (awaited : Awaited) (openers : List Opener) → IsTrue (is_closer c) → IsAwaited awaited openers
+    → flag c awaited ≡ false → from_match c (waiting_of openers) ≡ []
+no_match c awaited openers is known none = none_waits c awaited (reverse openers) is known.know none
+
+-- the last opener, taken out
+module _ (awaited : Awaited) (before after : List Opener) (opener : Opener) (popped : before ≡ after ++ opener ∷ [])
+    (known : IsAwaited awaited before) where
+  whole : reverse before ≡ opener ∷ reverse after
+  whole = ap reverse popped ∙ reverse_more after opener
+
+  know : Know awaited (opener ∷ reverse after)
+  know = rw whole at known.know
+
+  pub known_around : IsAwaited opener.around after
+  known_around = record { know = know.1 }
+
+  pub waits_around : (c : ℕ) → IsTrue (is_closer c) → (opener.closer == c) ≡ false → flag c awaited ≡ true
+      → flag c opener.around ≡ true
+  waits_around c is differs has = or_right _ _ differs (sym (know.0 c is) ∙ has)
+
+  pub match_around : (c : ℕ) → (opener.closer == c) ≡ false
+      → from_match c (waiting_of before) ≡ from_match c (waiting_of after)
+  match_around c differs = rw (whole, differs)
+
+  pub match_here : (c : ℕ) → (opener.closer == c) ≡ true
+      → from_match c (waiting_of before) ≡ record { closer = opener.closer; index = opener.index } ∷ waiting_of after
+  match_here c same = rw (whole, same)
+
+-- no opener is there, but one waits
+pub none_left : (c : ℕ) (awaited : Awaited) (openers : List Opener) → length openers ≡ 0 → IsAwaited awaited openers
+    → flag c awaited ≡ true → ⊥
+none_left c awaited [] none known has = absurd (let off : flag c awaited ≡ false = known.know c in cc)
+none_left c awaited (opener ∷ openers) none known has = absurd (omega (arith, none))
+
+-- the flags after one more opener
+pub flags_more : (closer : ℕ) (around more : Awaited) (c : ℕ) → IsTrue (is_closer c)
+    → more.round ≡ ((closer == 41) || around.round) → more.square ≡ ((closer == 93) || around.square)
+    → more.curly ≡ ((closer == 125) || around.curly)
+    → flag c more ≡ ((closer == c) || flag c around)
+flags_more closer around more c is round square curly = grind (arith, round, square, curly)
+
+pub known_more : (openers : List Opener) (opener : Opener) (more : Awaited)
+    → IsAwaited opener.around openers
+    → more.round ≡ ((opener.closer == 41) || opener.around.round)
+    → more.square ≡ ((opener.closer == 93) || opener.around.square)
+    → more.curly ≡ ((opener.closer == 125) || opener.around.curly)
+    → IsAwaited more (openers ++ opener ∷ [])
+known_more openers opener more known round square curly = record {
+  know = rw (reverse_more openers opener)
+      (λ c is. flags_more opener.closer opener.around more c is round square curly, known.know);
+}
+
+-- ---- the styles
+
+pub spared_step : (styles next all : List Style) (openers after : List Opener) (opener : Opener) (depth : ℕ)
+    → openers ≡ after ++ opener ∷ [] → depth ≡ length after → next ≡ slice_set styles opener.index (Delimiter depth)
+    → spared styles (waiting_of openers) ≡ all → spared next (waiting_of after) ≡ all
+spared_step styles next all openers after opener depth popped deep is held =
+    let one : spared styles (waiting_of openers)
+        ≡ spared (slice_set styles opener.index (Delimiter (length (waiting_of after)))) (waiting_of after) =
+    ap (λ w. spared styles w) (ap waiting_of popped ∙ waiting_more after opener) in
+    let same : next ≡ slice_set styles opener.index (Delimiter (length (waiting_of after))) =
+    is ∙ ap (λ n. slice_set styles opener.index (Delimiter n)) (deep ∙ sym (length_waiting after)) in
+    ap (λ s. spared s (waiting_of after)) same ∙ sym one ∙ held
+
+pub closed_step : (c : ℕ) (before after : List Opener) (opener : Opener) (found : List Waiting)
+    (styles old next : List Style) (depth : ℕ)
+    → before ≡ after ++ opener ∷ [] → opener.closer ≡ c → from_match c (waiting_of before) ≡ found
+    → styles ≡ old → depth ≡ length after → next ≡ slice_set styles opener.index (Delimiter depth)
+    → next ++ Delimiter depth ∷ [] ≡ closed old found
+closed_step c before after opener found styles old next depth popped same matches unchanged deep is =
+    let here : (opener.closer == c) ≡ true = eq-eqb _ _ same in
+    let first : from_match c (waiting_of before)
+        ≡ record { closer = opener.closer; index = opener.index } ∷ waiting_of after =
+    ap (from_match c) (ap waiting_of popped ∙ waiting_more after opener) ∙ rw here refl in
+    let deeper : depth ≡ length (waiting_of after) = deep ∙ sym (length_waiting after) in
+    rw (is, unchanged, deeper) (ap (closed old) (sym first ∙ matches))

@@ -1,0 +1,60 @@
+-- Which delimiters match, and the style of each.
+use Rattle.std.specs.Prelude.{ℕ, Bool, true, false, ◌==◌, List, [], ◌∷◌, ◌++◌, length, if◌then◌else◌, slice_set}
+use Rattle.lexical.specs.Piece as pieces
+use Rattle.lexical.specs.Piece.{Piece, Kind}
+use Rattle.highlight.specs.declared.style.Style.{Style}
+use Rattle.highlight.specs.declared.style.Style.TheVariants.{Delimiter, StrayCloser, Unclosed}
+
+-- an opener that no closer has matched yet: the closer that it waits for, and how many delimiters stand before it
+pub record Waiting : Type 0 where
+  pub closer : ℕ
+  pub index : ℕ
+
+-- the closer of an opener: of `(` (40), `[` (91), `{`
+abbrev pub closer_of : ℕ → ℕ
+closer_of c = if c == 40 then 41 else (if c == 91 then 93 else 125)
+
+-- from the innermost opener that waits for this closer on, outwards; none where no opener does
+abbrev pub from_match : ℕ → List Waiting → List Waiting
+from_match closer [] = []
+from_match closer (opener ∷ around) = if opener.closer == closer then opener ∷ around else from_match closer around
+
+-- the styles of the delimiters so far and of a closer, which matches the first of these openers
+abbrev pub closed : List Style → List Waiting → List Style
+closed styles [] = styles ++ StrayCloser ∷ []
+closed styles (opener ∷ around) =
+    slice_set styles opener.index (Delimiter (length around)) ++ Delimiter (length around) ∷ []
+
+-- the openers that wait after it
+abbrev pub still_waiting : List Waiting → List Waiting → List Waiting
+still_waiting all [] = all
+still_waiting all (opener ∷ around) = around
+
+-- where what follows isn't read, the openers that wait may be closed there
+abbrev pub spared : List Style → List Waiting → List Style
+spared styles [] = styles
+spared styles (opener ∷ around) = spared (slice_set styles opener.index (Delimiter (length around))) around
+
+-- the styles of the delimiters after one more piece: an opener counts as never closed until a closer matches it
+abbrev pub styles_past : Kind → List Style → List Waiting → List Style
+styles_past pieces.FrontMark styles waiting = styles
+styles_past pieces.Gap styles waiting = styles
+styles_past (pieces.Doc inner words) styles waiting = styles
+styles_past (pieces.Open c) styles waiting = styles ++ Unclosed ∷ []
+styles_past (pieces.Close c) styles waiting = closed styles (from_match c waiting)
+styles_past (pieces.Leaf token) styles waiting = styles
+
+-- the openers that wait after it; a closer passes those inside the one that it matches
+abbrev pub waiting_past : Kind → List Style → List Waiting → List Waiting
+waiting_past pieces.FrontMark styles waiting = waiting
+waiting_past pieces.Gap styles waiting = waiting
+waiting_past (pieces.Doc inner words) styles waiting = waiting
+waiting_past (pieces.Open c) styles waiting = record { closer = closer_of c; index = length styles } ∷ waiting
+waiting_past (pieces.Close c) styles waiting = still_waiting waiting (from_match c waiting)
+waiting_past (pieces.Leaf token) styles waiting = waiting
+
+-- the styles of all delimiters, in order; `whole` says that the pieces are all of the text
+abbrev pub delimiter_styles : Bool → List Style → List Waiting → List Piece → List Style
+delimiter_styles whole styles waiting [] = if whole then styles else spared styles waiting
+delimiter_styles whole styles waiting (piece ∷ more) =
+    delimiter_styles whole (styles_past piece.0 styles waiting) (waiting_past piece.0 styles waiting) more

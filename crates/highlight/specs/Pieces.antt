@@ -1,0 +1,86 @@
+-- The pieces of a text, each with its style.
+use Rattle.std.specs.Prelude.{ℕ, ◌≡◌, Bool, true, false, ◌==◌, List, [], ◌∷◌, ◌++◌}
+use Rattle.std.specs.Str.{encode_utf8_all}
+use Rattle.lexical.specs.Token as tokens
+use Rattle.lexical.specs.Token.{Token}
+use Rattle.lexical.specs.Piece as pieces
+use Rattle.lexical.specs.Piece.{Piece, Kind, IsPiece, HasNoPiece}
+use Rattle.highlight.specs.Style.{kind_style}
+use Rattle.highlight.specs.Delimiters.{delimiter_styles}
+use Rattle.highlight.specs.declared.style.Style.{Style}
+use Rattle.highlight.specs.declared.style.Style.TheVariants as styles
+
+-- the pieces that stand one after the other from the front of the source on, and the rest, where none stands
+abbrev pub AreAllPieces : Bool → List ℕ → List Piece → List ℕ → Type 0
+AreAllPieces first source [] rest = (source ≡ rest) × HasNoPiece first rest
+AreAllPieces first source (piece ∷ more) rest =
+    (after : List ℕ) × (source ≡ piece.1 ++ after) × IsPiece first piece.0 piece.1 after
+    × AreAllPieces false after more rest
+
+-- a style, and the bytes that are shown in it
+abbrev pub Shown : Type 0
+Shown = Style × List ℕ
+
+-- the mark `'` (39)
+abbrev pub is_quote : Kind → Bool
+is_quote pieces.FrontMark = false
+is_quote pieces.Gap = false
+is_quote (pieces.Doc inner words) = false
+is_quote (pieces.Open c) = false
+is_quote (pieces.Close c) = false
+is_quote (pieces.Leaf (tokens.Name raw name)) = false
+is_quote (pieces.Leaf (tokens.Mark c joint)) = c == 39
+is_quote (pieces.Leaf (tokens.Literal text)) = false
+
+-- the style of the next delimiter
+abbrev pub next_style : List Style → Style
+next_style [] = styles.Unclosed
+next_style (style ∷ more) = style
+
+abbrev pub more_styles : List Style → List Style
+more_styles [] = []
+more_styles (style ∷ more) = more
+
+-- a token, right after `'` or not: the name there is a lifetime's
+abbrev pub style_after : Bool → Token → List ℕ → Style
+style_after true (tokens.Name raw name) text = styles.Lifetime
+style_after false (tokens.Name raw name) text = kind_style (pieces.Leaf (tokens.Name raw name)) text
+style_after quote (tokens.Mark c joint) text = kind_style (pieces.Leaf (tokens.Mark c joint)) text
+style_after quote (tokens.Literal whole) text = kind_style (pieces.Leaf (tokens.Literal whole)) text
+
+-- a piece, with the styles of the delimiters from here on
+abbrev pub piece_style : List Style → Bool → Kind → List ℕ → Style
+piece_style delimiters quote pieces.FrontMark text = kind_style pieces.FrontMark text
+piece_style delimiters quote pieces.Gap text = kind_style pieces.Gap text
+piece_style delimiters quote (pieces.Doc inner words) text = kind_style (pieces.Doc inner words) text
+piece_style delimiters quote (pieces.Open c) text = next_style delimiters
+piece_style delimiters quote (pieces.Close c) text = next_style delimiters
+piece_style delimiters quote (pieces.Leaf token) text = style_after quote token text
+
+-- the styles of the delimiters after it
+abbrev pub styles_left : List Style → Kind → List Style
+styles_left delimiters pieces.FrontMark = delimiters
+styles_left delimiters pieces.Gap = delimiters
+styles_left delimiters (pieces.Doc inner words) = delimiters
+styles_left delimiters (pieces.Open c) = more_styles delimiters
+styles_left delimiters (pieces.Close c) = more_styles delimiters
+styles_left delimiters (pieces.Leaf token) = delimiters
+
+-- where no piece stands its first character is a fault, and what follows is not read
+abbrev pub unread : List ℕ → List Shown
+unread [] = []
+unread (c ∷ rest) = (styles.NoPiece, encode_utf8_all (c ∷ [])) ∷ (styles.Unread, encode_utf8_all rest) ∷ []
+
+-- the pieces and the rest, each with its style
+abbrev pub shown_from : List Style → Bool → List Piece → List ℕ → List Shown
+shown_from delimiters quote [] rest = unread rest
+shown_from delimiters quote (piece ∷ more) rest =
+    (piece_style delimiters quote piece.0 (encode_utf8_all piece.1), encode_utf8_all piece.1)
+    ∷ shown_from (styles_left delimiters piece.0) (is_quote piece.0) more rest
+
+abbrev pub is_nil : List ℕ → Bool
+is_nil [] = true
+is_nil (c ∷ rest) = false
+
+abbrev pub all_shown : List Piece → List ℕ → List Shown
+all_shown all rest = shown_from (delimiter_styles (is_nil rest) [] [] all) false all rest
