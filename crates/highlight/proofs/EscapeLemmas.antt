@@ -20,14 +20,16 @@ escaped-append line (c ∷ s) t =
     elim (c == 10) as (λ b. (if b then c ∷ (anchor (line + 1) ++ escaped (line + 1) (s ++ t))
     else escape c ++ escaped line (s ++ t))
     ≡ (if b then c ∷ (anchor (line + 1) ++ escaped (line + 1) s) else escape c ++ escaped line s)
-    ++ escaped (if b then line_after (line + 1) s else line_after line s) t)
-    [ true ↦ ap (λ l. c ∷ l) (ap (λ l. anchor (line + 1) ++ l) (escaped-append (line + 1) s t)
-        ∙ sym (append_assoc (anchor (line + 1)) (escaped (line + 1) s) _))
-    | false ↦ ap (λ l. escape c ++ l) (escaped-append line s t) ∙ sym (append_assoc (escape c) (escaped line s) _) ]
+    ++ escaped (if b then line_after (line + 1) s else line_after line s) t) [
+      | true ↦ ap (λ l. c ∷ l) (ap (λ l. anchor (line + 1) ++ l) (escaped-append (line + 1) s t)
+          ∙ sym (append_assoc (anchor (line + 1)) (escaped (line + 1) s) _))
+      | false ↦ ap (λ l. escape c ++ l) (escaped-append line s t) ∙ sym (append_assoc (escape c) (escaped line s) _)
+    ]
 
 -- bytes of which none is escaped, and none is a line feed
 pub record IsBare (text : List ℕ) : Type 0 where
-  pub none : (k : ℕ) → k < length text → ((get_or text k 0 == 10) ≡ false) × (escape (get_or text k 0) ≡ get_or text k 0 ∷ [])
+  pub none : (k : ℕ) → k < length text
+      → ((get_or text k 0 == 10) ≡ false) × (escape (get_or text k 0) ≡ get_or text k 0 ∷ [])
 
 bare_escaped : (line : ℕ) (text : List ℕ) → IsBare text → escaped line text ≡ text
 bare_escaped line [] bare = refl
@@ -45,13 +47,20 @@ bare_line line (c ∷ text) bare =
 -- the bytes of a character below 128 are itself
 character_bare : (c : ℕ) → (c ≡ 10 → ⊥) → (c ≡ 60 → ⊥) → (c ≡ 62 → ⊥) → (c ≡ 38 → ⊥) → (c ≡ 34 → ⊥)
     → IsBare (encode_utf8 c)
-character_bare c feed less more ampersand quote = record { none = λ k below.
-    let is = inside_one c [] (encode_utf8 c) k (sym (append-nil _)) below in
-    let differs : (d : ℕ) → d < 128 → (c ≡ d → ⊥) → (get_or (encode_utf8 c) k 0 == d) ≡ false =
-    λ d small differs. ne_eqb _ d (λ e. differs (is (omega (arith, e)) ∙ e)) in
-    (differs 10 (omega arith) feed,
-    rw (differs 60 (omega arith) less, differs 62 (omega arith) more, differs 38 (omega arith) ampersand,
-    differs 34 (omega arith) quote)) }
+character_bare c feed less more ampersand quote = record {
+  none = λ k below.
+      let is = inside_one c [] (encode_utf8 c) k (sym (append-nil _)) below in
+      let differs : (d : ℕ) → d < 128 → (c ≡ d → ⊥) → (get_or (encode_utf8 c) k 0 == d) ≡ false =
+      λ d small differs. ne_eqb _ d (λ e. differs (is (omega (arith, e)) ∙ e)) in (
+        differs 10 (omega arith) feed,
+        rw (
+          differs 60 (omega arith) less,
+          differs 62 (omega arith) more,
+          differs 38 (omega arith) ampersand,
+          differs 34 (omega arith) quote,
+        ),
+      );
+}
 
 pub escaped_feed : (line c : ℕ) → c ≡ 10 → escaped line (encode_utf8 c) ≡ 10 ∷ anchor (line + 1)
 unfolding lib.Utf8.encode
@@ -103,8 +112,20 @@ pub line_after_character : (line c : ℕ) → (c ≡ 10 → ⊥) → (c ≡ 60 �
 line_after_character line c feed less more ampersand quote =
     bare_line line _ (character_bare c feed less more ampersand quote)
 
-pub ruleset of_character = (escaped_feed, after_feed, escaped_less, after_less, escaped_greater, after_greater,
-    escaped_ampersand, after_ampersand, escaped_quote, after_quote, escaped_character, line_after_character)
+pub ruleset of_character = (
+  escaped_feed,
+  after_feed,
+  escaped_less,
+  after_less,
+  escaped_greater,
+  after_greater,
+  escaped_ampersand,
+  after_ampersand,
+  escaped_quote,
+  after_quote,
+  escaped_character,
+  line_after_character,
+)
 
 -- ---- a loop over a text's characters
 
@@ -120,7 +141,8 @@ escaped_step before out line next rest part after whole split is moved all =
 pub line_step : (line next : ℕ) (rest part after : List ℕ) (whole : ℕ)
     → rest ≡ part ++ after → next ≡ line_after line part → line_after line rest ≡ whole → line_after next after ≡ whole
 line_step line next rest part after whole split moved all =
-    ap (λ n. line_after n after) moved ∙ sym (line_after-append line part after) ∙ ap (line_after line) (sym split) ∙ all
+    ap (λ n. line_after n after) moved ∙ sym (line_after-append line part after) ∙ ap (line_after line) (sym split)
+    ∙ all
 
 pub escaped_end : (out : List ℕ) (line : ℕ) (rest whole : List ℕ) → rest ≡ [] → out ++ escaped line rest ≡ whole
     → out ≡ whole
@@ -132,7 +154,8 @@ line_end line rest whole none all = ap (line_after line) (sym none) ∙ all
 -- ---- a text in its span
 
 pub span_parts : (before one two after class text : List ℕ) → (length class == 0) ≡ false
-    → one ≡ before ++ (codes "<span class=" ++ (class ++ codes ">")) → two ≡ one ++ text → after ≡ two ++ codes "</span>"
+    → one ≡ before ++ (codes "<span class=" ++ (class ++ codes ">")) → two ≡ one ++ text
+    → after ≡ two ++ codes "</span>"
     → after ≡ before ++ in_span class text
 span_parts before one two after class text some opened shown closed =
     rw (some, closed, shown, opened, append_assoc, append_assoc)

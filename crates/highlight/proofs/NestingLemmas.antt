@@ -1,5 +1,6 @@
 -- What the flags say of the openers that wait.
-use Rattle.std.proofs.Common.{◌≡◌, ℕ, ◌+◌, Bool, true, false, ◌==◌, ◌||◌, List, [], ◌∷◌, ◌++◌, suc, length, reverse, IsTrue}
+use Rattle.std.proofs.Common.{◌≡◌, ℕ, ◌+◌, Bool, true, false, ◌==◌, ◌||◌, List, [], ◌∷◌, ◌++◌, suc, length, reverse}
+use Rattle.std.proofs.Common.{IsTrue}
 use Rattle.std.proofs.Common.{refl, sym, ap, ◌∙◌, arith}
 use Rattle.std.specs.Prelude.{if◌then◌else◌, slice_set}
 use Rattle.highlight.specs.declared.style.Style.{Style}
@@ -20,7 +21,8 @@ or_right : (x y : Bool) → x ≡ false → (x || y) ≡ true → y ≡ true
 or_right true y off e = absurd (cc)
 or_right false y off e = e
 
-pub reverse_more : (openers : List Opener) (opener : Opener) → reverse (openers ++ opener ∷ []) ≡ opener ∷ reverse openers
+pub reverse_more : (openers : List Opener) (opener : Opener)
+    → reverse (openers ++ opener ∷ []) ≡ opener ∷ reverse openers
 reverse_more openers opener = reverse-append openers (opener ∷ [])
 
 pub waiting_more : (openers : List Opener) (opener : Opener)
@@ -101,7 +103,7 @@ pub spared_step : (styles next all : List Style) (openers after : List Opener) (
     → spared styles (waiting_of openers) ≡ all → spared next (waiting_of after) ≡ all
 spared_step styles next all openers after opener depth popped deep is held =
     let one : spared styles (waiting_of openers)
-        ≡ spared (slice_set styles opener.index (Delimiter (length (waiting_of after)))) (waiting_of after) =
+    ≡ spared (slice_set styles opener.index (Delimiter (length (waiting_of after)))) (waiting_of after) =
     ap (λ w. spared styles w) (ap waiting_of popped ∙ waiting_more after opener) in
     let same : next ≡ slice_set styles opener.index (Delimiter (length (waiting_of after))) =
     is ∙ ap (λ n. slice_set styles opener.index (Delimiter n)) (deep ∙ sym (length_waiting after)) in
@@ -115,7 +117,7 @@ pub closed_step : (c : ℕ) (before after : List Opener) (opener : Opener) (foun
 closed_step c before after opener found styles old next depth popped same matches unchanged deep is =
     let here : (opener.closer == c) ≡ true = eq-eqb _ _ same in
     let first : from_match c (waiting_of before)
-        ≡ record { closer = opener.closer; index = opener.index } ∷ waiting_of after =
+    ≡ record { closer = opener.closer; index = opener.index } ∷ waiting_of after =
     ap (from_match c) (ap waiting_of popped ∙ waiting_more after opener) ∙ rw here refl in
     let deeper : depth ≡ length (waiting_of after) = deep ∙ sym (length_waiting after) in
     rw (is, unchanged, deeper) (ap (closed old) (sym first ∙ matches))

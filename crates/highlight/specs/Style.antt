@@ -44,7 +44,8 @@ is_digit c = nat_le 48 c && nat_le c 57
 -- after the `e` of a number: a digit, perhaps after signs (43, 45) and `_` (95)
 abbrev pub has_exponent : List ℕ → Bool
 has_exponent [] = false
-has_exponent (c ∷ rest) = if is_digit c then true else (if (c == 43 || c == 45) || c == 95 then has_exponent rest else false)
+has_exponent (c ∷ rest) = if is_digit c then true else
+    (if (c == 43 || c == 45) || c == 95 then has_exponent rest else false)
 
 -- after its digits and `_` a number has a dot (46), or an `e` (101, 69) and an exponent
 abbrev pub is_float : List ℕ → Bool
