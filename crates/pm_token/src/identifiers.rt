@@ -70,8 +70,8 @@ impl Ident {
         }
     }
 
-    /// The plain identifier of this name, which stands at this span. A keyword is one too: `fn` as the
-    /// name of a variable is found out only by who compiles what is printed.
+    /// The plain identifier of this name, which stands at this span. Keywords are taken: `fn` for the
+    /// name of a variant makes an identifier, and fails only where the printed code is compiled.
     ///
     /// Refused, by the rule `identifier-fault`, with the first of these that holds: `Empty` where the
     /// name has no character; `Number` where it has ASCII digits only; `Invalid` where it isn't a
