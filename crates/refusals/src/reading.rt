@@ -5,10 +5,14 @@ use crate::shown::{show_stream, show_tree};
 use crate::watched::watched;
 use proc_macro2::{SourceMap, TokenStream, TokenTree};
 use std::alloc::{AllocError, Global};
+use std::fmt::Display;
 use std::io::Write;
 
 /// No walk of a case takes more steps.
 const STEPS: usize = 100;
+
+/// No stream of a case prints more bytes.
+const BYTES: usize = 1_000;
 
 /// Prints the stream of the text, or walks over its trees.
 pub fn run<W: Write>(alloc: Global, out: &mut W, call: &str, text: &str) -> Result<(), Fail> {
@@ -28,6 +32,7 @@ fn read<W: Write>(
 ) -> Result<(), Fail> {
     match call {
         "print" => print_stream(alloc, out, stream),
+        "write" => write_all(alloc, out, stream),
         "walk" => show_walk(alloc, out, stream),
         _ => Err(Fail::NoCase),
     }
@@ -40,6 +45,33 @@ fn print_stream<W: Write>(alloc: Global, out: &mut W, stream: &TokenStream) -> R
     });
     writeln!(out, "{answer:?}")?;
     Ok(())
+}
+
+// Writes the stream, its first tree, and that tree where it is a group, into texts that have room for them.
+fn write_all<W: Write>(alloc: Global, out: &mut W, stream: &TokenStream) -> Result<(), Fail> {
+    let [tree, ..] = stream.trees() else {
+        return Err(Fail::NoCase);
+    };
+    let TokenTree::Group(group) = tree else {
+        return Err(Fail::NoCase);
+    };
+    let mut texts = (roomy(alloc)?, roomy(alloc)?, roomy(alloc)?);
+    let answers = watched!(out; (
+        is_written(&mut texts.0, stream),
+        is_written(&mut texts.1, tree),
+        is_written(&mut texts.2, group),
+    ));
+    writeln!(out, "{answers:?} {texts:?}")?;
+    Ok(())
+}
+
+// Writes the value after the text, and answers whether that succeeded.
+fn is_written<D: Display>(text: &mut String, value: &D) -> bool {
+    write!(text, "{value}").is_ok()
+}
+
+fn roomy(alloc: Global) -> Result<String, AllocError> {
+    String::with_capacity(alloc, BYTES)
 }
 
 fn show_walk<W: Write>(alloc: Global, out: &mut W, stream: &TokenStream) -> Result<(), Fail> {

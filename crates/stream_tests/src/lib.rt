@@ -24,6 +24,8 @@ mod new_trees;
 #[cfg(test)]
 mod parsing;
 #[cfg(test)]
+mod printing;
+#[cfg(test)]
 mod rows;
 #[cfg(test)]
 mod shown_trees;

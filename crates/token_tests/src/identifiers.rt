@@ -136,6 +136,17 @@ fn the_first_fault_of_a_name_is_answered(rt: HostRuntime) {
     are_answered(&rt, rt.alloc(), rows);
 }
 
+// No clause can say that memory suffices for a name that doesn't stand in place.
+#[test]
+fn a_long_name_is_made_where_memory_suffices(rt: HostRuntime) -> Result<(), Fail> {
+    let mut name = String::new(rt.alloc());
+    for _ in 0..300 {
+        name.push('a')?;
+    }
+    are_answered(&rt, rt.alloc(), &[(name.as_str(), "made", "made")]);
+    Ok(())
+}
+
 #[test]
 fn an_identifier_is_written_with_its_front(rt: HostRuntime) -> Result<(), Fail> {
     let raw = displayed(&rt, rt.alloc(), "fn", true, "r#fn")?;
