@@ -3,10 +3,10 @@ ghost use Rattle.std.specs.Prelude.{◌≡◌, ◌++◌, ℕ, List, IsTrue, OnOk
 ghost use Rattle.std.specs.Io.KnownBytes.{Appends};
 ghost use Rattle.highlight.specs.Page.{can_be_seen, plain};
 
-use crate::errors::HighlightError;
 use crate::format::Format;
 use crate::marking::marked;
 use crate::page::Frame;
+use messages::Failure;
 use std::alloc::Global;
 use std::io::Write;
 
@@ -21,7 +21,7 @@ pub fn write_marked<W: Write>(
     frame: Frame,
     text: &str,
     writer: &mut W,
-) -> Result<(), HighlightError>
+) -> Result<(), Failure>
     ensures { OnOk result ((body : List ℕ)
         × Appends (W.contents writer.old) (W.contents writer.new) (frame.head.now ++ (body ++ frame.foot.now))
         × (IsTrue (can_be_seen format text.now) → plain format body ≡ text.now)) }
