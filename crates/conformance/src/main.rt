@@ -1,21 +1,42 @@
-//! Replays recorded answers of the Rust crate, from the lines of standard input, and reports each
-//! difference. The status is 1 where there is one.
+//! Replays recorded answers of the Rust crate, from the lines of a file or of standard input, and reports each
+//! difference. The status is 1 where there is one, and 2 where the words ask for nothing, a read or a write failed, the
+//! input isn't UTF-8 or memory ran out; a line on standard error says so.
 #![tactic(auto)]
 
 ghost use Rattle.std.specs.Prelude.{IfOk};
 ghost use Rattle.std.specs.Process.{exit_status};
 ghost use Rattle.conformance.specs.Run.{IsRun};
 
+use messages::{Failure, conclude, path, read_text, words};
 use replay::replay;
 use std::alloc::Global;
-use std::io;
-use std::io::{BufRead, BufReader, BufWriter, Write};
+use std::io::{BufRead, BufWriter, Write};
 use std::process::ExitCode;
+use std::{env, io};
 
-fn main(rt: HostRuntime) -> io::Result<ExitCode> {
-    let reader = BufReader::new(rt.alloc(), rt.stdin())?;
+const USAGE: &str = "conformance [FILE]";
+
+fn main(rt: HostRuntime) -> ExitCode {
+    match asked(&rt) {
+        Ok(path) => match run_on(&rt, path.as_str()) {
+            Ok(code) => code,
+            Err(failure) => conclude(rt.alloc(), path.as_str(), Err(failure), &mut rt.stderr()),
+        },
+        Err(failure) => conclude(rt.alloc(), "-", Err(failure), &mut rt.stderr()),
+    }
+}
+
+// The path that the words after the program's name ask for.
+fn asked(rt: &HostRuntime) -> Result<String, Failure> {
+    let words = words(rt.alloc(), env::args(rt), USAGE)?;
+    path(rt.alloc(), words.as_slice(), USAGE)
+}
+
+// Replays the answers in the file at the path.
+fn run_on(rt: &HostRuntime, path: &str) -> Result<ExitCode, Failure> {
+    let text = read_text(rt, path)?;
     let mut writer = BufWriter::new(rt.alloc(), rt.stdout())?;
-    run(rt.alloc(), reader, &mut writer)
+    Ok(run(rt.alloc(), text.as_bytes(), &mut writer)?)
 }
 
 // Replays the answers on the reader's lines, and writes what differs, and then both numbers.

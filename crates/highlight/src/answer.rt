@@ -4,10 +4,10 @@ ghost use Rattle.std.specs.Io.KnownBytes.{Appends};
 ghost use Rattle.highlight.specs.Page.{IsMarked, foot, head};
 ghost use Rattle.highlight.specs.Seen.{can_be_seen, plain};
 
-use crate::errors::HighlightError;
 use crate::format::Format;
 use crate::marking::marked;
 use crate::page::frame_of;
+use messages::Failure;
 use std::alloc::Global;
 use std::io::Write;
 
@@ -23,7 +23,7 @@ pub fn write_marked<W: Write>(
     format: Format,
     text: &str,
     writer: &mut W,
-) -> Result<(), HighlightError>
+) -> Result<(), Failure>
     ensures { OnOk result ((body : List ℕ) × IsMarked format text.now body
         × Appends (W.contents writer.old) (W.contents writer.new) (head format ++ (body ++ foot format))
         × (IsTrue (can_be_seen format text.now) → plain format body ≡ text.now)) }

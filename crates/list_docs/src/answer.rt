@@ -1,23 +1,22 @@
-//! What the program answers for a text.
-ghost use Rattle.std.specs.Prelude.{List, ℕ, IfOk};
-ghost use Rattle.std.specs.Io.KnownBytes.{Appends};
+//! What the program writes for a text.
+ghost use Rattle.std.specs.Prelude.{IfErr, OnOk};
 ghost use Rattle.std.specs.Str.{chars};
-ghost use Rattle.list_docs.specs.Answer.{IsAnswer};
+ghost use Rattle.messages.specs.Parsed.{MayFail};
+ghost use Rattle.list_docs.specs.Answer.{Writes};
 
 use crate::doc::doc_text;
-use proc_macro2::{ParseError, SourceMap, TokenStream};
+use messages::Failure;
+use proc_macro2::{SourceMap, TokenStream};
 use std::alloc::Global;
-use std::io;
 use std::io::Write;
 
-/// Writes a line for each doc comment of the text, those inside groups too, in reading order, or the
-/// place of the text's fault, or why it was not read, and answers the status: 0 for a text that was
-/// parsed, else 1.
+/// Writes a line for each doc comment of the text, those inside groups too, in reading order.
 ///
-/// After an error a beginning of what is to be written stands. Of `/// x` the line is `1:0 " x"`.
-pub fn print_text<W: Write>(alloc: Global, text: &str, writer: &mut W) -> io::Result<u8>
-    ensures { IfOk result (λ status. (answer : List ℕ) × IsAnswer (chars text.now) answer status
-        × Appends (W.contents writer.old) (W.contents writer.new) answer) }
+/// Fails with `Fault`, which has the place, and `MapFull` before anything is written, and with `Memory` and `Write`;
+/// then a beginning of the lines stands. Of `/// x` the line is `1:0 " x"`.
+pub fn print_text<W: Write>(alloc: Global, text: &str, writer: &mut W) -> Result<(), Failure>
+    ensures ok { OnOk result (Writes (chars text.now) (W.contents writer.old) (W.contents writer.new)) }
+    ensures err { IfErr result (MayFail (chars text.now) (W.contents writer.old) (W.contents writer.new)) }
 {
     let mut map = SourceMap::new(alloc);
     match TokenStream::from_str(text, &mut map) {
@@ -30,18 +29,8 @@ pub fn print_text<W: Write>(alloc: Global, text: &str, writer: &mut W) -> io::Re
                 let place = doc.span().start(&map);
                 writeln!(writer, "{}:{} {doc}", place.line, place.column)?;
             }
-            Ok(0)
+            Ok(())
         }
-        Err(error) => match &error {
-            ParseError::Lex(fault) => {
-                let place = fault.span().start(&map);
-                writeln!(writer, "fault at {}:{}", place.line, place.column)?;
-                Ok(1)
-            }
-            _ => {
-                writeln!(writer, "{error}")?;
-                Ok(1)
-            }
-        },
+        Err(error) => Err(Failure::unparsed(error, &map)),
     }
 }

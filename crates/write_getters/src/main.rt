@@ -1,9 +1,10 @@
-//! Writes getters for the structs of the source text on standard input: for each struct with named
-//! fields and no parameters, one line with an `impl` that lends each field by a method of its name.
+//! Writes getters for the structs of a source text: for each struct with named fields and no
+//! parameters, one line with an `impl` that lends each field by a method of its name.
 //!
-//! The code is built as token trees and then printed. Of a text that has a fault the place of the
-//! fault is written to standard output, and the status is 1. Lines count from 1, columns count
-//! characters from 0.
+//! The code is built as token trees and then printed. `write_getters FILE` reads the file, `write_getters` standard
+//! input. The status is 0 where the text was read and all was written, 1 where the text has a fault, and 2 where the
+//! words ask for nothing, a read or a write failed, the input isn't UTF-8 or too long, memory ran out, or the code
+//! can't be written. A line on standard error says why, but nothing where nobody reads the output any more.
 #![tactic(auto)]
 
 mod answer;
@@ -14,14 +15,45 @@ mod getters;
 
 use answer::print_getters;
 use errors::WriteError;
-use std::io;
+use messages::{Failure, conclude, path, read_text, say_of, words};
+use std::env;
 use std::io::{BufWriter, Write};
 use std::process::ExitCode;
 
-fn main(rt: HostRuntime) -> Result<ExitCode, WriteError> {
-    let text = io::read_to_string(rt.alloc(), rt.stdin())?;
+const USAGE: &str = "write_getters [FILE]";
+
+fn main(rt: HostRuntime) -> ExitCode {
+    match asked(&rt) {
+        Ok(path) => run(&rt, path.as_str()),
+        Err(failure) => conclude(rt.alloc(), "-", Err(failure), &mut rt.stderr()),
+    }
+}
+
+// The path that the words after the program's name ask for.
+fn asked(rt: &HostRuntime) -> Result<String, Failure> {
+    let words = words(rt.alloc(), env::args(rt), USAGE)?;
+    path(rt.alloc(), words.as_slice(), USAGE)
+}
+
+// Writes the getters for the text at the path, or says why not.
+fn run(rt: &HostRuntime, path: &str) -> ExitCode {
+    let said = match write_text(rt, path) {
+        Ok(()) => return ExitCode::SUCCESS,
+        Err(WriteError::Failed(failure)) => {
+            return conclude(rt.alloc(), path, Err(failure), &mut rt.stderr());
+        }
+        Err(WriteError::Word(error)) => say_of(path, &error, &mut rt.stderr()),
+        Err(WriteError::Quote(error)) => say_of(path, &error, &mut rt.stderr()),
+    };
+    // A message that can't be written changes nothing.
+    let _ = said;
+    ExitCode::from(2)
+}
+
+// Writes the getters for the text at the path.
+fn write_text(rt: &HostRuntime, path: &str) -> Result<(), WriteError> {
+    let text = read_text(rt, path)?;
     let mut writer = BufWriter::new(rt.alloc(), rt.stdout())?;
-    let status = print_getters(rt.alloc(), text.as_str(), &mut writer)?;
-    writer.flush()?;
-    Ok(ExitCode::from(status))
+    print_getters(rt.alloc(), text.as_str(), &mut writer)?;
+    Ok(writer.flush()?)
 }

@@ -1,8 +1,8 @@
 use Rattle.std.proofs.Common.{Err, ap}
 use Rattle.std.proofs.KnownBytes.{Appends-nil, Appends-trans}
-use Rattle.proc_macro2.specs.Files.{new_map}
-use Rattle.proc_macro2.proofs.PlaceLemmas.{fault_starts, inside_places}
-use Rattle.list_docs.specs.Answer.{lines, fault, unread}
+use Rattle.messages.proofs.ParsedLemmas.{unparsed_may_fail}
+use Rattle.proc_macro2.proofs.PlaceLemmas.{inside_places}
+use Rattle.proc_macro2.specs.declared.TokenStream.{TokenStream}
 use Rattle.list_docs.proofs.answer.print_text.Goals as goal
 
 pub loop-walk-init : goal.loop-walk-init
@@ -25,20 +25,15 @@ loop-walk-preserved g c =
     let writes = rw (next, ← c.in-Some-doc_text.ensures.value) at c.loop-walk.invariant.1 in
     (left.1, λ new h. writes new (Appends-trans _ _ _ _ _ line h))
 
-pub returns-in-Ok : goal.returns-in-Ok
-returns-in-Ok g c =
+pub returns-in-Ok-clause-ok : goal.returns-in-Ok-clause-ok
+returns-in-Ok-clause-ok g c =
     let next = rw c.in_default.is at c.in_ok-tree-in-Ok.ensures.ok in
     let written = c.loop-walk.invariant.1 (g.W.Write.contents c.loop-walk.writer) (rw next.0 (Appends-nil _)) in
-    (_, lines c.in-Ok.stream (rw c.new-map.ensures at c.in-Ok.ensures.ok), rw c.walk-walk.ensures at written)
+    (c.in-Ok.stream, rw c.new-map.ensures at c.in-Ok.ensures.ok, rw c.walk-walk.ensures at written)
 
-pub returns-in-Lex : goal.returns-in-Lex
-returns-in-Lex g c =
-    let kept = rw (c.in-Lex.is, c.new-map.ensures) at c.in-Err.ensures.kept in
-    let lex = rw (c.in-Lex.is, c.new-map.ensures) at c.in-Err.ensures.lex in
-    let place = fault_starts new_map _ _ _ _ kept lex (rw c.span-in-Lex.ensures at c.start-place-in-Lex.ensures) in
-    (_, fault _ lex.1, rw place at c.in_ok-writeln-in-Lex.ensures.bytes)
-
-pub returns : goal.returns
-returns g c =
+pub returns-clause-err : goal.returns-clause-err
+returns-clause-err g c =
     let full = rw c.new-map.ensures at c.in-Err.ensures.map_full.0 in
-    (_, unread _ c.in_default-error.not-Lex (λ is. full (ap Err is)), c.in_ok-writeln-in_default-error.ensures.bytes)
+    unparsed_may_fail TokenStream _ _ _ _ _ (rw c.new-map.ensures at c.in-Err.ensures.kept)
+    (rw c.new-map.ensures at c.in-Err.ensures.lex) (λ is. full (ap Err is))
+    c.unparsed.ensures.fault c.unparsed.ensures.map_full c.unparsed.ensures.memory

@@ -1,0 +1,5 @@
+pub mod Failure
+pub mod Parsed
+pub mod Message
+pub mod Words
+pub mod Input

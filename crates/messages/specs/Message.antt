@@ -1,0 +1,31 @@
+-- What is said of a failure.
+use Rattle.std.specs.Prelude.{ℕ, ◌+◌, List, [], ◌++◌, codes, decimal, if◌then◌else◌}
+use Rattle.std.specs.IoError.{error_kind}
+use Rattle.proc_macro2.specs.declared.LineColumn.{LineColumn}
+use Rattle.messages.specs.Failure.{is_closed}
+use Rattle.messages.specs.declared.errors.Failure.{Failure}
+use Rattle.messages.specs.declared.errors.Failure.TheVariants.{Usage, Fault, NotUtf8, MapFull, Memory, Read, Write}
+
+-- `FILE:L:C: error: what`, the line and the column from 1
+abbrev pub at_place : List ℕ → LineColumn → List ℕ → List ℕ
+at_place path place what =
+    path ++ (
+    codes ":" ++ (decimal place.line ++ (codes ":" ++ (decimal (place.column + 1) ++ (codes ": error: " ++ what))))
+    )
+
+-- `FILE: error: what`
+abbrev pub of_file : List ℕ → List ℕ → List ℕ
+of_file path what = path ++ (codes ": error: " ++ what)
+
+-- what is said of a failure of the program that reads the file, where the system gives its reason. Of output that
+-- nobody reads any more nothing is said
+abbrev pub message : List ℕ → List ℕ → Failure → List ℕ
+message path reason (Usage words) = codes "usage: " ++ (words.now ++ codes "\n")
+message path reason (Fault place) = at_place path place (codes "no token stands here, or a delimiter has no match\n")
+message path reason (NotUtf8 byte) = of_file path (codes "not UTF-8 at byte " ++ (decimal byte ++ codes "\n"))
+message path reason MapFull = of_file path (codes "the text is too long\n")
+message path reason Memory = of_file path (codes "out of memory\n")
+message path reason (Read error) = of_file path (codes "cannot read: " ++ (reason ++ codes "\n"))
+message path reason (Write error) =
+    if is_closed (error_kind error) then []
+    else of_file (codes "standard output") (codes "cannot write: " ++ (reason ++ codes "\n"))

@@ -1,0 +1,28 @@
+-- How a program fails that reads a text into a new map and writes what it finds.
+use Rattle.std.specs.Prelude.{ℕ, ◌≡◌, ◌-◌, List, length, Option}
+use Rattle.std.specs.Io.KnownBytes.{Keeps}
+use Rattle.proc_macro2.specs.Files.{Fits, new_map, next_lo}
+use Rattle.proc_macro2.specs.Parsing.{FaultAt}
+use Rattle.proc_macro2.specs.Place.{line_column}
+use Rattle.proc_macro2.specs.declared.LineColumn.{LineColumn}
+use Rattle.messages.specs.declared.errors.Failure.{Failure}
+use Rattle.messages.specs.declared.errors.Failure.TheVariants.{Usage, Fault, NotUtf8, MapFull, Memory, Read, Write}
+
+-- the position of the text's first character
+abbrev pub first : ℕ
+first = next_lo new_map
+
+-- the place in the text where a position stands
+abbrev pub place_of : List ℕ → ℕ → LineColumn
+place_of text position = line_column text (position - first)
+
+-- at the text's fault, or since the text is too long, and nothing is written; or since memory ran out or a write failed
+abbrev pub MayFail : List ℕ → Option (List ℕ) → Option (List ℕ) → Failure → Type 0
+MayFail text old new (Usage words) = ⊥
+MayFail text old new (Fault place) =
+    (position : ℕ) × FaultAt first text position × (place ≡ place_of text position) × Keeps old new
+MayFail text old new (NotUtf8 byte) = ⊥
+MayFail text old new MapFull = (Fits new_map (length text) → ⊥) × Keeps old new
+MayFail text old new Memory = Unit {0}
+MayFail text old new (Read error) = ⊥
+MayFail text old new (Write error) = Unit {0}

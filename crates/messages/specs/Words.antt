@@ -1,0 +1,23 @@
+-- The words that a program is given.
+use Rattle.std.specs.Prelude.{ℕ, Bool, true, false, List, [], ◌∷◌, drop, map, Option, Some, None, String, codes}
+use Rattle.std.specs.Prelude.{string_bytes}
+use Rattle.std.specs.Vec.Iter.{into_iter_items}
+use Rattle.std.specs.declared.alloc.Global.{Global}
+use Rattle.std.specs.declared.io.ErrorKind.{ErrorKind}
+use Rattle.std.specs.declared.io.ErrorKind.TheVariants.{InvalidData}
+use Rattle.std.specs.declared.vec.IntoIter.{IntoIter}
+
+-- whether arguments weren't had since they are no text
+abbrev pub is_no_text : ErrorKind → Bool
+is_no_text InvalidData = true
+is_no_text _ = false
+
+-- the words after the program's name
+abbrev pub words_of : IntoIter (String Global) Global → List (List ℕ)
+words_of arguments = map string_bytes (drop 1 (into_iter_items arguments))
+
+-- the path that the words name: the only one, or `-`, which is standard input
+abbrev pub path_of : List (List ℕ) → Option (List ℕ)
+path_of [] = Some (codes "-")
+path_of (path ∷ []) = Some path
+path_of (path ∷ next ∷ words) = None

@@ -1,0 +1,89 @@
+//! Why a program fails.
+ghost use Rattle.std.specs.Prelude.{◌≡◌, ◌↔◌};
+ghost use Rattle.proc_macro2.specs.Files.{Holds};
+ghost use Rattle.proc_macro2.specs.Lookup.{StartsAt};
+ghost use Rattle.proc_macro2.specs.Outcome.{IfLex};
+ghost use Rattle.proc_macro2.specs.declared.LineColumn.{LineColumn};
+ghost use Rattle.messages.specs.Failure.{is_memory, reading_failed, writing_failed};
+
+use proc_macro2::{LineColumn, ParseError, SourceMap};
+use std::alloc::AllocError;
+use std::io;
+
+/// Why a program fails.
+#[derive(Debug, Drop)]
+pub enum Failure {
+    /// The words after the program's name ask for nothing: how the program is called.
+    Usage(&'static str),
+    /// The text has its fault here.
+    Fault(LineColumn),
+    /// The input is UTF-8 up to this byte, counted from 0, and no further.
+    NotUtf8(usize),
+    /// The text has more characters than a source map has positions.
+    MapFull,
+    /// Memory ran out.
+    Memory,
+    /// The input could not be opened or read.
+    Read(io::Error),
+    /// The output could not be written.
+    Write(io::Error),
+}
+
+impl Failure {
+    /// That the text of the error was not parsed into the map: its fault's place, that it is too long, or that
+    /// memory ran out.
+    pub fn unparsed(error: ParseError, map: &SourceMap) -> Failure
+        requires { IfLex error (Holds map.now) }
+        ensures fault { IfLex error (λ fault. (place : LineColumn)
+            × (result ≡ Failure.Fault place) × StartsAt map.now fault place) }
+        ensures map_full { error ≡ ParseError.MapFull → result ≡ Failure.MapFull }
+        ensures memory { (refused : AllocError) → error ≡ ParseError.Memory refused → result ≡ Failure.Memory }
+    {
+        match error {
+            ParseError::Lex(fault) => Failure::Fault(fault.span().start(map)),
+            ParseError::MapFull => Failure::MapFull,
+            ParseError::Memory(_) => Failure::Memory,
+        }
+    }
+
+    /// That a read failed, or memory for what was read ran out.
+    pub fn reading(error: io::Error) -> Failure
+        ensures { result ≡ reading_failed error }
+    {
+        if is_memory(error.kind()) {
+            Failure::Memory
+        } else {
+            Failure::Read(error)
+        }
+    }
+}
+
+/// That a write failed, or memory for it ran out.
+impl From<io::Error> for Failure {
+    ghost from_gives = { λ error failure. failure ≡ writing_failed error };
+
+    fn from(error: io::Error) -> Failure {
+        if is_memory(error.kind()) {
+            Failure::Memory
+        } else {
+            Failure::Write(error)
+        }
+    }
+}
+
+impl From<AllocError> for Failure {
+    ghost use Rattle.messages.specs.declared.errors.Failure.TheVariants.{Memory};
+
+    ghost from_gives = { λ _ failure. failure ≡ Memory };
+
+    fn from(_: AllocError) -> Failure {
+        Failure::Memory
+    }
+}
+
+// Whether memory ran out.
+fn is_memory(kind: io::ErrorKind) -> bool
+    ensures { result ≡ is_memory kind }
+{
+    matches!(kind, io::ErrorKind::OutOfMemory)
+}

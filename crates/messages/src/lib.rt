@@ -1,0 +1,11 @@
+//! How a program reads its input, and what it says on standard error where it fails, in the one form that
+//! editors read: `FILE:L:C: error: what`.
+#![tactic(auto)]
+
+mod errors;
+mod input;
+mod report;
+
+pub use errors::Failure;
+pub use input::{path, read_text, words};
+pub use report::{conclude, say, say_at, say_of, status};
