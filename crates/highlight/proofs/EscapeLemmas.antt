@@ -20,10 +20,11 @@ escaped-append line (c ∷ s) t =
     elim (c == 10) as (λ b. (if b then c ∷ (anchor (line + 1) ++ escaped (line + 1) (s ++ t))
     else escape c ++ escaped line (s ++ t))
     ≡ (if b then c ∷ (anchor (line + 1) ++ escaped (line + 1) s) else escape c ++ escaped line s)
-    ++ escaped (if b then line_after (line + 1) s else line_after line s) t)
-    [ true ↦ ap (λ l. c ∷ l) (ap (λ l. anchor (line + 1) ++ l) (escaped-append (line + 1) s t)
-        ∙ sym (append_assoc (anchor (line + 1)) (escaped (line + 1) s) _))
-    | false ↦ ap (λ l. escape c ++ l) (escaped-append line s t) ∙ sym (append_assoc (escape c) (escaped line s) _) ]
+    ++ escaped (if b then line_after (line + 1) s else line_after line s) t) [
+      | true ↦ ap (λ l. c ∷ l) (ap (λ l. anchor (line + 1) ++ l) (escaped-append (line + 1) s t)
+          ∙ sym (append_assoc (anchor (line + 1)) (escaped (line + 1) s) _))
+      | false ↦ ap (λ l. escape c ++ l) (escaped-append line s t) ∙ sym (append_assoc (escape c) (escaped line s) _)
+    ]
 
 -- bytes of which none is escaped, and none is a line feed
 pub record IsBare (text : List ℕ) : Type 0 where
@@ -45,13 +46,20 @@ bare_line line (c ∷ text) bare =
 -- the bytes of a character below 128 are itself
 character_bare : (c : ℕ) → (c ≡ 10 → ⊥) → (c ≡ 60 → ⊥) → (c ≡ 62 → ⊥) → (c ≡ 38 → ⊥) → (c ≡ 34 → ⊥)
     → IsBare (encode_utf8 c)
-character_bare c feed less more ampersand quote = record { none = λ k below.
-    let is = inside_one c [] (encode_utf8 c) k (sym (append-nil _)) below in
-    let differs : (d : ℕ) → d < 128 → (c ≡ d → ⊥) → (get_or (encode_utf8 c) k 0 == d) ≡ false =
-    λ d small differs. ne_eqb _ d (λ e. differs (is (omega (arith, e)) ∙ e)) in
-    (differs 10 (omega arith) feed,
-    rw (differs 60 (omega arith) less, differs 62 (omega arith) more, differs 38 (omega arith) ampersand,
-    differs 34 (omega arith) quote)) }
+character_bare c feed less more ampersand quote = record {
+  none = λ k below.
+      let is = inside_one c [] (encode_utf8 c) k (sym (append-nil _)) below in
+      let differs : (d : ℕ) → d < 128 → (c ≡ d → ⊥) → (get_or (encode_utf8 c) k 0 == d) ≡ false =
+      λ d small differs. ne_eqb _ d (λ e. differs (is (omega (arith, e)) ∙ e)) in (
+        differs 10 (omega arith) feed,
+        rw (
+          differs 60 (omega arith) less,
+          differs 62 (omega arith) more,
+          differs 38 (omega arith) ampersand,
+          differs 34 (omega arith) quote,
+        ),
+      );
+}
 
 pub escaped_feed : (line c : ℕ) → c ≡ 10 → escaped line (encode_utf8 c) ≡ 10 ∷ anchor (line + 1)
 unfolding lib.Utf8.encode
@@ -103,8 +111,20 @@ pub line_after_character : (line c : ℕ) → (c ≡ 10 → ⊥) → (c ≡ 60 �
 line_after_character line c feed less more ampersand quote =
     bare_line line _ (character_bare c feed less more ampersand quote)
 
-pub ruleset of_character = (escaped_feed, after_feed, escaped_less, after_less, escaped_greater, after_greater,
-    escaped_ampersand, after_ampersand, escaped_quote, after_quote, escaped_character, line_after_character)
+pub ruleset of_character = (
+  escaped_feed,
+  after_feed,
+  escaped_less,
+  after_less,
+  escaped_greater,
+  after_greater,
+  escaped_ampersand,
+  after_ampersand,
+  escaped_quote,
+  after_quote,
+  escaped_character,
+  line_after_character,
+)
 
 -- ---- a loop over a text's characters
 

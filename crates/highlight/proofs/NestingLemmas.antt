@@ -101,7 +101,7 @@ pub spared_step : (styles next all : List Style) (openers after : List Opener) (
     → spared styles (waiting_of openers) ≡ all → spared next (waiting_of after) ≡ all
 spared_step styles next all openers after opener depth popped deep is held =
     let one : spared styles (waiting_of openers)
-        ≡ spared (slice_set styles opener.index (Delimiter (length (waiting_of after)))) (waiting_of after) =
+    ≡ spared (slice_set styles opener.index (Delimiter (length (waiting_of after)))) (waiting_of after) =
     ap (λ w. spared styles w) (ap waiting_of popped ∙ waiting_more after opener) in
     let same : next ≡ slice_set styles opener.index (Delimiter (length (waiting_of after))) =
     is ∙ ap (λ n. slice_set styles opener.index (Delimiter n)) (deep ∙ sym (length_waiting after)) in
@@ -115,7 +115,7 @@ pub closed_step : (c : ℕ) (before after : List Opener) (opener : Opener) (foun
 closed_step c before after opener found styles old next depth popped same matches unchanged deep is =
     let here : (opener.closer == c) ≡ true = eq-eqb _ _ same in
     let first : from_match c (waiting_of before)
-        ≡ record { closer = opener.closer; index = opener.index } ∷ waiting_of after =
+    ≡ record { closer = opener.closer; index = opener.index } ∷ waiting_of after =
     ap (from_match c) (ap waiting_of popped ∙ waiting_more after opener) ∙ rw here refl in
     let deeper : depth ≡ length (waiting_of after) = deep ∙ sym (length_waiting after) in
     rw (is, unchanged, deeper) (ap (closed old) (sym first ∙ matches))

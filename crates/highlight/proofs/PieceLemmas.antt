@@ -38,10 +38,13 @@ unique first source (p ∷ ps) (q ∷ qs) r s x y =
 pub all_from : (at : PieceWalk) (next : PlacedPiece) (to : PieceWalk) (more : List Piece) (rest : List ℕ)
     → IsNext at next to → AreAllPieces to.at_front (chars to.rest.now) more rest
     → AreAllPieces at.at_front (chars at.rest.now)
-        ((kind_of next.piece.kind (chars next.text.now), chars next.text.now) ∷ more) rest
-all_from at next to more rest step are =
-    (chars to.rest.now, step.whole, step.stands,
-    subst (λ first. AreAllPieces first (chars to.rest.now) more rest) step.behind are)
+    ((kind_of next.piece.kind (chars next.text.now), chars next.text.now) ∷ more) rest
+all_from at next to more rest step are = (
+  chars to.rest.now,
+  step.whole,
+  step.stands,
+  subst (λ first. AreAllPieces first (chars to.rest.now) more rest) step.behind are,
+)
 
 pub closes : (first : Bool) (kind : PieceKind) (p r : List ℕ) → IsPiece first (kind_of kind p) p r → ClosesByCloser kind
 closes first kinds.FrontMark p r stands = tt
@@ -77,8 +80,17 @@ pub rest_parts : (format given : Format) (line next : ℕ) (rest after : List �
 rest_parts format given line next rest after c before one two utf8 split more first same moved last =
     let front : encode_utf8_all (c ∷ []) ≡ encode_utf8 c = append-nil (encode_utf8 c) in
     let back : encode_utf8_all (chars after) ≡ after = encodes-chars after more in
-    rw (chars_past_char rest after c utf8 split, front, back, last, first, same, moved, append_assoc,
-    append-nil (marked_piece format (line_past format line (encode_utf8 c)) (Unread, after))) refl
+    rw (
+      chars_past_char rest after c utf8 split,
+      front,
+      back,
+      last,
+      first,
+      same,
+      moved,
+      append_assoc,
+      append-nil (marked_piece format (line_past format line (encode_utf8 c)) (Unread, after)),
+    ) refl
 
 -- ---- one more piece
 
@@ -92,7 +104,7 @@ pub marked_step : (format given : Format) (line next : ℕ) (before out whole te
 marked_step format given line next before out whole text words style delimiters left quote quoted kind more rest
     spelled styled lefts quotes same is moved all =
     let inner : marked_piece given line (style, text) ++ marked_pieces format next (shown_from left quoted more rest)
-        ≡ marked_pieces format line (shown_from delimiters quote ((kind, words) ∷ more) rest) =
+    ≡ marked_pieces format line (shown_from delimiters quote ((kind, words) ∷ more) rest) =
     rw (lefts, quotes, moved, same, styled, spelled) refl in
     ap (λ l. l ++ marked_pieces format next (shown_from left quoted more rest)) is
     ∙ append_assoc before (marked_piece given line (style, text)) _ ∙ ap (λ l. before ++ l) inner ∙ all

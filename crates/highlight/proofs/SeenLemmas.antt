@@ -32,10 +32,12 @@ Shows-nil : (format : Format) → Shows format [] []
 Shows-nil format = record { shows = λ can rest. refl }
 
 Shows-append : (format : Format) (v w s t : List ℕ) → Shows format v s → Shows format w t → Shows format (v ++ w) (s ++ t)
-Shows-append format v w s t first second = record { shows = λ can rest.
-    let parts = seen_parts format s t can in
-    rw (append_assoc, append_assoc)
-    (first.shows parts.0 (w ++ rest) ∙ ap (λ l. s ++ l) (second.shows parts.1 rest)) }
+Shows-append format v w s t first second = record {
+  shows = λ can rest.
+      let parts = seen_parts format s t can in
+      rw (append_assoc, append_assoc)
+      (first.shows parts.0 (w ++ rest) ∙ ap (λ l. s ++ l) (second.shows parts.1 rest));
+}
 
 -- ---- tags
 

@@ -15,16 +15,18 @@ loop-next-preserved c = record {
       let words = chars c.in-Some.next.text.now in
       let kind = kind_of c.in-Some.next.piece.kind words in
       let before = c.loop-next.invariant.shown ((kind, words) ∷ more) rest
-          (all_from _ _ _ more rest c.in-Some.ensures.found are) in
-      (before.0, before.1,
-      marked_step c.args.format c.loop-next.sheet.format c.loop-next.sheet.line c.push_piece.new.self.line
-      (string_bytes c.loop-next.sheet.out) (string_bytes c.push_piece.new.self.out) _ c.in-Some.next.text.now words
-      c.style_of-style.result (reverse c.loop-next.styling.delimiters.items)
-      (reverse c.style_of-style.new.self.delimiters.items) c.loop-next.styling.is_after_quote
-      c.style_of-style.new.self.is_after_quote kind more rest
-      (encodes-chars _ c.in-Some.ensures.found.utf8) c.style_of-style.ensures.style c.style_of-style.ensures.delimiters
-      c.style_of-style.ensures.quote c.loop-next.invariant.format c.in_ok-push_piece.ensures.shown
-      c.in_ok-push_piece.ensures.line before.2);
+      (all_from _ _ _ more rest c.in-Some.ensures.found are) in (
+        before.0,
+        before.1,
+        marked_step c.args.format c.loop-next.sheet.format c.loop-next.sheet.line c.push_piece.new.self.line
+            (string_bytes c.loop-next.sheet.out) (string_bytes c.push_piece.new.self.out) _ c.in-Some.next.text.now words
+            c.style_of-style.result (reverse c.loop-next.styling.delimiters.items)
+            (reverse c.style_of-style.new.self.delimiters.items) c.loop-next.styling.is_after_quote
+            c.style_of-style.new.self.is_after_quote kind more rest
+            (encodes-chars _ c.in-Some.ensures.found.utf8) c.style_of-style.ensures.style c.style_of-style.ensures.delimiters
+            c.style_of-style.ensures.quote c.loop-next.invariant.format c.in_ok-push_piece.ensures.shown
+            c.in_ok-push_piece.ensures.line before.2,
+      );
 }
 
 pub returns : goal.returns

@@ -12,7 +12,7 @@ invariant-loop-next l = record {
   shown : (more : List Piece) (rest : List ℕ) → AreAllPieces l.walk.at_front (chars l.walk.rest.now) more rest
       → (all : List Piece) × AreAllPieces true (chars l.text) all rest
       × (string_bytes l.sheet.out ++ marked_pieces l.fn.format l.sheet.line
-          (shown_from (reverse l.styling.delimiters.items) l.styling.is_after_quote more rest)
+      (shown_from (reverse l.styling.delimiters.items) l.styling.is_after_quote more rest)
       ≡ marked_pieces l.fn.format 1 (shown_from (reverse l.initial.styling.delimiters.items) false all rest));
 }
 

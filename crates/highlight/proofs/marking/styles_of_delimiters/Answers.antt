@@ -13,7 +13,7 @@ loop-next-preserved c = record {
   styles = λ more rest are.
       let words = chars c.in-Some.next.text.now in
       let before = c.loop-next.invariant.styles ((kind_of c.in-Some.next.piece.kind words, words) ∷ more) rest
-          (all_from _ _ _ more rest c.in-Some.ensures.found are) in
+      (all_from _ _ _ more rest c.in-Some.ensures.found are) in
       (before.0, before.1, rw (c.in_ok-take.ensures.styles words, c.in_ok-take.ensures.waiting words) before.2);
 }
 
@@ -23,7 +23,10 @@ returns c =
     let same : c.rest.result.now ≡ c.loop-next.walk.rest.now =
     c.rest.ensures.rest ∙ ap (λ (walk : PieceWalk). walk.rest.now) c.in_default.ensures.unchanged in
     let whole : c.is_empty.result ≡ is_nil (chars c.loop-next.walk.rest.now) =
-    c.is_empty.ensures ∙ is_nil_chars c.rest.result.now c.rest.ensures.utf8 ∙ ap (λ l. is_nil (chars l)) same in
-    (all.0, chars c.loop-next.walk.rest.now, all.1,
-    ap reverse c.reverse.ensures.items ∙ reverse-reverse c.into_styles-styles.result.items
-    ∙ (rw whole at c.into_styles-styles.ensures) ∙ all.2)
+    c.is_empty.ensures ∙ is_nil_chars c.rest.result.now c.rest.ensures.utf8 ∙ ap (λ l. is_nil (chars l)) same in (
+      all.0,
+      chars c.loop-next.walk.rest.now,
+      all.1,
+      ap reverse c.reverse.ensures.items ∙ reverse-reverse c.into_styles-styles.result.items
+          ∙ (rw whole at c.into_styles-styles.ensures) ∙ all.2,
+    )
