@@ -37,8 +37,7 @@ returns c =
     c.rest.ensures.rest ∙ ap (λ (walk : PieceWalk). walk.rest.now) c.in_default.ensures.unchanged in
     marked_end c.args.format c.loop-next.sheet.format c.args.text.now (string_bytes c.loop-next.sheet.out)
     (string_bytes c.push_rest.new.sheet.out) c.loop-next.sheet.line
-    (reverse c.in_ok-styles_of_delimiters.field-0.items)
-    (chars c.loop-next.walk.rest.now) delimiters.1 all.0 delimiters.0
+    (reverse c.in_ok-styles_of_delimiters.field-0.items) (chars c.loop-next.walk.rest.now) delimiters.1 all.0 delimiters.0
     all.1 delimiters.2 delimiters.3 c.loop-next.invariant.format
     (c.in_ok-push_rest.ensures ∙ ap (λ l. string_bytes c.loop-next.sheet.out
     ++ marked_pieces c.loop-next.sheet.format c.loop-next.sheet.line (unread (chars l))) same)
