@@ -65,8 +65,8 @@ fn a_negative_literal_is_put_in_as_its_sign_and_the_rest(rt: HostRuntime) -> Res
     let stream = TokenStream::from_tree(alloc, TokenTree::Literal(minus_three(alloc)?))?;
     check_printed(&rt, &stream, "- 3i32")?;
     let shown = format!(in alloc; "{stream:?}")?;
-    let want =
-        "TokenStream [Punct { char: '-', spacing: Alone, span: bytes(1..6) }, Literal { lit: 3i32, span: bytes(1..6) }]";
+    let want = "TokenStream [Punct { char: '-', spacing: Alone, span: bytes(1..6) }, \
+        Literal { lit: 3i32, span: bytes(1..6) }]";
     assert_eq!(rt; shown.as_str(), want);
     Ok(())
 }

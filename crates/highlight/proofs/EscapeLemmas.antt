@@ -28,7 +28,8 @@ escaped-append line (c ∷ s) t =
 
 -- bytes of which none is escaped, and none is a line feed
 pub record IsBare (text : List ℕ) : Type 0 where
-  pub none : (k : ℕ) → k < length text → ((get_or text k 0 == 10) ≡ false) × (escape (get_or text k 0) ≡ get_or text k 0 ∷ [])
+  pub none : (k : ℕ) → k < length text
+      → ((get_or text k 0 == 10) ≡ false) × (escape (get_or text k 0) ≡ get_or text k 0 ∷ [])
 
 bare_escaped : (line : ℕ) (text : List ℕ) → IsBare text → escaped line text ≡ text
 bare_escaped line [] bare = refl
@@ -140,7 +141,8 @@ escaped_step before out line next rest part after whole split is moved all =
 pub line_step : (line next : ℕ) (rest part after : List ℕ) (whole : ℕ)
     → rest ≡ part ++ after → next ≡ line_after line part → line_after line rest ≡ whole → line_after next after ≡ whole
 line_step line next rest part after whole split moved all =
-    ap (λ n. line_after n after) moved ∙ sym (line_after-append line part after) ∙ ap (line_after line) (sym split) ∙ all
+    ap (λ n. line_after n after) moved ∙ sym (line_after-append line part after) ∙ ap (line_after line) (sym split)
+    ∙ all
 
 pub escaped_end : (out : List ℕ) (line : ℕ) (rest whole : List ℕ) → rest ≡ [] → out ++ escaped line rest ≡ whole
     → out ≡ whole
@@ -152,7 +154,8 @@ line_end line rest whole none all = ap (line_after line) (sym none) ∙ all
 -- ---- a text in its span
 
 pub span_parts : (before one two after class text : List ℕ) → (length class == 0) ≡ false
-    → one ≡ before ++ (codes "<span class=" ++ (class ++ codes ">")) → two ≡ one ++ text → after ≡ two ++ codes "</span>"
+    → one ≡ before ++ (codes "<span class=" ++ (class ++ codes ">")) → two ≡ one ++ text
+    → after ≡ two ++ codes "</span>"
     → after ≡ before ++ in_span class text
 span_parts before one two after class text some opened shown closed =
     rw (some, closed, shown, opened, append_assoc, append_assoc)

@@ -1,5 +1,6 @@
 -- What the flags say of the openers that wait.
-use Rattle.std.proofs.Common.{◌≡◌, ℕ, ◌+◌, Bool, true, false, ◌==◌, ◌||◌, List, [], ◌∷◌, ◌++◌, suc, length, reverse, IsTrue}
+use Rattle.std.proofs.Common.{◌≡◌, ℕ, ◌+◌, Bool, true, false, ◌==◌, ◌||◌, List, [], ◌∷◌, ◌++◌, suc, length, reverse}
+use Rattle.std.proofs.Common.{IsTrue}
 use Rattle.std.proofs.Common.{refl, sym, ap, ◌∙◌, arith}
 use Rattle.std.specs.Prelude.{if◌then◌else◌, slice_set}
 use Rattle.highlight.specs.declared.style.Style.{Style}
@@ -20,7 +21,8 @@ or_right : (x y : Bool) → x ≡ false → (x || y) ≡ true → y ≡ true
 or_right true y off e = absurd (cc)
 or_right false y off e = e
 
-pub reverse_more : (openers : List Opener) (opener : Opener) → reverse (openers ++ opener ∷ []) ≡ opener ∷ reverse openers
+pub reverse_more : (openers : List Opener) (opener : Opener)
+    → reverse (openers ++ opener ∷ []) ≡ opener ∷ reverse openers
 reverse_more openers opener = reverse-append openers (opener ∷ [])
 
 pub waiting_more : (openers : List Opener) (opener : Opener)

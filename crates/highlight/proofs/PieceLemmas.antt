@@ -1,6 +1,7 @@
 -- All pieces of a text, a piece at a time.
 use Rattle.std.proofs.Common.{◌≡◌, ℕ, Bool, true, false, ◌==◌, ◌&&◌, List, [], ◌∷◌, ◌++◌, IsTrue}
-use Rattle.std.proofs.Common.{refl, sym, ap, subst, ◌∙◌, ◌+◌, arith, length, length-append, append_assoc, append-nil, encode_utf8}
+use Rattle.std.proofs.Common.{refl, sym, ap, subst, ◌∙◌, ◌+◌, arith, length, length-append, append_assoc, append-nil}
+use Rattle.std.proofs.Common.{encode_utf8}
 use Rattle.std.specs.Str.{chars, encode_utf8_all, IsUtf8}
 use Rattle.std.proofs.lemmas.Bool.{and_parts, eqb-true, ne_eqb}
 use Rattle.std.proofs.lemmas.Str.{chars_past_char, encodes-chars, length-encode, len_utf8_bounds}

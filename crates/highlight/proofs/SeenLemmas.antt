@@ -1,5 +1,6 @@
 -- What is seen of what is written, a part at a time.
-use Rattle.std.proofs.Common.{◌≡◌, ℕ, zero, suc, ◌%◌, ◌/◌, ◌+◌, ◌<◌, ◌⊎◌, inl, inr, Bool, true, false, not, ◌==◌, List, [], ◌∷◌, ◌++◌, codes, length, IsTrue}
+use Rattle.std.proofs.Common.{◌≡◌, ℕ, zero, suc, ◌%◌, ◌/◌, ◌+◌, ◌<◌, ◌⊎◌, inl, inr, Bool, true, false, not, ◌==◌, List}
+use Rattle.std.proofs.Common.{[], ◌∷◌, ◌++◌, codes, length, IsTrue}
 use Rattle.std.proofs.Common.{refl, sym, ap, subst, ◌∙◌, arith, append_assoc, append-nil}
 use Rattle.std.specs.Fmt.{decimal, digit_glyph, digits, digits_onto}
 use Rattle.std.specs.Prelude.{encode_utf8, if◌then◌else◌}
@@ -10,7 +11,8 @@ use Rattle.std.proofs.lemmas.Str.{encodes-append, encodes-chars}
 use Rattle.lexical.specs.Piece.{Piece}
 use Rattle.highlight.specs.Style.{class, colour, depth_class, depth_colour}
 use Rattle.highlight.specs.Pieces.{AreAllPieces, Shown, all_shown, shown_from, unread}
-use Rattle.highlight.specs.Page.{IsMarked, anchor, escape, escaped, in_span, in_colour, line_past, marked_piece, marked_pieces}
+use Rattle.highlight.specs.Page.{IsMarked, anchor, escape, escaped, in_span, in_colour, line_past, marked_piece}
+use Rattle.highlight.specs.Page.{marked_pieces}
 use Rattle.highlight.specs.Seen.{InTag, can_be_seen, closes_tag, plain, seen, stays_in_tag}
 use Rattle.highlight.specs.declared.style.Style.{Style}
 use Rattle.highlight.specs.declared.style.Style.TheVariants as styles
@@ -19,7 +21,8 @@ use Rattle.highlight.specs.declared.format.Format.TheVariants.{Html, Term}
 
 -- of what is written, followed by anything, this text is seen
 pub record Shows (format : Format) (written text : List ℕ) : Type 0 where
-  pub shows : IsTrue (can_be_seen format text) → (rest : List ℕ) → plain format (written ++ rest) ≡ text ++ plain format rest
+  pub shows : IsTrue (can_be_seen format text) → (rest : List ℕ)
+      → plain format (written ++ rest) ≡ text ++ plain format rest
 
 -- ---- one part after another
 
@@ -31,7 +34,8 @@ seen_parts Term s t h = and_parts _ _ (sym (list_all-append (λ c. not (c == 27)
 Shows-nil : (format : Format) → Shows format [] []
 Shows-nil format = record { shows = λ can rest. refl }
 
-Shows-append : (format : Format) (v w s t : List ℕ) → Shows format v s → Shows format w t → Shows format (v ++ w) (s ++ t)
+Shows-append : (format : Format) (v w s t : List ℕ) → Shows format v s → Shows format w t
+    → Shows format (v ++ w) (s ++ t)
 Shows-append format v w s t first second = record {
   shows = λ can rest.
       let parts = seen_parts format s t can in
@@ -43,7 +47,8 @@ Shows-append format v w s t first second = record {
 
 -- of what follows a tag's beginning this text is seen
 record EndsTag (format : Format) (tail text : List ℕ) : Type 0 where
-  pub ends : IsTrue (can_be_seen format text) → (rest : List ℕ) → seen format InTag (tail ++ rest) ≡ text ++ plain format rest
+  pub ends : IsTrue (can_be_seen format text) → (rest : List ℕ)
+      → seen format InTag (tail ++ rest) ≡ text ++ plain format rest
 
 EndsTag-more : (format : Format) (front : List ℕ) {tail text : List ℕ} → stays_in_tag format front ≡ true
     → EndsTag format tail text

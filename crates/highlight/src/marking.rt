@@ -67,7 +67,8 @@ impl Styling {
         ensures style { result ≡ piece_style (reverse self.old.delimiters.items) self.old.is_after_quote
             (kind_of next.entry.piece.kind (chars next.entry.text.now)) next.entry.text.now }
         ensures delimiters { reverse self.new.delimiters.items
-            ≡ styles_left (reverse self.old.delimiters.items) (kind_of next.entry.piece.kind (chars next.entry.text.now)) }
+            ≡ styles_left (reverse self.old.delimiters.items)
+            (kind_of next.entry.piece.kind (chars next.entry.text.now)) }
         ensures quote { self.new.is_after_quote ≡ is_quote (kind_of next.entry.piece.kind (chars next.entry.text.now)) }
     {
         let is_after_quote = self.is_after_quote;

@@ -3,7 +3,8 @@ ghost use Rattle.std.specs.Prelude.{◌≡◌, ◌++◌, [], ◌∷◌, IsTrue, 
 ghost use Rattle.highlight.specs.declared.style.Style.TheVariants.{Unclosed};
 ghost use Rattle.lexical.specs.Delimiter.{is_closer};
 ghost use Rattle.lexical.specs.Found.{kind_of};
-ghost use Rattle.highlight.specs.Delimiters.{closed, closer_of, from_match, spared, still_waiting, styles_past, waiting_past};
+ghost use Rattle.highlight.specs.Delimiters.{closed, closer_of, from_match, spared, still_waiting, styles_past};
+ghost use Rattle.highlight.specs.Delimiters.{waiting_past};
 ghost use Rattle.highlight.specs.Nesting.{ClosesByCloser, IsAwaited, flag, waiting_of};
 
 use crate::style::Style;
@@ -105,7 +106,8 @@ impl Nesting {
         ensures styles { OnOk result (self.new.styles.items
             ≡ closed self.old.styles.items (from_match closer (waiting_of self.old.openers.items))) }
         ensures waiting { OnOk result (waiting_of self.new.openers.items
-            ≡ still_waiting (waiting_of self.old.openers.items) (from_match closer (waiting_of self.old.openers.items))) }
+            ≡ still_waiting (waiting_of self.old.openers.items)
+            (from_match closer (waiting_of self.old.openers.items))) }
         ensures awaited { OnOk result (IsAwaited self.new.awaited self.new.openers.items) }
     {
         let style = self.matched(closer);
@@ -119,7 +121,8 @@ impl Nesting {
         ensures styles { self.new.styles.items ++ result ∷ []
             ≡ closed self.old.styles.items (from_match closer (waiting_of self.old.openers.items)) }
         ensures waiting { waiting_of self.new.openers.items
-            ≡ still_waiting (waiting_of self.old.openers.items) (from_match closer (waiting_of self.old.openers.items)) }
+            ≡ still_waiting (waiting_of self.old.openers.items)
+            (from_match closer (waiting_of self.old.openers.items)) }
         ensures awaited { IsAwaited self.new.awaited self.new.openers.items }
     {
         if !self.awaited.has(closer) {

@@ -2,7 +2,8 @@
 ghost use Rattle.std.specs.Prelude.{◌≡◌};
 ghost use Rattle.lexical.specs.Found.{kind_of};
 ghost use Rattle.std.specs.Str.{chars};
-ghost use Rattle.highlight.specs.Style.{class, colour, depth_class, depth_colour, gap_style, is_float, is_keyword, kind_style, literal_style};
+ghost use Rattle.highlight.specs.Style.{class, colour, depth_class, depth_colour, gap_style, is_float, is_keyword};
+ghost use Rattle.highlight.specs.Style.{kind_style, literal_style};
 
 use proc_macro2::PieceKind;
 

@@ -22,7 +22,8 @@ pub fn words(
     usage: &'static str,
 ) -> Result<Vec<String>, Failure>
     ensures ok { IfOk result (λ list. IfOk arguments (λ given. map string_bytes list.items ≡ words_of given)) }
-    ensures refused { IfErr arguments (λ error. (result ≡ Err (Failure.Usage usage.entry)) ↔ IsTrue (is_no_text (error_kind error))) }
+    ensures refused { IfErr arguments (λ error.
+        (result ≡ Err (Failure.Usage usage.entry)) ↔ IsTrue (is_no_text (error_kind error))) }
 {
     match arguments {
         Ok(arguments) => Ok(arguments.skip(1).collect(alloc)?),

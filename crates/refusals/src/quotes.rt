@@ -13,7 +13,8 @@ use std::io::Write;
 /// A template with a name in a group, and a repetition with a group.
 const TEMPLATE: &str = "[#one] #((#each)),*";
 
-/// Pushes to a quote of `x (+ y)`, whose `+` is Joint, fills it, or asks it for its stream, and writes what it gives then.
+/// Pushes to a quote of `x (+ y)`, whose `+` is Joint, fills it, or asks it for its stream, and writes what it gives
+/// then.
 pub fn run<W: Write>(alloc: Global, out: &mut W, call: &str) -> Result<(), Fail> {
     for _ in 0..2 {
         let mut quote = x_and_group(alloc)?;

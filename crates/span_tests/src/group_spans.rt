@@ -92,8 +92,8 @@ fn a_tree_whose_span_is_set_keeps_those_inside(rt: HostRuntime) -> Result<(), Pa
     let mut tree = nested(rt.alloc())?;
     tree.set_span(span_of(7, 9));
     let shown = format!(in rt.alloc(); "{tree:?}")?;
-    let want =
-        "Group { delimiter: Brace, stream: TokenStream [Group { delimiter: Bracket, stream: TokenStream [], span: bytes(1..3) }], span: bytes(7..9) }";
+    let want = "Group { delimiter: Brace, stream: TokenStream [\
+        Group { delimiter: Bracket, stream: TokenStream [], span: bytes(1..3) }], span: bytes(7..9) }";
     assert_eq!(rt; shown.as_str(), want);
     Ok(())
 }

@@ -1,5 +1,6 @@
-// The laws of parsed and printed streams, asked of many texts, of each beginning of each, and of the two parts into which
-// each of its places cuts it.
+//! The laws of parsed and printed streams, asked of many texts, of each beginning of each, and of the two parts into
+//! which each of its places cuts it.
+
 use pm_span::parts::bounds;
 use proc_macro2::{ParseError, SourceMap, TokenStream};
 use std::alloc::{AllocError, Global};

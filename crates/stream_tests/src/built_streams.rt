@@ -166,8 +166,8 @@ fn trees_are_shown_with_their_spans(rt: HostRuntime) -> Result<(), AllocError> {
     let alloc = rt.alloc();
     let stream = name_in_parentheses(alloc)?;
     let shown = format!(in alloc; "{stream:?}")?;
-    let expected =
-        "TokenStream [Group { delimiter: Parenthesis, stream: TokenStream [Ident { sym: _, span: bytes(2..3) }], span: bytes(1..4) }]";
+    let expected = "TokenStream [Group { delimiter: Parenthesis, stream: TokenStream [\
+        Ident { sym: _, span: bytes(2..3) }], span: bytes(1..4) }]";
     check(&rt, shown.as_str(), expected, "with spans");
     let stream = one(alloc, plus(Spacing::Alone))?;
     let shown = format!(in alloc; "{stream:#?}")?;

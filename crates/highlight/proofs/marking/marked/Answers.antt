@@ -19,11 +19,13 @@ loop-next-preserved c = record {
         before.0,
         before.1,
         marked_step c.args.format c.loop-next.sheet.format c.loop-next.sheet.line c.push_piece.new.self.line
-            (string_bytes c.loop-next.sheet.out) (string_bytes c.push_piece.new.self.out) _ c.in-Some.next.text.now words
+            (string_bytes c.loop-next.sheet.out) (string_bytes c.push_piece.new.self.out) _ c.in-Some.next.text.now
+            words
             c.style_of-style.result (reverse c.loop-next.styling.delimiters.items)
             (reverse c.style_of-style.new.self.delimiters.items) c.loop-next.styling.is_after_quote
             c.style_of-style.new.self.is_after_quote kind more rest
-            (encodes-chars _ c.in-Some.ensures.found.utf8) c.style_of-style.ensures.style c.style_of-style.ensures.delimiters
+            (encodes-chars _ c.in-Some.ensures.found.utf8) c.style_of-style.ensures.style
+            c.style_of-style.ensures.delimiters
             c.style_of-style.ensures.quote c.loop-next.invariant.format c.in_ok-push_piece.ensures.shown
             c.in_ok-push_piece.ensures.line before.2,
       );
@@ -37,7 +39,8 @@ returns c =
     c.rest.ensures.rest ∙ ap (λ (walk : PieceWalk). walk.rest.now) c.in_default.ensures.unchanged in
     marked_end c.args.format c.loop-next.sheet.format c.args.text.now (string_bytes c.loop-next.sheet.out)
     (string_bytes c.push_rest.new.sheet.out) c.loop-next.sheet.line
-    (reverse c.in_ok-styles_of_delimiters.field-0.items) (chars c.loop-next.walk.rest.now) delimiters.1 all.0 delimiters.0
+    (reverse c.in_ok-styles_of_delimiters.field-0.items)
+    (chars c.loop-next.walk.rest.now) delimiters.1 all.0 delimiters.0
     all.1 delimiters.2 delimiters.3 c.loop-next.invariant.format
     (c.in_ok-push_rest.ensures ∙ ap (λ l. string_bytes c.loop-next.sheet.out
     ++ marked_pieces c.loop-next.sheet.format c.loop-next.sheet.line (unread (chars l))) same)

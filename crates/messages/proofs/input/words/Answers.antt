@@ -9,5 +9,6 @@ pub returns-in_ok-collect-in-Ok-clause-ok : goal.returns-in_ok-collect-in-Ok-cla
 returns-in_ok-collect-in-Ok-clause-ok c =
     let all = YieldsList-from_vec {s = skip_source c.skip.result} (into_iter_items c.in-Ok.arguments)
     (ap into_iter_items c.skip.ensures.source) (ap into_iter_len c.skip.ensures.source ∙ c.in-Ok.arguments.rest.ok.0) in
-    let taken = items_from_collect c.collect.result c.collect.ensures.ran (YieldsList-from_skip 1 all c.skip.ensures.count) in
+    let taken = items_from_collect c.collect.result c.collect.ensures.ran
+    (YieldsList-from_skip 1 all c.skip.ensures.count) in
     rw c.in-Ok.is (ap (λ items. map string_bytes items) (rw c.in_ok-collect-in-Ok.was at taken))
