@@ -1,5 +1,5 @@
 -- All pieces of a text, a piece at a time.
-use Rattle.std.proofs.Common.{◌≡◌, ℕ, Bool, true, false, ◌==◌, ◌&&◌, List, [], ◌∷◌, ◌++◌, IsTrue}
+use Rattle.std.proofs.Common.{◌≡◌, ℕ, Bool, true, false, ◌==◌, List, [], ◌∷◌, ◌++◌, IsTrue}
 use Rattle.std.proofs.Common.{refl, sym, ap, subst, ◌∙◌, ◌+◌, arith, length, length-append, append_assoc, append-nil}
 use Rattle.std.proofs.Common.{encode_utf8}
 use Rattle.std.specs.Str.{chars, encode_utf8_all, IsUtf8}
@@ -7,7 +7,7 @@ use Rattle.std.proofs.lemmas.Bool.{and_parts, eqb-true, ne_eqb}
 use Rattle.std.proofs.lemmas.Str.{chars_past_char, encodes-chars, length-encode, len_utf8_bounds}
 use Rattle.lexical.specs.Delimiter.{is_closer}
 use Rattle.lexical.specs.Found.{kind_of}
-use Rattle.lexical.specs.Piece.{Piece, Kind, IsPiece, HasNoPiece}
+use Rattle.lexical.specs.Piece.{Piece, Kind, IsPiece}
 use Rattle.lexical.specs.Walk.{IsNext}
 use Rattle.lexical.specs.declared.piece.PieceKind.{PieceKind}
 use Rattle.lexical.specs.declared.piece.PieceKind.TheVariants as kinds

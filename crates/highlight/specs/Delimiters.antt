@@ -1,5 +1,5 @@
 -- Which delimiters match, and the style of each.
-use Rattle.std.specs.Prelude.{ℕ, Bool, true, false, ◌==◌, List, [], ◌∷◌, ◌++◌, length, if◌then◌else◌, slice_set}
+use Rattle.std.specs.Prelude.{ℕ, Bool, ◌==◌, List, [], ◌∷◌, ◌++◌, length, if◌then◌else◌, slice_set}
 use Rattle.lexical.specs.Piece as pieces
 use Rattle.lexical.specs.Piece.{Piece, Kind}
 use Rattle.highlight.specs.declared.style.Style.{Style}

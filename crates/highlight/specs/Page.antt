@@ -1,11 +1,10 @@
 -- What is written: a page for a browser, or a terminal's colours.
-use Rattle.std.specs.Prelude.{ℕ, ◌≡◌, ◌+◌, Bool, ◌==◌, List, [], ◌∷◌, ◌++◌, true, codes, length, if◌then◌else◌}
+use Rattle.std.specs.Prelude.{ℕ, ◌≡◌, ◌+◌, ◌==◌, List, [], ◌∷◌, ◌++◌, true, codes, length, if◌then◌else◌}
 use Rattle.std.specs.Fmt.{decimal}
 use Rattle.std.specs.Str.{chars}
 use Rattle.lexical.specs.Piece.{Piece}
 use Rattle.highlight.specs.Style.{class, colour}
 use Rattle.highlight.specs.Pieces.{AreAllPieces, Shown, all_shown}
-use Rattle.highlight.specs.declared.style.Style.{Style}
 use Rattle.highlight.specs.declared.format.Format.{Format}
 use Rattle.highlight.specs.declared.format.Format.TheVariants.{Html, Term}
 

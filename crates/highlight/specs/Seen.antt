@@ -1,5 +1,5 @@
 -- What is seen of what is written, by one who leaves out a page's tags or a terminal's colour sequences.
-use Rattle.std.specs.Prelude.{ℕ, ◌≡◌, Bool, false, true, not, ◌==◌, List, [], ◌∷◌, ◌++◌, IsTrue}
+use Rattle.std.specs.Prelude.{ℕ, Bool, false, true, not, ◌==◌, List, [], ◌∷◌, ◌++◌}
 use Rattle.std.specs.Prelude.{codes, nat_eq, if◌then◌else◌}
 use Rattle.std.specs.List.{list_all}
 use lib.Pointwise.{pointwise}

@@ -1,5 +1,5 @@
 -- What a piece is shown as: its style by its kind and its bytes, and the class and the colour of each style.
-use Rattle.std.specs.Prelude.{ℕ, ◌%◌, Bool, true, false, ◌==◌, ◌≤◌, ◌||◌, ◌&&◌, List, [], ◌∷◌, codes}
+use Rattle.std.specs.Prelude.{ℕ, ◌%◌, Bool, true, false, ◌==◌, ◌||◌, ◌&&◌, List, [], ◌∷◌, codes}
 use Rattle.std.specs.Prelude.{nat_eq, nat_le, if◌then◌else◌, slice_index}
 use Rattle.std.specs.List.{list_any}
 use lib.Pointwise.{pointwise}

@@ -1,4 +1,4 @@
-use Rattle.std.proofs.Common.{◌≡◌, ◌∙◌, List, [], ◌∷◌, ap, refl, reverse}
+use Rattle.std.proofs.Common.{◌≡◌, ◌∙◌, [], ◌∷◌, ap, refl, reverse}
 use Rattle.std.specs.Str.{chars}
 use Rattle.std.proofs.lemmas.List.{reverse-reverse}
 use Rattle.lexical.specs.Found.{kind_of}
