@@ -224,15 +224,17 @@ def drop_derives(file):
         for end in found(file.tokens, at, '# [ derive ('):
             closer = closing(file.tokens, end)
             names = [index for index in range(end, closer) if file.tokens[index].kind == 'name']
-            for index in names:
-                if file.tokens[index].text == 'Drop':
-                    file.count('drop-derives')
-                    if len(names) == 1:
-                        goes |= set(range(at, following(file.tokens, closer) + 1))
-                    else:
-                        first = index == names[0]
-                        goes |= set(range(index, names[1])) if first else set(range(preceding(file.tokens, index),
-                                                                                    index + 1))
+            words = [file.tokens[index].text for index in names]
+            if 'Drop' not in words:
+                continue
+            place = words.index('Drop')
+            file.count('drop-derives')
+            if len(names) == 1:
+                goes |= set(range(at, following(file.tokens, closer) + 1))
+            elif place == 0:
+                goes |= set(range(names[0], names[1]))
+            else:
+                goes |= set(range(preceding(file.tokens, names[place]), names[place] + 1))
     file.tokens = without(file.tokens, goes)
 
 
