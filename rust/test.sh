@@ -1,6 +1,6 @@
 #!/usr/bin/env bash
-# The proved bodies as Rust, the Cargo package over them with its tests, and syn and quote on it; and the demo in C under
-# sanitizers.
+# The proved functions as Rust, the Cargo package over them with its tests, and syn and quote on it; and the demo in C
+# under sanitizers.
 #
 #   rust/test.sh
 #
@@ -55,7 +55,8 @@ if [ "${minor:-0}" -ge 82 ]; then
     proved() { (cd proved && cargo "$@"); }
     documented() { RUSTDOCFLAGS="-D warnings" proved doc --offline --quiet --no-deps --all-features; }
     [ -x ../crates/tokens/out/tokens ] || echo "no crates/tokens/out/tokens: rust/proved is not compared with it"
-    try "rust/proved, with overflow checks: recorded answers, sources, the shim" proved test --offline --quiet --all-features
+    tested() { proved test --offline --quiet --all-features; }
+    try "rust/proved, with overflow checks: recorded answers, sources, the shim" tested
     try "rust/proved without its features" proved build --offline --quiet
     try "the documents of rust/proved" documented
     if cargo clippy --version > /dev/null 2>&1; then

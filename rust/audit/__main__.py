@@ -5,13 +5,13 @@
     python3 rust/audit --list     all changes, with how often each occurs
     python3 rust/audit --test     tests itself: changes that are planted are told
 
-It shares no code with rust/erase. Each file's first line says from which source it was made. Of that source it leaves out
-comments and what only proofs read: clauses, ghost items and the attributes `tactic` and `cycle`. The tokens that are
-left are compared in order.
+It shares no code with rust/erase. Each file's first line says from which source it was made. Of that source it leaves
+out comments and what only proofs read: clauses, ghost items and the attributes `tactic` and `cycle`. The tokens that
+are left are compared in order.
 
 A line of whitelist.txt is a change: the tokens of the source, `=>`, and those in their place. NAME is any one name and
-PATH any path, each the same on both sides; NAMES are any names with commas between them, and CRATE is the source's crate.
-A line `in SOURCE` says that the changes below it, up to an empty line, are known in that source alone.
+PATH any path, each the same on both sides; NAMES are any names with commas between them, and CRATE is the source's
+crate. A line `in SOURCE` says that the changes below it, up to an empty line, are known in that source alone.
 """
 import collections
 import difflib
@@ -197,8 +197,9 @@ pub struct A { x: u8, }
 /// One more.
 fn more(a: &A) -> u8 { crate::lexical::one::add(a.x, 1) }
 """
-PLANTED = [('1)', '2)'), ('a.x', 'a.y'), (', 1', ''), ('&A', '&mut A'), ('lexical::one', 'pm_span::one'), ('shim::fmt', 'fmt'),
-           ('fn more', '#[inline] fn more'), ('add', 'sub'), ('Debug', 'Debug, Clone'), ('x: u8,', ''), ('{ c', '{ a.x; c')]
+PLANTED = [('1)', '2)'), ('a.x', 'a.y'), (', 1', ''), ('&A', '&mut A'), ('lexical::one', 'pm_span::one'),
+           ('shim::fmt', 'fmt'), ('fn more', '#[inline] fn more'), ('add', 'sub'), ('Debug', 'Debug, Clone'),
+           ('x: u8,', ''), ('{ c', '{ a.x; c')]
 
 
 def test():

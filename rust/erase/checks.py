@@ -108,8 +108,11 @@ def closures(file):
 
 @check
 def traits(file):
-    """Where Rattle may pick another `impl` at a call than Rust: a trait's method with a body or with the name of a method
-    of std, an `impl` for a type parameter, the bound `Clone`."""
+    """Where Rattle may pick another `impl` at a call than Rust.
+
+    That is a trait's method with a body or with the name of a method of std, an `impl` for a type parameter, and the
+    bound `Clone`.
+    """
     tokens = file.tokens
     for at, token in enumerate(tokens):
         if token.kind != 'name' or token.text != 'trait':

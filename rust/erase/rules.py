@@ -224,15 +224,17 @@ def drop_derives(file):
         for end in found(file.tokens, at, '# [ derive ('):
             closer = closing(file.tokens, end)
             names = [index for index in range(end, closer) if file.tokens[index].kind == 'name']
-            for index in names:
-                if file.tokens[index].text == 'Drop':
-                    file.count('drop-derives')
-                    if len(names) == 1:
-                        goes |= set(range(at, following(file.tokens, closer) + 1))
-                    else:
-                        first = index == names[0]
-                        goes |= set(range(index, names[1])) if first else set(range(preceding(file.tokens, index),
-                                                                                    index + 1))
+            words = [file.tokens[index].text for index in names]
+            if 'Drop' not in words:
+                continue
+            place = words.index('Drop')
+            file.count('drop-derives')
+            if len(names) == 1:
+                goes |= set(range(at, following(file.tokens, closer) + 1))
+            elif place == 0:
+                goes |= set(range(names[0], names[1]))
+            else:
+                goes |= set(range(preceding(file.tokens, names[place]), names[place] + 1))
     file.tokens = without(file.tokens, goes)
 
 
@@ -292,8 +294,10 @@ def destructors(file):
     Rust moves no field out of such a value. So an `Option` is taken, which leaves `None`, and the allocator is copied.
     What is left is dropped and has nothing to drop.
 
-        struct A { a: Option<u8>, } impl Drop for A { fn drop(self) { let A { a } = self; } } fn f(v: A) { let A { a } = v; }
-        => struct A { a: Option<u8>, } impl Drop for A { fn drop(&mut self) { let (a) = (self.a.take()); } } fn f(v: A) { let (a) = { let mut whole = v; (whole.a.take()) }; }
+        struct A { a: Option<u8>, } impl Drop for A { fn drop(self) { let A { a } = self; } }
+        fn f(v: A) { let A { a } = v; }
+        => struct A { a: Option<u8>, } impl Drop for A { fn drop(&mut self) { let (a) = (self.a.take()); } }
+        fn f(v: A) { let (a) = { let mut whole = v; (whole.a.take()) }; }
     """
     tokens, edits, inside = file.tokens, {}, set()
     for at, opener, closer, name in impls(tokens, 'Drop'):
@@ -431,8 +435,9 @@ def prelude(file):
 def paths(file):
     """Names the shim for std and for the toolchain's crates, and for each crate its module in this package.
 
-        use std::alloc::Global; use crate::bytes::{one, skip}; use memchr::memchr; fn f() { lexical::is_mark('+'); }
-        => use crate::shim::alloc::Global; use crate::lexical::bytes::{one, skip}; use crate::shim::memchr::memchr; fn f() { crate::lexical::is_mark('+'); }
+        use std::alloc::Global; use crate::bytes::one; use memchr::memchr; fn f() { lexical::is_mark('+'); }
+        => use crate::shim::alloc::Global; use crate::lexical::bytes::one; use crate::shim::memchr::memchr;
+        fn f() { crate::lexical::is_mark('+'); }
     """
     package, tokens, edits = file.package, file.tokens, {}
     root = 'proved' if package.below else 'crate'

@@ -49,8 +49,8 @@ fn main(rt: HostRuntime) -> io::Result<ExitCode> {
 '''
 
 # The categories that `pm_token` asks about, by the rule `hidden`. All others are one.
-ASKED = ['NonspacingMark', 'EnclosingMark', 'SpaceSeparator', 'LineSeparator', 'ParagraphSeparator', 'Control', 'Format',
-         'PrivateUse', 'Unassigned']
+ASKED = ['NonspacingMark', 'EnclosingMark', 'SpaceSeparator', 'LineSeparator', 'ParagraphSeparator', 'Control',
+         'Format', 'PrivateUse', 'Unassigned']
 
 END = 0x110000
 
@@ -103,10 +103,10 @@ def table(doc, name, kind, pairs):
 
 def tables():
     version, rows = answers()
+    version = '.'.join(part.strip(' ()') for part in version.split(','))
     return '\n'.join([
         f'''// Made by rust/facts, which asks the proved crates about every code point: change nothing here.
-//! Facts about characters, by Unicode {'.'.join(part.strip(' ()') for part in version.split(','))}. LICENSE-UNICODE is \
-the license of the data that they come from.
+//! Facts about characters, by Unicode {version}. LICENSE-UNICODE is the license of the data that they come from.
 ''',
         table('What may begin an identifier: ranges, their ends included, in order.', 'IDENTIFIER_START', '(u32, u32)',
               ranges(rows, 1)),

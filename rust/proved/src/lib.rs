@@ -16,8 +16,8 @@
 //!
 //! # Memory
 //!
-//! A contract says what a call does where memory runs out. Here that is never met: Rust's allocator ends the process, so
-//! that [`AllocError`](shim::alloc::AllocError) has no value. The errors named `Memory` can't be made.
+//! A contract says what a call does where memory runs out. Here that is never met: Rust's allocator ends the process,
+//! so that [`AllocError`](shim::alloc::AllocError) has no value. The errors named `Memory` can't be made.
 //!
 //! # What a contract requires
 //!

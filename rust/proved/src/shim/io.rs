@@ -12,7 +12,8 @@ impl From<AllocError> for std::io::Error {
 
 /// A reader whose lines are read.
 pub trait BufRead {
-    /// Contract: the lines, each without the LF or CR LF at its end, and an error where one is no UTF-8 or reading fails.
+    /// Contract: the lines, each without the LF or CR LF at its end, and an error where one is no UTF-8 or reading
+    /// fails.
     fn lines(self, alloc: Global) -> impl Iterator<Item = Result<String>>;
 }
 
