@@ -211,8 +211,8 @@ def ended(wanted):
 
 
 def table(cost, command, seconds):
-    """The cost as a Markdown table, in processor minutes: the proofs, and all with LLVM, runs and the rest. What is less
-    than 3 seconds is left out."""
+    """The cost as a Markdown table, in processor minutes: the proofs, and all with LLVM, runs and the rest. What is
+    less than 3 seconds is left out."""
     crates = sorted({crate for crate, _ in cost.by_kind}, key=lambda it: (not it, it))
     rows = {crate: [cost.by_kind.get((crate, phase), 0.0) for phase in range(len(PHASES))] for crate in crates}
     rows["all"] = [sum(column) for column in zip(*rows.values())]
@@ -223,8 +223,8 @@ def table(cost, command, seconds):
     minutes = sum(rows["all"]) / 60
     tried = sum(map(len, cost.edits.values()))
     lines.append("")
-    lines.append(f"`{' '.join(command)}`: {minutes:.1f} processor minutes in {seconds / 60:.1f} minutes, {tried} edits tried,")
-    lines.append(f"on {len(os.sched_getaffinity(0))} processors, on {time.strftime('%Y-%m-%d')}.")
+    lines.append(f"`{' '.join(command)}`: {minutes:.1f} processor minutes in {seconds / 60:.1f} minutes,")
+    lines.append(f"{tried} edits tried, on {len(os.sched_getaffinity(0))} processors, on {time.strftime('%Y-%m-%d')}.")
     return "\n".join(lines) + "\n"
 
 

@@ -28,7 +28,9 @@ PARTS = ("src", "specs", "proofs")
 REFUSED, BY_NAME, PASSED, BAD = "refused", "refused for a name alone", "NOT REFUSED", "BAD EDIT"
 
 # What the prover says where a proof file cites what is no longer there.
-NAME_GONE = re.compile(r"(\./)?proofs/.*(has no field|is not in scope|has no `|record `[^`]*` \(nearest: |was not admitted)")
+NAME_GONE = re.compile(
+    r"(\./)?proofs/.*(has no field|is not in scope|has no `|record `[^`]*` \(nearest: |was not admitted)"
+)
 # What it says of a text that it can't read, where no statement was tried.
 UNREADABLE = re.compile(r"is not in scope|has no field|is no name|operand is missing|expected the end|cannot continue")
 PLACE = re.compile(r"(?:note: )?(?:\./)?(\S+?):\d+:\d+: ")

@@ -3,8 +3,8 @@
 #
 #   rust/archive.sh
 #
-# It is `rt lib`, which takes what earlier checks kept. After `rt ci` from nothing nothing is kept that it takes, and so it
-# proves pm_c and the libraries below it once more.
+# It is `rt lib`, which takes what earlier checks kept. After `rt ci` from nothing nothing is kept that it takes, and so
+# it proves pm_c and the libraries below it once more.
 set -eu
 crates=$(cd "$(dirname "$0")/../crates" && pwd)
 archive=$crates/pm_c/out/libpm_c.a

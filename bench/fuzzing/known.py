@@ -11,8 +11,8 @@ A text that both answer otherwise differs by these rules only where it has such 
 once each of them is replaced: by a letter, by a mark that continues identifiers, and by one that does neither.
 
 The crate takes a bare quote, LF, CR or tab between single quotes, and here no literal stands there. A text differs by
-this rule only where it is refused at such a literal, and is answered the same once that one is written by an escape, and
-each further one that it is refused at then.
+this rule only where it is refused at such a literal, and is answered the same once that one is written by an escape,
+and each further one that it is refused at then.
 """
 import re
 import sys
@@ -62,8 +62,8 @@ def escaped_where_refused(text: str, otherwise: typing.Callable[[str], "str | No
 
 
 def place_refused(text: str, here: str) -> "int | None":
-    """The place of the fault that is told of the text by line and column, and 0 of a text that is told to be no literal;
-    None where neither is told."""
+    """The place of the fault that is told of the text by line and column, and 0 of a text that is told to be no
+    literal; None where neither is told."""
     if here.startswith("here: refused"):
         return 0
     told = re.search(r"fault \"?(\d+):(\d+)", here)

@@ -133,7 +133,8 @@ static void short_texts(void) {
     want("bytes", pm_read_once(s, &s, bytes_of("\xff"), 1, trees, 2, names, 8).code, PM_NOT_UTF8);
     want("no file", pm_place_of(s, &s, 1).code, PM_NOT_HELD);
     want("free", pm_session_free(s), PM_DONE);
-    want("read_once in none", pm_read_once((pm_session){0}, &s, bytes_of("a"), 1, trees, 2, names, 8).code, PM_NOT_LIVE);
+    pm_answer read = pm_read_once((pm_session){0}, &s, bytes_of("a"), 1, trees, 2, names, 8);
+    want("read_once in none", read.code, PM_NOT_LIVE);
 }
 
 int main(void) {

@@ -103,12 +103,12 @@ pm_answer pm_parse(pm_session session, pm_session *back, const uint8_t *text, si
 /* Reads a text and lists its trees, as pm_parse and pm_list do, and keeps no stream. */
 pm_answer pm_read(pm_session session, pm_session *back, const uint8_t *text, size_t bytes);
 
-/* Reads a text that is no file of the session, and lists its trees as pm_list does, in one call: positions begin at 1,
- * and no look-up is to be asked about them. The records and the text are copied to the fronts of two buffers, which have
- * room for `count` records and for `room` bytes. Where one is too short, that is PM_NO_ROOM, and `number` and `bytes` say
- * what to give pm_copy_trees and pm_copy_text. A short text is read soonest so. Where it isn't PM_DONE nothing is
- * copied. Codes: PM_FAULT, PM_NO_MEMORY, PM_NOT_UTF8, PM_NO_ROOM, PM_TOO_LONG, and PM_MAP_FULL for a text of 4294967295
- * bytes or more. */
+/* Reads a text that is no file of the session, and lists its trees as pm_list does, in one call: positions begin at
+ * 1, and no look-up is to be asked about them. The records and the text are copied to the fronts of two buffers, which
+ * have room for `count` records and for `room` bytes. Where one is too short, that is PM_NO_ROOM, and `number` and
+ * `bytes` say what to give pm_copy_trees and pm_copy_text. A short text is read soonest so. Where it isn't PM_DONE
+ * nothing is copied. Codes: PM_FAULT, PM_NO_MEMORY, PM_NOT_UTF8, PM_NO_ROOM, PM_TOO_LONG, and PM_MAP_FULL for a text of
+ * 4294967295 bytes or more. */
 pm_answer pm_read_once(pm_session session, pm_session *back, const uint8_t *text, size_t bytes, pm_tree *trees,
                        size_t count, uint8_t *into, size_t room);
 

@@ -1,5 +1,5 @@
-//! Parses a file of Rust with syn, prints it with quote, and sees that the print parses to the same file. It also uses a
-//! macro over the same package.
+//! Parses a file of Rust with syn, prints it with quote, and sees that the print parses to the same file. It also uses
+//! a macro over the same package.
 use derive_sum::Sum;
 use quote::quote;
 use std::error::Error;
