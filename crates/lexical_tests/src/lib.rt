@@ -1,4 +1,5 @@
-//! Tests of the lexer and of the items of contents: texts and answers from outside.
+//! Tests of the lexer and of the items of contents, by texts and answers from outside, and a second lexer, `slow`, that
+//! the program `two_lexers` compares with the lexer.
 //!
 //! They stand in a crate of their own, since a crate that has tests is proved once more with them.
 #![tactic(auto)]
@@ -15,7 +16,6 @@ mod lexer;
 mod lexer_literals;
 #[cfg(test)]
 mod shown_units;
-#[cfg(test)]
-mod slow;
+pub mod slow;
 #[cfg(test)]
 mod walk;

@@ -1,10 +1,16 @@
 //! The lexer once more, plainly: it reads character by character and tries each rule in turn.
 //!
-//! Each function answers what follows the piece of its rule at the front of the text, or `None` where none stands.
+//! It is there to be compared with the lexer, of which it takes the types of its answers alone: the marks, the reserved
+//! names and all else that the two must agree on stand here again. Its functions have no contract. The public ones
+//! answer as those of the same names in `lexical` do; each other one answers what follows the piece of its rule at the
+//! front of the text, or `None` where none stands.
 
-use lexical::{Piece, PieceKind, is_mark, is_reserved};
+use lexical::{Piece, PieceKind};
 
-/// The piece at the front of the text, which stands at place 0 of a source if `at_front` says so.
+/// The piece at the front of the text, with its length in bytes and in characters, or `None` where none stands.
+/// `at_front` says whether the text begins at place 0 of a source.
+///
+/// At `+=` the mark `+` stands, Joint, of 1 byte and 1 character. At `/* /* */` none stands.
 pub fn piece_at(text: &str, at_front: bool) -> Option<Piece<'_>> {
     let (kind, rest) = kind_at(text, at_front)?;
     let piece = text.strip_suffix(rest)?;
@@ -15,12 +21,16 @@ pub fn piece_at(text: &str, at_front: bool) -> Option<Piece<'_>> {
     })
 }
 
-/// How many bytes the literal has at the front of the text.
+/// How many bytes the literal at the front of the text has, its suffix with it, or `None` where none stands.
+///
+/// At `b"a"b+` it answers 5.
 pub fn literal_at(text: &str) -> Option<usize> {
     Some(text.len() - literal(text)?.len().min(text.len()))
 }
 
-/// How many bytes the name has at the front of the text.
+/// How many bytes the name at the front of the text has, or `None` where none stands.
+///
+/// At `r#a` it answers 1, as `r` is a name.
 pub fn name_at(text: &str) -> Option<usize> {
     Some(text.len() - name(text)?.len().min(text.len()))
 }
@@ -75,7 +85,7 @@ fn kind_at(text: &str, at_front: bool) -> Option<(PieceKind<'_>, &str)> {
         }
         mark if is_mark(mark) => {
             let is_comment = rest.starts_with("//") || rest.starts_with("/*");
-            let joint = rest.starts_with(|c| is_mark(c)) && !is_comment;
+            let joint = rest.starts_with(is_mark) && !is_comment;
             Some((PieceKind::Mark { joint, mark }, rest))
         }
         _ => None,
@@ -96,6 +106,10 @@ fn is_white(c: char) -> bool {
 
 fn starts_name(c: char) -> bool {
     c == '_' || unicode_ident::is_xid_start(c)
+}
+
+fn is_mark(c: char) -> bool {
+    "!#$%&'*+,-./:;<=>?@^|~".contains(c)
 }
 
 // ---- comments
@@ -163,10 +177,9 @@ fn name(text: &str) -> Option<&str> {
 fn raw_name(text: &str) -> Option<&str> {
     let inside = text.strip_prefix("r#")?;
     let rest = name(inside)?;
-    if is_reserved(inside.strip_suffix(rest)?) {
-        None
-    } else {
-        Some(rest)
+    match inside.strip_suffix(rest)? {
+        "_" | "crate" | "self" | "Self" | "super" => None,
+        _ => Some(rest),
     }
 }
 

@@ -76,6 +76,10 @@ fn the_pieces_end_at_a_fault(rt: HostRuntime) {
     let mut walk = pieces(" \u{FEFF}");
     check_walk(&rt, &mut walk, &[(PieceKind::Gap, " ")]);
     check_end(&rt, &mut walk, "\u{FEFF}");
+    // A NUL, which may not stand in a C string, is no fault of one that ends before it.
+    let mut walk = pieces("cr\"a\"\0");
+    check_walk(&rt, &mut walk, &[(PieceKind::Literal, "cr\"a\"")]);
+    check_end(&rt, &mut walk, "\0");
 }
 
 #[test]

@@ -1,0 +1,74 @@
+//! Compares the lexer with the plain one of its tests, `slow`, on the texts of standard input.
+//!
+//! Each line has a text, written as the content of a string literal. Lines on which the two differ are named, and then
+//! the numbers of texts, of compared places and of those that differ are written. The status is 0 exactly where none
+//! differs. A line that is no content counts as one that does.
+#![tactic(auto)]
+
+ghost use Rattle.std.specs.Prelude.{IfOk};
+ghost use Rattle.std.specs.Process.{exit_status};
+ghost use Rattle.two_lexers.specs.Run.{IsRun};
+
+mod compare;
+mod tally;
+
+use compare::compare;
+use literal_escaper::unescape_str;
+use std::alloc::{AllocError, Global};
+use std::io;
+use std::io::{BufWriter, Write};
+use std::process::ExitCode;
+use tally::Tally;
+
+fn main(rt: HostRuntime) -> io::Result<ExitCode> {
+    let lines = io::read_to_string(rt.alloc(), rt.stdin())?;
+    let mut writer = BufWriter::new(rt.alloc(), rt.stdout())?;
+    run(rt.alloc(), lines.as_str(), &mut writer)
+}
+
+// Compares both lexers on the text of each line, and writes the lines on which they differ, and then the numbers.
+fn run<W: Write>(alloc: Global, lines: &str, writer: &mut W) -> io::Result<ExitCode>
+    ensures { IfOk result (λ code. IsRun (exit_status code) (W.contents writer.new)) }
+{
+    let tally = compare_lines(alloc, lines, writer)?;
+    writeln!(
+        writer,
+        "{} texts, {} places: {} differ",
+        tally.texts, tally.places, tally.differ
+    )?;
+    writer.flush()?;
+    Ok(if tally.differ == 0 {
+        ExitCode::SUCCESS
+    } else {
+        ExitCode::FAILURE
+    })
+}
+
+// Compares both lexers on the text of each line, and writes the lines on which they differ.
+fn compare_lines<W: Write>(alloc: Global, lines: &str, writer: &mut W) -> io::Result<Tally> {
+    let mut tally = Tally::default();
+    for line in lines.lines() {
+        let before = tally.differ;
+        tally.texts = tally.texts.saturating_add(1);
+        match text_of(alloc, line)? {
+            Some(text) => compare(text.as_str(), &mut tally),
+            None => tally.count(false),
+        }
+        if tally.differ != before {
+            writeln!(writer, "differs: {line}")?;
+        }
+    }
+    Ok(tally)
+}
+
+// The text that the content of a string literal stands for, or `None` where it is no such content.
+fn text_of(alloc: Global, content: &str) -> Result<Option<String>, AllocError> {
+    let mut text = String::new(alloc);
+    for (_, unit) in unescape_str(content) {
+        match unit {
+            Ok(character) => text.push(character)?,
+            Err(_) => return Ok(None),
+        }
+    }
+    Ok(Some(text))
+}

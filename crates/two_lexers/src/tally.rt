@@ -1,0 +1,30 @@
+//! How much was compared.
+
+ghost use Rattle.std.specs.Io.Iter.{u64_saturate};
+ghost use Rattle.std.specs.Prelude.{◌≡◌, ◌+◌, if◌then◌else◌};
+
+/// How much was compared. The numbers end at `u64::MAX`.
+#[derive(Clone, Copy, Default)]
+pub struct Tally {
+    /// The texts.
+    pub texts: u64,
+    /// The places of texts and of their beginnings.
+    pub places: u64,
+    /// The places at which the two lexers differ.
+    pub differ: u64,
+}
+
+impl Tally {
+    /// Counts a place at which the two lexers answer the same or not.
+    pub fn count(&mut self, same: bool)
+        ensures texts { self.new.texts ≡ self.old.texts }
+        ensures places { self.new.places ≡ u64_saturate (self.old.places + 1) }
+        ensures differ { self.new.differ
+            ≡ (if same then self.old.differ else u64_saturate (self.old.differ + 1)) }
+    {
+        self.places = self.places.saturating_add(1);
+        if !same {
+            self.differ = self.differ.saturating_add(1);
+        }
+    }
+}
