@@ -15,16 +15,6 @@ start-place-requires g c =
     let literal = (rw c.in-Some-doc_text.ensures.trees.2 at left.0).1.1.0 in
     rw (c.in-Ok.ensures.kept, c.new-map.ensures, c.span.ensures.value) literal.0
 
-pub loop-walk-preserved : goal.loop-walk-preserved
-loop-walk-preserved g c =
-    let next = rw c.in-Some.is at c.in_ok-tree-in-Ok.ensures.ok in
-    let left = rw next at c.loop-walk.invariant.0 in
-    let starts = rw (c.in-Ok.ensures.kept, c.new-map.ensures, c.span.ensures.value) at c.start-place.ensures in
-    let place = (rw c.in-Some-doc_text.ensures.trees.2 at left.0).1.1.0.1 _ starts in
-    let line = rw place at c.in_ok-writeln-in-Ok.ensures.bytes in
-    let writes = rw (next, ← c.in-Some-doc_text.ensures.value) at c.loop-walk.invariant.1 in
-    (left.1, λ new h. writes new (Appends-trans _ _ _ _ _ line h))
-
 pub returns-in-Ok-clause-ok : goal.returns-in-Ok-clause-ok
 returns-in-Ok-clause-ok g c =
     let next = rw c.in_default.is at c.in_ok-tree-in-Ok.ensures.ok in
