@@ -27,7 +27,7 @@ pub enum State<'a> {
 impl<'a> State<'a> {
     /// What was read when the tree is read too.
     pub fn after(self, tree: &'a TokenTree) -> State<'a>
-        ensures { seen result ≡ after (seen self) tree.now }
+        ensures { seen result ≡ after (seen self.entry) tree.now }
     {
         match (self, doc_text(tree)) {
             (State::Inner, Some(_)) => State::Nothing,
@@ -78,7 +78,7 @@ pub fn print_item<W: Write>(
     tree: &TokenTree,
     writer: &mut W,
 ) -> io::Result<()>
-    ensures { OnOk result (Appends (W.contents writer.old) (W.contents writer.new) (line_of_item (seen state) tree.now)) }
+    ensures { OnOk result (Appends (W.contents writer.old) (W.contents writer.new) (line_of_item (seen state.entry) tree.now)) }
 {
     if let State::Keyword(keyword) = state {
         if let TokenTree::Ident(name) = tree {
