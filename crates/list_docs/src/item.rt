@@ -73,11 +73,7 @@ fn is_keyword(name: &Ident) -> bool
 }
 
 /// Writes a line for a documented item whose name is the next tree. Of `fn` and `add` the line is `fn add`.
-pub fn print_item<W: Write>(
-    state: State<'_>,
-    tree: &TokenTree,
-    writer: &mut W,
-) -> io::Result<()>
+pub fn print_item<W: Write>(state: State<'_>, tree: &TokenTree, writer: &mut W) -> io::Result<()>
     ensures { OnOk result (Appends (W.contents writer.old) (W.contents writer.new) (line_of_item (seen state.entry) tree.now)) }
 {
     if let State::Keyword(keyword) = state {
