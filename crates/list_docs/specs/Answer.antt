@@ -1,5 +1,5 @@
 -- What the program writes for a text.
-use Rattle.std.specs.Prelude.{ℕ, List, [], ◌++◌, codes, decimal, flat_map, Option, Some, None}
+use Rattle.std.specs.Prelude.{ℕ, List, [], ◌∷◌, ◌++◌, codes, decimal, Option, Some, None}
 use Rattle.std.specs.Io.KnownBytes.{Appends}
 use Rattle.std.specs.Str.{encode_utf8_all}
 use Rattle.proc_macro2.specs.Forest.{Forest}
@@ -10,6 +10,7 @@ use Rattle.proc_macro2.specs.declared.LineColumn.{LineColumn}
 use Rattle.proc_macro2.specs.declared.TokenTree.{TokenTree}
 use Rattle.messages.specs.Parsed.{first, place_of}
 use Rattle.list_docs.specs.Doc.{doc_of}
+use Rattle.list_docs.specs.Item.{State, Nothing, after, line_of_item}
 
 -- a place, as `1:0`, and what follows it
 abbrev pub at_place : LineColumn → List ℕ → List ℕ
@@ -21,11 +22,16 @@ line_of_literal text None = []
 line_of_literal text (Some literal) =
     at_place (place_of text literal.span.lo) (codes " " ++ (encode_utf8_all literal.text ++ codes "\n"))
 
--- the line of a tree of the text: that of a doc comment, and nothing of other trees
-abbrev pub line_of : List ℕ → TokenTree → List ℕ
-line_of text tree = line_of_literal text (doc_of tree)
+-- the lines of a tree, where this was read before it: that of its doc comment, or that of the item whose name it is
+abbrev pub lines_of : List ℕ → State → TokenTree → List ℕ
+lines_of text state tree = line_of_literal text (doc_of tree) ++ line_of_item state tree
 
--- what is written between old and new is a line of each doc comment of the text, in reading order
+-- the lines of these trees, in order
+abbrev pub all_lines : List ℕ → State → List TokenTree → List ℕ
+all_lines text state [] = []
+all_lines text state (tree ∷ trees) = lines_of text state tree ++ all_lines text (after state tree) trees
+
+-- what is written between old and new is the lines of the trees of the text, in reading order
 abbrev pub Writes : List ℕ → Option (List ℕ) → Option (List ℕ) → Type 0
 Writes text old new =
-    (stream : Forest) × ParsesTo first text stream × Appends old new (flat_map (line_of text) (in_order stream))
+    (stream : Forest) × ParsesTo first text stream × Appends old new (all_lines text Nothing (in_order stream))

@@ -1,2 +1,3 @@
 pub mod Doc
+pub mod Item
 pub mod Answer

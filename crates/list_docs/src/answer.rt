@@ -5,15 +5,16 @@ ghost use Rattle.messages.specs.Parsed.{MayFail};
 ghost use Rattle.list_docs.specs.Answer.{Writes};
 
 use crate::doc::doc_text;
+use crate::item::{State, print_item};
 use messages::Failure;
 use proc_macro2::{SourceMap, TokenStream};
 use std::alloc::Global;
 use std::io::Write;
 
-/// Writes a line for each doc comment of the text, those inside groups too, in reading order.
+/// Writes a line for each doc comment of the text and each item that has one, those inside groups too, in reading order.
 ///
 /// Fails with `Fault`, which has the place, and `MapFull` before anything is written, and with `Memory` and `Write`;
-/// then a beginning of the lines stands. Of `/// x` the line is `1:0 " x"`.
+/// then a beginning of the lines stands. Of `/// x` the line is `1:0 " x"`, and of `fn add` after it `fn add`.
 pub fn print_text<W: Write>(alloc: Global, text: &str, writer: &mut W) -> Result<(), Failure>
     ensures ok { OnOk result (Writes (chars text.now) (W.contents writer.old) (W.contents writer.new)) }
     ensures err { IfErr result (MayFail (chars text.now) (W.contents writer.old) (W.contents writer.new)) }
@@ -21,13 +22,15 @@ pub fn print_text<W: Write>(alloc: Global, text: &str, writer: &mut W) -> Result
     let mut map = SourceMap::new(alloc);
     match TokenStream::from_str(text, &mut map) {
         Ok(stream) => {
+            let mut state = State::Nothing;
             let mut walk = stream.walk();
             while let Some(tree) = walk.next()? {
-                let Some(doc) = doc_text(tree) else {
-                    continue;
-                };
-                let place = doc.span().start(&map);
-                writeln!(writer, "{}:{} {doc}", place.line, place.column)?;
+                if let Some(doc) = doc_text(tree) {
+                    let place = doc.span().start(&map);
+                    writeln!(writer, "{}:{} {doc}", place.line, place.column)?;
+                }
+                print_item(state, tree, writer)?;
+                state = state.after(tree);
             }
             Ok(())
         }

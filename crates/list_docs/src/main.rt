@@ -1,4 +1,5 @@
-//! Prints the doc comments of a source text, each by the place where it begins and the literal of its text.
+//! Prints the doc comments of a source text, each by the place where it begins and the literal of its text, and after
+//! them the keyword and the name of their item.
 //!
 //! `list_docs FILE` reads the file, `list_docs` standard input. Lines count from 1, columns count characters from 0.
 //! The status is 0 where the text was read and all was written, 1 where the text has a fault, and 2 where the words
@@ -8,6 +9,7 @@
 
 mod answer;
 mod doc;
+mod item;
 
 use answer::print_text;
 use messages::{Failure, conclude, path, read_text, words};

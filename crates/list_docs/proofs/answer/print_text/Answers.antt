@@ -1,9 +1,14 @@
 use Rattle.std.proofs.Common.{Err, ap}
+use Rattle.std.specs.Io.KnownBytes.{Appends}
+use Rattle.std.specs.Str.{chars}
 use Rattle.std.proofs.KnownBytes.{Appends-nil, Appends-trans}
 use Rattle.messages.proofs.ParsedLemmas.{unparsed_may_fail}
 use Rattle.proc_macro2.proofs.PlaceLemmas.{inside_places}
 use Rattle.proc_macro2.specs.declared.TokenStream.{TokenStream}
+use Rattle.list_docs.specs.Answer.{line_of_literal}
+use Rattle.list_docs.specs.Doc.{doc_of}
 use Rattle.list_docs.proofs.answer.print_text.Goals as goal
+use Rattle.list_docs.proofs.answer.print_text.Goals.{in-Some-doc_text+in_ok-writeln-in-Ok, in_default-doc_text}
 
 pub loop-walk-init : goal.loop-walk-init
 loop-walk-init g c =
@@ -19,11 +24,23 @@ pub loop-walk-preserved : goal.loop-walk-preserved
 loop-walk-preserved g c =
     let next = rw c.in-Some.is at c.in_ok-tree-in-Ok.ensures.ok in
     let left = rw next at c.loop-walk.invariant.0 in
-    let starts = rw (c.in-Ok.ensures.kept, c.new-map.ensures, c.span.ensures.value) at c.start-place.ensures in
-    let place = (rw c.in-Some-doc_text.ensures.trees.2 at left.0).1.1.0.1 _ starts in
-    let line = rw place at c.in_ok-writeln-in-Ok.ensures.bytes in
-    let writes = rw (next, ← c.in-Some-doc_text.ensures.value) at c.loop-walk.invariant.1 in
-    (left.1, λ new h. writes new (Appends-trans _ _ _ _ _ line h))
+    let writes = rw next at c.loop-walk.invariant.1 in
+    let bytes = g.W.Write.contents in
+    let doc : Appends (bytes c.loop-walk.writer) (bytes c.match-doc_text.writer)
+    (line_of_literal (chars c.args.text.now) (doc_of c.in-Some.tree.now)) =
+    elim c.match-doc_text.branch [
+      | in-Some-doc_text+in_ok-writeln-in-Ok w ↦
+          let starts = rw (c.in-Ok.ensures.kept, c.new-map.ensures, w.span.ensures.value) at w.start-place.ensures in
+          let place = (rw w.in-Some-doc_text.ensures.trees.2 at left.0).1.1.0.1 _ starts in
+          rw (w.writer-is, ← w.in-Some-doc_text.ensures.value) (rw place at w.in_ok-writeln-in-Ok.ensures.bytes)
+      | in_default-doc_text w ↦
+          rw (w.writer-is, ← (rw w.in_default-doc_text.is at c.doc_text.ensures.value)) (Appends-nil _)
+    ] in
+    let item = c.in_ok-print_item-in-Ok.ensures in (
+      left.1,
+      λ new h. writes new
+          (Appends-trans _ _ _ _ _ (Appends-trans _ _ _ _ _ doc item) (rw c.after-state.ensures at h)),
+    )
 
 pub returns-in-Ok-clause-ok : goal.returns-in-Ok-clause-ok
 returns-in-Ok-clause-ok g c =

@@ -1,16 +1,19 @@
-use Rattle.std.proofs.Common.{length}
+use Rattle.std.proofs.Common.{ℕ, Option, List, length}
+use Rattle.std.specs.Io.KnownBytes.{Appends}
 use Rattle.std.specs.Str.{chars}
 use Rattle.proc_macro2.proofs.PlaceLemmas.{ArePlacedInside}
-use Rattle.proc_macro2.proofs.Writing.{WritesAll}
-use Rattle.list_docs.specs.Answer.{line_of}
+use Rattle.list_docs.specs.Answer.{all_lines}
+use Rattle.list_docs.specs.Item.{Nothing, seen}
 use Rattle.list_docs.proofs.answer.print_text.Given as goal
 
 -- the trees inside those that are left have their places, and who writes their lines has written all lines
 abbrev pub invariant-loop-walk : goal.invariant-loop-walk
 invariant-loop-walk g l =
     let bytes = g.W.Write.contents in
+    let lines = all_lines (chars l.text) in
     ArePlacedInside (chars l.text) l.walk
-    × WritesAll (line_of (chars l.text)) (bytes l.initial.writer) l.initial.walk (bytes l.writer) l.walk
+    × ((new : Option (List ℕ)) → Appends (bytes l.writer) new (lines (seen l.state) l.walk)
+    → Appends (bytes l.initial.writer) new (lines Nothing l.initial.walk))
 
 abbrev pub decreases-loop-walk : goal.decreases-loop-walk
 decreases-loop-walk g l = length l.walk

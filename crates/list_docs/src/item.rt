@@ -1,0 +1,85 @@
+//! The items that doc comments document.
+//!
+//! An item is a keyword and the name right after it. It is documented where that is the first keyword after a doc comment
+//! that isn't inner, with no `:` and no `!` between them: these end the wait, as after the name of a field or a macro.
+ghost use Rattle.std.specs.Prelude.{◌≡◌, OnOk};
+ghost use Rattle.std.specs.Io.KnownBytes.{Appends};
+ghost use Rattle.list_docs.specs.Item.{after, after_doc, is_keyword, is_mark, line_of_item, seen};
+
+use crate::doc::doc_text;
+use proc_macro2::{Ident, TokenTree};
+use std::io;
+use std::io::Write;
+
+/// What was read of a documented item.
+#[derive(Clone, Copy)]
+pub enum State<'a> {
+    /// Nothing.
+    Nothing,
+    /// The mark `!`. A doc comment after it is an inner one.
+    Inner,
+    /// Its doc comment.
+    Documented,
+    /// Its keyword too. A name comes next.
+    Keyword(&'a Ident),
+}
+
+impl<'a> State<'a> {
+    /// What was read when the tree is read too.
+    pub fn after(self, tree: &'a TokenTree) -> State<'a>
+        ensures { seen result ≡ after (seen self.entry) tree.now }
+    {
+        match (self, doc_text(tree)) {
+            (State::Inner, Some(_)) => State::Nothing,
+            (_, Some(_)) => State::Documented,
+            (_, None) if is_mark(tree, '!') => State::Inner,
+            (State::Documented, None) => after_doc(tree),
+            (_, None) => State::Nothing,
+        }
+    }
+}
+
+// What was read when the tree is read after a doc comment. A keyword is waited for until a `:`, as after a field's name.
+fn after_doc(tree: &TokenTree) -> State<'_>
+    ensures { seen result ≡ after_doc tree.now }
+{
+    match tree {
+        TokenTree::Ident(name) if is_keyword(name) => State::Keyword(name),
+        _ if is_mark(tree, ':') => State::Nothing,
+        _ => State::Documented,
+    }
+}
+
+// Whether the tree is this mark.
+fn is_mark(tree: &TokenTree, mark: char) -> bool
+    ensures { result ≡ is_mark mark tree.now }
+{
+    match tree {
+        TokenTree::Punct(punct) => punct.as_char() == mark,
+        _ => false,
+    }
+}
+
+// Whether the name of an item stands right after it.
+fn is_keyword(name: &Ident) -> bool
+    ensures { result ≡ is_keyword name.now }
+{
+    name.eq_str("enum")
+        || name.eq_str("fn")
+        || name.eq_str("mod")
+        || name.eq_str("struct")
+        || name.eq_str("trait")
+        || name.eq_str("type")
+}
+
+/// Writes a line for a documented item whose name is the next tree. Of `fn` and `add` the line is `fn add`.
+pub fn print_item<W: Write>(state: State<'_>, tree: &TokenTree, writer: &mut W) -> io::Result<()>
+    ensures { OnOk result (Appends (W.contents writer.old) (W.contents writer.new) (line_of_item (seen state.entry) tree.now)) }
+{
+    if let State::Keyword(keyword) = state {
+        if let TokenTree::Ident(name) = tree {
+            writeln!(writer, "{keyword} {name}")?;
+        }
+    }
+    Ok(())
+}
