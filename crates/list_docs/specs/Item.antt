@@ -11,7 +11,8 @@ use Rattle.list_docs.specs.Doc.{doc_of}
 use Rattle.list_docs.specs.declared.item.State as program
 use Rattle.list_docs.specs.declared.item.State.TheVariants as variants
 
--- what was read of a documented item: nothing, a `!`, after which a doc comment is an inner one, its doc comment, or its
+-- what was read of a documented item: nothing, a `!`, after which a doc comment is an inner one, its doc comment, or
+-- its
 -- keyword too
 pub data State : Type 0 where
   Nothing : State

@@ -11,7 +11,8 @@ use proc_macro2::{SourceMap, TokenStream};
 use std::alloc::Global;
 use std::io::Write;
 
-/// Writes a line for each doc comment of the text and each item that has one, those inside groups too, in reading order.
+/// Writes a line for each doc comment of the text and each item that has one, those inside groups too, in reading
+/// order.
 ///
 /// Fails with `Fault`, which has the place, and `MapFull` before anything is written, and with `Memory` and `Write`;
 /// then a beginning of the lines stands. Of `/// x` the line is `1:0 " x"`, and of `fn add` after it `fn add`.

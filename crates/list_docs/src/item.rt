@@ -1,7 +1,8 @@
 //! The items that doc comments document.
 //!
-//! An item is a keyword and the name right after it. It is documented where that is the first keyword after a doc comment
-//! that isn't inner, with no `:` and no `!` between them: these end the wait, as after the name of a field or a macro.
+//! An item is a keyword and the name right after it. It is documented where that is the first keyword after a doc
+//! comment that isn't inner, with no `:` and no `!` between them: these end the wait, as after the name of a field or
+//! of a macro.
 ghost use Rattle.std.specs.Prelude.{◌≡◌, OnOk};
 ghost use Rattle.std.specs.Io.KnownBytes.{Appends};
 ghost use Rattle.list_docs.specs.Item.{after, after_doc, is_keyword, is_mark, line_of_item, seen};
@@ -39,7 +40,8 @@ impl<'a> State<'a> {
     }
 }
 
-// What was read when the tree is read after a doc comment. A keyword is waited for until a `:`, as after a field's name.
+// What was read when the tree is read after a doc comment. A keyword is waited for until a `:`, as after a field's
+// name.
 fn after_doc(tree: &TokenTree) -> State<'_>
     ensures { seen result ≡ after_doc tree.now }
 {
@@ -74,7 +76,8 @@ fn is_keyword(name: &Ident) -> bool
 
 /// Writes a line for a documented item whose name is the next tree. Of `fn` and `add` the line is `fn add`.
 pub fn print_item<W: Write>(state: State<'_>, tree: &TokenTree, writer: &mut W) -> io::Result<()>
-    ensures { OnOk result (Appends (W.contents writer.old) (W.contents writer.new) (line_of_item (seen state.entry) tree.now)) }
+    ensures { OnOk result (Appends (W.contents writer.old) (W.contents writer.new)
+        (line_of_item (seen state.entry) tree.now)) }
 {
     if let State::Keyword(keyword) = state {
         if let TokenTree::Ident(name) = tree {
