@@ -10,6 +10,14 @@ pub struct Global;
 #[derive(Clone, Copy, Debug, PartialEq, Eq)]
 pub enum AllocError {}
 
+impl AllocError {
+    /// Contract: the error. Here the process ends in its place, as where Rust's allocator meets it.
+    #[cold]
+    pub fn met() -> AllocError {
+        std::alloc::handle_alloc_error(std::alloc::Layout::new::<u8>())
+    }
+}
+
 /// Memory ran out for a value, which is handed back: never met, like [`AllocError`].
 pub struct AllocFailed<T> {
     /// The value.
