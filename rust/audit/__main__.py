@@ -11,7 +11,8 @@ are left are compared in order.
 
 A line of whitelist.txt is a change: the tokens of the source, `=>`, and those in their place. NAME is any one name and
 PATH any path, each the same on both sides; NAMES are any names with commas between them, BODY is anything, and CRATE is
-the source's crate. A line `in SOURCE` says that the changes below it, up to an empty line, are known in that source alone.
+the source's crate. A line `in SOURCE` says that the changes below it, up to an empty line, are known in that source
+alone.
 """
 import collections
 import difflib

@@ -31,3 +31,22 @@ impl<T> From<AllocFailed<T>> for AllocError {
         match error.never {}
     }
 }
+
+#[cfg(test)]
+mod tests {
+    use super::AllocError;
+    use std::process::Command;
+
+    /// Calls itself in a process of its own, which has to end where memory ran out.
+    #[test]
+    fn the_process_ends_where_memory_ran_out() -> std::io::Result<()> {
+        if std::env::var_os("MEMORY_RAN_OUT").is_some() {
+            AllocError::met();
+        }
+        let mut again = Command::new(std::env::current_exe()?);
+        let ended = again.arg("the_process_ends_where_memory_ran_out").env("MEMORY_RAN_OUT", "").output()?;
+        assert!(!ended.status.success());
+        assert!(String::from_utf8_lossy(&ended.stderr).contains("memory allocation of 1 bytes failed"));
+        Ok(())
+    }
+}
