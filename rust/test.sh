@@ -1,6 +1,6 @@
 #!/usr/bin/env bash
-# The proved functions as Rust, the Cargo package over them with its tests, and syn and quote on it; and the demo in C
-# under sanitizers.
+# The proved functions as Rust, the programs and the Cargo package over them with its tests, and syn and quote on it;
+# and the demo in C under sanitizers.
 #
 #   rust/test.sh
 #
@@ -40,17 +40,52 @@ minor=$(cargo --version 2> /dev/null | sed -n 's/^cargo 1\.\([0-9]*\)\..*/\1/p')
 
 if command -v python3 > /dev/null; then
     try "rust/erase rejects what it doesn't know, and its rules do what they say" python3 erase --test
-    try "rust/proved is what rust/erase makes of the proved sources" python3 erase --check
+    try "rust/proved and rust/tools are what rust/erase makes of the proved sources" python3 erase --check
     try "rust/audit tells changes that are planted" python3 audit --test
-    try "the proved sources and rust/proved differ as is known, and not otherwise" python3 audit
+    try "the proved sources and what is made of them differ as is known, and not otherwise" python3 audit
     if command -v rt > /dev/null; then
         try "the tables of rust/proved are what the proved crates answer" python3 facts --check
     else
         echo "no rt: the tables of rust/proved are not compared with the proved crates"
     fi
 else
-    echo "no python3: rust/proved is not compared with the proved sources"
+    echo "no python3: rust/proved and rust/tools are not compared with the proved sources"
 fi
+
+# The programs of rust/tools, as `cargo install` builds them.
+programs() {
+    local built=$room/installed/bin
+    try "cargo install of rust/tools" cargo install --offline --quiet --path tools --root "$room/installed"
+    stored() {
+        local name words
+        for name in tokens highlight; do
+            mapfile -t words < "../crates/$name/args"
+            "$built/$name" "${words[@]}" < "../crates/$name/stdin" > "$room/seen" || return 1
+            cmp "../crates/$name/stdout" "$room/seen" || return 1
+        done
+    }
+    try "tokens and highlight of rust/tools on the stored runs of their crates" stored
+    # Runs a command on the text of the first word, and compares its status and what it says with the next two.
+    refused() {
+        local status=0
+        printf '%b' "$1" | "$built/$4" "${@:5}" > "$room/seen" 2> "$room/errors" || status=$?
+        [ "$status" -eq "$2" ] && [ ! -s "$room/seen" ] && printf '%b' "$3" | cmp - "$room/errors"
+    }
+    try "tokens of rust/tools says where the fault of a text stands" refused 'a\n(' 1 'fault 2:0\n' tokens print
+    try "highlight of rust/tools says which byte is no text" \
+        refused 'a\0377' 2 '-: error: not UTF-8 at byte 1\n' highlight html
+    if command -v python3 > /dev/null; then
+        try "the rows of checks/programs on rust/tools" \
+            env "CARGO_BUILD=$built" ../checks/programs tokens highlight
+    fi
+    tools() { (cd tools && cargo "$@"); }
+    documented_tools() { RUSTDOCFLAGS="-D warnings" tools doc --offline --quiet --no-deps; }
+    try "the documents of rust/tools" documented_tools
+    if cargo clippy --version > /dev/null 2>&1; then
+        try "clippy on rust/tools" tools clippy --offline --quiet --all-targets -- -D warnings
+    fi
+}
+
 if [ "${minor:-0}" -ge 82 ]; then
     proved() { (cd proved && cargo "$@"); }
     documented() { RUSTDOCFLAGS="-D warnings" proved doc --offline --quiet --no-deps --all-features; }
@@ -62,8 +97,9 @@ if [ "${minor:-0}" -ge 82 ]; then
     if cargo clippy --version > /dev/null 2>&1; then
         try "clippy on rust/proved" proved clippy --offline --quiet --all-features --all-targets -- -D warnings
     fi
+    programs
 else
-    echo "no cargo of Rust 1.82 or later: rust/proved is left out"
+    echo "no cargo of Rust 1.82 or later: rust/proved and rust/tools are left out"
 fi
 
 # The static library for C, and its demo.

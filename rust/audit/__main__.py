@@ -1,5 +1,5 @@
 #!/usr/bin/env python3
-"""Lists every token in which rust/proved and the proved sources differ, and fails where a change isn't known.
+"""Lists every token in which the erased files and the proved sources differ, and fails where a change isn't known.
 
     python3 rust/audit            compares, and tells the changes that whitelist.txt lacks, each with its places
     python3 rust/audit --list     all changes, with how often each occurs
@@ -10,8 +10,9 @@ out comments and what only proofs read: clauses, ghost items and the attributes 
 are left are compared in order.
 
 A line of whitelist.txt is a change: the tokens of the source, `=>`, and those in their place. NAME is any one name and
-PATH any path, each the same on both sides; NAMES are any names with commas between them, and CRATE is the source's
-crate. A line `in SOURCE` says that the changes below it, up to an empty line, are known in that source alone.
+PATH any path, each the same on both sides; NAMES are any names with commas between them, BODY is anything, and CRATE is
+the source's crate. A line `in SOURCE` says that the changes below it, up to an empty line, are known in that source
+alone.
 """
 import collections
 import difflib
@@ -20,7 +21,9 @@ import re
 import sys
 
 TOP = pathlib.Path(__file__).resolve().parents[2]
-PROVED = TOP / 'rust/proved'
+PACKAGES = [TOP / 'rust/proved', TOP / 'rust/tools']
+# What isn't erased: tests, what is for them alone, and each `main`.
+LEFT_OUT = {'tests.rt', 'failing.rt', 'main.rt'}
 KNOWN = pathlib.Path(__file__).parent / 'whitelist.txt'
 MADE = re.compile(r'// Made from (\S+) by rust/erase')
 
@@ -161,13 +164,13 @@ def is_known(change, source, known):
     line, only = known
     pattern = re.escape(line).replace('CRATE', source.split('/')[1])
     for word, form in (('NAMES', r'\w+(?: , \w+)*'), ('NAME', r'(?P<name>\w+)'), ('PATH', r'(?P<path>\w+(?:::\w+)*)')):
-        pattern = pattern.replace(word, form, 1).replace(word, f'(?P={word.lower()})')
+        pattern = pattern.replace('BODY', '.*').replace(word, form, 1).replace(word, f'(?P={word.lower()})')
     return only in ('', source) and re.fullmatch(pattern, change) is not None
 
 
 def pairs():
     """Each made file with its source."""
-    for path in sorted(PROVED.rglob('*.rs')):
+    for path in sorted(path for package in PACKAGES for path in package.rglob('*.rs')):
         text = path.read_text()
         made = MADE.match(text)
         if made and 'target' not in path.parts:
@@ -178,7 +181,7 @@ def missing(sources):
     """The sources of the crates that were made, of which no file was made."""
     crates = {source.relative_to(TOP).parts[1] for source in sources}
     every = {path for crate in crates for path in (TOP / 'crates' / crate / 'src').rglob('*.rt')
-             if path.name != 'tests.rt' and 'tests' not in path.relative_to(TOP).parts}
+             if path.name not in LEFT_OUT and 'tests' not in path.relative_to(TOP).parts}
     return sorted(str(path.relative_to(TOP)) for path in every - sources)
 
 

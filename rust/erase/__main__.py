@@ -1,5 +1,5 @@
 #!/usr/bin/env python3
-"""Makes the Rust of rust/proved from the proved sources of crates/.
+"""Makes the Rust of rust/proved and rust/tools from the proved sources of crates/.
 
     python3 rust/erase            writes the files anew
     python3 rust/erase --check    compares them with what is there, and fails where one differs
@@ -19,11 +19,16 @@ from source import Rejected, Token, text_of, tokens_of
 
 TOP = pathlib.Path(__file__).resolve().parents[2]
 PACKAGE = TOP / 'rust/proved'
+TOOLS = TOP / 'rust/tools'
 
 # The library crates, lowest first, whose text becomes modules of the package.
 LIBRARIES = ['lexical', 'literal_escaper', 'pm_span', 'pm_token', 'pm_stream', 'proc_macro2', 'quoting']
 # The crates that only a test of the package takes.
 TESTED = ['replay']
+# The programs, and the library that they share.
+PROGRAMS = ['messages', 'tokens', 'highlight']
+# What isn't erased: tests, what is for them alone, and each `main`, which is by hand.
+LEFT_OUT = {'tests.rt', 'failing.rt', 'main.rt'}
 
 
 def erased(text, crate, source, package):
@@ -52,7 +57,7 @@ def headed(file, source):
 
 
 def is_left_out(path):
-    return path.name == 'tests.rt' or 'tests' in path.parts
+    return path.name in LEFT_OUT or 'tests' in path.parts
 
 
 def erase_all(crates, below, target, counts, problems):
@@ -104,11 +109,13 @@ def main():
     counts, problems = collections.Counter(), []
     files = erase_all(LIBRARIES, [], PACKAGE / 'src', counts, problems)
     files.update(erase_all(TESTED, LIBRARIES, PACKAGE / 'tests/conformance', counts, problems))
+    files.update(erase_all(PROGRAMS, LIBRARIES, TOOLS / 'src', counts, problems))
     if problems:
         print('\n'.join(problems))
         sys.exit(f'{len(problems)} places are rejected: rust/erase has no rule for them')
     folders = [PACKAGE / 'src' / crate for crate in LIBRARIES]
     folders += [PACKAGE / 'tests/conformance' / crate for crate in TESTED]
+    folders += [TOOLS / 'src' / crate for crate in PROGRAMS]
     if sys.argv[1:] == ['--check']:
         differing = compare(files, folders)
         for path in differing:

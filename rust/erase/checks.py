@@ -125,7 +125,8 @@ def traits(file):
             if tokens[index].text == '{' and index != opener:
                 yield tokens[index].line, "a trait's method with a body"
             name = tokens[following(tokens, index)].text
-            if tokens[index].text == 'fn' and name in known.METHODS:
+            lent = name in known.OF_TRAITS and found(tokens, index, f'fn {name} ( & mut self')
+            if tokens[index].text == 'fn' and name in known.METHODS and not lent:
                 yield tokens[index].line, f"a trait's method `{name}`, as std has one"
     for at, token in enumerate(tokens):
         if token.kind == 'name' and token.text == 'impl' and found(tokens, at, 'impl <'):

@@ -7,29 +7,34 @@ memory, or answers another type, the shim needs an item of that name.
 # Items of std, and what the shim has in their place (rust/proved/src/shim).
 STD_ITEMS = set('''
     alloc alloc::AllocError alloc::AllocFailed alloc::Global
-    cmp::Ordering collections::BTreeMap collections::VecDeque error::Error
-    fmt fmt::Debug fmt::DebugStruct fmt::Display fmt::Error fmt::Formatter fmt::Result fmt::Write
+    cmp::Ordering collections::BTreeMap collections::VecDeque env::Args error::Error
+    fmt fmt::Debug fmt::DebugStruct fmt::Display fmt::Error fmt::Formatter fmt::Result fmt::Write fs::File
     hash::Hash hash::Hasher
-    io io::BufRead io::Result io::Write
-    ops::Bound ops::Range rc::Rc str str::from_utf8_unchecked
+    io io::BufRead io::Error io::ErrorKind io::Read io::Result io::Write
+    ops::Bound ops::Range process::ExitCode rc::Rc str str::from_utf8_unchecked
 '''.split())
 
 # Crates of the toolchain, which the shim answers for.
-TOOLCHAIN_CRATES = {'hex', 'memchr', 'ucd_category', 'unicode_ident'}
+TOOLCHAIN_CRATES = {'hex', 'itoa', 'memchr', 'ucd_category', 'unicode_ident'}
 
 # Methods of std's types that Rust's types have too, with the same answers, or that the shim's types have.
 METHODS = set('''
-    all allocator and_then any append as_bytes as_slice as_str
-    checked_add checked_mul checked_sub chars clear clone cmp copy_from_slice count
+    all allocator and_then any append as_bytes as_mut_slice as_slice as_str
+    bytes checked_add checked_mul checked_sub chars clear clone cmp collect contains copy_from_slice count
     debug_list debug_struct encode_utf8 entry escape_unicode extend_from_slice
-    field filter find finish first fmt from_mut get hash
+    field filter find finish first fmt format from_mut get hash
     insert into_bytes into_iter into_string is_ascii is_ascii_alphabetic is_ascii_alphanumeric is_ascii_digit
     is_ascii_hexdigit is_char_boundary is_digit is_empty is_err is_none is_ok is_some is_whitespace iter
-    last len len_utf8 lines map max min next next_back ok or_else parse partition_point pop pop_front push push_str
-    range remove reserve rev saturating_add saturating_mul saturating_sub size_hint
-    split split_at split_first split_last split_off split_once starts_with strip_prefix strip_suffix
-    take to_digit to_string trim unwrap_or utf8_chunks valid write write_all write_str
+    kind last len len_utf8 lines map max min next next_back ok or_else parse partition_point pop pop_front push push_str
+    range read read_to_end remove reserve resize rev reverse saturating_add saturating_mul saturating_sub size_hint
+    skip stdin split split_at split_first split_last split_off split_once starts_with strip_prefix strip_suffix
+    take to_digit to_string trim truncate unwrap_or utf8_chunks utf8_error
+    valid valid_up_to write write_all write_str
 '''.split())
+
+# Those of them that are methods of traits alone, which take `&mut self`. A trait may have one of this name that takes
+# the same: where both could be meant, rustc refuses the call.
+OF_TRAITS = {'read', 'write'}
 
 # What is called or named of the primitive types.
 PRIMITIVES = set('bool char str u8 u16 u32 u64 u128 usize i8 i16 i32 i64 i128 isize f32 f64'.split())
@@ -46,6 +51,6 @@ FORBIDDEN = {
     'unsafe': '`unsafe` but for a text that is known to be UTF-8',
     'prove': '`prove!`', 'prove_eq': '`prove_eq!`', 'prove_ne': '`prove_ne!`',
     'dyn': 'a trait object', 'extern': '`extern`', 'union': '`union`', 'macro_rules': 'a macro of its own',
-    'async': '`async`', 'await': '`await`', 'HostRuntime': 'the runtime', 'Abort': 'a handle', 'Wait': 'a handle',
+    'async': '`async`', 'await': '`await`', 'Abort': 'a handle', 'Wait': 'a handle',
     'cloned': '`cloned`, which answers a `Result` here alone', 'Model': 'a `Model` that holds code',
 }

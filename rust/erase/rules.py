@@ -201,13 +201,16 @@ def models(file):
 def tests(file):
     """Leaves out the modules of tests, which take the runtime.
 
-        #[cfg(test)] mod tests; fn one() {}
+        #[cfg(test)] mod tests; fn one() {} #[cfg(test)] mod tests { use super::*; }
         => fn one() {}
     """
     goes = set()
     for at, token in enumerate(file.tokens):
         for end in found(file.tokens, at, '# [ cfg ( test ) ] mod tests ;'):
             goes |= set(range(at, end + 1))
+            file.count('tests')
+        for end in found(file.tokens, at, '# [ cfg ( test ) ] mod tests {'):
+            goes |= set(range(at, closing(file.tokens, end) + 1))
             file.count('tests')
     file.tokens = without(file.tokens, goes)
 
@@ -406,8 +409,44 @@ def display(file):
     file.tokens = replaced(tokens, edits)
 
 
+@rule
+def texts(file):
+    """Writes the text of a value by the shim's `format!`, as Rust's `to_string` takes no allocator.
+
+    A crate that has a `to_string` of its own keeps it.
+
+        fn text(e: &E) -> Result<String, F> { e.to_string(alloc)? }
+        => use crate::shim::prelude::{String, format}; fn text(e: &E) -> Result<String, F> {
+           format!(in alloc; "{e}")? }
+    """
+    tokens, edits = file.tokens, {}
+    for at, token in enumerate(tokens):
+        alone = token.kind == 'name' and tokens[preceding(tokens, at)].text != '.'
+        if not alone or 'to_string' in file.package.functions:
+            continue
+        for end in found(tokens, at, f'{token.text} . to_string ( alloc )'):
+            edits[at, end] = 'format!(in alloc; "{%s}")' % token.text
+            file.count('texts')
+    file.tokens = replaced(tokens, edits)
+
+
+@rule
+def memory(file):
+    """Ends the process, by the shim, where a body says that memory ran out: that error has no value in Rust.
+
+        fn none() -> Result<u8, AllocError> { Err(AllocError) }
+        => fn none() -> Result<u8, AllocError> { Err(AllocError::met()) }
+    """
+    tokens, edits = file.tokens, {}
+    for at, token in enumerate(tokens):
+        for end in found(tokens, at, 'Err ( AllocError )'):
+            edits[at, end] = 'Err(AllocError::met())'
+            file.count('memory')
+    file.tokens = replaced(tokens, edits)
+
+
 # What every source of Rattle names without an import, where Rust has another thing of that name or none.
-PRELUDE = ('Box', 'Clone', 'Extend', 'FromIterator', 'String', 'Vec')
+PRELUDE = ('Box', 'Clone', 'Extend', 'FromIterator', 'HostRuntime', 'String', 'Vec')
 
 
 @rule

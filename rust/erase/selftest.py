@@ -37,6 +37,7 @@ REJECTED = [
     ('fn f(a: A) -> A { A { b: 1, ..a } }', 'whose other fields come from another'),
     ('trait T { fn f(&self) { g(); } }', "a trait's method with a body"),
     ('trait T { fn len(&self) -> usize; }', "a trait's method `len`, as std has one"),
+    ('trait T { fn read(self, b: &mut [u8]); }', "a trait's method `read`, as std has one"),
     ('impl<A> T for A { fn f(&self) {} }', 'an `impl` for a type parameter'),
     ('impl<A> T for &A { fn f(&self) {} }', 'an `impl` for a type parameter'),
     ('fn f(t: &dyn T) {}', 'a trait object'),

@@ -12,13 +12,16 @@ pub mod collections;
 pub mod fmt;
 pub mod hex;
 pub mod io;
+pub mod itoa;
 pub mod memchr;
+pub mod process;
 pub mod rc;
 pub mod string;
 pub mod unicode;
 pub mod vec;
 
 pub use crate::display_by_shim as display;
+pub use process::{env, fs};
 pub use unicode::{ucd_category, unicode_ident};
 
 /// What is in scope in every source of Rattle, in so far as it isn't in Rust or is another there.
@@ -26,6 +29,7 @@ pub mod prelude {
     pub use super::boxed::Box;
     pub use super::clone::Clone;
     pub use super::iter::{Extend, FromIterator};
+    pub use super::process::HostRuntime;
     pub use super::string::String;
     pub use super::vec::Vec;
     pub use crate::format_by_shim as format;

@@ -27,16 +27,23 @@ impl<W: Write> Formatter<W> {
     }
 }
 
-/// A value that is printed. The contract of an `impl` says which text.
-pub trait Display {
+/// A value that is printed. The contract of an `impl` says which text. Rust's prints the same.
+pub trait Display: core::fmt::Display {
     /// Prints the value.
     fn fmt<W: Write>(&self, f: &mut Formatter<W>) -> Result;
+}
+
+/// Contract: prints the text itself.
+impl Display for &str {
+    fn fmt<W: Write>(&self, f: &mut Formatter<W>) -> Result {
+        f.write_str(self)
+    }
 }
 
 /// Prints a value to a writer without a call behind a pointer for each piece of text.
 #[inline]
 pub fn print<T: Display, W: Write>(value: &T, out: &mut W) -> Result {
-    value.fmt(&mut Formatter::new(out))
+    Display::fmt(value, &mut Formatter::new(out))
 }
 
 /// Gives Rust's `Display` to a type that has Rattle's.
@@ -73,6 +80,8 @@ mod tests {
         let mut text = String::new();
         assert!(print(&Pair(1, 2), &mut text).is_ok());
         assert_eq!((text.as_str(), Pair(1, 2).to_string().as_str()), ("pair 1/2", "pair 1/2"));
+        assert!(print(&"!", &mut text).is_ok());
+        assert_eq!(text, "pair 1/2!");
     }
 
     #[test]

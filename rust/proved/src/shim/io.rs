@@ -1,8 +1,9 @@
-//! Reading lines and writing.
+//! Reading and writing.
 
 use super::alloc::{AllocError, Global};
 use super::string::String;
-pub use std::io::{Result, Write};
+use super::vec::Vec;
+pub use std::io::{Error, ErrorKind, Result, Write};
 
 impl From<AllocError> for std::io::Error {
     fn from(error: AllocError) -> std::io::Error {
@@ -23,9 +24,38 @@ impl<R: std::io::BufRead> BufRead for R {
     }
 }
 
+/// A reader.
+pub trait Read {
+    /// Contract: reads into the front of the buffer and answers how many bytes; 0 are the input's end, where the buffer
+    /// isn't empty.
+    fn read(&mut self, buffer: &mut [u8]) -> Result<usize>;
+
+    /// Contract: puts all that is left at the end of the bytes, and answers how many that are.
+    fn read_to_end(&mut self, bytes: &mut Vec<u8>) -> Result<usize>;
+}
+
+impl<R: std::io::Read> Read for R {
+    fn read(&mut self, buffer: &mut [u8]) -> Result<usize> {
+        std::io::Read::read(self, buffer)
+    }
+
+    fn read_to_end(&mut self, bytes: &mut Vec<u8>) -> Result<usize> {
+        std::io::Read::read_to_end(self, bytes.as_rust_mut())
+    }
+}
+
 #[cfg(test)]
 mod tests {
     use super::*;
+
+    #[test]
+    fn a_reader_is_read_to_its_end() -> Result<()> {
+        let (mut rest, mut buffer, mut bytes) = (&b"abc"[..], [0; 2], Vec::new(Global));
+        assert_eq!((Read::read(&mut rest, &mut buffer)?, buffer), (2, *b"ab"));
+        assert_eq!((Read::read_to_end(&mut rest, &mut bytes)?, bytes.as_slice()), (1, &b"c"[..]));
+        assert_eq!(Read::read(&mut rest, &mut buffer)?, 0);
+        Ok(())
+    }
 
     #[test]
     fn lines_end_at_line_feeds() {

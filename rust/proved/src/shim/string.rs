@@ -1,6 +1,7 @@
 //! Texts that grow.
 
 use super::alloc::{AllocError, Global};
+use super::clone::Clone;
 use super::vec::Vec;
 use core::fmt;
 use core::ops::Deref;
@@ -25,6 +26,11 @@ impl String {
     #[inline(always)]
     pub fn from_str(_: Global, text: &str) -> Result<String, AllocError> {
         Ok(String(std::string::String::from(text)))
+    }
+
+    /// Contract: the text of these bytes, or where they aren't UTF-8, an error that says up to which byte they are.
+    pub fn from_utf8(bytes: Vec<u8>) -> Result<String, std::string::FromUtf8Error> {
+        std::string::String::from_utf8(bytes.into_rust()).map(String)
     }
 
     /// Contract: puts the character at the end.
@@ -88,6 +94,13 @@ impl Deref for String {
     }
 }
 
+/// Contract: the same text.
+impl Clone for String {
+    fn clone(&self) -> Result<String, AllocError> {
+        Ok(String(self.0.clone()))
+    }
+}
+
 /// Contract: whether both have the same bytes.
 impl PartialEq for String {
     fn eq(&self, other: &String) -> bool {
@@ -132,6 +145,15 @@ mod tests {
         assert_eq!(text.as_str(), "-éab07");
         assert_eq!((text.remove(0), text.as_str()), ('-', "éab07"));
         assert_eq!(text.into_bytes().as_slice(), "éab07".as_bytes());
+        Ok(())
+    }
+
+    #[test]
+    fn bytes_are_a_text_where_they_are_utf8() -> Result<(), AllocError> {
+        let text = String::from_utf8(Vec::from_rust("é".into())).ok().unwrap();
+        assert_eq!((text.as_str(), Clone::clone(&text)?.as_str()), ("é", "é"));
+        let fault = String::from_utf8(Vec::from_rust(b"ab\xFFc".to_vec())).unwrap_err();
+        assert_eq!(fault.utf8_error().valid_up_to(), 2);
         Ok(())
     }
 

@@ -66,10 +66,28 @@ impl<T> Vec<T> {
         &self.0
     }
 
+    /// Contract: the items, which can be set.
+    #[inline(always)]
+    pub fn as_mut_slice(&mut self) -> &mut [T] {
+        &mut self.0
+    }
+
+    /// Contract: takes away all items but the first so many.
+    #[inline(always)]
+    pub fn truncate(&mut self, items: usize) {
+        self.0.truncate(items);
+    }
+
     /// Rust's list, for callers.
     #[inline(always)]
     pub fn into_rust(self) -> std::vec::Vec<T> {
         self.0
+    }
+
+    /// Rust's list, to be changed by callers.
+    #[inline(always)]
+    pub fn as_rust_mut(&mut self) -> &mut std::vec::Vec<T> {
+        &mut self.0
     }
 
     /// The same of Rust's list.
@@ -84,6 +102,13 @@ impl<T: Copy> Vec<T> {
     #[inline(always)]
     pub fn extend_from_slice(&mut self, items: &[T]) -> Result<(), AllocError> {
         self.0.extend_from_slice(items);
+        Ok(())
+    }
+
+    /// Contract: the first so many items, followed by this one as often as there are fewer.
+    #[inline]
+    pub fn resize(&mut self, items: usize, item: T) -> Result<(), AllocError> {
+        self.0.resize(items, item);
         Ok(())
     }
 }
@@ -148,6 +173,20 @@ mod tests {
         assert_eq!((items.pop(), items.len()), (Some(3), 2));
         items.clear();
         assert_eq!((items.pop(), items.is_empty()), (None, true));
+        Ok(())
+    }
+
+    #[test]
+    fn a_list_is_made_longer_and_shorter() -> Result<(), AllocError> {
+        let mut items = list(&[1]);
+        items.resize(3, 7)?;
+        items.as_mut_slice()[1] = 2;
+        assert_eq!(items.as_slice(), [1, 2, 7]);
+        items.truncate(2);
+        items.as_rust_mut().push(3);
+        assert_eq!(items.as_slice(), [1, 2, 3]);
+        items.resize(1, 7)?;
+        assert_eq!(items.as_slice(), [1]);
         Ok(())
     }
 

@@ -1,0 +1,90 @@
+// Made from crates/highlight/src/marking.rt by rust/erase: change that file, not this one.
+//! A text with its pieces marked.
+
+use proved::shim::prelude::{String, Vec};
+
+use crate::highlight::format::Format;
+use crate::highlight::nesting::Nesting;
+use crate::highlight::style::{Style, style_of};
+use crate::highlight::writing::Sheet;
+use proved::proc_macro2::{PieceKind, PlacedPiece, pieces};
+use proved::shim::alloc::{AllocError, Global};
+
+/// The text with its pieces marked.
+///
+/// A closer that matches no opener is marked as a fault, and so is an opener that is never closed, as
+/// far as that is known where the text isn't read whole. So is the first character of what begins no
+/// piece; what follows it is not read.
+pub fn marked(alloc: Global, format: Format, text: &str) -> Result<String, AllocError>
+{
+    let mut styling = Styling {
+        delimiters: styles_of_delimiters(alloc, text)?,
+        is_after_quote: false,
+    };
+    let mut sheet = Sheet::new(alloc, format);
+    let mut walk = pieces(text);
+    while let Some(next) = walk.next_piece() {
+        let style = styling.style_of(next);
+        sheet.push_piece(style, next.text)?;
+    }
+    push_rest(&mut sheet, walk.rest())?;
+    Ok(sheet.out)
+}
+
+// The styles of the delimiters, the first last.
+fn styles_of_delimiters(alloc: Global, text: &str) -> Result<Vec<Style>, AllocError>
+{
+    let mut nesting = Nesting::new(alloc);
+    let mut walk = pieces(text);
+    while let Some(next) = walk.next_piece() {
+        nesting.take(next.piece.kind)?;
+    }
+    let mut styles = nesting.into_styles(walk.rest().is_empty());
+    styles.reverse();
+    Ok(styles)
+}
+
+// What is to be known to style the next piece.
+struct Styling {
+    // The styles of the delimiters from here on, the first last.
+    delimiters: Vec<Style>,
+    // Whether the last piece was the `'` of a lifetime.
+    is_after_quote: bool,
+}
+
+impl Styling {
+    // What the next piece is shown as.
+    fn style_of(&mut self, next: PlacedPiece<'_>) -> Style
+    {
+        let is_after_quote = self.is_after_quote;
+        self.is_after_quote = is_quote(next.piece.kind);
+        match next.piece.kind {
+            PieceKind::Opener(_) | PieceKind::Closer(_) => {
+                self.delimiters.pop().unwrap_or(Style::Unclosed)
+            }
+            PieceKind::Name { .. } if is_after_quote => Style::Lifetime,
+            kind => style_of(kind, next.text),
+        }
+    }
+}
+
+// Whether the piece is the mark `'`.
+fn is_quote(kind: PieceKind<'_>) -> bool
+{
+    match kind {
+        PieceKind::Mark { mark, .. } => mark == '\'',
+        _ => false,
+    }
+}
+
+// Appends what follows the pieces.
+fn push_rest(sheet: &mut Sheet, rest: &str) -> Result<(), AllocError>
+{
+    let mut after = rest.chars();
+    let Some(first) = after.next() else {
+        return Ok(());
+    };
+    sheet.push_piece(Style::NoPiece, first.encode_utf8(&mut [0; 4]))?;
+    sheet.push_piece(Style::Unread, after.as_str())?;
+    Ok(())
+}

@@ -1,0 +1,151 @@
+// Made from crates/highlight/src/nesting.rt by rust/erase: change that file, not this one.
+//! Which delimiters match.
+
+use proved::shim::prelude::Vec;
+
+use crate::highlight::style::Style;
+use proved::proc_macro2::PieceKind;
+use proved::shim::alloc::{AllocError, Global};
+
+/// The delimiters before a place of a text, with the style of each so far.
+pub struct Nesting {
+    // An opener counts as never closed until a closer matches it.
+    styles: Vec<Style>,
+    // The openers that no closer has matched yet, the innermost last.
+    openers: Vec<Opener>,
+    awaited: Awaited,
+}
+
+/// An opener that waits for its closer.
+#[derive(Clone, Copy)]
+pub struct Opener {
+    closer: char,
+    // How many delimiters stand before it.
+    index: usize,
+    around: Awaited,
+}
+
+/// The closers for which some opener waits.
+#[derive(Clone, Copy)]
+pub struct Awaited {
+    round: bool,
+    square: bool,
+    curly: bool,
+}
+
+impl Nesting {
+    /// No delimiter.
+    pub fn new(alloc: Global) -> Nesting
+    {
+        Nesting {
+            styles: Vec::new(alloc),
+            openers: Vec::new(alloc),
+            awaited: Awaited {
+                round: false,
+                square: false,
+                curly: false,
+            },
+        }
+    }
+
+    /// Takes the next piece, of which a delimiter alone counts.
+    ///
+    /// A closer matches the innermost opener that waits for it; those inside that one are never closed.
+    pub fn take(&mut self, kind: PieceKind<'_>) -> Result<(), AllocError>
+    {
+        match kind {
+            PieceKind::Opener(opener) => self.open(opener),
+            PieceKind::Closer(closer) => self.close(closer),
+            _ => Ok(()),
+        }
+    }
+
+    // Takes an opener.
+    fn open(&mut self, opener: char) -> Result<(), AllocError>
+    {
+        let closer = closer_of(opener);
+        let around = self.awaited;
+        self.openers.push(Opener {
+            closer,
+            index: self.styles.len(),
+            around,
+        })?;
+        self.awaited = Awaited {
+            round: closer == ')' || around.round,
+            square: closer == ']' || around.square,
+            curly: closer == '}' || around.curly,
+        };
+        Ok(self.styles.push(Style::Unclosed)?)
+    }
+
+    // Takes a closer.
+    fn close(&mut self, closer: char) -> Result<(), AllocError>
+    {
+        let style = self.matched(closer);
+        Ok(self.styles.push(style)?)
+    }
+
+    // Takes out the opener that the closer matches and those inside it, and answers the style of both.
+    fn matched(&mut self, closer: char) -> Style
+    {
+        if !self.awaited.has(closer) {
+            return Style::StrayCloser;
+        }
+        while let Some(opener) = self.openers.pop() {
+            self.awaited = opener.around;
+            if opener.closer == closer {
+                let style = Style::Delimiter(self.openers.len());
+                set_style(&mut self.styles, opener.index, style);
+                return style;
+            }
+        }
+        Style::StrayCloser
+    }
+
+    /// The styles of all delimiters. Where the text isn't read whole, the openers that wait may be
+    /// closed in what follows.
+    pub fn into_styles(self, is_whole: bool) -> Vec<Style>
+    {
+        let Nesting {
+            mut styles,
+            mut openers,
+            ..
+        } = self;
+        if !is_whole {
+            while let Some(opener) = openers.pop() {
+                set_style(&mut styles, opener.index, Style::Delimiter(openers.len()));
+            }
+        }
+        styles
+    }
+}
+
+impl Awaited {
+    // Whether some opener waits for the closer.
+    fn has(self, closer: char) -> bool
+    {
+        match closer {
+            ')' => self.round,
+            ']' => self.square,
+            _ => self.curly,
+        }
+    }
+}
+
+// Sets the style at the index, if one stands there.
+fn set_style(styles: &mut Vec<Style>, index: usize, style: Style)
+{
+    if index < styles.len() {
+        styles[index] = style;
+    }
+}
+
+// The closer of an opener.
+fn closer_of(opener: char) -> char
+{
+    match opener {
+        '(' => ')',
+        '[' => ']',
+        _ => '}',
+    }
+}

@@ -1,0 +1,41 @@
+//! What the programs `tokens` and `highlight` call.
+//!
+//! Each module is a crate of `crates/`, made into plain Rust by `rust/erase` as those of [`proved`] are. A program's
+//! `main` is by hand, in `src/bin`: what `main.rt` of its crate does, over the streams and words of
+//! [`proved::shim::process`].
+#![forbid(unsafe_code)]
+
+// What only clauses name is unused in an erased text, and code after an error of memory is never run. Its style is that
+// of Rattle's text.
+
+/// How a program reads its input, and what it says where it fails.
+#[allow(dead_code, unreachable_code, unused_imports, clippy::complexity, clippy::style)]
+pub mod messages;
+
+/// The program `tokens`, but for its `main`.
+#[allow(dead_code, unreachable_code, unused_imports, clippy::complexity, clippy::style)]
+pub mod tokens {
+    pub mod arguments;
+    pub mod command;
+    mod engine;
+    mod errors;
+    mod messages;
+    mod mode;
+    mod reading;
+    pub mod sinks;
+    pub mod sources;
+    mod spans;
+    mod writing;
+}
+
+/// The program `highlight`, but for its `main`.
+#[allow(dead_code, unreachable_code, unused_imports, clippy::complexity, clippy::style)]
+pub mod highlight {
+    pub mod answer;
+    pub mod format;
+    mod marking;
+    mod nesting;
+    mod page;
+    mod style;
+    mod writing;
+}

@@ -1,0 +1,11 @@
+// Made from crates/messages/src/lib.rt by rust/erase: change that file, not this one.
+//! How a program reads its input, and what it says on standard error where it fails, in the one form that
+//! editors read: `FILE:L:C: error: what`.
+
+mod errors;
+mod input;
+mod report;
+
+pub use errors::Failure;
+pub use input::{path, read_text, words};
+pub use report::{conclude, say, say_at, say_of, status};

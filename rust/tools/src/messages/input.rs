@@ -1,0 +1,77 @@
+// Made from crates/messages/src/input.rt by rust/erase: change that file, not this one.
+//! What a program is given: its words and its input.
+
+use proved::shim::prelude::{Clone, HostRuntime, String, Vec};
+
+use crate::messages::errors::Failure;
+use proved::shim::alloc::Global;
+use proved::shim::env::Args;
+use proved::shim::fs::File;
+use proved::shim::io;
+use proved::shim::io::Read;
+
+/// The words after the program's name, which is the first of its arguments.
+///
+/// Fails with `Usage` where the arguments are no text, and with `Memory` where they weren't had for any other
+/// reason, or memory for the list ran out.
+pub fn words(
+    alloc: Global,
+    arguments: io::Result<Args>,
+    usage: &'static str,
+) -> Result<Vec<String>, Failure>
+{
+    match arguments {
+        Ok(arguments) => Ok(arguments.skip(1).collect(alloc)?),
+        Err(error) if is_no_text(error.kind()) => Err(Failure::Usage(usage)),
+        Err(_) => Err(Failure::Memory),
+    }
+}
+
+// Whether arguments weren't had since they are no text.
+fn is_no_text(kind: io::ErrorKind) -> bool
+{
+    matches!(kind, io::ErrorKind::InvalidData)
+}
+
+/// The path that the words name: the only one, or `-` where there is none. Fails with `Usage` exactly where there
+/// are several, and with `Memory`.
+pub fn path(alloc: Global, words: &[String], usage: &'static str) -> Result<String, Failure>
+{
+    match words {
+        [] => Ok(String::from_str(alloc, "-")?),
+        [path] => Ok(path.clone()?),
+        _ => Err(Failure::Usage(usage)),
+    }
+}
+
+/// The text of the file at this path, or of standard input where the path is `-`.
+///
+/// Fails with `Read` where the file can't be opened or read, with `NotUtf8` where it is no text, and with `Memory`.
+pub fn read_text(rt: &HostRuntime, path: &str) -> Result<String, Failure> {
+    if path == "-" {
+        return text_of(rt.alloc(), rt.stdin());
+    }
+    match File::open(rt, path) {
+        Ok(file) => text_of(rt.alloc(), file),
+        Err(error) => Err(Failure::reading(error)),
+    }
+}
+
+// All that the reader has left, as a text.
+fn text_of<R: Read>(alloc: Global, mut reader: R) -> Result<String, Failure>
+{
+    let mut bytes = Vec::new(alloc);
+    match reader.read_to_end(&mut bytes) {
+        Ok(_) => decoded(bytes),
+        Err(error) => Err(Failure::reading(error)),
+    }
+}
+
+// The bytes as a text.
+fn decoded(bytes: Vec<u8>) -> Result<String, Failure>
+{
+    match String::from_utf8(bytes) {
+        Ok(text) => Ok(text),
+        Err(error) => Err(Failure::NotUtf8(error.utf8_error().valid_up_to())),
+    }
+}

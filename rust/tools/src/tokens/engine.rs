@@ -1,0 +1,105 @@
+// Made from crates/tokens/src/engine.rt by rust/erase: change that file, not this one.
+//! A run: from the bytes of a source to the bytes of a sink.
+
+use proved::shim::prelude::{String, Vec};
+
+use crate::tokens::errors::RunError;
+use crate::tokens::mode::OutputMode;
+use crate::tokens::reading::read_to_end;
+use crate::tokens::sinks::ByteSink;
+use crate::tokens::sources::ByteSource;
+use crate::tokens::spans::span_lines;
+use crate::tokens::writing::write_blocks;
+use proved::proc_macro2::{ParseError, SourceMap, TokenStream, reprint};
+use proved::shim::alloc::{AllocError, Global};
+
+/// Reads source text to its end, and writes its tokens as `mode` says.
+///
+/// The whole output stands before its first byte is written. `Io` is answered where a read failed,
+/// and nothing is written then, or where a write failed or took nothing, and a beginning of the
+/// output is. Each other refusal writes nothing: `NotUtf8`, `MapFull` and `Lex`, which has the
+/// place of the fault, are about the whole input, and `Memory` comes where a growth was refused.
+///
+/// For `Print`, `a+b` gives `a + b` and a line feed, for `Spans` the lines `1:0-1:1 ident`,
+/// `1:1-1:2 punct` and `1:2-1:3 ident`; `(]` is refused with `Lex` at line 1, column 1.
+pub fn run<R: ByteSource, W: ByteSink>(
+    alloc: Global,
+    mode: OutputMode,
+    reader: &mut R,
+    writer: &mut W,
+) -> Result<(), RunError>
+{
+    let input = read_to_end(alloc, reader)?;
+    let output = output_of(alloc, mode, input)?;
+    write_blocks(writer, output.as_slice())
+}
+
+// What is written for the input, in blocks.
+fn output_of(alloc: Global, mode: OutputMode, input: Vec<u8>) -> Result<Vec<String>, RunError>
+
+    // That a growth was refused can't be stated, only which inputs may come so far.
+{
+    let Ok(text) = String::from_utf8(input) else {
+        return Err(RunError::NotUtf8);
+    };
+    match mode {
+        // What is printed has no positions, so trees and a map are wanted only where the place of a fault is told.
+        OutputMode::Print => match reprint(alloc, text.as_str()) {
+            Ok(printed) => Ok(ended(alloc, printed)?),
+            Err(ParseError::Lex(_)) => Err(refusal_of(alloc, text.as_str())),
+            Err(ParseError::MapFull) => Err(RunError::MapFull),
+            Err(ParseError::Memory(error)) => Err(RunError::Memory(error)),
+        },
+        OutputMode::Spans => {
+            let mut map = SourceMap::new(alloc);
+            match TokenStream::from_str(text.as_str(), &mut map) {
+                Ok(stream) => Ok(lines(alloc, text, stream, &map)?),
+                Err(error) => Err(refusal(error, &map)),
+            }
+        }
+    }
+}
+
+// Why the run is refused of a text that doesn't parse: for its fault, whose line and column are asked of a map, or
+// where the text doesn't fit the map, or memory runs out.
+fn refusal_of(alloc: Global, text: &str) -> RunError
+{
+    let mut map = SourceMap::new(alloc);
+    match TokenStream::from_str(text, &mut map) {
+        Ok(_) => unreachable!(),
+        Err(error) => refusal(error, &map),
+    }
+}
+
+// Why a run is refused whose text wasn't parsed into the map.
+fn refusal(error: ParseError, map: &SourceMap) -> RunError
+{
+    match error {
+        ParseError::Lex(error) => RunError::Lex(error.span().start(map)),
+        ParseError::MapFull => RunError::MapFull,
+        ParseError::Memory(error) => RunError::Memory(error),
+    }
+}
+
+// A line for each tree of the stream that the text parses to, which alone was read into the map. The map has the
+// text too.
+fn lines(
+    alloc: Global,
+    text: String,
+    stream: TokenStream,
+    map: &SourceMap,
+) -> Result<Vec<String>, AllocError>
+{
+    let bytes = text.len();
+    drop(text);
+    span_lines(alloc, bytes, stream, map)
+}
+
+// The text and a line feed, as one block.
+fn ended(alloc: Global, mut text: String) -> Result<Vec<String>, AllocError>
+{
+    text.push_str("\n")?;
+    let mut blocks = Vec::new(alloc);
+    blocks.push(text)?;
+    Ok(blocks)
+}

@@ -1,0 +1,46 @@
+// Made from crates/tokens/src/messages.rt by rust/erase: change that file, not this one.
+//! What the program says, a line at a time. No message takes memory, and one that can't be written
+//! is dropped.
+
+use crate::tokens::errors::RunError;
+use crate::tokens::sinks::ByteSink;
+use crate::tokens::writing::write_all;
+use proved::shim::itoa::Buffer;
+use proved::proc_macro2::LineColumn;
+
+/// Says how the program is called.
+pub fn say_usage<E: ByteSink>(errors: &mut E)
+{
+    let _ = write_all(errors, b"usage: tokens print|spans\n");
+}
+
+/// Says why a run was refused, and nothing of one that wasn't: `fault 2:0` of a fault at the front
+/// of the second line.
+pub fn say<E: ByteSink>(errors: &mut E, answer: &Result<(), RunError>)
+{
+    let _ = match answer {
+        Ok(()) => Ok(()),
+        Err(RunError::Io) => write_all(errors, b"input or output failed\n"),
+        Err(RunError::NotUtf8) => write_all(errors, b"not utf-8\n"),
+        Err(RunError::MapFull) => write_all(errors, b"map full\n"),
+        Err(RunError::Lex(place)) => say_fault(errors, *place),
+        Err(RunError::Memory(_)) => write_all(errors, b"no memory\n"),
+    };
+}
+
+// Says where a fault stands.
+fn say_fault<E: ByteSink>(errors: &mut E, place: LineColumn) -> Result<(), RunError>
+{
+    write_all(errors, b"fault ")?;
+    say_number(errors, place.line)?;
+    write_all(errors, b":")?;
+    say_number(errors, place.column)?;
+    write_all(errors, b"\n")
+}
+
+// Says a number in decimal digits.
+fn say_number<E: ByteSink>(errors: &mut E, number: usize) -> Result<(), RunError>
+{
+    let mut buffer = Buffer::new();
+    write_all(errors, buffer.format(number).as_bytes())
+}

@@ -1,0 +1,35 @@
+// Made from crates/tokens/src/writing.rt by rust/erase: change that file, not this one.
+//! Writes bytes to a sink.
+
+use proved::shim::prelude::String;
+
+use crate::tokens::errors::RunError;
+use crate::tokens::sinks::ByteSink;
+
+/// Writes the blocks of a text, one after another.
+///
+/// It answers `Io` where a write failed or took nothing. A beginning of the text is written then.
+pub fn write_blocks<W: ByteSink>(writer: &mut W, blocks: &[String]) -> Result<(), RunError>
+{
+    let mut rest = blocks;
+    while let Some((block, after)) = rest.split_first() {
+        write_all(writer, block.as_bytes())?;
+        rest = after;
+    }
+    Ok(())
+}
+
+/// Writes all the bytes, in as many calls as the sink wants.
+///
+/// It answers `Io` where a write failed or took nothing. A beginning of the bytes is written then.
+pub fn write_all<W: ByteSink>(writer: &mut W, bytes: &[u8]) -> Result<(), RunError>
+{
+    let mut rest = bytes;
+    while !rest.is_empty() {
+        match writer.write(rest) {
+            Ok(0) | Err(_) => return Err(RunError::Io),
+            Ok(n) => rest = &rest[n..],
+        }
+    }
+    Ok(())
+}
