@@ -4,7 +4,7 @@
 #
 #   rust/test.sh
 #
-# What isn't there is said and left out: Python, a C compiler, cargo with Rust 1.88, and the
+# What is missing is said and left out: Python, a C compiler, cargo with Rust 1.82 (the Cargo package: 1.88), and the
 # distribution's packages librust-syn-dev, librust-quote-dev and librust-unicode-ident-dev, which are looked for in
 # CARGO_REGISTRY or /usr/share/cargo/registry. Nothing is fetched. rust/archive.sh builds the archive where it is older
 # than its sources. The last line is `N passed, M failed`, and the status is 1 if anything failed.
