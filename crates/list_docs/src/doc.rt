@@ -1,7 +1,7 @@
 //! The text of a doc comment.
 ghost use Rattle.std.specs.Prelude.{◌≡◌, [], ◌∷◌, IfSome, option_copied};
 ghost use Rattle.proc_macro2.specs.Leaf.{Name, Mark};
-ghost use Rattle.proc_macro2.specs.Level.{forest, inside};
+ghost use Rattle.proc_macro2.specs.Trees.{forest, inside};
 ghost use Rattle.proc_macro2.specs.declared.TokenTree.TheVariants.{Ident, Punct, Literal as LiteralTree};
 ghost use Rattle.list_docs.specs.Doc.{doc_of};
 

@@ -4,7 +4,7 @@ use Rattle.std.specs.Io.KnownBytes.{Keeps}
 use Rattle.std.specs.IoError.{error_kind}
 use Rattle.std.specs.declared.alloc.AllocError.{AllocError}
 use Rattle.std.specs.declared.io.Error.{Error}
-use Rattle.proc_macro2.proofs.PlaceLemmas.{fault_starts}
+use Rattle.proc_macro2.proofs.LineColumnLemmas.{fault_starts}
 use Rattle.proc_macro2.specs.Files.{Files, Fits, new_map, next_lo, with_file}
 use Rattle.proc_macro2.specs.Lookup.{StartsAt}
 use Rattle.proc_macro2.specs.Outcome.{IfLex, was_read}

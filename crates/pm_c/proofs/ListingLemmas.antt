@@ -1,7 +1,7 @@
 -- How many trees a list has, as records count them.
 use Rattle.std.proofs.Common.{◌≡◌, List, [], ◌∷◌, length, refl, sym, ap, ◌∙◌, arith}
 use Rattle.proc_macro2.specs.Forest.{Forest}
-use Rattle.proc_macro2.specs.Level.{forest}
+use Rattle.proc_macro2.specs.Trees.{forest}
 use Rattle.proc_macro2.specs.declared.TokenTree.{TokenTree}
 use Rattle.proc_macro2.specs.declared.TokenTree.TheVariants.{Group, Ident, Punct, Literal}
 use Rattle.pm_c.specs.Listing.{width}

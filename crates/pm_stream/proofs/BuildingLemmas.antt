@@ -13,10 +13,10 @@ use Rattle.pm_token.specs.Negative.{has_minus, minus_of, number_of}
 use Rattle.pm_token.proofs.WholeLemmas.{number_built, plain_built}
 use Rattle.pm_stream.specs.Building.{GivesAll, GivesAnItem, PutsIn, gathered, split}
 use Rattle.pm_stream.specs.Forest.{Forest, nil, leaf, group, joined, IsBuilt}
-use Rattle.pm_stream.specs.Level.{alone, before, forest}
+use Rattle.pm_stream.specs.Trees.{alone, before, forest}
 use Rattle.pm_stream.specs.declared.stream.TokenTree.{TokenTree}
 use Rattle.pm_stream.specs.declared.stream.TokenTree.TheVariants.{Group, Ident, Punct, Literal}
-use Rattle.pm_stream.proofs.Levels.{IsBuilt-joined, joined-before}
+use Rattle.pm_stream.proofs.TreeLemmas.{IsBuilt-joined, joined-before}
 
 -- ---- forests one after another
 

@@ -16,7 +16,7 @@ use Rattle.pm_token.specs.declared.marks.Spacing.TheVariants.{Alone}
 use Rattle.pm_span.specs.Extent.{Extent}
 use Rattle.pm_stream.specs.DocGroup.{trees_of}
 use Rattle.pm_stream.specs.Events.{Event, hash, bang, equals, doc_group_onto, doc_onto}
-use Rattle.pm_stream.specs.Level.{forest, alone}
+use Rattle.pm_stream.specs.Trees.{forest, alone}
 use Rattle.pm_stream.specs.declared.stream.Group.{Group as Grouped}
 use Rattle.pm_stream.specs.declared.stream.TokenTree.{TokenTree}
 use Rattle.pm_stream.specs.declared.stream.TokenTree.TheVariants as trees

@@ -8,8 +8,8 @@ use Rattle.pm_token.specs.declared.delimiters.Delimiter.TheVariants.{Parenthesis
 use Rattle.pm_stream.specs.Events.{Event, One, Opens, Closes, Balanced, CanGoOn}
 use Rattle.pm_stream.specs.Events as events
 use Rattle.pm_stream.specs.Forest.{Forest, nil, leaf, group, flat_onto, flattening, joined}
-use Rattle.pm_stream.proofs.Levels.{flat_onto-append, flat_onto-joined}
-use Rattle.pm_stream.specs.Written.{Opened, written_onto, FitsInnermost}
+use Rattle.pm_stream.proofs.TreeLemmas.{flat_onto-append, flat_onto-joined}
+use Rattle.pm_stream.specs.OpenGroups.{Opened, unclosed_onto, FitsInnermost}
 
 -- ---- flattenings
 
@@ -26,24 +26,24 @@ flat_balanced (group d lo hi inside rest) {es} h =
 pub flattening_balanced : (forest : Forest) → Balanced (flattening forest)
 flattening_balanced forest = flat_balanced forest events.nothing
 
--- ---- what is written while groups stay open
+-- ---- the events while groups are open
 
-pub written-append : (groups : List Opened) (trees : Forest) (es fs : List Event)
-    → written_onto groups trees (es ++ fs) ≡ written_onto groups trees es ++ fs
-written-append [] trees es fs = flat-append trees es fs
-written-append (x ∷ groups) trees es fs =
-    ap (λ xs. written_onto groups x.outer (Opens x.delimiter x.lo ∷ xs)) (flat-append trees es fs)
-    ∙ written-append groups x.outer (Opens x.delimiter x.lo ∷ flat_onto trees es) fs
+pub unclosed-append : (groups : List Opened) (trees : Forest) (es fs : List Event)
+    → unclosed_onto groups trees (es ++ fs) ≡ unclosed_onto groups trees es ++ fs
+unclosed-append [] trees es fs = flat-append trees es fs
+unclosed-append (x ∷ groups) trees es fs =
+    ap (λ xs. unclosed_onto groups x.outer (Opens x.delimiter x.lo ∷ xs)) (flat-append trees es fs)
+    ∙ unclosed-append groups x.outer (Opens x.delimiter x.lo ∷ flat_onto trees es) fs
 
-pub written-joined : (groups : List Opened) (trees more : Forest) (es : List Event)
-    → written_onto groups (joined trees more) es ≡ written_onto groups trees (flat_onto more es)
-written-joined [] trees more es = flat_onto-joined trees more es
-written-joined (x ∷ groups) trees more es =
-    ap (λ xs. written_onto groups x.outer (Opens x.delimiter x.lo ∷ xs)) (flat_onto-joined trees more es)
+pub unclosed-joined : (groups : List Opened) (trees more : Forest) (es : List Event)
+    → unclosed_onto groups (joined trees more) es ≡ unclosed_onto groups trees (flat_onto more es)
+unclosed-joined [] trees more es = flat_onto-joined trees more es
+unclosed-joined (x ∷ groups) trees more es =
+    ap (λ xs. unclosed_onto groups x.outer (Opens x.delimiter x.lo ∷ xs)) (flat_onto-joined trees more es)
 
 -- the open groups can be closed, one after another
 goes_on : (groups : List Opened) (trees : Forest) {es : List Event} → Balanced es
-    → (more : List Event) × Balanced (written_onto groups trees (es ++ more))
+    → (more : List Event) × Balanced (unclosed_onto groups trees (es ++ more))
 goes_on [] trees {es} h = ([], flat_balanced trees (subst Balanced (sym (append-nil es)) h))
 goes_on (x ∷ groups) trees {es} h =
     let inside = flat_balanced trees h in
@@ -51,16 +51,16 @@ goes_on (x ∷ groups) trees {es} h =
     events.group x.delimiter x.lo 0 inside events.nothing in
     let outer = goes_on groups x.outer closed in (
       Closes x.delimiter 0 ∷ outer.0,
-      subst (λ xs. Balanced (written_onto groups x.outer (Opens x.delimiter x.lo ∷ xs)))
+      subst (λ xs. Balanced (unclosed_onto groups x.outer (Opens x.delimiter x.lo ∷ xs)))
           (append_assoc (flat_onto trees es) (Closes x.delimiter 0 ∷ []) outer.0
           ∙ sym (flat-append trees es (Closes x.delimiter 0 ∷ outer.0)))
           outer.1,
     )
 
-pub written_goes_on : (groups : List Opened) (trees : Forest) → CanGoOn (written_onto groups trees [])
-written_goes_on groups trees =
+pub unclosed_goes_on : (groups : List Opened) (trees : Forest) → CanGoOn (unclosed_onto groups trees [])
+unclosed_goes_on groups trees =
     let more = goes_on groups trees events.nothing in
-    (more.0, subst Balanced (written-append groups trees [] more.0) more.1)
+    (more.0, subst Balanced (unclosed-append groups trees [] more.0) more.1)
 
 -- ---- a reader of events with a stack, to tell that a closer can't go on
 
@@ -119,12 +119,12 @@ flat_leaves trees es stack =
     ap (λ xs. stack_after xs stack) (flat-append trees [] es)
     ∙ balanced_leaves (flattening_balanced trees) es stack
 
-written_leaves : (groups : List Opened) (trees : Forest) (es : List Event)
-    → stack_after (written_onto groups trees es) [] ≡ stack_after es (openers groups)
+unclosed_leaves : (groups : List Opened) (trees : Forest) (es : List Event)
+    → stack_after (unclosed_onto groups trees es) [] ≡ stack_after es (openers groups)
 unfolding stack_after
-written_leaves [] trees es = flat_leaves trees es []
-written_leaves (x ∷ groups) trees es =
-    written_leaves groups x.outer (Opens x.delimiter x.lo ∷ flat_onto trees es)
+unclosed_leaves [] trees es = flat_leaves trees es []
+unclosed_leaves (x ∷ groups) trees es =
+    unclosed_leaves groups x.outer (Opens x.delimiter x.lo ∷ flat_onto trees es)
     ∙ flat_leaves trees es (openers (x ∷ groups))
 
 stray_leaves : (groups : List Opened) (d : Delimiter) → (FitsInnermost d groups → ⊥)
@@ -136,17 +136,17 @@ stray_leaves (x ∷ groups) d apart =
 
 pub stray_closer : (groups : List Opened) (trees : Forest) (d : Delimiter) (hi : ℕ)
     → (FitsInnermost d groups → ⊥)
-    → CanGoOn (written_onto groups trees [] ++ (Closes d hi ∷ [])) → ⊥
+    → CanGoOn (unclosed_onto groups trees [] ++ (Closes d hi ∷ [])) → ⊥
 unfolding stack_after
 stray_closer groups trees d hi apart more =
-    let whole : written_onto groups trees (Closes d hi ∷ more.0)
-    ≡ ((written_onto groups trees [] ++ (Closes d hi ∷ [])) ++ more.0) ++ [] =
-    written-append groups trees [] (Closes d hi ∷ more.0)
-    ∙ sym (append-nil _ ∙ append_assoc (written_onto groups trees []) (Closes d hi ∷ []) more.0) in
-    let ends : stack_after (((written_onto groups trees [] ++ (Closes d hi ∷ [])) ++ more.0) ++ []) [] ≡ Some [] =
+    let whole : unclosed_onto groups trees (Closes d hi ∷ more.0)
+    ≡ ((unclosed_onto groups trees [] ++ (Closes d hi ∷ [])) ++ more.0) ++ [] =
+    unclosed-append groups trees [] (Closes d hi ∷ more.0)
+    ∙ sym (append-nil _ ∙ append_assoc (unclosed_onto groups trees []) (Closes d hi ∷ []) more.0) in
+    let ends : stack_after (((unclosed_onto groups trees [] ++ (Closes d hi ∷ [])) ++ more.0) ++ []) [] ≡ Some [] =
     balanced_leaves more.1 [] [] in
-    let stuck : stack_after (written_onto groups trees (Closes d hi ∷ more.0)) [] ≡ Nothing =
-    written_leaves groups trees (Closes d hi ∷ more.0)
+    let stuck : stack_after (unclosed_onto groups trees (Closes d hi ∷ more.0)) [] ≡ Nothing =
+    unclosed_leaves groups trees (Closes d hi ∷ more.0)
     ∙ ap (option_and_then (stack_after more.0)) (stray_leaves groups d apart) in
     let clash : ◌≡◌ {A = Option (List (Delimiter × ℕ))} (Some []) Nothing = sym ends
     ∙ (ap (λ xs. stack_after xs []) (sym whole) ∙ stuck) in

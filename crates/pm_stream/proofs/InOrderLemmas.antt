@@ -7,7 +7,7 @@ use Rattle.pm_token.specs.Leaf.{is_joint}
 use Rattle.pm_token.specs.declared.marks.Spacing.{Spacing}
 use Rattle.pm_token.specs.declared.marks.Spacing.TheVariants.{Alone, Joint}
 use Rattle.pm_stream.specs.Forest.{Forest, nil, leaf, group, joined}
-use Rattle.pm_stream.specs.Level.{before, forest, alone, inside}
+use Rattle.pm_stream.specs.Trees.{before, forest, alone, inside}
 use Rattle.pm_stream.specs.InOrder.{spacing_of, token_tree, in_order_onto, in_order}
 use Rattle.pm_stream.specs.declared.stream.TokenTree.{TokenTree}
 use Rattle.pm_stream.specs.declared.stream.TokenTree.TheVariants.{Group, Ident, Punct, Literal}

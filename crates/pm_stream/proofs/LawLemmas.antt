@@ -18,12 +18,13 @@ use Rattle.pm_token.specs.declared.errors.ParseError.{ParseError}
 use Rattle.pm_token.specs.declared.errors.ParseError.TheVariants.{Lex, MapFull, Memory}
 use Rattle.pm_stream.specs.Parsing.{ParsesTo, is_first, StopsAt, FaultAt, HasNoFault, IsOnlyFault}
 use Rattle.pm_stream.specs.Fault.{IsFault}
-use Rattle.pm_stream.specs.Written.{Opened, written_onto, FitsInnermost}
+use Rattle.pm_stream.specs.OpenGroups.{Opened, unclosed_onto, FitsInnermost}
 use Rattle.pm_stream.proofs.CoverLemmas.{expansion-append}
 use Rattle.pm_stream.proofs.DocLemmas.{doc_trees, doc_trees-events}
 use Rattle.pm_stream.proofs.EventLemmas.{one_stream, flattening_balanced, one_last_opener, balanced_has_none}
-use Rattle.pm_stream.proofs.EventLemmas.{written-joined}
-use Rattle.pm_stream.proofs.ReadSoFar.{Reads, reads_none, reads_more, reads_all, reads_open, reads_stuck, reads_stray}
+use Rattle.pm_stream.proofs.EventLemmas.{unclosed-joined}
+use Rattle.pm_stream.proofs.ParserLemmas.{Reads, reads_none, reads_more, reads_all, reads_open}
+use Rattle.pm_stream.proofs.ParserLemmas.{reads_stuck, reads_stray}
 
 -- a piece at the front of a text
 pub record Front (first : Bool) (text : List ℕ) : Type 0 where
@@ -193,11 +194,11 @@ abbrev pub HasOutcome : ℕ → List ℕ → Type 0
 HasOutcome base source =
     ((stream : Forest) × ParsesTo base source stream) ⊎ ((position : ℕ) × FaultAt base source position)
 
--- what is written with one piece more, or that the piece is a stray closer
+-- what was read with one piece more, or that the piece is a stray closer
 abbrev Moved : Kind → List ℕ → ℕ → List Opened → Forest → Type 0
 Moved k p at groups trees =
     ((new : List Opened) × (more : Forest)
-    × (written_onto new more [] ≡ written_onto groups trees (events_onto at k p [])))
+    × (unclosed_onto new more [] ≡ unclosed_onto groups trees (events_onto at k p [])))
     ⊎ ((c : ℕ) × (k ≡ Close c) × (FitsInnermost (delimiter_of c) groups → ⊥))
 
 same_or_not : (d e : Delimiter) → (d ≡ e) ⊎ (d ≢ e)
@@ -213,8 +214,8 @@ closed : (p : List ℕ) (at c : ℕ) (x : Opened) (groups : List Opened) (trees 
 closed p at c x groups trees (inl same) = inl (
   groups,
   joined x.outer (group x.delimiter x.lo (at + length p) trees nil),
-  written-joined groups x.outer (group x.delimiter x.lo (at + length p) trees nil) []
-      ∙ ap (λ d. written_onto (x ∷ groups) trees (Closes d (at + length p) ∷ [])) same,
+  unclosed-joined groups x.outer (group x.delimiter x.lo (at + length p) trees nil) []
+      ∙ ap (λ d. unclosed_onto (x ∷ groups) trees (Closes d (at + length p) ∷ [])) same,
 )
 closed p at c x groups trees (inr apart) = inr (c, refl, apart)
 
@@ -226,8 +227,8 @@ moved (Doc inner text) p at groups trees =
     inl (
       groups,
       joined trees doc,
-      written-joined groups trees doc []
-          ∙ ap (written_onto groups trees) (doc_trees-events at (at + length p) inner text []),
+      unclosed-joined groups trees doc []
+          ∙ ap (unclosed_onto groups trees) (doc_trees-events at (at + length p) inner text []),
     )
 moved (Open c) p at groups trees =
     inl (record { outer = trees; delimiter = delimiter_of c; lo = at } ∷ groups, nil, refl)
@@ -238,7 +239,7 @@ moved (Leaf token) p at groups trees =
     inl (
       groups,
       joined trees (leaf token at (at + length p) nil),
-      written-joined groups trees (leaf token at (at + length p) nil) [],
+      unclosed-joined groups trees (leaf token at (at + length p) nil) [],
     )
 
 ends : (base : ℕ) (source rest : List ℕ) (at : ℕ) (first : Bool) (groups : List Opened) (trees : Forest)

@@ -1,7 +1,7 @@
 pub mod CoverLemmas
 pub mod DocLemmas
 pub mod PieceLemmas
-pub mod Levels
+pub mod TreeLemmas
 pub mod BuildingLemmas
 pub mod InOrderLemmas
 pub mod WalkLemmas
@@ -9,14 +9,14 @@ pub mod PrintLemmas
 pub mod SpacedLemmas
 pub mod SameLemmas
 pub mod EventLemmas
-pub mod WrittenLemmas
+pub mod OpenGroupLemmas
 pub mod PrintedEventLemmas
-pub mod ReadSoFar
+pub mod ParserLemmas
 pub mod ParseLemmas
 pub mod FaultLemmas
 pub mod ReprintLemmas
 pub mod SpanLemmas
-pub mod PlaceLemmas
+pub mod LineColumnLemmas
 pub mod LawLemmas
 pub mod RuleLemmas
 mod SpacedExamples

@@ -16,9 +16,10 @@ use Rattle.pm_token.specs.declared.errors.ParseError.TheVariants.{Lex, MapFull, 
 use Rattle.pm_stream.specs.Events.{events_onto}
 use Rattle.pm_stream.specs.Forest.{Forest}
 use Rattle.pm_stream.specs.Parsing.{ParsesTo, FaultAt}
-use Rattle.pm_stream.specs.Written.{Opened, written_onto}
+use Rattle.pm_stream.specs.OpenGroups.{Opened, unclosed_onto}
 use Rattle.pm_stream.specs.Fault.{IsFaultFor, IsStray, IsOpenFault, IsFault}
-use Rattle.pm_stream.proofs.ReadSoFar.{Reads, reads_more, reads_white, reads_all, reads_open, reads_stray, reads_stuck}
+use Rattle.pm_stream.proofs.ParserLemmas.{Reads, reads_more, reads_white, reads_all, reads_open}
+use Rattle.pm_stream.proofs.ParserLemmas.{reads_stray, reads_stuck}
 
 found_shorter : (first : Bool) (source : List ℕ) (piece : Piece) (h : IsPieceAt first source piece)
     → (piece.chars + length h.rest ≡ length source) × (length h.rest < length source)
@@ -41,8 +42,8 @@ left_shorter first text behind rest count piece utf8 h e white =
 reads_found : (base : ℕ) (source mid rest : List ℕ) (at : ℕ) (first : Bool) (groups groups' : List Opened)
     (trees trees' : Forest) (piece : Piece)
     → Reads base source mid at first groups trees → (h : IsPieceAt first mid piece) → rest ≡ h.rest
-    → written_onto groups' trees' []
-    ≡ written_onto groups trees (events_onto at (kind_of piece.kind h.front) h.front [])
+    → unclosed_onto groups' trees' []
+    ≡ unclosed_onto groups trees (events_onto at (kind_of piece.kind h.front) h.front [])
     → Reads base source rest (at + piece.chars) false groups' trees'
 reads_found base source mid rest at first groups groups' trees trees' piece reads h e grows =
     subst (λ r. Reads base source r (at + piece.chars) false groups' trees') (sym e)
@@ -54,8 +55,8 @@ pub reads_on : (base : ℕ) (source mid behind rest : List ℕ) (at count : ℕ)
     (trees trees' : Forest)
     (piece : Piece)
     → Reads base source mid at first groups trees → (h : IsPieceAt first mid piece) → behind ≡ h.rest
-    → written_onto groups' trees' []
-    ≡ written_onto groups trees (events_onto at (kind_of piece.kind h.front) h.front [])
+    → unclosed_onto groups' trees' []
+    ≡ unclosed_onto groups trees (events_onto at (kind_of piece.kind h.front) h.front [])
     → IsPastWhite behind rest count
     → Reads base source rest (at + (piece.chars + count)) false groups' trees'
 reads_on base source mid behind rest at count first groups groups' trees trees' piece reads h e grows white =

@@ -19,7 +19,7 @@ use Rattle.pm_token.specs.Text.{IsText}
 use Rattle.pm_token.proofs.TextLemmas.{text_split}
 use Rattle.pm_stream.specs.Events.{One}
 use Rattle.pm_stream.specs.Forest.{flat_onto}
-use Rattle.pm_stream.specs.Level.{alone}
+use Rattle.pm_stream.specs.Trees.{alone}
 use Rattle.pm_stream.specs.declared.stream.TokenTree.TheVariants as trees
 
 -- what stands in a source is built, where it is a text
@@ -84,6 +84,6 @@ front_is first text bytes front rest piece utf8 h e whole size =
 pub name_events : (ident : leaves.Name) (name : List ℕ) (raw : Bool) (span : Extent) (lo hi : ℕ)
     → ident ≡ record { name = name; raw = raw; span = span } → span ≡ record { lo = lo; hi = hi }
     → flat_onto (alone (trees.Ident ident)) [] ≡ One (Name raw name) lo hi ∷ []
-name_events ident name raw span lo hi e place =
+name_events ident name raw span lo hi e span_is =
     ap (λ i. flat_onto (alone (trees.Ident i)) []) e
-    ∙ ap (λ (x : Extent). One (Name raw name) x.lo x.hi ∷ []) place
+    ∙ ap (λ (x : Extent). One (Name raw name) x.lo x.hi ∷ []) span_is

@@ -9,7 +9,7 @@ use Rattle.std.specs.declared.fmt.Formatter.{Formatter}
 use Rattle.std.specs.Str.{encode_utf8_all}
 use Rattle.pm_token.specs.declared.delimiters.Delimiter.{Delimiter}
 use Rattle.pm_stream.specs.Delimited.{opening, is_brace}
-use Rattle.pm_stream.specs.Level.{forest, alone}
+use Rattle.pm_stream.specs.Trees.{forest, alone}
 use Rattle.pm_stream.specs.Printed.{printed_after, printed, space}
 use Rattle.pm_stream.specs.PrintedTree.{front_text, gap_within, ending}
 use Rattle.pm_stream.specs.Size.{count}

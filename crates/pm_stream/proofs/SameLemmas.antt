@@ -11,7 +11,7 @@ use Rattle.pm_token.specs.Leaf.{name_token, mark_token, text_token}
 use Rattle.pm_token.specs.declared.delimiters.Delimiter.{Delimiter}
 use Rattle.pm_stream.specs.Events.{One, Opens}
 use Rattle.pm_stream.specs.Forest.{Forest, nil, leaf, group}
-use Rattle.pm_stream.specs.Level.{before, forest, inside}
+use Rattle.pm_stream.specs.Trees.{before, forest, inside}
 use Rattle.pm_stream.specs.Same.{Same}
 use Rattle.pm_stream.specs.SameTree.{first_event}
 use Rattle.pm_stream.specs.Size.{count}

@@ -2,7 +2,7 @@
 use Rattle.std.proofs.Common.{◌≡◌, ℕ, ◌+◌, ◌*◌, ◌<◌, ◌&&◌, Bool, true, false, Result, Ok, Err, is_ok, if◌then◌else◌}
 use Rattle.std.proofs.Common.{List, [], ◌∷◌, ◌++◌, length, Bor, refl, ap, ◌∙◌, arith}
 use Rattle.pm_stream.specs.Forest.{Forest}
-use Rattle.pm_stream.specs.Level.{before, forest, inside}
+use Rattle.pm_stream.specs.Trees.{before, forest, inside}
 use Rattle.pm_stream.specs.Size.{count}
 use Rattle.pm_stream.specs.SpacedTree.{tree_fits}
 use Rattle.pm_stream.specs.WellSpaced.{well_spaced}

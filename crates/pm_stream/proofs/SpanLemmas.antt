@@ -12,7 +12,7 @@ use Rattle.pm_token.specs.declared.errors.ParseError.{ParseError}
 use Rattle.pm_stream.specs.Events.{Event, One, Opens, Closes, events_onto, expansion}
 use Rattle.pm_stream.specs.Forest.{Forest, nil, leaf, group, flat_onto}
 use Rattle.pm_stream.specs.InOrder.{token_tree, in_order_onto, in_order}
-use Rattle.pm_stream.specs.Level.{forest}
+use Rattle.pm_stream.specs.Trees.{forest}
 use Rattle.pm_stream.specs.Parsing.{ParsesTo}
 use Rattle.pm_stream.specs.TreeSpan.{extent_of}
 use Rattle.pm_stream.specs.HeldSpans.{HoldsAll, HoldsTree, HoldsEach}

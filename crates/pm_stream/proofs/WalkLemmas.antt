@@ -1,7 +1,7 @@
 -- Steps of a walk over a stream's trees.
 use Rattle.std.proofs.Common.{◌≡◌, List, [], ◌∷◌, ◌++◌, length, Bor, refl, sym, ◌∙◌, arith}
 use Rattle.pm_stream.specs.InOrder.{in_order_onto, BeginsWithGroup}
-use Rattle.pm_stream.specs.Level.{forest}
+use Rattle.pm_stream.specs.Trees.{forest}
 use Rattle.pm_stream.specs.Walk.{after_groups, left_to_read}
 use Rattle.pm_stream.specs.declared.stream.Group.{Group as Grouped}
 use Rattle.pm_stream.specs.declared.stream.TokenTree.{TokenTree}

@@ -3,7 +3,7 @@ use Rattle.std.specs.Prelude.{◌≡◌, List, [], ◌∷◌, Option, Some, if�
 use Rattle.std.specs.Iterator.{Drains, Yields}
 use Rattle.pm_token.specs.Negative.{has_minus, minus_of, number_of}
 use Rattle.pm_stream.specs.Forest.{Forest, nil, joined}
-use Rattle.pm_stream.specs.Level.{alone, before}
+use Rattle.pm_stream.specs.Trees.{alone, before}
 use Rattle.pm_stream.specs.declared.stream.TokenTree.{TokenTree}
 use Rattle.pm_stream.specs.declared.stream.TokenTree.TheVariants.{Group, Ident, Punct, Literal}
 

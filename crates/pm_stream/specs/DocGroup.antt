@@ -8,7 +8,7 @@ use Rattle.pm_token.specs.declared.delimiters.Delimiter.{Delimiter}
 use Rattle.pm_token.specs.declared.delimiters.Delimiter.TheVariants.{Bracket}
 use Rattle.pm_stream.specs.Forest.{Forest, nil, leaf, group}
 use Rattle.pm_stream.specs.InOrder.{token_tree}
-use Rattle.pm_stream.specs.Level.{alone, forest}
+use Rattle.pm_stream.specs.Trees.{alone, forest}
 use Rattle.pm_stream.specs.Printed.{printed}
 use Rattle.pm_stream.specs.declared.stream.Group.{Group as Grouped}
 use Rattle.pm_stream.specs.declared.stream.TokenTree.{TokenTree}

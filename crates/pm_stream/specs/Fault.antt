@@ -6,7 +6,7 @@ use Rattle.pm_token.specs.declared.errors.ParseError.{ParseError}
 use Rattle.pm_token.specs.declared.errors.ParseError.TheVariants.{Lex, MapFull, Memory}
 use Rattle.pm_stream.specs.Delimited.{delimiter_of}
 use Rattle.pm_stream.specs.Parsing.{FaultAt}
-use Rattle.pm_stream.specs.Written.{Opened, FitsInnermost}
+use Rattle.pm_stream.specs.OpenGroups.{Opened, FitsInnermost}
 
 -- a fault at the position, for this reason, or want of memory where there is no such reason
 abbrev pub IsFaultFor : ℕ → Type 0 → ParseError → Type 0

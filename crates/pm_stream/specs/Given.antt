@@ -2,7 +2,7 @@
 use Rattle.std.specs.Prelude.{List, Option, IfSome}
 use Rattle.std.specs.Iterator.{YieldsFirst}
 use Rattle.pm_stream.specs.Forest.{IsBuilt}
-use Rattle.pm_stream.specs.Level.{forest, GoesInside}
+use Rattle.pm_stream.specs.Trees.{forest, GoesInside}
 use Rattle.pm_stream.specs.declared.stream.TokenTree.{TokenTree}
 
 -- the first of the trees that were left is given, if there is one, and may be put into a stream; the others are left

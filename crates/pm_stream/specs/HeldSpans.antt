@@ -3,7 +3,7 @@ use Rattle.std.specs.Prelude.{ℕ, ◌<◌, ◌≡◌, List, length, slice_index
 use Rattle.pm_span.specs.Files.{Files, Holds}
 use Rattle.pm_stream.specs.Forest.{Forest}
 use Rattle.pm_stream.specs.InOrder.{in_order}
-use Rattle.pm_stream.specs.Level.{inside}
+use Rattle.pm_stream.specs.Trees.{inside}
 use Rattle.pm_stream.specs.TreeSpan.{extent_of}
 use Rattle.pm_stream.specs.declared.stream.TokenTree.{TokenTree}
 

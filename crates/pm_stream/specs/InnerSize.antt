@@ -6,7 +6,7 @@ use Rattle.std.proofs.Common.{arith}
 use denote.Param.Weighed.{most}
 use Rattle.pm_stream.specs.Forest.{Forest}
 use Rattle.pm_stream.specs.Size.{count}
-use Rattle.pm_stream.specs.Level.{before, forest, held}
+use Rattle.pm_stream.specs.Trees.{before, forest, held}
 use Rattle.pm_stream.specs.declared.stream.TokenTree.{TokenTree}
 use Rattle.pm_stream.specs.declared.stream.TokenTree.TheVariants.{Group, Ident, Punct, Literal}
 use Rattle.pm_stream.specs.declared.stream.TokenStream.TheDeep.{deep-TokenTree}

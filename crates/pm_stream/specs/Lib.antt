@@ -4,7 +4,7 @@ pub mod Events
 pub mod Forest
 pub mod Size
 pub mod Codec
-pub mod Level
+pub mod Trees
 pub mod InnerSize
 pub mod TreeSpan
 pub mod Printed
@@ -17,12 +17,12 @@ pub mod SpacedTree
 pub mod Same
 pub mod SameTree
 pub mod Parsing
-pub mod Written
+pub mod OpenGroups
 pub mod PrintsText
 pub mod Fault
 pub mod Nesting
-pub mod Progress
-pub mod ReprintSoFar
+pub mod ParserState
+pub mod PrinterState
 pub mod InOrder
 pub mod DocGroup
 pub mod Walk

@@ -1,8 +1,8 @@
 -- How one list holds the trees of all the open groups. The frames stand with the innermost first.
 use Rattle.std.specs.Prelude.{ℕ, ◌≤◌, List, [], ◌∷◌, take, drop}
 use Rattle.std.specs.Coded.{×_prop, Unit-prop, le_prop}
-use Rattle.pm_stream.specs.Level.{forest}
-use Rattle.pm_stream.specs.Written.{Opened}
+use Rattle.pm_stream.specs.Trees.{forest}
+use Rattle.pm_stream.specs.OpenGroups.{Opened}
 use Rattle.pm_stream.specs.declared.parse.Frame.{Frame}
 use Rattle.pm_stream.specs.declared.stream.TokenTree.{TokenTree}
 

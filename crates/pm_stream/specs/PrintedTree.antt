@@ -4,7 +4,7 @@ use Rattle.lexical.specs.Token.{token_text}
 use Rattle.pm_token.specs.declared.delimiters.Delimiter.{Delimiter}
 use Rattle.pm_token.specs.Leaf.{name_token, mark_token, text_token}
 use Rattle.pm_stream.specs.Delimited.{opening, closing, is_brace}
-use Rattle.pm_stream.specs.Level.{alone}
+use Rattle.pm_stream.specs.Trees.{alone}
 use Rattle.pm_stream.specs.Printed.{parts, space, printed}
 use Rattle.pm_stream.specs.declared.stream.Group.{Group as Grouped}
 use Rattle.pm_stream.specs.declared.stream.TokenTree.{TokenTree}

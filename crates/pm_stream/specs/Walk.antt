@@ -2,7 +2,7 @@
 use Rattle.std.specs.Prelude.{List, [], ◌∷◌}
 use Rattle.std.specs.Borrow.{Bor}
 use Rattle.pm_stream.specs.InOrder.{in_order_onto}
-use Rattle.pm_stream.specs.Level.{forest}
+use Rattle.pm_stream.specs.Trees.{forest}
 use Rattle.pm_stream.specs.declared.stream.TokenTree.{TokenTree}
 
 -- the trees after open groups, given for each group, the outermost first, in reading order, and then others

@@ -7,7 +7,7 @@ ghost use Rattle.std.specs.Prelude.{◌≡◌};
 ghost use Rattle.std.specs.Fmt.{WritesOnOk};
 ghost use Rattle.std.specs.Str.{encode_utf8_all};
 ghost use Rattle.pm_stream.specs.Delimited.{opening, is_brace};
-ghost use Rattle.pm_stream.specs.Level.{forest};
+ghost use Rattle.pm_stream.specs.Trees.{forest};
 ghost use Rattle.pm_stream.specs.Printed.{printed_after, space};
 ghost use Rattle.pm_stream.specs.PrintedTree.{front_text, ending, gap_within};
 
@@ -155,7 +155,7 @@ impl Display for TokenStream {
 /// A token, or a group with its delimiters, by the rule `printed`. Fails as a stream does.
 impl Display for TokenTree {
     ghost use Rattle.std.specs.Prelude.{Some};
-    ghost use Rattle.pm_stream.specs.Level.{alone};
+    ghost use Rattle.pm_stream.specs.Trees.{alone};
     ghost use Rattle.pm_stream.specs.Printed.{printed};
 
     ghost output = { λ tree. Some (encode_utf8_all (printed (alone tree))) };

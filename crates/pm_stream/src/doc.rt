@@ -2,7 +2,7 @@
 ghost use Rattle.std.specs.Prelude.{◌≡◌, [], ◌∷◌, List, IfOk, IfSome, option_copied};
 ghost use Rattle.std.specs.Str.{chars};
 ghost use Rattle.pm_stream.specs.DocGroup.{AreDocOf, IsDocOf, doc_in, doc_of, is_doc, is_equals};
-ghost use Rattle.pm_stream.specs.Level.{alone, forest};
+ghost use Rattle.pm_stream.specs.Trees.{alone, forest};
 ghost use Rattle.pm_stream.specs.Forest.{flat_onto};
 ghost use Rattle.pm_stream.specs.Events.{Event, doc_group_onto};
 ghost use Rattle.pm_token.specs.Leaf.{Name, Mark};

@@ -11,11 +11,11 @@ ghost use Rattle.pm_token.specs.Leaf.{is_joint};
 ghost use Rattle.pm_stream.specs.Delimited.{delimiter_of};
 ghost use Rattle.pm_stream.specs.Events.{Event, One, Opens, Closes, doc_onto, events_onto};
 ghost use Rattle.pm_stream.specs.Forest.{nil, flat_onto, IsBuilt};
-ghost use Rattle.pm_stream.specs.Level.{alone, GoesInside};
+ghost use Rattle.pm_stream.specs.Trees.{alone, GoesInside};
 ghost use Rattle.pm_token.specs.Outcome.{IfLex, was_read};
 ghost use Rattle.pm_stream.specs.HeldSpans.{HoldsAll};
 ghost use Rattle.pm_stream.specs.Parsing.{ParsesTo, FaultAt, HasNoFault, IsOnlyFault};
-ghost use Rattle.pm_stream.specs.Written.{FitsInnermost};
+ghost use Rattle.pm_stream.specs.OpenGroups.{FitsInnermost};
 ghost use Rattle.pm_stream.specs.Nesting.{IsNested, IsNested-prop};
 ghost use Rattle.pm_stream.specs.Fault.{IsFaultFor, IsStray, IsOpenFault, IsFault};
 
@@ -35,7 +35,7 @@ impl TokenStream {
     /// Spans count characters, from the position on where the file begins, and the map holds the
     /// span of each tree. A fault (`fault`) has an empty span: where no piece of the grammar stands,
     /// before a closer that doesn't close the innermost open group, or else before the last opener
-    /// that no closer matches. The text is a file of the map then too, so that the place can be
+    /// that no closer matches. The text is a file of the map then too, so that its line can be
     /// asked. `MapFull` is answered exactly where the text would end past the map's limit (`fits`),
     /// and `Memory` where a growth was refused; both leave the map as it was.
     ///
@@ -48,7 +48,7 @@ impl TokenStream {
         ensures spans { IfOk result (HoldsAll map.new) }
         ensures within { IsTrue (was_read result) → Fits map.old (length (chars text.now)) }
 
-        // The fault has one place, and the map holds it.
+        // The fault has one position, and the map holds it.
         ensures lex { IfErr result (λ error. IfLex error (λ fault.
             (fault.lo ≡ fault.hi) × FaultAt (next_lo map.old) (chars text.now) fault.lo)) }
         ensures only { IfErr result (λ error. IfLex error (λ fault.
@@ -104,25 +104,25 @@ pub(crate) fn parse(alloc: Global, base: u32, text: &str) -> Result<TokenStream,
     ensures built { IfOk result IsBuilt }
     ensures lex { IfErr result (IsFault base (chars text.now)) }
 {
-    let mut reading = Reading::new(alloc);
+    let mut parser = Parser::new(alloc);
     let mut rest = text;
     let mut at = base;
     let mut first = true;
     while let Some(piece) = piece_at(rest, first) {
-        reading.take(piece, rest, at)?;
-        let behind = &rest[piece.bytes..];
+        parser.take(piece, rest, at)?;
+        let tail = &rest[piece.bytes..];
         // White characters are gaps, which say nothing, and are passed over all at once.
-        let (after, white) = past_white(behind);
+        let (after, white) = past_white(tail);
         rest = after;
         at += (piece.chars + white) as u32;
         first = false;
     }
-    reading.end(rest, at)
+    parser.end(rest, at)
 }
 
 /// What was read so far.
 #[derive(Drop)]
-struct Reading {
+struct Parser {
     alloc: Global,
     /// The groups that are open, the innermost last.
     frames: Vec<Frame>,
@@ -143,15 +143,15 @@ struct Frame {
     lo: u32,
 }
 
-impl Reading {
-    ghost use Rattle.pm_stream.specs.Progress.{groups, trees, written, IsBuiltTo};
+impl Parser {
+    ghost use Rattle.pm_stream.specs.ParserState.{groups, trees, read_onto, IsBuiltTo};
 
     /// Nothing was read.
-    fn new(alloc: Global) -> Reading
+    fn new(alloc: Global) -> Parser
         ensures groups { groups result ≡ [] }
         ensures trees { trees result ≡ nil }
     {
-        Reading {
+        Parser {
             alloc,
             frames: Vec::new(alloc),
             trees: Vec::new(alloc),
@@ -165,8 +165,8 @@ impl Reading {
         requires room { lo + piece.chars < 2 ^ 32 }
         requires built { IsBuiltTo lo self.old }
         ensures ok { OnOk result ((front rest : List ℕ) → chars text.now ≡ front ++ rest
-            → piece.entry.chars ≡ length front → written self.new []
-            ≡ written self.old (events_onto lo (kind_of piece.entry.kind front) front [])) }
+            → piece.entry.chars ≡ length front → read_onto self.new []
+            ≡ read_onto self.old (events_onto lo (kind_of piece.entry.kind front) front [])) }
         ensures built { OnOk result (IsBuiltTo (lo + piece.entry.chars) self.new) }
         ensures stray { IfErr result (IsFaultFor lo (IsStray piece.entry.kind (groups self.old))) }
     {
@@ -187,12 +187,12 @@ impl Reading {
     }
 
     /// Takes a tree that may be put into a stream.
-    // Inlined so that the tree is made in its place in the list.
+    // Inlined so that the tree is made in the list itself.
     #[inline(always)]
     fn push(&mut self, tree: TokenTree) -> Result<(), AllocError>
         requires { GoesInside tree }
         ensures ok { OnOk result ((events : List Event)
-            → written self.new events ≡ written self.old (flat_onto (alone tree) events)) }
+            → read_onto self.new events ≡ read_onto self.old (flat_onto (alone tree) events)) }
         ensures built { OnOk result ((at : ℕ) → IsBuiltTo at self.old → IsBuiltTo at self.new) }
     {
         // Proofs learn by it that the tree is built.
@@ -204,8 +204,8 @@ impl Reading {
     /// Takes a mark.
     fn push_mark(&mut self, mark: char, joint: bool, span: Span) -> Result<(), AllocError>
         requires { IsTrue (is_mark mark) }
-        ensures ok { OnOk result ((events : List Event) → written self.new events
-            ≡ written self.old (One (tokens.Mark mark joint) span.lo span.hi ∷ events)) }
+        ensures ok { OnOk result ((events : List Event) → read_onto self.new events
+            ≡ read_onto self.old (One (tokens.Mark mark joint) span.lo span.hi ∷ events)) }
         ensures built { OnOk result ((at : ℕ) → IsBuiltTo at self.old → IsBuiltTo at self.new) }
     {
         self.push(TokenTree::Punct(punct(mark, spacing(joint), span)))
@@ -216,8 +216,8 @@ impl Reading {
     #[inline(never)]
     fn push_literal(&mut self, text: &str, span: Span) -> Result<(), AllocError>
         requires { IsBuiltToken (tokens.Literal (chars text.now)) }
-        ensures ok { OnOk result ((events : List Event) → written self.new events
-            ≡ written self.old (One (tokens.Literal (chars text.now)) span.lo span.hi ∷ events)) }
+        ensures ok { OnOk result ((events : List Event) → read_onto self.new events
+            ≡ read_onto self.old (One (tokens.Literal (chars text.now)) span.lo span.hi ∷ events)) }
         ensures built { OnOk result ((at : ℕ) → IsBuiltTo at self.old → IsBuiltTo at self.new) }
     {
         let literal = literal(self.alloc, text, span)?;
@@ -227,8 +227,8 @@ impl Reading {
     /// Takes a doc comment: the mark `#`, the mark `!` if it is inner, and the group of its text.
     #[inline(never)]
     fn push_doc(&mut self, inner: bool, text: &str, span: Span) -> Result<(), AllocError>
-        ensures ok { OnOk result ((events : List Event) → written self.new events
-            ≡ written self.old (doc_onto span.lo span.hi inner (chars text.now) events)) }
+        ensures ok { OnOk result ((events : List Event) → read_onto self.new events
+            ≡ read_onto self.old (doc_onto span.lo span.hi inner (chars text.now) events)) }
         ensures built { OnOk result ((at : ℕ) → IsBuiltTo at self.old → IsBuiltTo at self.new) }
     {
         self.push_mark('#', false, span)?;
@@ -243,7 +243,7 @@ impl Reading {
     fn open(&mut self, delimiter: Delimiter, lo: u32) -> Result<(), AllocError>
         requires { IsBuiltTo lo self.old }
         ensures ok { OnOk result ((events : List Event)
-            → written self.new events ≡ written self.old (Opens delimiter lo ∷ events)) }
+            → read_onto self.new events ≡ read_onto self.old (Opens delimiter lo ∷ events)) }
         ensures built { OnOk result (IsBuiltTo lo self.new) }
     {
         let before = self.trees.len();
@@ -261,7 +261,7 @@ impl Reading {
         requires ordered { lo ≤ hi }
         requires built { IsBuiltTo lo self.old }
         ensures ok { OnOk result ((events : List Event)
-            → written self.new events ≡ written self.old (Closes delimiter hi ∷ events)) }
+            → read_onto self.new events ≡ read_onto self.old (Closes delimiter hi ∷ events)) }
         ensures built { OnOk result (IsBuiltTo hi self.new) }
         ensures stray { IfErr result
             (IsFaultFor lo (FitsInnermost delimiter (groups self.old) → ⊥)) }
@@ -303,7 +303,7 @@ impl Reading {
         ensures built { IfOk result IsBuilt }
         ensures stays_open { IfErr result (IsOpenFault (groups self)) }
     {
-        let Reading {
+        let Parser {
             alloc,
             mut frames,
             trees,

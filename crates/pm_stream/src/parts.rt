@@ -3,7 +3,7 @@ ghost use Rattle.std.specs.Prelude.{◌≡◌, ◌<◌, ◌+◌, ◌^◌, IfErr,
 ghost use Rattle.std.specs.Str.{chars};
 ghost use Rattle.pm_stream.specs.Fault.{IsFault};
 ghost use Rattle.pm_stream.specs.Forest.{IsBuilt};
-ghost use Rattle.pm_stream.specs.Level.{forest};
+ghost use Rattle.pm_stream.specs.Trees.{forest};
 ghost use Rattle.pm_stream.specs.Parsing.{ParsesTo};
 
 use crate::parse::parse;

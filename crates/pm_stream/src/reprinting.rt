@@ -11,9 +11,9 @@ ghost use Rattle.pm_stream.specs.Events.{One, Opens, Closes, doc_onto, events_on
 ghost use Rattle.pm_stream.specs.Fault.{IsFault, IsFaultFor, IsOpenFault, IsStray};
 ghost use Rattle.pm_stream.specs.Forest.{Forest};
 ghost use Rattle.pm_stream.specs.Printed.{parts, printed, space};
-ghost use Rattle.pm_stream.specs.ReprintSoFar.{Prints, PrintsEvents, doc_front};
+ghost use Rattle.pm_stream.specs.PrinterState.{Prints, PrintsEvents, doc_front};
 ghost use Rattle.pm_stream.specs.PrintsText.{PrintsText};
-ghost use Rattle.pm_stream.specs.Written.{FitsInnermost, Opened};
+ghost use Rattle.pm_stream.specs.OpenGroups.{FitsInnermost, Opened};
 
 use crate::display::{closer, is_brace, opener};
 use crate::parse::{delimiter, fault_at};
@@ -54,12 +54,12 @@ fn reprint_at(alloc: Global, base: u32, text: &str) -> Result<String, ParseError
     ensures ok { IfOk result (λ out. PrintsText base (chars text.now) (string_bytes out)) }
     ensures lex { IfErr result (IsFault base (chars text.now)) }
 {
-    let mut printing = Printing::with_room(alloc, text.len())?;
+    let mut printer = Printer::with_room(alloc, text.len())?;
     let mut rest = text;
     let mut at = base;
     let mut first = true;
     while let Some(piece) = piece_at(rest, first) {
-        printing.take(piece, rest, at)?;
+        printer.take(piece, rest, at)?;
         let tail = &rest[piece.bytes..];
         // White characters are gaps, of which nothing is printed, and are passed over all at once.
         let (after, white) = past_white(tail);
@@ -67,12 +67,12 @@ fn reprint_at(alloc: Global, base: u32, text: &str) -> Result<String, ParseError
         at += (piece.chars + white) as u32;
         first = false;
     }
-    printing.end(rest, at)
+    printer.end(rest, at)
 }
 
 /// What was printed so far.
 #[derive(Drop)]
-struct Printing {
+struct Printer {
     /// The groups that are open, the innermost last.
     groups: Vec<OpenGroup>,
     /// What is printed of what was read.
@@ -90,14 +90,14 @@ struct OpenGroup {
     lo: u32,
 }
 
-impl Printing {
+impl Printer {
     /// Nothing was printed, and there is room for so many bytes.
-    fn with_room(alloc: Global, bytes: usize) -> Result<Printing, AllocError>
+    fn with_room(alloc: Global, bytes: usize) -> Result<Printer, AllocError>
         ensures groups { IfOk result (λ new. new.groups.items ≡ []) }
         ensures draft { IfOk result (λ new. new.draft ≡ []) }
         ensures gap { IfOk result (λ new. new.gap ≡ false) }
     {
-        Ok(Printing {
+        Ok(Printer {
             groups: Vec::new(alloc),
             draft: Draft::with_room(alloc, bytes)?,
             gap: false,
@@ -206,7 +206,7 @@ impl Printing {
         if !rest.is_empty() {
             return Err(fault_at(at));
         }
-        let Printing {
+        let Printer {
             mut groups,
             draft,
             gap: _,

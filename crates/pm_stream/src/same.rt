@@ -5,7 +5,7 @@
 //! so that it answers all the same.
 ghost use Rattle.std.specs.Prelude.{◌≡◌, ◌↔◌, IsTrue};
 ghost use Rattle.std.specs.Str.{chars};
-ghost use Rattle.pm_stream.specs.Level.{forest};
+ghost use Rattle.pm_stream.specs.Trees.{forest};
 ghost use Rattle.pm_stream.specs.Same.{Same};
 ghost use Rattle.pm_stream.specs.SameTree.{first_event};
 

@@ -4,7 +4,7 @@ ghost use Rattle.pm_span.specs.Extent.{nowhere};
 ghost use Rattle.pm_span.specs.Files.{Files};
 ghost use Rattle.pm_stream.specs.Forest.{Forest, nil, joined, IsBuilt};
 ghost use Rattle.pm_stream.specs.HeldSpans.{HoldsAll, HoldsEach};
-ghost use Rattle.pm_stream.specs.Level.{forest, held, alone, inside, GoesInside, TakesLast};
+ghost use Rattle.pm_stream.specs.Trees.{forest, held, alone, inside, GoesInside, TakesLast};
 ghost use Rattle.pm_stream.specs.Size.{is_nil, count};
 ghost use Rattle.pm_stream.specs.TreeSpan.{extent_of, with_span};
 
@@ -37,7 +37,7 @@ impl Model for TokenStream {
 
     ghost use Rattle.pm_stream.specs.Forest.{IsBuilt};
     ghost use Rattle.pm_stream.specs.Size.{count};
-    ghost use Rattle.pm_stream.specs.Level.{held};
+    ghost use Rattle.pm_stream.specs.Trees.{held};
 
     ghost view = { λ a. held a.trees };
 
@@ -74,7 +74,7 @@ pub struct Group {
 }
 
 // A walk from the last tree to the first, into each group that has no other owner. The way back is
-// kept in the lists themselves, in the place of the group that the walk went into: so a stream is
+// kept in the lists themselves, where the group was that the walk went into: so a stream is
 // dropped in little stack and no memory, however deep its groups nest.
 impl Drop for TokenStream {
     #[cycle(tree)]
@@ -91,7 +91,7 @@ impl Drop for TokenStream {
             trees: Some(shared),
         };
         let mut outer = last.into_inside(alloc);
-        // A step takes a tree, or the way back that an earlier step put in its place. So there are at
+        // A step takes a tree, or the way back that an earlier step left there. So there are at
         // most two for each tree, and one that ends the walk: fewer than the bound, which no memory has
         // trees for. It spares a measure of the walk; what it left would be dropped by other walks.
         for _ in 0..u64::MAX {

@@ -3,7 +3,7 @@ ghost use Rattle.std.specs.Prelude.{◌≡◌, All, IfOk, Some, length};
 ghost use Rattle.pm_span.specs.Files.{Files};
 ghost use Rattle.pm_stream.specs.Forest.{IsBuilt};
 ghost use Rattle.pm_stream.specs.HeldSpans.{HoldsAll, HoldsEach};
-ghost use Rattle.pm_stream.specs.Level.{forest, GoesInside};
+ghost use Rattle.pm_stream.specs.Trees.{forest, GoesInside};
 
 pub use crate::stream::TokenStream;
 use crate::stream::TokenTree;
@@ -36,7 +36,7 @@ impl Model for IntoIter {
     ghost use Rattle.std.specs.Prelude.{◌≡◌, length};
     ghost use Rattle.std.specs.VecDeque.{deque_len};
     ghost use Rattle.pm_stream.specs.Forest.{IsBuilt};
-    ghost use Rattle.pm_stream.specs.Level.{forest};
+    ghost use Rattle.pm_stream.specs.Trees.{forest};
 
     ghost invariant = { λ it. (deque_len it.left ≡ length it.left.items) × IsBuilt (forest it.left.items) };
 }

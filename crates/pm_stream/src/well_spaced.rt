@@ -11,7 +11,7 @@ ghost use Rattle.lexical.specs.Mark.{quotable_fronts};
 ghost use Rattle.lexical.specs.Text.{begins_any, begins_with, first_passes};
 ghost use Rattle.pm_token.specs.Leaf.{mark_token};
 ghost use Rattle.pm_stream.specs.Forest.{IsBuilt};
-ghost use Rattle.pm_stream.specs.Level.{forest};
+ghost use Rattle.pm_stream.specs.Trees.{forest};
 ghost use Rattle.pm_stream.specs.SpacedTree.{tree_fits};
 ghost use Rattle.pm_stream.specs.WellSpaced.{fits, follows_joint, follows_quote, next_token, well_spaced, IsWellSpaced};
 

@@ -1,7 +1,7 @@
 pub use Rattle.pm_stream.proofs.FaultLemmas
 pub use Rattle.pm_stream.proofs.InOrderLemmas
 pub use Rattle.pm_stream.proofs.SpanLemmas
-pub use Rattle.pm_stream.proofs.PlaceLemmas
+pub use Rattle.pm_stream.proofs.LineColumnLemmas
 pub use Rattle.lexical.proofs.TextLemmas
 pub use Rattle.pm_token.proofs.WrittenLemmas
 pub mod Places

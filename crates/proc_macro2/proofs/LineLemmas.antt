@@ -10,7 +10,7 @@ use Rattle.pm_stream.specs.Forest.{Forest, joined, flattening}
 use Rattle.pm_stream.specs.Parsing.{ParsesTo}
 use Rattle.pm_stream.proofs.CoverLemmas.{onto-append}
 use Rattle.pm_stream.proofs.LawLemmas.{one_cover}
-use Rattle.pm_stream.proofs.Levels.{flattening-joined}
+use Rattle.pm_stream.proofs.TreeLemmas.{flattening-joined}
 use Rattle.proc_macro2.specs.Laws.{Gives}
 use Rattle.proc_macro2.proofs.Places.{bare, bare-append, said, said-append, said_parsed, same_from_said}
 use Rattle.proc_macro2.proofs.CutLemmas.{MayBreak, stand_cut}

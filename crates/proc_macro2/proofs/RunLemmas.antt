@@ -23,7 +23,7 @@ use Rattle.pm_stream.specs.declared.stream.TokenTree.TheVariants.{Group}
 use Rattle.pm_stream.proofs.CoverLemmas.{expansion-append, width-append}
 use Rattle.pm_stream.proofs.DocLemmas.{doc_trees, doc_trees-events}
 use Rattle.pm_stream.proofs.InOrderLemmas.{in_order-joined, each_onto}
-use Rattle.pm_stream.proofs.Levels.{flat_onto-append, flat_onto-joined}
+use Rattle.pm_stream.proofs.TreeLemmas.{flat_onto-append, flat_onto-joined}
 use Rattle.proc_macro2.specs.GivesBack.{piece_of, IsRunOf, IsRunOfDoc, StandsOn}
 
 -- ---- the events of a stream, cut at its end

@@ -8,7 +8,7 @@ use Rattle.lexical.specs.Quoted.{is_one_of}
 use Rattle.lexical.proofs.LiteralFinderLemmas.{literal_front, literal_fronts}
 use Rattle.pm_token.specs.Negative.{has_minus, minus_of, number_of}
 use Rattle.pm_stream.specs.Building.{split}
-use Rattle.pm_stream.specs.Level.{GoesInside, alone, before}
+use Rattle.pm_stream.specs.Trees.{GoesInside, alone, before}
 use Rattle.pm_stream.specs.declared.stream.TokenTree.{TokenTree}
 use Rattle.pm_stream.specs.declared.stream.TokenTree.TheVariants.{Group, Ident, Punct, Literal}
 

@@ -11,7 +11,7 @@ use Rattle.pm_stream.specs.Delimited.{opening, closing}
 use Rattle.pm_stream.specs.Events.{doc_onto, expansion}
 use Rattle.pm_stream.specs.Forest.{Forest, flattening}
 use Rattle.pm_stream.specs.InOrder.{in_order}
-use Rattle.pm_stream.specs.Level.{forest}
+use Rattle.pm_stream.specs.Trees.{forest}
 use Rattle.pm_stream.specs.Parsing.{ParsesTo}
 use Rattle.pm_stream.specs.TreeSpan.{extent_of}
 use Rattle.pm_stream.specs.declared.stream.Group.{Group as Grouped}

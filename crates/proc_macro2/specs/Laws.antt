@@ -8,7 +8,7 @@ use Rattle.lexical.specs.Cover.{onto, IsCover}
 use Rattle.pm_token.specs.Text.{IsText}
 use Rattle.pm_stream.specs.Building.{split}
 use Rattle.pm_stream.specs.Forest.{Forest, IsBuilt, joined}
-use Rattle.pm_stream.specs.Level.{GoesInside, alone}
+use Rattle.pm_stream.specs.Trees.{GoesInside, alone}
 use Rattle.pm_stream.specs.Parsing.{ParsesTo, FaultAt}
 use Rattle.pm_stream.specs.Printed.{printed}
 use Rattle.pm_stream.specs.Same.{Same}

@@ -61,7 +61,7 @@ pub use Rattle.pm_stream.specs.Forest
 pub use Rattle.pm_stream.specs.Given
 pub use Rattle.pm_stream.specs.HeldSpans
 pub use Rattle.pm_stream.specs.InOrder
-pub use Rattle.pm_stream.specs.Level
+pub use Rattle.pm_stream.specs.Trees
 pub use Rattle.pm_stream.specs.Parsing
 pub use Rattle.pm_stream.specs.PrintsText
 pub use Rattle.pm_stream.specs.Printed

@@ -6,7 +6,7 @@ use Rattle.std.proofs.lemmas.List as takes
 use Rattle.std.proofs.lemmas.List.{drop-drop, take-append-drop}
 use Rattle.std.proofs.lemmas.List.Elements.{All-drop, All-get_or, All-head}
 use Rattle.proc_macro2.specs.Forest.{Forest, joined}
-use Rattle.proc_macro2.specs.Level.{GoesInside, alone, before, forest}
+use Rattle.proc_macro2.specs.Trees.{GoesInside, alone, before, forest}
 use Rattle.proc_macro2.specs.declared.TokenTree.{TokenTree}
 use Rattle.proc_macro2.specs.declared.TokenTree.TheVariants.{Group, Ident, Punct, Literal}
 use Rattle.quoting.specs.Part.{Adds, Part, done_of, others}

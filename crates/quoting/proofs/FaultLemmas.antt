@@ -3,7 +3,7 @@
 use Rattle.std.proofs.Common.{◌≡◌, ℕ, ◌+◌, ◌*◌, ◌<◌, Bool, true, false, Option, Some, None, List, [], ◌∷◌, ◌++◌, length}
 use Rattle.std.proofs.Common.{Bor, if◌then◌else◌, refl, sym, ap, ◌∙◌, arith}
 use Rattle.proc_macro2.specs.Forest.{Forest, nil}
-use Rattle.proc_macro2.specs.Level.{before, forest, inside}
+use Rattle.proc_macro2.specs.Trees.{before, forest, inside}
 use Rattle.proc_macro2.specs.Leaf.{mark_token}
 use Rattle.proc_macro2.specs.Shown.{is_shown}
 use Rattle.proc_macro2.specs.Size.{count}

@@ -2,7 +2,7 @@
 use Rattle.std.proofs.Common.{◌≡◌, ℕ, ◌+◌, ◌*◌, ◌<◌, Result, Ok, Err, IfOk, List, [], ◌∷◌, ◌++◌, refl, sym, ap, ap₂}
 use Rattle.std.proofs.Common.{subst, ◌∙◌, arith}
 use Rattle.proc_macro2.specs.Forest.{Forest, nil, leaf, group, joined}
-use Rattle.proc_macro2.specs.Level.{before, forest}
+use Rattle.proc_macro2.specs.Trees.{before, forest}
 use Rattle.proc_macro2.specs.Size.{count}
 use Rattle.proc_macro2.specs.WellSpaced.{next_token}
 use Rattle.proc_macro2.specs.declared.Group.{Group as Grouped}

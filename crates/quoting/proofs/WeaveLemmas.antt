@@ -5,7 +5,7 @@ use Rattle.std.proofs.lemmas.List.Elements.{All-drop}
 use Rattle.proc_macro2.specs.Forest.{Forest, nil, leaf, group, joined}
 use Rattle.proc_macro2.specs.Leaf.{mark_token, name_token, text_token}
 use Rattle.proc_macro2.specs.Leaf as leaves
-use Rattle.proc_macro2.specs.Level.{GoesInside, alone, before, forest}
+use Rattle.proc_macro2.specs.Trees.{GoesInside, alone, before, forest}
 use Rattle.proc_macro2.specs.Token.{Token}
 use Rattle.proc_macro2.specs.declared.Group.{Group as Grouped}
 use Rattle.proc_macro2.specs.declared.TokenTree.{TokenTree}

@@ -4,7 +4,7 @@ use Rattle.std.specs.Coded.{Coded, code_by, coded×, coded_list}
 use Rattle.proc_macro2.specs.Codec.{coded_forest}
 use Rattle.proc_macro2.specs.Forest.{Forest, nil, leaf, group, joined}
 use Rattle.proc_macro2.specs.Leaf.{mark_token}
-use Rattle.proc_macro2.specs.Level.{alone, forest}
+use Rattle.proc_macro2.specs.Trees.{alone, forest}
 use Rattle.proc_macro2.specs.Token.{Token}
 use Rattle.proc_macro2.specs.contracts.TokenTree as tree
 use Rattle.proc_macro2.specs.declared.TokenTree.{TokenTree}

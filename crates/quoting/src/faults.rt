@@ -3,7 +3,7 @@
 //! Groups may nest as deep as memory reaches, so what is left after a group stands in a list and not on the stack.
 ghost use Rattle.std.specs.Prelude.{◌≡◌, IfOk};
 ghost use Rattle.proc_macro2.specs.Leaf.{mark_token};
-ghost use Rattle.proc_macro2.specs.Level.{forest};
+ghost use Rattle.proc_macro2.specs.Trees.{forest};
 ghost use Rattle.proc_macro2.specs.WellSpaced.{next_token};
 ghost use Rattle.quoting.specs.Fault.{first_fault, may_stand, tree_fault};
 

@@ -4,7 +4,7 @@ ghost use Rattle.std.specs.Str.{chars};
 ghost use Rattle.proc_macro2.specs.Ascii.{all_ascii};
 ghost use Rattle.proc_macro2.specs.Front.{begins_any, begins_with, first_passes};
 ghost use Rattle.proc_macro2.specs.Character.{single_quote};
-ghost use Rattle.proc_macro2.specs.Level.{forest};
+ghost use Rattle.proc_macro2.specs.Trees.{forest};
 ghost use Rattle.proc_macro2.specs.Mark.{quotable_fronts};
 ghost use Rattle.proc_macro2.specs.WellSpaced.{follows_joint, follows_quote, next_token};
 

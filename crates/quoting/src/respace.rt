@@ -5,7 +5,7 @@
 ghost use Rattle.std.specs.Prelude.{◌≡◌, ◌<◌, [], ◌∷◌, All, IfOk, MatchOption, OnOk, length};
 ghost use Rattle.proc_macro2.specs.Forest.{joined, nil};
 ghost use Rattle.proc_macro2.specs.Leaf.{is_joint, mark_token};
-ghost use Rattle.proc_macro2.specs.Level.{alone, forest, GoesInside};
+ghost use Rattle.proc_macro2.specs.Trees.{alone, forest, GoesInside};
 ghost use Rattle.proc_macro2.specs.WellSpaced.{next_token};
 ghost use Rattle.quoting.specs.Part.{Adds, IsOpen, enclosed, others, respaced_alone};
 ghost use Rattle.quoting.specs.Respaced.{is_kept_joint, respaced};
@@ -54,7 +54,7 @@ struct Draft<'a> {
 impl<'a> Model for Draft<'a> {
     ghost use Rattle.quoting.specs.Part.{Part, coded_part, done_of};
     ghost use Rattle.std.specs.Prelude.{◌≡◌, ◌≤◌, All, drop, length};
-    ghost use Rattle.proc_macro2.specs.Level.{forest, GoesInside};
+    ghost use Rattle.proc_macro2.specs.Trees.{forest, GoesInside};
 
     ghost Value = { Part };
 

@@ -3,7 +3,7 @@ ghost use Rattle.std.specs.Prelude.{◌≡◌, ◌∷◌, IfSome, drop};
 ghost use Rattle.std.specs.Char.{is_ascii_digit};
 ghost use Rattle.std.specs.List.{list_all};
 ghost use Rattle.std.specs.Str.{chars};
-ghost use Rattle.proc_macro2.specs.Level.{forest};
+ghost use Rattle.proc_macro2.specs.Trees.{forest};
 ghost use Rattle.proc_macro2.specs.declared.TokenTree.TheVariants.{Group as GroupTree};
 ghost use Rattle.quoting.specs.Given.{begun_as, named_by, repeats, rest_of, starts, tree_is_mark, tree_name};
 ghost use Rattle.quoting.specs.Start.{taken};

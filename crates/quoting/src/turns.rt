@@ -1,6 +1,6 @@
 //! How many turns a repetition has, and what is wrong inside of it.
 ghost use Rattle.std.specs.Prelude.{◌≡◌, IfOk};
-ghost use Rattle.proc_macro2.specs.Level.{forest};
+ghost use Rattle.proc_macro2.specs.Trees.{forest};
 ghost use Rattle.quoting.specs.Given.{named_all, place_of, starts, text_of};
 ghost use Rattle.quoting.specs.Holes.{filling_of};
 ghost use Rattle.quoting.specs.Turns.{checked, name_checked, named_length, turns_of};

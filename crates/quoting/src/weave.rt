@@ -3,7 +3,7 @@
 //! Groups nest no deeper in a template than a limit, so that the functions may call themselves for them.
 ghost use Rattle.std.specs.Prelude.{◌≡◌, IfErr, IfOk, Ok, Err, OnOk};
 ghost use Rattle.proc_macro2.specs.Forest.{joined};
-ghost use Rattle.proc_macro2.specs.Level.{forest};
+ghost use Rattle.proc_macro2.specs.Trees.{forest};
 ghost use Rattle.quoting.specs.Filled.{before_turn, has_meaning, woven};
 ghost use Rattle.quoting.specs.Given.{UnlessMemory, apart_before, gives, inside_at, repeats_of, separator_of};
 

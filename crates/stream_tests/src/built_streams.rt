@@ -1,6 +1,6 @@
 // Streams that no text gives: groups without delimiters, trees that stand in no file.
 ghost use Rattle.std.specs.Prelude.{IfOk};
-ghost use Rattle.pm_stream.specs.Level.{GoesInside};
+ghost use Rattle.pm_stream.specs.Trees.{GoesInside};
 
 use pm_span::Span;
 use pm_span::parts::span_of;

@@ -5,7 +5,7 @@ ghost use Rattle.proc_macro2.specs.Built.{IsBuiltToken};
 ghost use Rattle.proc_macro2.specs.Forest.{IsBuilt};
 ghost use Rattle.proc_macro2.specs.Laws.{Gives};
 ghost use Rattle.proc_macro2.specs.Leaf.{mark_token, name_token};
-ghost use Rattle.proc_macro2.specs.Level.{GoesInside, alone};
+ghost use Rattle.proc_macro2.specs.Trees.{GoesInside, alone};
 ghost use Rattle.proc_macro2.specs.LiteralText.{IsLiteralText};
 ghost use Rattle.proc_macro2.specs.Printed.{printed};
 ghost use Rattle.proc_macro2.specs.Text.{IsText};

@@ -1,6 +1,6 @@
 // Streams that are well spaced and such that aren't, and what comes back from their printed texts.
 ghost use Rattle.std.specs.Prelude.{IfOk};
-ghost use Rattle.proc_macro2.specs.Level.{GoesInside};
+ghost use Rattle.proc_macro2.specs.Trees.{GoesInside};
 
 use crate::built_streams::{empty_group, grouped, one, two};
 use crate::checks::check_same;

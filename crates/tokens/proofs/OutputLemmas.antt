@@ -12,7 +12,7 @@ use Rattle.proc_macro2.specs.Forest.{Forest}
 use Rattle.proc_macro2.specs.Outcome.{IfLex, was_read}
 use Rattle.proc_macro2.specs.Parsing.{FaultAt}
 use Rattle.proc_macro2.proofs.FaultLemmas.{fault_within}
-use Rattle.proc_macro2.proofs.PlaceLemmas.{fault_starts}
+use Rattle.proc_macro2.proofs.LineColumnLemmas.{fault_starts}
 use Rattle.tokens.specs.declared.errors.RunError.{RunError}
 use Rattle.tokens.specs.declared.errors.RunError.TheVariants as run
 use Rattle.tokens.specs.Output.{HasFaultAt}

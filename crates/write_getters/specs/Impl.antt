@@ -3,7 +3,7 @@ use Rattle.std.specs.Prelude.{[], ◌∷◌, codes, false}
 use Rattle.proc_macro2.specs.Extent.{nowhere}
 use Rattle.proc_macro2.specs.Forest.{Forest}
 use Rattle.proc_macro2.specs.Leaf.{Name}
-use Rattle.proc_macro2.specs.Level.{forest}
+use Rattle.proc_macro2.specs.Trees.{forest}
 use Rattle.proc_macro2.specs.declared.Delimiter.TheVariants.{Brace}
 use Rattle.proc_macro2.specs.declared.TokenTree.TheVariants.{Group, Ident}
 

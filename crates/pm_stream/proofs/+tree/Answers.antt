@@ -1,10 +1,10 @@
 use Rattle.std.proofs.Common.{rules, ◌<◌, arith, ap, sym, subst, ◌∙◌}
 use denote.Param.Weighed.{most}
 use Rattle.pm_stream.specs.Forest.{IsBuilt}
-use Rattle.pm_stream.specs.Level.{held, inside}
+use Rattle.pm_stream.specs.Trees.{held, inside}
 use Rattle.pm_stream.specs.Size.{count}
 use Rattle.pm_stream.specs.declared.stream.TokenStream.TheDeep.{size-TokenTree}
-use Rattle.pm_stream.proofs.Levels.{IsBuilt-taken, count-not_nil, count-taken, shared_size_le}
+use Rattle.pm_stream.proofs.TreeLemmas.{IsBuilt-taken, count-not_nil, count-taken, shared_size_le}
 use Rattle.pm_stream.proofs.+tree.Goals as goal
 use Rattle.pm_stream.proofs.+tree.Goals.{stream::TokenStream::drop-in-Ok, stream::TokenStream::drop-in-Err}
 

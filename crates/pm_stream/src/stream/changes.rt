@@ -2,7 +2,7 @@
 ghost use Rattle.std.specs.Prelude.{◌≡◌, OnErr, OnOk};
 ghost use Rattle.pm_stream.specs.Building.{split};
 ghost use Rattle.pm_stream.specs.Forest.{IsBuilt, joined};
-ghost use Rattle.pm_stream.specs.Level.{forest, held};
+ghost use Rattle.pm_stream.specs.Trees.{forest, held};
 
 use super::owned::unshared;
 use super::{TokenStream, TokenTree};
@@ -67,7 +67,7 @@ fn put_shared(
     Ok(())
 }
 
-// Puts the tree after the others. Both places of a negative literal are there before its first half
+// Puts the tree after the others. Room for both halves of a negative literal is there before its first half
 // is put in.
 #[tactic(auto, using(crate::proofs::BuildingLemmas::pushed_other))]
 fn push_split(trees: &mut Vec<TokenTree>, tree: TokenTree) -> Result<(), AllocError>

@@ -1,7 +1,7 @@
 //! The trees of a stream as a list of one owner.
 ghost use Rattle.std.specs.Prelude.{◌≡◌, IfOk};
 ghost use Rattle.pm_stream.specs.Forest.{IsBuilt};
-ghost use Rattle.pm_stream.specs.Level.{forest, held};
+ghost use Rattle.pm_stream.specs.Trees.{forest, held};
 
 use super::{TokenStream, TokenTree};
 use std::alloc::{AllocError, Global};

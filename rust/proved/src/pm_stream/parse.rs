@@ -19,7 +19,7 @@ impl TokenStream {
     /// Spans count characters, from the position on where the file begins, and the map holds the
     /// span of each tree. A fault (`fault`) has an empty span: where no piece of the grammar stands,
     /// before a closer that doesn't close the innermost open group, or else before the last opener
-    /// that no closer matches. The text is a file of the map then too, so that the place can be
+    /// that no closer matches. The text is a file of the map then too, so that its line can be
     /// asked. `MapFull` is answered exactly where the text would end past the map's limit (`fits`),
     /// and `Memory` where a growth was refused; both leave the map as it was.
     ///
@@ -27,7 +27,7 @@ impl TokenStream {
     /// `(]` is 2..2, that of `a ( b` is 3..3.
     pub fn from_str(text: &str, map: &mut SourceMap) -> Result<TokenStream, ParseError>
 
-        // The fault has one place, and the map holds it.
+        // The fault has one position, and the map holds it.
     {
         let Some(lo) = fits(map, text) else {
             return Err(ParseError::MapFull);
@@ -60,24 +60,24 @@ impl TokenStream {
 /// The trees of a text that begins at the position `base`.
 pub(crate) fn parse(alloc: Global, base: u32, text: &str) -> Result<TokenStream, ParseError>
 {
-    let mut reading = Reading::new(alloc);
+    let mut parser = Parser::new(alloc);
     let mut rest = text;
     let mut at = base;
     let mut first = true;
     while let Some(piece) = piece_at(rest, first) {
-        reading.take(piece, rest, at)?;
-        let behind = &rest[piece.bytes..];
+        parser.take(piece, rest, at)?;
+        let tail = &rest[piece.bytes..];
         // White characters are gaps, which say nothing, and are passed over all at once.
-        let (after, white) = past_white(behind);
+        let (after, white) = past_white(tail);
         rest = after;
         at += (piece.chars + white) as u32;
         first = false;
     }
-    reading.end(rest, at)
+    parser.end(rest, at)
 }
 
 /// What was read so far.
-struct Reading {
+struct Parser {
     alloc: Global,
     /// The groups that are open, the innermost last.
     frames: Vec<Frame>,
@@ -96,11 +96,11 @@ struct Frame {
     lo: u32,
 }
 
-impl Reading {
+impl Parser {
     /// Nothing was read.
-    fn new(alloc: Global) -> Reading
+    fn new(alloc: Global) -> Parser
     {
-        Reading {
+        Parser {
             alloc,
             frames: Vec::new(alloc),
             trees: Vec::new(alloc),
@@ -128,7 +128,7 @@ impl Reading {
     }
 
     /// Takes a tree that may be put into a stream.
-    // Inlined so that the tree is made in its place in the list.
+    // Inlined so that the tree is made in the list itself.
     #[inline(always)]
     fn push(&mut self, tree: TokenTree) -> Result<(), AllocError>
     {
@@ -208,7 +208,7 @@ impl Reading {
     /// begins.
     fn finish(self) -> Result<TokenStream, ParseError>
     {
-        let Reading {
+        let Parser {
             alloc,
             mut frames,
             trees,

@@ -31,12 +31,12 @@ pub fn reprint(alloc: Global, text: &str) -> Result<String, ParseError>
 /// The printed text of a text that begins at the position `base`.
 fn reprint_at(alloc: Global, base: u32, text: &str) -> Result<String, ParseError>
 {
-    let mut printing = Printing::with_room(alloc, text.len())?;
+    let mut printer = Printer::with_room(alloc, text.len())?;
     let mut rest = text;
     let mut at = base;
     let mut first = true;
     while let Some(piece) = piece_at(rest, first) {
-        printing.take(piece, rest, at)?;
+        printer.take(piece, rest, at)?;
         let tail = &rest[piece.bytes..];
         // White characters are gaps, of which nothing is printed, and are passed over all at once.
         let (after, white) = past_white(tail);
@@ -44,11 +44,11 @@ fn reprint_at(alloc: Global, base: u32, text: &str) -> Result<String, ParseError
         at += (piece.chars + white) as u32;
         first = false;
     }
-    printing.end(rest, at)
+    printer.end(rest, at)
 }
 
 /// What was printed so far.
-struct Printing {
+struct Printer {
     /// The groups that are open, the innermost last.
     groups: Vec<OpenGroup>,
     /// What is printed of what was read.
@@ -65,11 +65,11 @@ struct OpenGroup {
     lo: u32,
 }
 
-impl Printing {
+impl Printer {
     /// Nothing was printed, and there is room for so many bytes.
-    fn with_room(alloc: Global, bytes: usize) -> Result<Printing, AllocError>
+    fn with_room(alloc: Global, bytes: usize) -> Result<Printer, AllocError>
     {
-        Ok(Printing {
+        Ok(Printer {
             groups: Vec::new(alloc),
             draft: Draft::with_room(alloc, bytes)?,
             gap: false,
@@ -156,7 +156,7 @@ impl Printing {
         if !rest.is_empty() {
             return Err(fault_at(at));
         }
-        let Printing {
+        let Printer {
             mut groups,
             draft,
             gap: _,

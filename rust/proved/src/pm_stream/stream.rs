@@ -40,7 +40,7 @@ pub struct Group {
 }
 
 // A walk from the last tree to the first, into each group that has no other owner. The way back is
-// kept in the lists themselves, in the place of the group that the walk went into: so a stream is
+// kept in the lists themselves, where the group was that the walk went into: so a stream is
 // dropped in little stack and no memory, however deep its groups nest.
 impl Drop for TokenStream {
     fn drop(&mut self) {
@@ -56,7 +56,7 @@ impl Drop for TokenStream {
             trees: Some(shared),
         };
         let mut outer = last.into_inside(alloc);
-        // A step takes a tree, or the way back that an earlier step put in its place. So there are at
+        // A step takes a tree, or the way back that an earlier step left there. So there are at
         // most two for each tree, and one that ends the walk: fewer than the bound, which no memory has
         // trees for. It spares a measure of the walk; what it left would be dropped by other walks.
         for _ in 0..u64::MAX {

@@ -3,7 +3,7 @@ use Rattle.std.specs.Io.KnownBytes.{Appends}
 use Rattle.std.specs.Str.{chars}
 use Rattle.std.proofs.KnownBytes.{Appends-nil, Appends-trans}
 use Rattle.messages.proofs.ParsedLemmas.{unparsed_may_fail}
-use Rattle.proc_macro2.proofs.PlaceLemmas.{inside_places}
+use Rattle.proc_macro2.proofs.LineColumnLemmas.{inside_line_columns}
 use Rattle.proc_macro2.specs.declared.TokenStream.{TokenStream}
 use Rattle.list_docs.specs.Answer.{line_of_literal}
 use Rattle.list_docs.specs.Doc.{doc_of}
@@ -12,7 +12,7 @@ use Rattle.list_docs.proofs.answer.print_text.Goals.{in-Some-doc_text+in_ok-writ
 
 pub loop-walk-init : goal.loop-walk-init
 loop-walk-init g c =
-    rw c.walk-walk.ensures (inside_places _ _ (rw c.new-map.ensures at c.in-Ok.ensures.ok), λ new h. h)
+    rw c.walk-walk.ensures (inside_line_columns _ _ (rw c.new-map.ensures at c.in-Ok.ensures.ok), λ new h. h)
 
 pub start-place-requires : goal.start-place-requires
 start-place-requires g c =

@@ -1,7 +1,7 @@
 use Rattle.std.proofs.Common.{ℕ, Option, List, length}
 use Rattle.std.specs.Io.KnownBytes.{Appends}
 use Rattle.std.specs.Str.{chars}
-use Rattle.proc_macro2.proofs.PlaceLemmas.{ArePlacedInside}
+use Rattle.proc_macro2.proofs.LineColumnLemmas.{HaveLineColumnsInside}
 use Rattle.list_docs.specs.Answer.{all_lines}
 use Rattle.list_docs.specs.Item.{Nothing, seen}
 use Rattle.list_docs.proofs.answer.print_text.Given as goal
@@ -11,7 +11,7 @@ abbrev pub invariant-loop-walk : goal.invariant-loop-walk
 invariant-loop-walk g l =
     let bytes = g.W.Write.contents in
     let lines = all_lines (chars l.text) in
-    ArePlacedInside (chars l.text) l.walk
+    HaveLineColumnsInside (chars l.text) l.walk
     × ((new : Option (List ℕ)) → Appends (bytes l.writer) new (lines (seen l.state) l.walk)
     → Appends (bytes l.initial.writer) new (lines Nothing l.initial.walk))
 

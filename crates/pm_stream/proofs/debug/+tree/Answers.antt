@@ -1,5 +1,5 @@
 use Rattle.std.proofs.Common.{rules, ◌<◌, arith}
-use Rattle.pm_stream.proofs.Levels.{item_size_le}
+use Rattle.pm_stream.proofs.TreeLemmas.{item_size_le}
 use Rattle.pm_stream.specs.declared.stream.TokenStream.TheDeep.{size-TokenTree}
 use Rattle.pm_stream.proofs.debug.+tree.Goals as goal
 

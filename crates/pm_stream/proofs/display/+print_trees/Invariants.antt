@@ -1,7 +1,7 @@
 use Rattle.std.proofs.Common.{◌≡◌, ℕ, ◌*◌, ◌≤◌, List, ◌++◌}
 use Rattle.std.specs.Fmt.{HasWritten, IsPlainFormatter}
 use Rattle.std.specs.Str.{encode_utf8_all}
-use Rattle.pm_stream.specs.Level.{forest}
+use Rattle.pm_stream.specs.Trees.{forest}
 use Rattle.pm_stream.specs.Printed.{printed_after}
 use Rattle.pm_stream.specs.Size.{count}
 use Rattle.pm_stream.proofs.PrintLemmas.{left_count, left_text}

@@ -2,8 +2,8 @@ use Rattle.std.proofs.Common.{ap, ◌∙◌, arith}
 use Rattle.std.specs.Str.{chars}
 use Rattle.std.proofs.lemmas.Result.{err_from_is_err_and}
 use Rattle.lexical.proofs.PieceFacts.{piece_boundary, piece_rest}
-use Rattle.pm_stream.specs.Progress.{groups, trees}
-use Rattle.pm_stream.proofs.WrittenLemmas.{built_later, built_trees}
+use Rattle.pm_stream.specs.ParserState.{groups, trees}
+use Rattle.pm_stream.proofs.OpenGroupLemmas.{built_later, built_trees}
 use Rattle.pm_stream.proofs.ParseLemmas.{left_shorter, reads_on, fault_stray, ends_ok, ends_refused}
 use Rattle.pm_stream.proofs.parse.parse.Goals as goal
 
@@ -14,43 +14,43 @@ returns-in_err-take-clause-lex c =
     (chars c.args.text.now) _ _ _ _ _ c.in-Some.piece _ c.loop-piece.invariant.reads
     c.in-Some.ensures.found c.in_err-take.ensures.stray)
 
-pub range_from-behind-requires : goal.range_from-behind-requires
-range_from-behind-requires c =
+pub range_from-tail-requires : goal.range_from-tail-requires
+range_from-tail-requires c =
     λ _. piece_boundary _ c.loop-piece.rest.now c.in-Some.piece c.loop-piece.invariant.utf8 c.in-Some.ensures.found
 
 pub overflow_add-at : goal.overflow_add-at
 overflow_add-at c =
     let shorter =
     left_shorter _ c.loop-piece.rest.now _ _ _ c.in-Some.piece c.loop-piece.invariant.utf8 c.in-Some.ensures.found
-    c.range_from-behind.ensures.value c.past_white-white.ensures.passed in
+    c.range_from-tail.ensures.value c.past_white-white.ensures.passed in
     omega (arith, c.loop-piece.invariant.left)
 
 pub overflow_cast-at : goal.overflow_cast-at
 overflow_cast-at c =
     let shorter =
     left_shorter _ c.loop-piece.rest.now _ _ _ c.in-Some.piece c.loop-piece.invariant.utf8 c.in-Some.ensures.found
-    c.range_from-behind.ensures.value c.past_white-white.ensures.passed in
+    c.range_from-tail.ensures.value c.past_white-white.ensures.passed in
     omega (arith, c.loop-piece.invariant.left)
 
 pub overflow_add-at-in-Some : goal.overflow_add-at-in-Some
 overflow_add-at-in-Some c =
     let shorter =
     left_shorter _ c.loop-piece.rest.now _ _ _ c.in-Some.piece c.loop-piece.invariant.utf8 c.in-Some.ensures.found
-    c.range_from-behind.ensures.value c.past_white-white.ensures.passed in
+    c.range_from-tail.ensures.value c.past_white-white.ensures.passed in
     omega (arith, c.loop-piece.invariant.left)
 
 pub loop-piece-smaller : goal.loop-piece-smaller
 loop-piece-smaller c =
     (left_shorter _ c.loop-piece.rest.now _ _ _ c.in-Some.piece c.loop-piece.invariant.utf8 c.in-Some.ensures.found
-    c.range_from-behind.ensures.value c.past_white-white.ensures.passed).1
+    c.range_from-tail.ensures.value c.past_white-white.ensures.passed).1
 
 pub loop-piece-preserved : goal.loop-piece-preserved
 loop-piece-preserved c =
     let found = c.in-Some.ensures.found in
     let shorter =
     left_shorter _ c.loop-piece.rest.now _ _ _ c.in-Some.piece c.loop-piece.invariant.utf8 found
-    c.range_from-behind.ensures.value c.past_white-white.ensures.passed in
-    let behind = ap chars c.range_from-behind.ensures.value
+    c.range_from-tail.ensures.value c.past_white-white.ensures.passed in
+    let tail = ap chars c.range_from-tail.ensures.value
     ∙ piece_rest _ c.loop-piece.rest.now c.in-Some.piece c.loop-piece.invariant.utf8 found in
     record {
       utf8 = c.past_white-white.ensures.utf8;
@@ -58,7 +58,7 @@ loop-piece-preserved c =
       built = built_later (groups c.take.new.self) (trees c.take.new.self) _ _ (omega arith) c.in_ok-take.ensures.built;
       reads = reads_on c.args.base (chars c.args.text.now) _ _ _ _ _ _ _ _ _ _ c.in-Some.piece
           c.loop-piece.invariant.reads
-          found behind (c.in_ok-take.ensures.ok found.front found.rest found.whole found.chars)
+          found tail (c.in_ok-take.ensures.ok found.front found.rest found.whole found.chars)
           c.past_white-white.ensures.passed;
     }
 

@@ -10,9 +10,9 @@ pub loop-piece-init : goal.loop-piece-init
 loop-piece-init c = record {
   utf8 = c.utf8.text;
   left = refl;
-  reads = printed_none c.args.base (chars c.args.text.now) _ c.in_ok-printing.ensures.groups
-      c.in_ok-printing.ensures.draft
-      c.in_ok-printing.ensures.gap;
+  reads = printed_none c.args.base (chars c.args.text.now) _ c.in_ok-printer.ensures.groups
+      c.in_ok-printer.ensures.draft
+      c.in_ok-printer.ensures.gap;
 }
 
 pub returns-in_err-take-clause-lex : goal.returns-in_err-take-clause-lex

@@ -1,5 +1,5 @@
 use Rattle.std.proofs.Common.{◌↔◌, ◌≤◌, ◌*◌}
-use Rattle.pm_stream.specs.Level.{forest}
+use Rattle.pm_stream.specs.Trees.{forest}
 use Rattle.pm_stream.specs.Same.{Same}
 use Rattle.pm_stream.specs.Size.{count}
 use Rattle.pm_stream.proofs.SameLemmas.{LeftSame, left_count}

@@ -1,7 +1,7 @@
 use Rattle.std.proofs.Common.{ap, ◌∙◌}
 use Rattle.pm_stream.specs.Forest.{joined}
-use Rattle.pm_stream.specs.Level.{alone, forest}
-use Rattle.pm_stream.proofs.Levels.{forest-push}
+use Rattle.pm_stream.specs.Trees.{alone, forest}
+use Rattle.pm_stream.proofs.TreeLemmas.{forest-push}
 use Rattle.pm_stream.proofs.stream.put_last.Goals as goal
 
 pub returns-in-Ok-clause-ok : goal.returns-in-Ok-clause-ok

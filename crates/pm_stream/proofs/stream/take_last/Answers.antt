@@ -1,7 +1,7 @@
 use Rattle.std.proofs.Common.{ap, subst}
 use Rattle.pm_stream.specs.Forest.{Forest}
-use Rattle.pm_stream.specs.Level.{forest, TakesLast}
-use Rattle.pm_stream.proofs.Levels.{takes_last}
+use Rattle.pm_stream.specs.Trees.{forest, TakesLast}
+use Rattle.pm_stream.proofs.TreeLemmas.{takes_last}
 use Rattle.pm_stream.proofs.stream.take_last.Goals as goal
 
 pub returns-in-Some : goal.returns-in-Some

@@ -1,5 +1,5 @@
 use Rattle.std.proofs.Common.{◌≡◌, ◌≤◌, ◌*◌}
-use Rattle.pm_stream.specs.Level.{forest}
+use Rattle.pm_stream.specs.Trees.{forest}
 use Rattle.pm_stream.specs.Size.{count}
 use Rattle.pm_stream.specs.WellSpaced.{well_spaced}
 use Rattle.pm_stream.proofs.SpacedLemmas.{left_spaced, left_count}

@@ -1,5 +1,5 @@
 use Rattle.std.proofs.Common.{◌≡◌}
-use Rattle.proc_macro2.specs.Level.{forest}
+use Rattle.proc_macro2.specs.Trees.{forest}
 use Rattle.quoting.specs.Fault.{first_fault}
 use Rattle.quoting.proofs.FaultLemmas.{left_fault, left_count}
 use Rattle.quoting.proofs.faults.first_fault.Given as goal

@@ -1,5 +1,5 @@
 use Rattle.std.proofs.Common.{◌≡◌, take}
-use Rattle.proc_macro2.specs.Level.{forest}
+use Rattle.proc_macro2.specs.Trees.{forest}
 use Rattle.quoting.proofs.respace.copied.Given as goal
 
 abbrev pub invariant-loop-tree : goal.invariant-loop-tree

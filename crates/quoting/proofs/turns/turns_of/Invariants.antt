@@ -1,5 +1,5 @@
 use Rattle.std.proofs.Common.{◌≡◌}
-use Rattle.proc_macro2.specs.Level.{forest}
+use Rattle.proc_macro2.specs.Trees.{forest}
 use Rattle.quoting.specs.Given.{named_all}
 use Rattle.quoting.specs.Turns.{turns_of}
 use Rattle.quoting.proofs.FaultLemmas.{left_count}

@@ -1,5 +1,5 @@
 use Rattle.proc_macro2.specs.Files.{new_map}
-use Rattle.proc_macro2.proofs.PlaceLemmas.{ends_in_last, starts_in_last}
+use Rattle.proc_macro2.proofs.LineColumnLemmas.{ends_in_last, starts_in_last}
 use Rattle.tokens.specs.Spans.{line_in}
 use Rattle.tokens.proofs.SpanLineLemmas.{flat_map-take-next, line_goes_on}
 use Rattle.tokens.proofs.spans.text_of.Goals as goal

@@ -58,7 +58,7 @@ fn put_shared(
     Ok(())
 }
 
-// Puts the tree after the others. Both places of a negative literal are there before its first half
+// Puts the tree after the others. Room for both halves of a negative literal is there before its first half
 // is put in.
 fn push_split(trees: &mut Vec<TokenTree>, tree: TokenTree) -> Result<(), AllocError>
 {

@@ -1,6 +1,6 @@
 use Rattle.std.proofs.Common.{ap, subst, sym, ◌∙◌}
 use Rattle.pm_stream.specs.Forest.{IsBuilt, joined}
-use Rattle.pm_stream.specs.Level.{held}
+use Rattle.pm_stream.specs.Trees.{held}
 use Rattle.pm_stream.proofs.BuildingLemmas.{built_after, joined_nil}
 use Rattle.pm_stream.proofs.stream.TokenStream.append.Goals as goal
 

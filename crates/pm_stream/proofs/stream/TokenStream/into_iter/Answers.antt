@@ -1,7 +1,7 @@
 use Rattle.std.proofs.Common.{ap, sym, subst, ◌∙◌}
 use Rattle.pm_stream.specs.Forest.{IsBuilt}
-use Rattle.pm_stream.specs.Level.{forest}
-use Rattle.pm_stream.proofs.Levels.{built_inside}
+use Rattle.pm_stream.specs.Trees.{forest}
+use Rattle.pm_stream.proofs.TreeLemmas.{built_inside}
 use Rattle.pm_stream.proofs.SpanLemmas.{held_trees}
 use Rattle.pm_stream.proofs.stream.TokenStream.into_iter.Goals as goal
 

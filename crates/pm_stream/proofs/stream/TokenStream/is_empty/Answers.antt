@@ -1,6 +1,6 @@
 use Rattle.std.proofs.Common.{rules, ap}
 use Rattle.pm_stream.specs.Size.{is_nil}
-use Rattle.pm_stream.proofs.Levels.{is_nil-forest}
+use Rattle.pm_stream.proofs.TreeLemmas.{is_nil-forest}
 use Rattle.pm_stream.proofs.stream.TokenStream.is_empty.Goals as goal
 
 pub returns : goal.returns

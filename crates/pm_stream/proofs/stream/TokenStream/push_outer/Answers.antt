@@ -1,8 +1,8 @@
 use Rattle.std.proofs.Common.{◌≤◌, arith, ap, sym, subst, ◌∙◌}
 use Rattle.pm_stream.specs.Forest.{IsBuilt}
 use Rattle.pm_stream.specs.Size.{count}
-use Rattle.pm_stream.specs.Level.{held}
-use Rattle.pm_stream.proofs.Levels.{IsBuilt-joined, count-put}
+use Rattle.pm_stream.specs.Trees.{held}
+use Rattle.pm_stream.proofs.TreeLemmas.{IsBuilt-joined, count-put}
 use Rattle.pm_stream.proofs.stream.TokenStream.push_outer.Goals as goal
 
 pub invariant_of-self-2 : goal.invariant_of-self-2

@@ -1,7 +1,7 @@
 use Rattle.std.proofs.Common.{ap, subst}
 use Rattle.pm_stream.specs.Forest.{IsBuilt}
-use Rattle.pm_stream.specs.Level.{held}
-use Rattle.pm_stream.proofs.Levels.{IsBuilt-taken}
+use Rattle.pm_stream.specs.Trees.{held}
+use Rattle.pm_stream.proofs.TreeLemmas.{IsBuilt-taken}
 use Rattle.pm_stream.proofs.stream.TokenStream.take_last.Goals as goal
 
 pub invariant_of-self : goal.invariant_of-self

@@ -1,6 +1,6 @@
 use Rattle.std.proofs.Common.{◌∙◌, sym, subst}
 use Rattle.pm_stream.specs.Forest.{IsBuilt}
-use Rattle.pm_stream.proofs.Levels.{built_inside}
+use Rattle.pm_stream.proofs.TreeLemmas.{built_inside}
 use Rattle.pm_stream.proofs.SpanLemmas.{held_trees}
 use Rattle.pm_stream.proofs.stream.TokenStream.trees.Goals as goal
 

@@ -1,6 +1,6 @@
 use Rattle.std.proofs.Common.{◌∙◌, ◌+◌, ap, sym, subst, Option}
 use Rattle.proc_macro2.specs.Forest.{Forest, joined}
-use Rattle.proc_macro2.specs.Level.{alone}
+use Rattle.proc_macro2.specs.Trees.{alone}
 use Rattle.quoting.specs.Part.{Adds, done_of}
 use Rattle.quoting.proofs.DraftLemmas.{adds_kept, adds_put, first_goes_inside, part_of}
 use Rattle.quoting.proofs.respace.Draft.keep.Goals as goal

@@ -1,6 +1,6 @@
 use Rattle.std.proofs.Common.{◌∙◌, ap, sym, Option}
 use Rattle.proc_macro2.specs.Forest.{Forest}
-use Rattle.proc_macro2.specs.Level.{alone}
+use Rattle.proc_macro2.specs.Trees.{alone}
 use Rattle.quoting.specs.Part.{done_of}
 use Rattle.quoting.proofs.DraftLemmas.{adds_put}
 use Rattle.quoting.proofs.respace.Draft.replace.Goals as goal

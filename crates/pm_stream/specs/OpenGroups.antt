@@ -1,4 +1,4 @@
--- What a parser has written before it ends: groups that stay open, and the trees of the innermost.
+-- What a parser has read before it ends: groups that are still open, and the trees of the innermost.
 use Rattle.std.specs.Prelude.{ℕ, ◌≡◌, ◌≤◌, List, [], ◌∷◌}
 use Rattle.pm_token.specs.declared.delimiters.Delimiter.{Delimiter}
 use Rattle.pm_stream.specs.Events.{Event, Opens}
@@ -11,17 +11,17 @@ pub record Opened : Type 0 where
   pub lo : ℕ
 
 -- the events of the open groups, the innermost of them first, and of its trees, and then other events
-abbrev pub written_onto : List Opened → Forest → List Event → List Event
-written_onto [] trees events = flat_onto trees events
-written_onto (group ∷ groups) trees events =
-    written_onto groups group.outer (Opens group.delimiter group.lo ∷ flat_onto trees events)
+abbrev pub unclosed_onto : List Opened → Forest → List Event → List Event
+unclosed_onto [] trees events = flat_onto trees events
+unclosed_onto (group ∷ groups) trees events =
+    unclosed_onto groups group.outer (Opens group.delimiter group.lo ∷ flat_onto trees events)
 
 -- the closer fits the innermost of the open groups
 abbrev pub FitsInnermost : Delimiter → List Opened → Type 0
 FitsInnermost d [] = ⊥
 FitsInnermost d (group ∷ groups) = group.delimiter ≡ d
 
--- what is written is built, and each group begins at or before the position
+-- what was read is built, and each group begins at or before the position
 abbrev pub IsBuiltUpTo : ℕ → List Opened → Forest → Type 0
 IsBuiltUpTo at [] trees = IsBuilt trees
 IsBuiltUpTo at (group ∷ groups) trees = IsBuilt trees × (group.lo ≤ at) × IsBuiltUpTo group.lo groups group.outer

@@ -1,6 +1,6 @@
 use Rattle.std.proofs.Common.{arith, reverse, sym, ap, ◌∙◌, subst}
-use Rattle.pm_stream.proofs.WrittenLemmas.{written_in, written-push, IsBuiltIn, built_push, nested_more}
-use Rattle.pm_stream.proofs.parse.Reading.push.Goals as goal
+use Rattle.pm_stream.proofs.OpenGroupLemmas.{unclosed_in, unclosed-push, IsBuiltIn, built_push, nested_more}
+use Rattle.pm_stream.proofs.parse.Parser.push.Goals as goal
 
 pub invariant_of-self : goal.invariant_of-self
 invariant_of-self c = record {
@@ -11,8 +11,8 @@ invariant_of-self c = record {
 pub returns-clause-ok : goal.returns-clause-ok
 returns-clause-ok c = λ events.
     let frames = reverse c.args.self.now.frames.items in
-    ap (λ ts. written_in frames ts events) c.in_ok-push.ensures.items
-    ∙ written-push frames c.args.self.now.trees.items c.args.tree events c.args.self.now.nested
+    ap (λ ts. unclosed_in frames ts events) c.in_ok-push.ensures.items
+    ∙ unclosed-push frames c.args.self.now.trees.items c.args.tree events c.args.self.now.nested
 
 pub returns-clause-built : goal.returns-clause-built
 returns-clause-built c = λ at h.

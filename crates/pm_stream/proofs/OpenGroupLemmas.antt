@@ -1,17 +1,17 @@
--- What is written with one step more.
+-- What was read, with one step more.
 use Rattle.std.proofs.Common.{◌≡◌, ℕ, ◌≤◌, List, [], ◌∷◌, ◌++◌, length, take, drop, sym, ap, ◌∙◌, subst, arith}
 use Rattle.std.proofs.lemmas.List.{take-append-le, drop-append-le, length-take-le}
 use Rattle.pm_token.specs.declared.delimiters.Delimiter.{Delimiter}
 use Rattle.pm_stream.specs.Events.{Event, Opens, Closes}
 use Rattle.pm_stream.specs.Forest.{Forest, flat_onto, joined, IsBuilt}
-use Rattle.pm_stream.specs.Level.{forest, alone}
+use Rattle.pm_stream.specs.Trees.{forest, alone}
 use Rattle.pm_stream.specs.Nesting.{innermost, opened, IsNested}
-use Rattle.pm_stream.specs.Written.{Opened, written_onto, IsBuiltUpTo}
+use Rattle.pm_stream.specs.OpenGroups.{Opened, unclosed_onto, IsBuiltUpTo}
 use Rattle.pm_stream.specs.declared.parse.Frame.{Frame}
 use Rattle.pm_stream.specs.declared.stream.TokenTree.{TokenTree}
 use Rattle.pm_stream.specs.declared.stream.TokenTree.TheVariants.{Group}
-use Rattle.pm_stream.proofs.Levels.{forest-push, IsBuilt-joined}
-use Rattle.pm_stream.proofs.EventLemmas.{written-joined}
+use Rattle.pm_stream.proofs.TreeLemmas.{forest-push, IsBuilt-joined}
+use Rattle.pm_stream.proofs.EventLemmas.{unclosed-joined}
 
 -- what the list and the frames, the innermost first, are seen as
 abbrev seen : List Frame → List TokenTree → List Opened × Forest
@@ -35,17 +35,17 @@ nested_before : (frame : Frame) (frames : List Frame) (trees : List TokenTree)
     → IsNested frames (length (take frame.before trees))
 nested_before frame frames trees h = subst (IsNested frames) (sym (length-take-le frame.before trees h.0)) h.1
 
--- ---- what is written
+-- ---- the events of what was read
 
-abbrev pub written_in : List Frame → List TokenTree → List Event → List Event
-written_in frames trees = written_onto (opened frames trees) (forest (innermost frames trees))
+abbrev pub unclosed_in : List Frame → List TokenTree → List Event → List Event
+unclosed_in frames trees = unclosed_onto (opened frames trees) (forest (innermost frames trees))
 
-pub written-push : (frames : List Frame) (trees : List TokenTree) (tree : TokenTree) (events : List Event)
+pub unclosed-push : (frames : List Frame) (trees : List TokenTree) (tree : TokenTree) (events : List Event)
     → IsNested frames (length trees)
-    → written_in frames (trees ++ tree ∷ []) events ≡ written_in frames trees (flat_onto (alone tree) events)
-written-push frames trees tree events h =
-    ap (λ (s : List Opened × Forest). written_onto s.0 s.1 events) (seen-push frames trees tree h)
-    ∙ written-joined (opened frames trees) (forest (innermost frames trees)) (alone tree) events
+    → unclosed_in frames (trees ++ tree ∷ []) events ≡ unclosed_in frames trees (flat_onto (alone tree) events)
+unclosed-push frames trees tree events h =
+    ap (λ (s : List Opened × Forest). unclosed_onto s.0 s.1 events) (seen-push frames trees tree h)
+    ∙ unclosed-joined (opened frames trees) (forest (innermost frames trees)) (alone tree) events
 
 -- the tree of a group that was open
 abbrev pub closed : Delimiter → Frame → List TokenTree → ℕ → TokenTree
@@ -61,17 +61,18 @@ closed d frame trees hi =
 abbrev pub with_closed : Delimiter → Frame → List TokenTree → ℕ → List TokenTree
 with_closed d frame trees hi = take frame.before trees ++ closed d frame trees hi ∷ []
 
-pub written-close : (frames : List Frame) (frame : Frame) (trees : List TokenTree) (d : Delimiter) (hi : ℕ)
+pub unclosed-close : (frames : List Frame) (frame : Frame) (trees : List TokenTree) (d : Delimiter) (hi : ℕ)
     (events : List Event)
     → IsNested (frame ∷ frames) (length trees) → frame.delimiter ≡ d
-    → written_in frames (with_closed d frame trees hi) events ≡ written_in (frame ∷ frames) trees (Closes d hi ∷ events)
-written-close frames frame trees d hi events h same =
+    → unclosed_in frames (with_closed d frame trees hi) events
+    ≡ unclosed_in (frame ∷ frames) trees (Closes d hi ∷ events)
+unclosed-close frames frame trees d hi events h same =
     let outer = take frame.before trees in
-    written-push frames outer (closed d frame trees hi) events (nested_before frame frames trees h)
-    ∙ ap (λ x. written_in frames outer
+    unclosed-push frames outer (closed d frame trees hi) events (nested_before frame frames trees h)
+    ∙ ap (λ x. unclosed_in frames outer
     (Opens x frame.lo ∷ flat_onto (forest (drop frame.before trees)) (Closes d hi ∷ events))) (sym same)
 
--- ---- what is written stays built
+-- ---- what was read stays built
 
 pub built_trees : (at : ℕ) (groups : List Opened) (trees : Forest) → IsBuiltUpTo at groups trees
     → IsBuilt trees

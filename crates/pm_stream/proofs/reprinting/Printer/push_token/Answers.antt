@@ -1,7 +1,7 @@
 use Rattle.std.proofs.Common.{refl}
 use Rattle.std.specs.Str.{chars}
 use Rattle.pm_stream.proofs.ReprintLemmas.{prints_leaf}
-use Rattle.pm_stream.proofs.reprinting.Printing.push_token.Goals as goal
+use Rattle.pm_stream.proofs.reprinting.Printer.push_token.Goals as goal
 
 pub returns : goal.returns
 returns c = record {

@@ -11,39 +11,40 @@ use Rattle.pm_stream.specs.Delimited.{delimiter_of}
 use Rattle.pm_stream.specs.Events.{Opens, Closes, events_onto, expansion, CanGoOn}
 use Rattle.pm_stream.specs.Forest.{Forest, nil, flattening}
 use Rattle.pm_stream.specs.Parsing.{ParsesTo, is_first, HasStrayCloser, FaultAt}
-use Rattle.pm_stream.specs.Written.{Opened, written_onto, FitsInnermost}
+use Rattle.pm_stream.specs.OpenGroups.{Opened, unclosed_onto, FitsInnermost}
 use Rattle.pm_stream.proofs.CoverLemmas.{covers_none, covers_more, width-append, is_first-more, expansion-more}
-use Rattle.pm_stream.proofs.EventLemmas.{flattening_balanced, written-append, written_goes_on, stray_closer}
+use Rattle.pm_stream.proofs.EventLemmas.{flattening_balanced, unclosed-append, unclosed_goes_on, stray_closer}
 
--- what is written is the expansion of pieces up to the rest of the source; `first` says that there are none
+-- what was read has the expansion of pieces up to the rest of the source; `first` says that there are none
 pub record Reads (base : ℕ) (source rest : List ℕ) (at : ℕ) (first : Bool) (groups : List Opened)
     (trees : Forest) : Type 0 where
   pub pieces : List Piece
   pub covers : CoversUpTo pieces source rest
   pub begins : is_first pieces ≡ first
-  pub place : at ≡ base + width pieces
-  pub expands : written_onto groups trees [] ≡ expansion base pieces
+  pub position : at ≡ base + width pieces
+  pub expands : unclosed_onto groups trees [] ≡ expansion base pieces
 
 pub reads_none : (base : ℕ) (source : List ℕ) → Reads base source source base true [] nil
 reads_none base source =
-    record { pieces = []; covers = covers_none source; begins = refl; place = omega arith; expands = refl }
+    record { pieces = []; covers = covers_none source; begins = refl; position = omega arith; expands = refl }
 
--- one piece more, whose events were written
+-- one piece more, whose events were read
 pub reads_more : (base : ℕ) (source mid p rest : List ℕ) (at end : ℕ) (first : Bool) (groups groups' : List Opened)
     (trees trees' : Forest) (k : Kind)
     → Reads base source mid at first groups trees → mid ≡ p ++ rest → IsPiece first k p rest
     → end ≡ at + length p
-    → written_onto groups' trees' [] ≡ written_onto groups trees (events_onto at k p [])
+    → unclosed_onto groups' trees' [] ≡ unclosed_onto groups trees (events_onto at k p [])
     → Reads base source rest end false groups' trees'
 reads_more base source mid p rest at end first groups groups' trees trees' k h whole stands e grows = record {
   pieces = h.pieces ++ ((k, p) ∷ []);
   covers = covers_more h.pieces source p rest k (subst (CoversUpTo h.pieces source) whole h.covers)
       (subst (λ b. IsPiece b k p rest) (sym h.begins) stands);
   begins = is_first-more h.pieces (k, p);
-  place = omega (arith, width-append h.pieces ((k, p) ∷ []), h.place);
-  expands = grows ∙ (written-append groups trees [] (events_onto at k p [])
+  position = omega (arith, width-append h.pieces ((k, p) ∷ []), h.position);
+  expands = grows ∙ (unclosed-append groups trees [] (events_onto at k p [])
       ∙ (ap (λ es. es ++ events_onto at k p []) h.expands
-      ∙ (ap (λ n. expansion base h.pieces ++ events_onto n k p []) h.place ∙ sym (expansion-more base h.pieces k p))));
+      ∙ (ap (λ n. expansion base h.pieces ++ events_onto n k p []) h.position
+      ∙ sym (expansion-more base h.pieces k p))));
 }
 
 -- white characters are gaps, which write nothing
@@ -68,7 +69,7 @@ reads_all base source rest at first trees h done = record
 
 goes_on : {base : ℕ} {source rest : List ℕ} {at : ℕ} {first : Bool} {groups : List Opened} {trees : Forest}
     (h : Reads base source rest at first groups trees) → CanGoOn (expansion base h.pieces)
-goes_on {groups = groups} {trees = trees} h = subst CanGoOn h.expands (written_goes_on groups trees)
+goes_on {groups = groups} {trees = trees} h = subst CanGoOn h.expands (unclosed_goes_on groups trees)
 
 pub reads_open : (base : ℕ) (source rest : List ℕ) (at : ℕ) (first : Bool) (x : Opened) (groups : List Opened)
     (trees : Forest)
@@ -78,9 +79,9 @@ reads_open base source rest at first x groups trees h done = inr (record {
   covers = subst (CoversUpTo h.pieces source) done h.covers;
   goes_on = goes_on h;
   delimiter = x.delimiter;
-  front = written_onto groups x.outer [];
+  front = unclosed_onto groups x.outer [];
   back = flattening trees;
-  split = sym h.expands ∙ written-append groups x.outer [] (Opens x.delimiter x.lo ∷ flattening trees);
+  split = sym h.expands ∙ unclosed-append groups x.outer [] (Opens x.delimiter x.lo ∷ flattening trees);
   closed = flattening_balanced trees;
 })
 
@@ -91,7 +92,7 @@ reads_stuck base source rest at first groups trees h more none = inl (record {
   pieces = h.pieces;
   rest = rest;
   covers = h.covers;
-  at = h.place;
+  at = h.position;
   goes_on = goes_on h;
   more = more;
   stuck = inl (subst (λ b. HasNoPiece b rest) (sym h.begins) none);
@@ -119,7 +120,7 @@ reads_stray base source mid p rest at first groups trees c h whole stands apart 
       pieces = h.pieces;
       rest = mid;
       covers = h.covers;
-      at = h.place;
+      at = h.position;
       goes_on = goes_on h;
       more =
           more;

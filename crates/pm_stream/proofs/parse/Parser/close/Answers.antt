@@ -1,13 +1,13 @@
 use Rattle.std.proofs.Common.{◌≡◌, ◌++◌, ◌∷◌, [], List, length, reverse, sym, ap, ap₂, ◌∙◌, subst, rules}
 use Rattle.std.proofs.lemmas.List.{reverse-append}
 use Rattle.pm_stream.specs.Events.{Closes}
-use Rattle.pm_stream.specs.Level.{forest}
+use Rattle.pm_stream.specs.Trees.{forest}
 use Rattle.pm_stream.specs.Nesting.{IsNested}
 use Rattle.pm_stream.specs.declared.stream.Group.{Group as Grouped}
 use Rattle.pm_stream.specs.declared.stream.TokenTree.{TokenTree}
 use Rattle.pm_stream.specs.declared.stream.TokenTree.TheVariants.{Group}
-use Rattle.pm_stream.proofs.WrittenLemmas.{written_in, with_closed, written-close, IsBuiltIn, built_close}
-use Rattle.pm_stream.proofs.parse.Reading.close.Goals as goal
+use Rattle.pm_stream.proofs.OpenGroupLemmas.{unclosed_in, with_closed, unclosed-close, IsBuiltIn, built_close}
+use Rattle.pm_stream.proofs.parse.Parser.close.Goals as goal
 
 popped : (c : goal.In_ok-push)
     → reverse c.args.self.now.frames.items ≡ c.in-Some.frame ∷ reverse c.pop.new.self.items
@@ -30,10 +30,10 @@ pub returns-clause-ok : goal.returns-clause-ok
 returns-clause-ok c = λ events.
     let frame = c.in-Some.frame in
     let same : frame.delimiter ≡ c.args.delimiter = search rules in
-    ap (λ ts. written_in (reverse c.pop.new.self.items) ts events) (grown c)
-    ∙ (written-close (reverse c.pop.new.self.items) frame c.args.self.now.trees.items c.args.delimiter c.args.hi events
+    ap (λ ts. unclosed_in (reverse c.pop.new.self.items) ts events) (grown c)
+    ∙ (unclosed-close (reverse c.pop.new.self.items) frame c.args.self.now.trees.items c.args.delimiter c.args.hi events
     (nested c) same
-    ∙ sym (ap (λ fs. written_in fs c.args.self.now.trees.items (Closes c.args.delimiter c.args.hi ∷ events))
+    ∙ sym (ap (λ fs. unclosed_in fs c.args.self.now.trees.items (Closes c.args.delimiter c.args.hi ∷ events))
     (popped c)))
 
 pub returns-clause-built : goal.returns-clause-built

@@ -6,13 +6,13 @@ use Rattle.lexical.proofs.PieceFacts.{piece_boundary}
 use Rattle.pm_stream.specs.Events.{Opens, Closes}
 use Rattle.pm_stream.proofs.ReprintLemmas.{prints_by, prints_nothing, token_found}
 use Rattle.pm_stream.proofs.PieceLemmas.{front_is}
-use Rattle.pm_stream.proofs.reprinting.Printing.take.Goals as goal
-use Rattle.pm_stream.proofs.reprinting.Printing.take.Goals.{in-Opener+in_ok-open-in-Opener}
-use Rattle.pm_stream.proofs.reprinting.Printing.take.Goals.{in-Closer+in_ok-close-in-Closer}
-use Rattle.pm_stream.proofs.reprinting.Printing.take.Goals.{in-Doc+in_ok-push_doc-in-Doc}
-use Rattle.pm_stream.proofs.reprinting.Printing.take.Goals.{in-Mark+in_ok-push_token-in-Mark}
-use Rattle.pm_stream.proofs.reprinting.Printing.take.Goals.{in-Name+in_ok-push_token-in-Name}
-use Rattle.pm_stream.proofs.reprinting.Printing.take.Goals.{in-Literal+in_ok-push_token-in-Literal, in-FrontMark}
+use Rattle.pm_stream.proofs.reprinting.Printer.take.Goals as goal
+use Rattle.pm_stream.proofs.reprinting.Printer.take.Goals.{in-Opener+in_ok-open-in-Opener}
+use Rattle.pm_stream.proofs.reprinting.Printer.take.Goals.{in-Closer+in_ok-close-in-Closer}
+use Rattle.pm_stream.proofs.reprinting.Printer.take.Goals.{in-Doc+in_ok-push_doc-in-Doc}
+use Rattle.pm_stream.proofs.reprinting.Printer.take.Goals.{in-Mark+in_ok-push_token-in-Mark}
+use Rattle.pm_stream.proofs.reprinting.Printer.take.Goals.{in-Name+in_ok-push_token-in-Name}
+use Rattle.pm_stream.proofs.reprinting.Printer.take.Goals.{in-Literal+in_ok-push_token-in-Literal, in-FrontMark}
 
 pub range-requires-clause-end_boundary : goal.range-requires-clause-end_boundary
 range-requires-clause-end_boundary c = piece_boundary _ c.args.text.now c.args.piece c.utf8.text c.requires.stands.1

@@ -2,7 +2,7 @@ use Rattle.std.proofs.Common.{◌≡◌, [], ◌∷◌, ◌++◌, reverse, refl,
 use Rattle.std.proofs.lemmas.List.{reverse-append}
 use Rattle.std.specs.Str.{chars}
 use Rattle.pm_stream.proofs.ReprintLemmas.{prints_close, chars_ending}
-use Rattle.pm_stream.proofs.reprinting.Printing.close.Goals as goal
+use Rattle.pm_stream.proofs.reprinting.Printer.close.Goals as goal
 
 pub returns-clause-ok : goal.returns-clause-ok
 returns-clause-ok c = λ hi.

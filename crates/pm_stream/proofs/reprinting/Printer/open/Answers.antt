@@ -4,7 +4,7 @@ use Rattle.std.specs.Str.{chars}
 use Rattle.pm_stream.specs.Printed.{space}
 use Rattle.pm_stream.specs.declared.reprinting.OpenGroup.{OpenGroup}
 use Rattle.pm_stream.proofs.ReprintLemmas.{prints_open, chars_opening}
-use Rattle.pm_stream.proofs.reprinting.Printing.open.Goals as goal
+use Rattle.pm_stream.proofs.reprinting.Printer.open.Goals as goal
 
 pub returns : goal.returns
 returns c =

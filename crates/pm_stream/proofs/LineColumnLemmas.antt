@@ -9,7 +9,7 @@ use Rattle.pm_span.specs.Place.{line_column}
 use Rattle.pm_span.specs.declared.location.LineColumn.{LineColumn}
 use Rattle.pm_stream.specs.Forest.{Forest, nil, leaf, group}
 use Rattle.pm_stream.specs.InOrder.{token_tree, in_order_onto, in_order}
-use Rattle.pm_stream.specs.Level.{inside}
+use Rattle.pm_stream.specs.Trees.{inside}
 use Rattle.pm_stream.specs.Parsing.{FaultAt, ParsesTo}
 use Rattle.pm_stream.specs.TreeSpan.{extent_of}
 use Rattle.pm_stream.specs.declared.stream.TokenTree.{TokenTree}
@@ -22,47 +22,47 @@ pub last_file : (map : Files) (source : List ℕ) → IsFile (with_file map sour
 last_file map source = record { before = all_texts map; after = []; whole = refl; begins = refl }
 
 -- where a span of it starts
-pub starts_in_last : (map : Files) (source : List ℕ) (span : Extent) (place : LineColumn)
-    → next_lo map ≤ span.lo → span.hi ≤ next_lo map + length source → StartsAt (with_file map source) span place
-    → place ≡ line_column source (span.lo - next_lo map)
-starts_in_last map source span place from to starts = starts source (next_lo map) (last_file map source) from to
+pub starts_in_last : (map : Files) (source : List ℕ) (span : Extent) (start : LineColumn)
+    → next_lo map ≤ span.lo → span.hi ≤ next_lo map + length source → StartsAt (with_file map source) span start
+    → start ≡ line_column source (span.lo - next_lo map)
+starts_in_last map source span start from to starts = starts source (next_lo map) (last_file map source) from to
 
 -- where it ends
-pub ends_in_last : (map : Files) (source : List ℕ) (span : Extent) (place : LineColumn)
-    → next_lo map ≤ span.lo → span.hi ≤ next_lo map + length source → EndsAt (with_file map source) span place
-    → place ≡ line_column source (span.hi - next_lo map)
-ends_in_last map source span place from to ends = ends source (next_lo map) (last_file map source) from to
+pub ends_in_last : (map : Files) (source : List ℕ) (span : Extent) (end : LineColumn)
+    → next_lo map ≤ span.lo → span.hi ≤ next_lo map + length source → EndsAt (with_file map source) span end
+    → end ≡ line_column source (span.hi - next_lo map)
+ends_in_last map source span end from to ends = ends source (next_lo map) (last_file map source) from to
 
--- the tree has its place in the text, the first that a new map took: the map holds its span, which starts there
-abbrev pub IsPlaced : List ℕ → TokenTree → Type 0
-IsPlaced text tree =
+-- the map holds the span of the tree, which starts at its line and column of the text, the first of a new map
+abbrev pub HasLineColumn : List ℕ → TokenTree → Type 0
+HasLineColumn text tree =
     Holds (with_file new_map text) (extent_of tree)
-    × ((place : LineColumn) → StartsAt (with_file new_map text) (extent_of tree) place
-    → place ≡ line_column text ((extent_of tree).lo - next_lo new_map))
+    × ((start : LineColumn) → StartsAt (with_file new_map text) (extent_of tree) start
+    → start ≡ line_column text ((extent_of tree).lo - next_lo new_map))
 
-each_placed : (text : List ℕ) (trees : List TokenTree)
-    → Each (IsWithin (next_lo new_map) (next_lo new_map + length text)) trees → Each (IsPlaced text) trees
-each_placed text [] h = tt
-each_placed text (tree ∷ trees) h =
+each_line_column : (text : List ℕ) (trees : List TokenTree)
+    → Each (IsWithin (next_lo new_map) (next_lo new_map + length text)) trees → Each (HasLineColumn text) trees
+each_line_column text [] h = tt
+each_line_column text (tree ∷ trees) h =
     let span = extent_of tree in (
-      (source_held new_map text span h.0.0 h.0.1, λ place. starts_in_last new_map text span place h.0.0 h.0.1),
-      each_placed text trees h.1,
+      (source_held new_map text span h.0.0 h.0.1, λ start. starts_in_last new_map text span start h.0.0 h.0.1),
+      each_line_column text trees h.1,
     )
 
 -- so has each tree of a text that was parsed with a new map
-pub parsed_places : (text : List ℕ) (stream : Forest) → ParsesTo (next_lo new_map) text stream
-    → Each (IsPlaced text) (in_order stream)
-parsed_places text stream parses =
-    each_placed text (in_order stream) (parsed_within (next_lo new_map) text stream parses)
+pub parsed_line_columns : (text : List ℕ) (stream : Forest) → ParsesTo (next_lo new_map) text stream
+    → Each (HasLineColumn text) (in_order stream)
+parsed_line_columns text stream parses =
+    each_line_column text (in_order stream) (parsed_within (next_lo new_map) text stream parses)
 
 -- where the fault of a map's last file starts
-pub fault_starts : (old new : Files) (source : List ℕ) (fault : Extent) (place : LineColumn)
+pub fault_starts : (old new : Files) (source : List ℕ) (fault : Extent) (start : LineColumn)
     → new ≡ with_file old source → (fault.lo ≡ fault.hi) × FaultAt (next_lo old) source fault.lo
-    → StartsAt new fault place
-    → place ≡ line_column source (fault.lo - next_lo old)
-fault_starts old new source fault place added stands starts =
+    → StartsAt new fault start
+    → start ≡ line_column source (fault.lo - next_lo old)
+fault_starts old new source fault start added stands starts =
     let within = fault_within (next_lo old) source fault.lo stands.1 in
-    starts_in_last old source fault place within.0 (rw (← stands.0) within.1) (rw added at starts)
+    starts_in_last old source fault start within.0 (rw (← stands.0) within.1) (rw added at starts)
 
 -- it is true of each tree inside the tree
 abbrev pub EachInside : (TokenTree → Type 0) → TokenTree → Type 0
@@ -85,10 +85,11 @@ each_inside_onto P (group d lo hi f g) more h k =
 pub each_inside : (P : TokenTree → Type 0) (f : Forest) → Each P (in_order f) → Each (EachInside P) (in_order f)
 each_inside P f h = each_inside_onto P f [] h tt
 
--- the trees inside each of these have their places
-abbrev pub ArePlacedInside : List ℕ → List TokenTree → Type 0
-ArePlacedInside text = Each (EachInside (IsPlaced text))
+-- the trees inside each of these have their lines and columns
+abbrev pub HaveLineColumnsInside : List ℕ → List TokenTree → Type 0
+HaveLineColumnsInside text = Each (EachInside (HasLineColumn text))
 
-pub inside_places : (text : List ℕ) (stream : Forest) → ParsesTo (next_lo new_map) text stream
-    → ArePlacedInside text (in_order stream)
-inside_places text stream parses = each_inside (IsPlaced text) stream (parsed_places text stream parses)
+pub inside_line_columns : (text : List ℕ) (stream : Forest) → ParsesTo (next_lo new_map) text stream
+    → HaveLineColumnsInside text (in_order stream)
+inside_line_columns text stream parses =
+    each_inside (HasLineColumn text) stream (parsed_line_columns text stream parses)

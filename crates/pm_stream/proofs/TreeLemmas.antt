@@ -10,7 +10,7 @@ use denote.Param.Weighed.{most, at_most}
 use Rattle.pm_stream.specs.InnerSize.{deep_le-before}
 use Rattle.pm_stream.specs.Size.{is_nil, count}
 use Rattle.pm_stream.specs.declared.stream.TokenStream.TheDeep.{size-TokenTree}
-use Rattle.pm_stream.specs.Level.{before, forest, alone, inside, GoesInside, TakesLast}
+use Rattle.pm_stream.specs.Trees.{before, forest, alone, inside, GoesInside, TakesLast}
 use Rattle.pm_stream.specs.declared.stream.Group.{Group as Grouped}
 use Rattle.pm_stream.specs.declared.stream.TokenTree.{TokenTree}
 use Rattle.pm_stream.specs.declared.stream.TokenTree.TheVariants.{Group, Ident, Punct, Literal}
@@ -118,7 +118,7 @@ IsBuilt-taken old new (Some t) p q = IsBuilt-front new (alone t) (subst IsBuilt 
 pub shared_size_le : (ts : List TokenTree) (f : Forest) → forest ts ≡ f → most size-TokenTree ts ≤ 3 * count f + 2
 shared_size_le ts f e = omega (arith, most_size_le ts, ap count e)
 
--- the way back in the place of a group
+-- the way back, where a group was
 pub count-put : (old new : Forest) (g : Grouped) → new ≡ joined old (alone (Group g))
     → count new ≡ count old + 1 + count g.stream
 count-put old new g p = omega (arith, ap count p, count-joined old (alone (Group g)))

@@ -5,7 +5,7 @@ use Rattle.std.proofs.lemmas.List.{nil_from_length}
 use Rattle.std.proofs.lemmas.Str.{chars-nil}
 use Rattle.lexical.proofs.TextLemmas.{bytes_from_no_chars}
 use Rattle.pm_stream.proofs.ParseLemmas.{ok_at_end}
-use Rattle.pm_stream.proofs.parse.Reading.end.Goals as goal
+use Rattle.pm_stream.proofs.parse.Parser.end.Goals as goal
 
 pub returns-then-not-is_empty-clause-stays_open : goal.returns-then-not-is_empty-clause-stays_open
 returns-then-not-is_empty-clause-stays_open c = λ none.

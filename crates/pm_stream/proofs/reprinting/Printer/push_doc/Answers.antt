@@ -2,9 +2,9 @@ use Rattle.std.proofs.Common.{◌≡◌, ◌++◌, true, codes, refl, ap, ◌∙
 use Rattle.std.specs.Str.{chars}
 use Rattle.pm_token.specs.Escaped.{string_text}
 use Rattle.pm_stream.specs.Printed.{space}
-use Rattle.pm_stream.specs.ReprintSoFar.{doc_front}
+use Rattle.pm_stream.specs.PrinterState.{doc_front}
 use Rattle.pm_stream.proofs.ReprintLemmas.{prints_doc, chars_doc_front}
-use Rattle.pm_stream.proofs.reprinting.Printing.push_doc.Goals as goal
+use Rattle.pm_stream.proofs.reprinting.Printer.push_doc.Goals as goal
 
 pub returns : goal.returns
 returns c =
