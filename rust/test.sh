@@ -1,19 +1,26 @@
 #!/usr/bin/env bash
-# The proved functions as Rust, the programs and the Cargo package over them with its tests, and syn and quote on it;
-# and the demo in C under sanitizers.
+# The proved functions as Rust, the programs, the Cargo package over them and the bridge to any other, with their tests
+# and examples over syn and quote; and the demo in C under sanitizers.
 #
 #   rust/test.sh
 #
-# What is missing is said and left out: Python, a C compiler, cargo with Rust 1.82 (the Cargo package: 1.88), and the
-# distribution's packages librust-syn-dev, librust-quote-dev and librust-unicode-ident-dev, which are looked for in
-# CARGO_REGISTRY or /usr/share/cargo/registry. Nothing is fetched. rust/archive.sh builds the archive where it is older
-# than its sources. The last line is `N passed, M failed`, and the status is 1 if anything failed.
+# What is left out is named, and counted by the line `skipped: N` before the last: what wants Python, a C compiler,
+# cargo with Rust 1.82 (the Cargo package: 1.88), or sources of syn, quote and the public crate, which rust/packages.sh
+# gets. rust/archive.sh builds the archive where it is older than its sources. The last line is `N passed, M failed`,
+# and the status is 1 if anything failed.
 set -u
 cd "$(dirname "$0")" || exit 1
 room=$(mktemp -d)
 trap 'rm -rf "$room"' EXIT
 passed=0
 failed=0
+skipped=0
+
+# Says what is left out, and why.
+skip() {
+    skipped=$((skipped + 1))
+    echo "left out: $1"
+}
 
 # Runs a command, whose output is shown where it fails.
 try() {
@@ -30,6 +37,7 @@ try() {
 }
 
 finish() {
+    [ "$skipped" -eq 0 ] || echo "skipped: $skipped"
     echo "$passed passed, $failed failed"
     [ "$failed" -eq 0 ]
     exit
@@ -46,10 +54,10 @@ if command -v python3 > /dev/null; then
     if command -v rt > /dev/null; then
         try "the tables of rust/proved are what the proved crates answer" python3 facts --check
     else
-        echo "no rt: the tables of rust/proved are not compared with the proved crates"
+        skip "the tables of rust/proved beside what the proved crates answer: no rt"
     fi
 else
-    echo "no python3: rust/proved and rust/tools are not compared with the proved sources"
+    skip "rust/proved and rust/tools beside the proved sources: no python3"
 fi
 
 # The programs of rust/tools, as `cargo install` builds them.
@@ -89,7 +97,7 @@ programs() {
 if [ "${minor:-0}" -ge 82 ]; then
     proved() { (cd proved && cargo "$@"); }
     documented() { RUSTDOCFLAGS="-D warnings" proved doc --offline --quiet --no-deps --all-features; }
-    [ -x ../crates/tokens/out/tokens ] || echo "no crates/tokens/out/tokens: rust/proved is not compared with it"
+    [ -x ../crates/tokens/out/tokens ] || skip "every source printed as by the tokens that Rattle builds: not built"
     tested() { proved test --offline --quiet --all-features; }
     try "rust/proved, with overflow checks: recorded answers, sources, the shim" tested
     try "rust/proved without its features" proved build --offline --quiet
@@ -99,15 +107,19 @@ if [ "${minor:-0}" -ge 82 ]; then
     fi
     programs
 else
-    echo "no cargo of Rust 1.82 or later: rust/proved and rust/tools are left out"
+    skip "rust/proved and rust/tools: no cargo of Rust 1.82 or later"
 fi
 
 # The static library for C, and its demo.
 callers_in_c() {
     local archive=../crates/pm_c/out/libpm_c.a cc=${CC:-cc}
+    if ! command -v rt > /dev/null; then
+        skip "the archive, and the demo in C: no rt"
+        return
+    fi
     try "the archive" ./archive.sh
     if ! command -v "$cc" > /dev/null; then
-        echo "no C compiler: the demo is left out"
+        skip "the demo in C: no C compiler"
         return
     fi
     demo() {
@@ -121,35 +133,83 @@ callers_in_c() {
 callers_in_c
 
 if [ "${minor:-0}" -lt 88 ]; then
-    echo "no cargo of Rust 1.88 or later: the Cargo package, and syn and quote over it, are left out"
+    skip "the Cargo package, the bridge and the examples: no cargo of Rust 1.88 or later"
     finish
 fi
-package() { (cd proc-macro2 && cargo test --offline --quiet "$@"); }
-exempt() { RUSTFLAGS="--cfg procmacro2_semver_exempt" RUSTDOCFLAGS="--cfg procmacro2_semver_exempt" package; }
-try "the Cargo package" package
-try "the Cargo package without the compiler's tokens" package --no-default-features
-try "the Cargo package with span locations" package --features span-locations
-try "the Cargo package with what is exempt from semantic versioning" exempt
+package() { (cd proc-macro2 && cargo "$@"); }
+exempt() { RUSTFLAGS="--cfg procmacro2_semver_exempt" RUSTDOCFLAGS="--cfg procmacro2_semver_exempt" package "$@"; }
+documented_package() { RUSTDOCFLAGS="-D warnings" package doc --offline --quiet --no-deps --features span-locations; }
+try "the Cargo package" package test --offline --quiet
+try "the Cargo package without the compiler's tokens" package test --offline --quiet --no-default-features
+try "the Cargo package with span locations" package test --offline --quiet --features span-locations
+try "the Cargo package with what is exempt from semantic versioning" exempt test --offline --quiet
+try "the documents of the Cargo package" documented_package
+if cargo clippy --version > /dev/null 2>&1; then
+    try "clippy on the Cargo package" package clippy --offline --quiet --all-targets -- -D warnings
+    try "clippy on it with span locations" \
+        package clippy --offline --quiet --all-targets --features span-locations -- -D warnings
+fi
 
-registry=${CARGO_REGISTRY:-/usr/share/cargo/registry}
-missing=()
-for name in syn quote unicode-ident; do
-    compgen -G "$registry/$name-1*" > /dev/null || missing+=("librust-$name-dev")
-done
-if [ ${#missing[@]} -gt 0 ]; then
-    echo "no ${missing[*]} in $registry: the example of syn and quote over the package is left out"
-    finish
+# The bridge and the examples, in copies, with which cargo's locks go.
+copies=$room/rust
+mkdir "$copies"
+ln -s "$PWD/proved" "$PWD/proc-macro2" "$copies"
+cp -r bridge example "$copies"
+in_copy() { (cd "$copies/$1" && cargo "${@:2}"); }
+over_package=(--config 'patch.crates-io.proc-macro2.path="../proc-macro2"')
+bridge() { rm -f "$copies/bridge/Cargo.lock" && in_copy bridge "$@"; }
+documented_bridge() { RUSTDOCFLAGS="-D warnings" bridge doc --offline --quiet --no-deps "${over_package[@]}"; }
+try "the bridge over the package" bridge test --offline --quiet --all-features "${over_package[@]}"
+try "the documents of the bridge" documented_bridge
+if cargo clippy --version > /dev/null 2>&1; then
+    try "clippy on the bridge" \
+        bridge clippy --offline --quiet --all-features --all-targets "${over_package[@]}" -- -D warnings
 fi
-mkdir "$room/example" "$room/example/.cargo"
-cp -r example/Cargo.toml example/src example/derive "$room/example"
-cat > "$room/example/.cargo/config.toml" << END
+
+./packages.sh "$room/packages" 2> "$room/said" || sed '/^not had/!d' "$room/said"
+has() { compgen -G "$room/packages/registry/$1*" > /dev/null; }
+mkdir "$copies/.cargo"
+cat > "$copies/.cargo/config.toml" << END
 [source.crates-io]
 replace-with = "here"
 [source.here]
-directory = "$registry"
-[patch.crates-io]
-proc-macro2 = { path = "$(pwd)/proc-macro2" }
+directory = "$room/packages/registry"
 END
-example() { (cd "$room/example" && cargo run --offline --quiet -- src/main.rs); }
-try "a file parsed by syn and printed by quote over the package, and a macro over it" example
+
+if has proc-macro2-1 && has unicode-ident-1; then
+    try "the bridge over the public crate" bridge test --offline --quiet --all-features
+    # A derive over the bridge: its own test, and the line and column at which it tells a fault.
+    told() {
+        ! in_copy example/names test --offline --quiet --features wrong --test wrong > "$room/seen" 2>&1 || return 1
+        grep -A 1 '^error: a variant has a name alone' "$room/seen" | grep -q -- '--> wrong/names.rs:7:10$' && return
+        cat "$room/seen"
+        return 1
+    }
+    try "the example of a derive over the bridge and the public crate" in_copy example/names test --offline --quiet
+    try "its error stands at its user's token" told
+else
+    skip "the bridge over the public crate, and its example: no proc-macro2 or unicode-ident"
+fi
+
+generated() {
+    in_copy example/generator run --offline --quiet > "$room/seen" || return 1
+    printf 'Millimeter: 1000 micrometers\nInch: 25400 micrometers\nMeter: 1000000 micrometers\n' | cmp - "$room/seen"
+}
+if has quote-1; then
+    try "the example of a build script over quote and the package" generated
+else
+    skip "the example of a build script: no quote"
+fi
+for version in 2 1; do
+    if ! has "syn-$version" || ! has quote-1 || ! has unicode-ident-1; then
+        skip "the examples over syn $version, quote and the package: no syn $version, quote or unicode-ident"
+        continue
+    fi
+    rm -f "$copies"/example/{,getters/}Cargo.lock
+    sed -i "/^syn = /s/\">*[0-9][^\"]*\"/\"$version\"/" "$copies"/example/{,derive/,getters/}Cargo.toml
+    try "a file parsed by syn $version and printed by quote over the package, and a macro over it" \
+        in_copy example run --offline --quiet -- src/main.rs
+    try "the example of a derive over syn $version, quote and the package" \
+        in_copy example/getters test --offline --quiet
+done
 finish

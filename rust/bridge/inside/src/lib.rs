@@ -1,0 +1,78 @@
+//! Macros for the tests of `proved-bridge`: they run inside the compiler, and so on the compiler's tokens.
+use proc_macro2::{Literal, TokenStream, TokenTree};
+use proved_bridge::proved::pm_stream::{Group as OwnGroup, TokenStream as OwnStream, TokenTree as OwnTree};
+use proved_bridge::proved::pm_token::Delimiter as OwnDelimiter;
+use proved_bridge::proved::shim::alloc::Global;
+use proved_bridge::proved::shim::clone::Clone as _;
+use proved_bridge::{from_proved, to_proved, Spans};
+
+/// Leaves an item as it is, after it went over to a proved stream and came back.
+#[proc_macro_attribute]
+pub fn there_and_back(_: proc_macro::TokenStream, item: proc_macro::TokenStream) -> proc_macro::TokenStream {
+    let item = TokenStream::from(item);
+    let mut spans = Spans::new();
+    let own = to_proved(&item, &mut spans).expect("the compiler's tokens are of the grammar");
+    let back = from_proved(&own, &spans).expect("they were the compiler's");
+    assert_eq!(shown(back.clone()), shown(item));
+    back.into()
+}
+
+/// The trees in order, each with what can be asked of it.
+fn shown(stream: TokenStream) -> String {
+    let each = stream.into_iter().map(|tree| match tree {
+        TokenTree::Group(group) => format!("{:?} {:?} {{ {}}} ", group.span(), group.delimiter(), shown(group.stream())),
+        TokenTree::Punct(punct) => format!("{:?} {punct} {:?} ", punct.span(), punct.spacing()),
+        token => format!("{:?} {token} ", token.span()),
+    });
+    each.collect()
+}
+
+/// Puts a constant in front of all that is in each pair of braces, which are those of modules and blocks.
+#[proc_macro_attribute]
+pub fn more(_: proc_macro::TokenStream, item: proc_macro::TokenStream) -> proc_macro::TokenStream {
+    let mut spans = Spans::new();
+    let own = to_proved(&item.into(), &mut spans).expect("the compiler's tokens are of the grammar");
+    let constant = OwnStream::parse_unmapped(Global, "const _: &str = \"more\";").expect("it is a text");
+    from_proved(&with_more(&own, &constant), &spans).expect("they were the compiler's").into()
+}
+
+fn with_more(stream: &OwnStream, constant: &OwnStream) -> OwnStream {
+    let mut out = OwnStream::new(Global);
+    for tree in stream.trees() {
+        let Ok(mut tree) = tree.clone();
+        if let OwnTree::Group(group) = &tree {
+            let inside = with_more(group.stream_ref(), constant);
+            let Ok(mut front) = constant.clone();
+            let mut made = match group.delimiter() {
+                OwnDelimiter::Brace => {
+                    let Ok(()) = front.extend_streams([inside]);
+                    OwnGroup::new(OwnDelimiter::Brace, front)
+                }
+                other => OwnGroup::new(other, inside),
+            };
+            made.set_span(group.span());
+            tree = OwnTree::Group(made);
+        }
+        let Ok(()) = out.extend_trees([tree]);
+    }
+    out
+}
+
+/// The lines and columns of its tokens, as the compiler's spans of them tell.
+#[proc_macro]
+pub fn lines_and_columns(input: proc_macro::TokenStream) -> proc_macro::TokenStream {
+    let mut spans = Spans::new();
+    let own = to_proved(&input.into(), &mut spans).expect("the compiler's tokens are of the grammar");
+    let mut told = String::new();
+    for tree in own.trees() {
+        let ends = match tree {
+            OwnTree::Group(group) => vec![group.span_open(), group.span_close()],
+            token => vec![token.span()],
+        };
+        for end in ends {
+            let span = spans.span(end).unwrap();
+            told += &format!("{}:{} ", span.line(), span.column());
+        }
+    }
+    TokenStream::from(TokenTree::Literal(Literal::string(&told))).into()
+}

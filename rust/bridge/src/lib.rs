@@ -1,0 +1,30 @@
+//! Token streams of any `proc-macro2` as those of [`proved`], and back, each token with its caller's span.
+//!
+//! What the public crate lacks can be asked of the proved stream, whichever `proc-macro2` a project has: no dependency
+//! is replaced. It is so inside macros too, where the tokens are the compiler's.
+//!
+//! ```
+//! use proved_bridge::{from_proved, to_proved, Spans};
+//!
+//! let input: proc_macro2::TokenStream = "fn f(x: u8) -> u8 { x + 1 }".parse()?;
+//! let mut spans = Spans::new();
+//! let stream = to_proved(&input, &mut spans)?;
+//! assert!(stream.is_well_spaced());
+//! assert_eq!(from_proved(&stream, &spans)?.to_string(), input.to_string());
+//! # Ok::<(), Box<dyn std::error::Error>>(())
+//! ```
+//!
+//! A token that stays as it was comes back as the caller's own, and so does a group in which all stays. Any other is made
+//! by the caller's crate, with the span that it bears. Both ways take time in proportion to the number of trees and the length of their texts, and little
+//! stack, however deep groups nest.
+#![forbid(unsafe_code)]
+#![warn(missing_docs)]
+
+mod back;
+mod over;
+mod spans;
+
+pub use back::from_proved;
+pub use over::to_proved;
+pub use proved;
+pub use spans::{NoToken, Spans};

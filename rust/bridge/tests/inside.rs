@@ -1,0 +1,75 @@
+//! Streams go over and come back inside macros, where the tokens are the compiler's.
+#![allow(clippy::all)] // Forms as callers may write them.
+use inside::{lines_and_columns, more, there_and_back};
+
+pub const ONE: u8 = 1;
+
+/// A function whose tokens are of two macros' and a caller's making.
+macro_rules! function {
+    ($name:ident, $variable:ident, $value:expr) => {
+        /// It has a "doc" comment.
+        #[there_and_back]
+        fn $name<'a>(text: &'a str) -> (&'a str, u8, u8, i32) {
+            let a = $crate::ONE;
+            let $variable = 2;
+            (text, a, $variable, $value * 2)
+        }
+    };
+}
+
+function!(r#fn, a, -1 - 2);
+
+#[test]
+fn names_are_resolved_as_before() {
+    // One `a` is the macro's and another its caller's; the value is multiplied as a whole.
+    assert_eq!(r#fn("text"), ("text", 1, 2, -6));
+}
+
+#[there_and_back]
+mod every_form {
+    #![allow(dead_code)]
+    //! Inner.
+    pub const TEXTS: (&str, &[u8], &str, char, u8, f64) = ("a\n\"", b"\xFF", r##"a"#b"##, '\'', b'\n', 1_0.5e-1);
+    pub const SUM: i32 = -1 + 0x1F + 0b1i32 << 1;
+    pub fn choose(x: Option<u8>) -> u8 {
+        match x {
+            Some(1..=9) | None => 'a: { break 'a 0 },
+            Some(other) if other != 3 && !(other >= 255) => other,
+            Some(_) => u8::MAX,
+        }
+    }
+}
+
+#[test]
+fn every_form_is_compiled_as_before() {
+    assert_eq!(every_form::TEXTS, ("a\n\"", &[0xFF][..], "a\"#b", '\'', b'\n', 1.05));
+    assert_eq!((every_form::SUM, every_form::choose(Some(12)), every_form::choose(None)), (62, 12, 0));
+}
+
+#[more]
+mod blocks {
+    pub fn r#loop(x: &'static [i64]) -> i64 {
+        let sum = 'a: {
+            break 'a x[0] - -2i64 << 1;
+        };
+        {
+            sum + ("\u{E9}".len() + 1_0) as i64
+        }
+    }
+}
+
+#[test]
+fn a_changed_group_is_made_of_its_trees() {
+    assert_eq!(blocks::r#loop(&[1]), 18);
+}
+
+#[test]
+fn each_token_and_delimiter_has_its_span() {
+    let from = line!();
+    let told = lines_and_columns!(a
+        += (b
+      ) 'c');
+    let wanted = [(1, 35), (2, 9), (2, 10), (2, 12), (3, 7), (3, 9)];
+    let wanted = wanted.map(|(line, column)| format!("{}:{column} ", from + line));
+    assert_eq!(told, wanted.concat());
+}
