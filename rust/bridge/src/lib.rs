@@ -15,8 +15,8 @@
 //! ```
 //!
 //! A token that stays as it was comes back as the caller's own, and so does a group in which all stays. Any other is
-//! made by the caller's crate, with the span that it bears. Both ways take time in proportion to the number of trees and
-//! the length of their texts, and little stack, however deep groups nest.
+//! made by the caller's crate, with the span that it bears. Both ways take time in proportion to the number of trees
+//! and the length of their texts, and little stack, however deep groups nest.
 #![forbid(unsafe_code)]
 #![warn(missing_docs)]
 

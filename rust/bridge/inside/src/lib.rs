@@ -20,7 +20,9 @@ pub fn there_and_back(_: proc_macro::TokenStream, item: proc_macro::TokenStream)
 /// The trees in order, each with what can be asked of it.
 fn shown(stream: TokenStream) -> String {
     let each = stream.into_iter().map(|tree| match tree {
-        TokenTree::Group(group) => format!("{:?} {:?} {{ {}}} ", group.span(), group.delimiter(), shown(group.stream())),
+        TokenTree::Group(group) => {
+            format!("{:?} {:?} {{ {}}} ", group.span(), group.delimiter(), shown(group.stream()))
+        }
         TokenTree::Punct(punct) => format!("{:?} {punct} {:?} ", punct.span(), punct.spacing()),
         token => format!("{:?} {token} ", token.span()),
     });
