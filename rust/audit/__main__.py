@@ -11,19 +11,20 @@ are left are compared in order.
 
 A line of whitelist.txt is a change: the tokens of the source, `=>`, and those in their place. NAME is any one name and
 PATH any path, each the same on both sides; NAMES are any names with commas between them, BODY is anything, and CRATE is
-the source's crate. A line `in SOURCE` says that the changes below it, up to an empty line, are known in that source
-alone.
+the source's crate. A line `in SOURCES` says that the changes below it, up to an empty line, are known in the sources
+of this pattern alone.
 """
 import collections
 import difflib
+import fnmatch
 import pathlib
 import re
 import sys
 
 TOP = pathlib.Path(__file__).resolve().parents[2]
 PACKAGES = [TOP / 'rust/proved', TOP / 'rust/tools']
-# What isn't erased: tests, what is for them alone, and each `main`.
-LEFT_OUT = {'tests.rt', 'failing.rt', 'main.rt'}
+# What isn't erased: tests within the library, what is for them alone, tests of sizes, and each `main`.
+LEFT_OUT = {'tests.rt', 'failing.rt', 'sizes.rt', 'main.rt'}
 KNOWN = pathlib.Path(__file__).parent / 'whitelist.txt'
 MADE = re.compile(r'// Made from (\S+) by rust/erase')
 
@@ -147,7 +148,7 @@ def whole_items(words, first, last):
 
 
 def known_changes():
-    """The known changes, each with the source that it is bound to, or an empty text."""
+    """The known changes, each with the sources that it is bound to, or an empty text."""
     out, source = [], ''
     for line in KNOWN.read_text().splitlines():
         if not line:
@@ -165,7 +166,7 @@ def is_known(change, source, known):
     pattern = re.escape(line).replace('CRATE', source.split('/')[1])
     for word, form in (('NAMES', r'\w+(?: , \w+)*'), ('NAME', r'(?P<name>\w+)'), ('PATH', r'(?P<path>\w+(?:::\w+)*)')):
         pattern = pattern.replace('BODY', '.*').replace(word, form, 1).replace(word, f'(?P={word.lower()})')
-    return only in ('', source) and re.fullmatch(pattern, change) is not None
+    return (not only or fnmatch.fnmatch(source, only)) and re.fullmatch(pattern, change) is not None
 
 
 def pairs():

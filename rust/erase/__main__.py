@@ -25,10 +25,13 @@ TOOLS = TOP / 'rust/tools'
 LIBRARIES = ['lexical', 'literal_escaper', 'pm_span', 'pm_token', 'pm_stream', 'proc_macro2', 'quoting']
 # The crates that only a test of the package takes.
 TESTED = ['replay']
+# The library's own tests, which another test of the package takes.
+OWN_TESTS = ['lexical_tests', 'token_tests', 'span_tests', 'building_tests', 'stream_tests', 'quoting_tests']
 # The programs, and the library that they share.
 PROGRAMS = ['messages', 'tokens', 'highlight']
-# What isn't erased: tests, what is for them alone, and each `main`, which is by hand.
-LEFT_OUT = {'tests.rt', 'failing.rt', 'main.rt'}
+# What isn't erased: tests within the library, what is for them alone, tests of how many bytes a value takes in Rattle,
+# and each `main`, which is by hand.
+LEFT_OUT = {'tests.rt', 'failing.rt', 'sizes.rt', 'main.rt'}
 
 
 def erased(text, crate, source, package):
@@ -44,9 +47,8 @@ def erased(text, crate, source, package):
 
 def headed(file, source):
     """The text of a file, with the line that says what it was made from, and what it imports beside its own imports."""
-    root = 'proved' if file.package.below else 'crate'
     names = ', '.join(file.prelude)
-    uses = [f'use {root}::shim::prelude::{"{%s}" % names if "," in names else names};'] if names else []
+    uses = [f'use {file.package.shim}::prelude::{"{%s}" % names if "," in names else names};'] if names else []
     tokens = file.tokens
     at = 0
     while at < len(tokens) and (tokens[at].kind == 'white' or tokens[at].text.startswith('//!')):
@@ -60,9 +62,9 @@ def is_left_out(path):
     return path.name in LEFT_OUT or 'tests' in path.parts
 
 
-def erase_all(crates, below, target, counts, problems):
+def erase_all(crates, below, target, counts, problems, tests=False):
     """The files of these crates: from the path of each to its text."""
-    package = rules.Package(counts, crates, below)
+    package = rules.Package(counts, crates, below, tests)
     sources = {}
     for crate in crates + below:
         for path in sorted((TOP / 'crates' / crate / 'src').rglob('*.rt')):
@@ -109,12 +111,14 @@ def main():
     counts, problems = collections.Counter(), []
     files = erase_all(LIBRARIES, [], PACKAGE / 'src', counts, problems)
     files.update(erase_all(TESTED, LIBRARIES, PACKAGE / 'tests/conformance', counts, problems))
+    files.update(erase_all(OWN_TESTS, LIBRARIES, PACKAGE / 'tests/own', counts, problems, tests=True))
     files.update(erase_all(PROGRAMS, LIBRARIES, TOOLS / 'src', counts, problems))
     if problems:
         print('\n'.join(problems))
         sys.exit(f'{len(problems)} places are rejected: rust/erase has no rule for them')
     folders = [PACKAGE / 'src' / crate for crate in LIBRARIES]
     folders += [PACKAGE / 'tests/conformance' / crate for crate in TESTED]
+    folders += [PACKAGE / 'tests/own' / crate for crate in OWN_TESTS]
     folders += [TOOLS / 'src' / crate for crate in PROGRAMS]
     if sys.argv[1:] == ['--check']:
         differing = compare(files, folders)

@@ -24,7 +24,8 @@ def rejections(file):
 def words(file):
     """`unsafe`, `prove!`, handles, trait objects and what else has no counterpart."""
     for at, token in enumerate(file.tokens):
-        if token.kind == 'name' and token.text in known.FORBIDDEN:
+        handle = file.package.tests and token.text == 'Abort'
+        if token.kind == 'name' and token.text in known.FORBIDDEN and not handle:
             yield token.line, known.FORBIDDEN[token.text]
         if found(file.tokens, at, 'static mut'):
             yield token.line, '`static mut`'
@@ -48,20 +49,26 @@ def attributes(file):
                 yield token.line, f'a derive of `{other}`'
             if 'Clone' in derived and 'Copy' not in derived:
                 yield token.line, 'a derived `Clone` without `Copy`: here it takes memory and can fail'
+        elif file.package.tests and any(found(tokens, bracket, form) for form in ('[ test ]', '[ cfg ( test ) ]')):
+            continue
         elif word not in known.ATTRIBUTES and not found(tokens, bracket, '[ rustfmt : : skip ]'):
             yield token.line, f'the attribute `{word}`'
 
 
 @check
 def macros(file):
+    """A macro that has no counterpart."""
+    names = known.MACROS | {'display'} | (known.TEST_MACROS if file.package.tests else set())
     for at, token in enumerate(file.tokens):
         called = found(file.tokens, at, f'{token.text} !') and file.tokens[at + 1].text == '!'
         if token.kind == 'name' and called and found(file.tokens, at, f'{token.text} ! ='):
             continue
-        if token.kind == 'name' and called and token.text not in known.MACROS | {'display'}:
+        if token.kind == 'name' and called and token.text not in names:
             yield token.line, f'the macro `{token.text}!`'
         if token.text == 'format' and called and not found(file.tokens, at, 'format ! ( in'):
             yield token.line, '`format!` without its allocator'
+        if token.text == 'vec' and called and not found(file.tokens, at, 'vec ! [ in'):
+            yield token.line, '`vec!` without its allocator'
 
 
 @check
@@ -147,13 +154,14 @@ def traits(file):
 def methods(file):
     """A method that neither these crates nor the known part of std has."""
     tokens = file.tokens
+    names = known.METHODS | file.package.functions | (known.TEST_METHODS if file.package.tests else set())
     for at, token in enumerate(tokens):
         name = following(tokens, at)
         if token.text != '.' or tokens[name].kind != 'name':
             continue
         after = following(tokens, name)
         called = tokens[after].text == '(' or found(tokens, after, ': : <')
-        if called and tokens[name].text not in known.METHODS | file.package.functions:
+        if called and tokens[name].text not in names:
             yield token.line, f'the method `{tokens[name].text}`'
 
 
@@ -214,12 +222,13 @@ def items(file):
     """An item of std that the shim lacks, a crate that is no part of the package, and a module named as one."""
     tokens = file.tokens
     crates = file.package.erased | file.package.below | known.TOOLCHAIN_CRATES
+    items_of_std = known.STD_ITEMS | (known.TEST_ITEMS if file.package.tests else set())
     modules = set()
     for at, token in enumerate(tokens):
         if found(tokens, at, 'std : :') and tokens[at - 1].text != ':':
             start = following(tokens, following(tokens, following(tokens, at)))
             for line, path in paths_of(tokens, start, []):
-                if path not in known.STD_ITEMS:
+                if path not in items_of_std:
                     yield line, f'`std::{path}`'
                 modules.add(path)
         for end in found(tokens, at, 'use') if token.kind == 'name' else []:

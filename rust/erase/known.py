@@ -46,6 +46,17 @@ MACROS = set('format format_args matches unreachable write writeln'.split())
 ATTRIBUTES = {'inline'}
 DERIVES = set('Clone Copy Debug Drop Eq Hash Ord PartialEq PartialOrd'.split())
 
+# What the crates of tests may name besides. Their shim is in rust/proved/tests/own.
+TEST_ITEMS = set('''
+    collections::HashMap ops::Bound::Excluded ops::Bound::Included ops::Bound::Unbounded process::Abort
+    test::Fail
+'''.split())
+TEST_METHODS = set('''
+    as_deref char_indices collected enumerate err expect or repeated sort split_at_checked trim_start_matches
+    wrapping_add wrapping_mul zip
+'''.split())
+TEST_MACROS = {'assert', 'assert_eq', 'vec'}
+
 # Words of the language whose form no rule knows, or that Rust reads otherwise.
 FORBIDDEN = {
     'unsafe': '`unsafe` but for a text that is known to be UTF-8',

@@ -32,10 +32,13 @@ class File:
 class Package:
     """What is known of all the files: the crates, the types with a destructor, and how the shim is named."""
 
-    def __init__(self, counts, erased=(), below=()):
+    def __init__(self, counts, erased=(), below=(), tests=False):
         self.counts = counts
         self.erased = set(erased)
         self.below = set(below)
+        # Whether these are crates of tests, which have a shim of their own over that of the package.
+        self.tests = tests
+        self.shim = 'proved::shim' if self.below and not tests else 'crate::shim'
         self.destructors = {}
         self.functions = set()
 
@@ -199,20 +202,103 @@ def models(file):
 
 @rule
 def tests(file):
-    """Leaves out the modules of tests, which take the runtime.
+    """Leaves out the modules of tests within the library, and those of how many bytes a value takes in Rattle.
 
-        #[cfg(test)] mod tests; fn one() {} #[cfg(test)] mod tests { use super::*; }
+        #[cfg(test)] mod tests; fn one() {} #[cfg(test)] mod tests { use super::*; } #[cfg(test)] mod sizes;
         => fn one() {}
     """
     goes = set()
     for at, token in enumerate(file.tokens):
-        for end in found(file.tokens, at, '# [ cfg ( test ) ] mod tests ;'):
-            goes |= set(range(at, end + 1))
-            file.count('tests')
+        for name in ('tests', 'sizes'):
+            for end in found(file.tokens, at, f'# [ cfg ( test ) ] mod {name} ;'):
+                goes |= set(range(at, end + 1))
+                file.count('tests')
         for end in found(file.tokens, at, '# [ cfg ( test ) ] mod tests {'):
             goes |= set(range(at, closing(file.tokens, end) + 1))
             file.count('tests')
     file.tokens = without(file.tokens, goes)
+
+
+@rule
+def test_functions(file):
+    """Makes the runtime that Rattle gives to a test. Only in a crate of tests a test is known at all.
+
+        #[test] fn one(rt: HostRuntime) { f(&rt); }
+        => use crate::shim::prelude::{HostRuntime}; #[test] fn one() { let rt = HostRuntime; f(&rt); }
+    """
+    tokens, edits = file.tokens, {}
+    for at, token in enumerate(tokens):
+        for end in found(tokens, at, '# [ test ] fn'):
+            opener = next_mark(tokens, end, '(')
+            body = next_mark(tokens, opener, '{')
+            form = '( rt : HostRuntime )', '( rt : HostRuntime , )'
+            for last in found(tokens, opener, form[0]) + found(tokens, opener, form[1]):
+                edits[opener, last] = '()'
+                edits[body, body] = '{\n    let rt = HostRuntime;'
+                file.count('test-functions')
+    file.tokens = replaced(tokens, edits)
+
+
+@rule
+def handles(file):
+    """Lets what ends a test do without the handle that allows it.
+
+        fn f(rt: &impl Abort, a: Option<u8>) { assert_eq!(rt; a.expect(rt, "one"), 1); }
+        => fn f(rt: &impl Abort, a: Option<u8>) { assert_eq!(a.expect("one"), 1); }
+    """
+    goes = set()
+    for at, token in enumerate(file.tokens):
+        if token.text not in ('assert', 'assert_eq', 'expect'):
+            continue
+        for words in ('assert ! ( rt ;', 'assert ! ( & rt ;', 'assert_eq ! ( rt ;', 'assert_eq ! ( & rt ;',
+                      'expect ( rt ,', 'expect ( & rt ,'):
+            for end in found(file.tokens, at, words):
+                goes |= set(range(next_mark(file.tokens, at, '(') + 1, following(file.tokens, end)))
+                file.count('handles')
+    file.tokens = [token for at, token in enumerate(file.tokens) if at not in goes]
+
+
+# Methods that take an allocator, and the shim's in tests, as Rust's of the same name take none.
+ALLOCATING = {'collect': 'collected', 'repeat': 'repeated'}
+
+
+@rule
+def allocating_methods(file):
+    """Names in tests the shim's methods for those of Rust that take no allocator.
+
+        fn f(alloc: Global) { "(".repeat(alloc, 9)?; }
+        => use crate::shim::prelude::{Repeat}; fn f(alloc: Global) { "(".repeated(alloc, 9)?; }
+    """
+    for at, token in enumerate(file.tokens):
+        if file.package.tests and token.text in ALLOCATING and found(file.tokens, at, f'{token.text} ( alloc'):
+            token.text = ALLOCATING[token.text]
+            file.count('allocating-methods')
+
+
+@rule
+def memory_rows(file):
+    """Leaves out of a list the items with the value of the error of memory, which has none in Rust.
+
+        fn f() { g(&[E::Empty, E::Memory(AllocError), E::Number]); }
+        => fn f() { g(&[E::Empty, E::Number]); }
+    """
+    tokens, goes, brackets = file.tokens, set(), []
+    for at, token in enumerate(tokens):
+        if token.kind == 'mark' and token.text in '([{':
+            brackets.append([token.text, at])
+        elif token.kind == 'mark' and token.text in ')]}':
+            brackets.pop()
+        elif token.text == ',' and brackets:
+            brackets[-1][1] = at
+        lists = [place for opener, place in brackets if opener == '[']
+        if lists and found(tokens, at, 'Memory ( AllocError )'):
+            depth, end = 0, lists[-1] + 1
+            while tokens[end].text != ',' or depth:
+                depth += (tokens[end].text in ('(', '[')) - (tokens[end].text in (')', ']'))
+                end += 1
+            goes |= set(range(following(tokens, lists[-1]), following(tokens, end)))
+            file.count('memory-rows')
+    file.tokens = [token for at, token in enumerate(tokens) if at not in goes]
 
 
 @rule
@@ -446,7 +532,9 @@ def memory(file):
 
 
 # What every source of Rattle names without an import, where Rust has another thing of that name or none.
-PRELUDE = ('Box', 'Clone', 'Extend', 'FromIterator', 'HostRuntime', 'String', 'Vec')
+PRELUDE = ('AllocGlobal', 'Box', 'Clone', 'Extend', 'FromIterator', 'HostRuntime', 'String', 'Vec')
+# The methods of tests that are of traits there.
+WITH_TRAITS = {'collected': 'Collect', 'extend': 'Extend', 'repeated': 'Repeat', 'sort': 'Sort'}
 
 
 @rule
@@ -466,6 +554,10 @@ def prelude(file):
             used.add('Clone')
         elif token.text == 'format' and found(tokens, at, 'format ! ( in'):
             used.add('format')
+        elif token.text == 'vec' and found(tokens, at, 'vec ! [ in'):
+            used.add('vec')
+        elif file.package.tests and token.text in WITH_TRAITS:
+            used.add(WITH_TRAITS[token.text])
     file.prelude = sorted(used)
     file.count('prelude', len(used))
 
@@ -491,14 +583,14 @@ def paths(file):
             edits[at, at] = f'crate::{file.crate}'
             file.count('own-paths')
         elif token.text == 'std':
-            edits[at, at] = f'{root}::shim'
+            edits[at, at] = package.shim
             file.count('std-paths')
         elif token.text in known.TOOLCHAIN_CRATES:
-            edits[at, at] = f'{root}::shim::{token.text}'
+            edits[at, at] = f'{package.shim}::{token.text}'
             file.count('toolchain-paths')
         elif token.text in package.below or token.text in package.erased:
             edits[at, at] = f'{root if token.text in package.below else "crate"}::{token.text}'
             file.count('crate-paths')
         elif token.text == 'shim':
-            edits[at, at] = f'{root}::shim'
+            edits[at, at] = package.shim
     file.tokens = replaced(tokens, edits)

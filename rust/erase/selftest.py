@@ -134,9 +134,9 @@ trait Unit {
 '''
 
 
-def applied(text):
+def applied(text, tests=False):
     """A text with all rules applied, as a source of `lexical`, and what is rejected in it."""
-    package = rules.Package(collections.Counter(), ['lexical', 'pm_span'])
+    package = rules.Package(collections.Counter(), ['lexical', 'pm_span'], tests=tests)
     tokens = tokens_of(text)
     code = [token for token in tokens if token.kind not in ('clause', 'ghost')]
     package.learn(code)
@@ -171,7 +171,7 @@ def run():
     failures = []
     for rule in rules.RULES:
         before, after = example(rule)
-        seen, _ = applied(before)
+        seen, _ = applied(before, tests=True)
         if code_of(seen) != code_of(after.replace(' shim::', ' crate::shim::')):
             failures.append(f'the example of {rule.__name__} becomes\n    {seen}')
         if code_of(seen) == code_of(before):

@@ -1,0 +1,91 @@
+// Made from crates/lexical_tests/src/checks.rt by rust/erase: change that file, not this one.
+//! What several tests assert, each in a function of its own, so that it is proved once.
+
+use crate::shim::prelude::format;
+
+use crate::lexical_tests::slow;
+use proved::lexical::{Piece, PieceKind, literal_at, name_at, piece_at};
+use crate::shim::alloc::{AllocError, Global};
+use crate::shim::fmt::Debug;
+use crate::shim::process::Abort;
+
+/// Asserts that the answer at a row of a test, which is printed if it fails, is the wanted one.
+pub fn check_same<T: PartialEq + Debug>(rt: &impl Abort, row: &str, answer: &T, want: &T) {
+    assert_eq!(answer, want, "at {row:?}");
+}
+
+/// Asserts which piece the text begins with, where it stands at no place 0, and that the slow lexer answers the same as
+/// the lexer at each place of the text and at each of its beginnings.
+pub fn check_piece(rt: &impl Abort, text: &str, want: Option<Piece<'_>>) {
+    check_same(rt, text, &piece_at(text, false), &want);
+    check_slow(rt, text);
+    let mut rest = text.chars();
+    while rest.next().is_some() {
+        check_slow(rt, rest.as_str());
+        if let Some(beginning) = text.strip_suffix(rest.as_str()) {
+            check_slow(rt, beginning);
+        }
+    }
+}
+
+/// Asserts that the slow lexer answers the same as the lexer at the front of the text.
+fn check_slow(rt: &impl Abort, text: &str) {
+    check_same(
+        rt,
+        text,
+        &piece_at(text, false),
+        &slow::piece_at(text, false),
+    );
+    check_same(rt, text, &piece_at(text, true), &slow::piece_at(text, true));
+    check_same(rt, text, &literal_at(text), &slow::literal_at(text));
+    check_same(rt, text, &name_at(text), &slow::name_at(text));
+}
+
+/// Asserts how many bytes the literal has that the text begins with.
+pub fn check_literal_length(rt: &impl Abort, text: &str, want: Option<usize>) {
+    check_same(rt, text, &literal_at(text), &want);
+}
+
+/// Asserts that each text begins with a piece of this kind and of so many bytes and characters.
+pub fn check_pieces(rt: &impl Abort, kind: PieceKind<'_>, rows: &[(&str, usize, usize)]) {
+    for &(text, bytes, chars) in rows {
+        check_piece(rt, text, Some(Piece { kind, bytes, chars }));
+    }
+}
+
+/// Asserts that each text begins with no piece, and with no literal.
+pub fn check_no_pieces(rt: &impl Abort, texts: &[&str]) {
+    for text in texts {
+        check_piece(rt, text, None);
+        check_literal_length(rt, text, None);
+    }
+}
+
+/// Asserts that each value of the table is equal to itself, and to no other of them.
+pub fn are_told_apart<T: PartialEq + Debug>(rt: &impl Abort, values: &[T]) {
+    for (at, value) in values.iter().enumerate() {
+        is_told_apart(rt, values, at, value);
+    }
+}
+
+/// Asserts that the value is equal to the one at this place of the table, and to no other.
+fn is_told_apart<T: PartialEq + Debug>(rt: &impl Abort, values: &[T], at: usize, value: &T) {
+    for (place, other) in values.iter().enumerate() {
+        let answers = (value == other, value != other);
+        let want = (at == place, at != place);
+        assert_eq!(answers, want, "of {value:?} and {other:?}");
+    }
+}
+
+/// Asserts what each value of the table is shown as.
+pub fn are_shown<T: Debug>(
+    rt: &impl Abort,
+    alloc: Global,
+    rows: &[(T, &str)],
+) -> Result<(), AllocError> {
+    for (value, want) in rows {
+        let shown = format!(in alloc; "{value:?}")?;
+        check_same(rt, want, &shown.as_str(), want);
+    }
+    Ok(())
+}

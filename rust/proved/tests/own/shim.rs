@@ -1,0 +1,161 @@
+//! What tests alone name of Rattle's `std`, over the shim of the package.
+pub use proved::shim::*;
+
+pub mod prelude {
+    pub use super::alloc::AllocGlobal;
+    pub use super::lists::{Collect, Repeat, Sort};
+    pub(crate) use super::lists::vec_by_shim as vec;
+    pub use proved::shim::prelude::*;
+}
+
+pub mod alloc {
+    pub use proved::shim::alloc::*;
+
+    /// What hands out the allocator.
+    pub trait AllocGlobal {
+        fn alloc(&self) -> Global;
+    }
+
+    impl AllocGlobal for proved::shim::process::HostRuntime {
+        fn alloc(&self) -> Global {
+            Global
+        }
+    }
+}
+
+pub mod process {
+    pub use proved::shim::process::*;
+
+    /// What lets a test end with a message.
+    pub trait Abort {}
+
+    impl Abort for HostRuntime {}
+}
+
+pub mod test {
+    use super::alloc::{AllocError, AllocFailed};
+    use proved::proc_macro2::{ConversionErrorKind, IdentError, ParseError};
+
+    /// Why a test failed.
+    #[derive(Debug)]
+    pub struct Fail(String);
+
+    impl<T> From<AllocFailed<T>> for Fail {
+        fn from(error: AllocFailed<T>) -> Fail {
+            match AllocError::from(error) {}
+        }
+    }
+
+    macro_rules! from {
+        ($($error:ty)*) => {$(
+            impl From<$error> for Fail {
+                fn from(error: $error) -> Fail {
+                    Fail(format!("{error:?}"))
+                }
+            }
+        )*};
+    }
+
+    from!(AllocError ConversionErrorKind IdentError ParseError);
+    #[cfg(feature = "quoting")]
+    from!(proved::quoting::QuoteError proved::quoting::TemplateError);
+}
+
+pub mod collections {
+    use super::alloc::{AllocFailed, Global};
+    use std::hash::Hash;
+
+    /// A map by hashes.
+    pub struct HashMap<K, V>(std::collections::HashMap<K, V>);
+
+    impl<K: Hash + Eq, V> HashMap<K, V> {
+        pub fn new(_: Global) -> HashMap<K, V> {
+            HashMap(std::collections::HashMap::new())
+        }
+
+        pub fn insert(&mut self, key: K, value: V) -> Result<Option<V>, AllocFailed<(K, V)>> {
+            Ok(self.0.insert(key, value))
+        }
+
+        pub fn get(&self, key: &K) -> Option<&V> {
+            self.0.get(key)
+        }
+
+        pub fn len(&self) -> usize {
+            self.0.len()
+        }
+    }
+
+    /// A map in the order of its keys.
+    pub struct BTreeMap<K, V>(std::collections::BTreeMap<K, V>);
+
+    impl<K: Ord, V> BTreeMap<K, V> {
+        pub fn new(_: Global) -> BTreeMap<K, V> {
+            BTreeMap(std::collections::BTreeMap::new())
+        }
+
+        pub fn insert(&mut self, key: K, value: V) -> Result<Option<V>, AllocFailed<(K, V)>> {
+            Ok(self.0.insert(key, value))
+        }
+
+        pub fn get(&self, key: &K) -> Option<&V> {
+            self.0.get(key)
+        }
+
+        pub fn len(&self) -> usize {
+            self.0.len()
+        }
+    }
+}
+
+pub mod ops {
+    pub use std::ops::{Bound, Range};
+}
+
+mod lists {
+    use super::alloc::{AllocError, Global};
+    use proved::shim::iter::FromIterator;
+    use proved::shim::string::String;
+    use proved::shim::vec::Vec;
+
+    pub trait Repeat {
+        fn repeated(&self, alloc: Global, times: usize) -> Result<String, AllocError>;
+    }
+
+    impl Repeat for str {
+        fn repeated(&self, _: Global, times: usize) -> Result<String, AllocError> {
+            Ok(String::from_rust(self.repeat(times)))
+        }
+    }
+
+    pub trait Collect: Iterator + Sized {
+        fn collected<C>(self, alloc: Global) -> Result<C, AllocError>
+        where
+            C: FromIterator<Self::Item, Alloc = Global>,
+        {
+            C::from_iter(alloc, self)
+        }
+    }
+
+    impl<I: Iterator> Collect for I {}
+
+    pub trait Sort {
+        fn sort(&mut self) -> Result<(), AllocError>;
+    }
+
+    impl<T: Ord> Sort for Vec<T> {
+        fn sort(&mut self) -> Result<(), AllocError> {
+            self.as_rust_mut().sort();
+            Ok(())
+        }
+    }
+
+    /// The list of these items, as `vec![in alloc; 1, 2]`.
+    macro_rules! vec_by_shim {
+        (in $alloc:expr; $($items:tt)*) => {{
+            let _: proved::shim::alloc::Global = $alloc;
+            Ok::<_, proved::shim::alloc::AllocError>(proved::shim::vec::Vec::from_rust(std::vec![$($items)*]))
+        }};
+    }
+    pub(crate) use vec_by_shim;
+}

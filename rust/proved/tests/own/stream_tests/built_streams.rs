@@ -1,0 +1,187 @@
+// Made from crates/stream_tests/src/built_streams.rt by rust/erase: change that file, not this one.
+
+use crate::shim::prelude::{HostRuntime, format, vec};
+
+// Streams that no text gives: groups without delimiters, trees that stand in no file.
+
+use proved::pm_span::Span;
+use proved::pm_span::parts::span_of;
+use proved::pm_stream::parts::{group, stream};
+use proved::pm_stream::{TokenStream, TokenTree};
+use proved::pm_token::parts::{ident, punct};
+use proved::pm_token::{Delimiter, Spacing};
+use crate::shim::alloc::{AllocError, Global};
+use crate::shim::fmt::Display;
+use crate::shim::process::Abort;
+
+fn name(alloc: Global, span: Span) -> Result<TokenTree, AllocError>
+{
+    Ok(TokenTree::Ident(ident(alloc, "_", false, span)?))
+}
+
+fn plus(spacing: Spacing) -> TokenTree
+{
+    TokenTree::Punct(punct('+', spacing, Span::call_site()))
+}
+
+/// The group of this stream, which stands at the span.
+pub fn grouped(delimiter: Delimiter, stream: TokenStream, span: Span) -> TokenTree
+{
+    TokenTree::Group(group(delimiter, stream, span))
+}
+
+/// The stream of this tree alone.
+pub fn one(alloc: Global, tree: TokenTree) -> Result<TokenStream, AllocError>
+{
+    let _ = tree.span();
+    stream(alloc, vec![in alloc; tree]?)
+}
+
+/// The stream of these two trees.
+pub fn two(alloc: Global, first: TokenTree, second: TokenTree) -> Result<TokenStream, AllocError>
+{
+    let _ = first.span();
+    let _ = second.span();
+    stream(alloc, vec![in alloc; first, second]?)
+}
+
+fn three(
+    alloc: Global,
+    first: TokenTree,
+    second: TokenTree,
+    third: TokenTree,
+) -> Result<TokenStream, AllocError>
+{
+    let _ = first.span();
+    let _ = second.span();
+    let _ = third.span();
+    stream(alloc, vec![in alloc; first, second, third]?)
+}
+
+/// The group of no tree, which stands in no file.
+pub fn empty_group(alloc: Global, delimiter: Delimiter) -> TokenTree
+{
+    grouped(delimiter, TokenStream::new(alloc), Span::call_site())
+}
+
+fn name_between(alloc: Global, delimiter: Delimiter) -> Result<TokenTree, AllocError> {
+    let inside = one(alloc, name(alloc, Span::call_site())?)?;
+    Ok(grouped(delimiter, inside, Span::call_site()))
+}
+
+/// Asserts that this text was found.
+fn check(rt: &impl Abort, found: &str, want: &str, what: &str) {
+    assert_eq!(found, want, "{what}");
+}
+
+/// Asserts what a tree or a stream is printed as.
+fn check_printed<T: Display>(
+    rt: &impl Abort,
+    alloc: Global,
+    printed: T,
+    want: &str,
+    what: &str,
+) -> Result<(), AllocError> {
+    let text = format!(in alloc; "{printed}")?;
+    check(rt, text.as_str(), want, what);
+    Ok(())
+}
+
+/// Asserts what a group is printed as when it is empty, and when it has a name in it.
+fn check_delimiter(
+    rt: &impl Abort,
+    alloc: Global,
+    delimiter: Delimiter,
+    empty: &str,
+    full: &str,
+) -> Result<(), AllocError> {
+    check_printed(
+        rt,
+        alloc,
+        empty_group(alloc, delimiter),
+        empty,
+        "an empty group",
+    )?;
+    check_printed(
+        rt,
+        alloc,
+        name_between(alloc, delimiter)?,
+        full,
+        "a group of a name",
+    )
+}
+
+#[test]
+fn a_group_is_printed_by_its_delimiter() -> Result<(), AllocError> {
+    let rt = HostRuntime;
+    let alloc = rt.alloc();
+    check_delimiter(&rt, alloc, Delimiter::Parenthesis, "()", "(_)")?;
+    check_delimiter(&rt, alloc, Delimiter::Brace, "{ }", "{ _ }")?;
+    check_delimiter(&rt, alloc, Delimiter::Bracket, "[]", "[_]")?;
+    check_delimiter(&rt, alloc, Delimiter::None, "", "_")
+}
+
+fn around_nothing(alloc: Global) -> Result<TokenStream, AllocError> {
+    let before = name(alloc, Span::call_site())?;
+    let behind = name(alloc, Span::call_site())?;
+    three(alloc, before, empty_group(alloc, Delimiter::None), behind)
+}
+
+fn marks_and_a_name(alloc: Global) -> Result<TokenStream, AllocError> {
+    let behind = name(alloc, Span::call_site())?;
+    three(alloc, plus(Spacing::Joint), plus(Spacing::Alone), behind)
+}
+
+#[test]
+fn trees_are_printed_with_a_space_between_them() -> Result<(), AllocError> {
+    let rt = HostRuntime;
+    let alloc = rt.alloc();
+    let what = "around a group that is written as nothing";
+    check_printed(&rt, alloc, around_nothing(alloc)?, "_  _", what)?;
+    check_printed(
+        &rt,
+        alloc,
+        marks_and_a_name(alloc)?,
+        "++ _",
+        "behind a joint mark",
+    )
+}
+
+fn name_in_parentheses(alloc: Global) -> Result<TokenStream, AllocError> {
+    let inside = one(alloc, name(alloc, span_of(2, 3))?)?;
+    one(
+        alloc,
+        grouped(Delimiter::Parenthesis, inside, span_of(1, 4)),
+    )
+}
+
+#[test]
+fn trees_are_shown_with_their_spans() -> Result<(), AllocError> {
+    let rt = HostRuntime;
+    let alloc = rt.alloc();
+    let stream = name_in_parentheses(alloc)?;
+    let shown = format!(in alloc; "{stream:?}")?;
+    let expected = "TokenStream [Group { delimiter: Parenthesis, stream: TokenStream [\
+        Ident { sym: _, span: bytes(2..3) }], span: bytes(1..4) }]";
+    check(&rt, shown.as_str(), expected, "with spans");
+    let stream = one(alloc, plus(Spacing::Alone))?;
+    let shown = format!(in alloc; "{stream:#?}")?;
+    let expected =
+        "TokenStream [\n    Punct {\n        char: '+',\n        spacing: Alone,\n    },\n]";
+    check(&rt, shown.as_str(), expected, "with no span, on lines");
+    Ok(())
+}
+
+#[test]
+fn groups_nest_deep_without_stack() -> Result<(), AllocError> {
+    let rt = HostRuntime;
+    let alloc = rt.alloc();
+    let mut stream = TokenStream::new(alloc);
+    for _ in 0..300000 {
+        let deep = grouped(Delimiter::Bracket, stream, Span::call_site());
+        stream = three(alloc, plus(Spacing::Joint), deep, plus(Spacing::Joint))?;
+    }
+    let printed = format!(in alloc; "{stream}")?;
+    assert_eq!(printed.as_str().len(), 5 * 300000, "each level is `+[] +`");
+    Ok(())
+}

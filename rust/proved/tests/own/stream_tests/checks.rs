@@ -1,0 +1,134 @@
+// Made from crates/stream_tests/src/checks.rt by rust/erase: change that file, not this one.
+//! Assertions that the rows of the tests share, each about one text that is parsed.
+//!
+//! They stand in functions of their own, since a long function is dear to prove.
+
+use crate::shim::prelude::{AllocGlobal, String, format};
+
+use proved::pm_span::parts::bounds;
+use proved::proc_macro2::{ParseError, SourceMap, TokenStream};
+use crate::shim::alloc::{AllocError, Global};
+use crate::shim::fmt::{Debug, Display};
+use crate::shim::process::Abort;
+
+/// Asserts that `text` parses in a new map, and is printed as `want`.
+pub fn check_printed(rt: &(impl Abort + AllocGlobal), text: &str, want: &str) {
+    let found = printed(rt.alloc(), text).expect(text);
+    assert_eq!(found.as_str(), want, "of {text:?}");
+}
+
+/// Asserts that `text` is printed as `want`, and that this text is printed as itself and gives the
+/// same tokens, which are well spaced.
+pub fn check_printed_twice(rt: &(impl Abort + AllocGlobal), text: &str, want: &str) {
+    check_printed(rt, text, want);
+    check_printed(rt, want, want);
+    check_same(rt, text, want, true);
+    let spaced = parses_well_spaced(rt.alloc(), text).expect(text);
+    assert!(spaced, "of {text:?}");
+}
+
+/// Asserts whether two texts, each parsed in a new map, give the same tokens.
+pub fn check_same(rt: &(impl Abort + AllocGlobal), text: &str, other: &str, same: bool) {
+    let found = are_same(rt.alloc(), text, other).expect(text);
+    assert_eq!(found, same, "of {text:?} and {other:?}");
+}
+
+/// Asserts that `text` parses to so many trees, and is printed as `want`.
+pub fn check_trees(rt: &(impl Abort + AllocGlobal), text: &str, want: &str, trees: usize) {
+    let found = count_trees(rt.alloc(), text);
+    assert_eq!(found, Some(trees), "of {text:?}");
+    check_printed(rt, text, want);
+}
+
+/// Asserts that the stream of `text`, as the next text of the map, is shown as `want`.
+pub fn check_shown(rt: &(impl Abort + AllocGlobal), map: &mut SourceMap, text: &str, want: &str) {
+    let found = shown(rt.alloc(), map, text).expect(text);
+    assert_eq!(found.as_str(), want, "of {text:?}");
+}
+
+/// Asserts that `text`, in a new map, has a fault that begins and ends at the position `at`.
+pub fn check_fault(rt: &(impl Abort + AllocGlobal), text: &str, at: u32) {
+    let found = fault_bounds(rt.alloc(), text);
+    assert_eq!(found, (at, at), "of {text:?}");
+}
+
+/// The text that the stream of `text`, parsed in a new map, is printed as.
+pub fn printed(alloc: Global, text: &str) -> Result<String, ParseError> {
+    let mut map = SourceMap::new(alloc);
+    let stream = TokenStream::from_str(text, &mut map)?;
+    Ok(format!(in alloc; "{stream}")?)
+}
+
+/// Whether the stream of `text`, parsed in a new map, is well spaced.
+pub fn parses_well_spaced(alloc: Global, text: &str) -> Result<bool, ParseError> {
+    let mut map = SourceMap::new(alloc);
+    Ok(TokenStream::from_str(text, &mut map)?.is_well_spaced())
+}
+
+// Whether the two texts, each parsed in a new map, give the same tokens, asked from both sides.
+fn are_same(alloc: Global, text: &str, other: &str) -> Result<bool, ParseError> {
+    let stream = TokenStream::from_str(text, &mut SourceMap::new(alloc))?;
+    let other = TokenStream::from_str(other, &mut SourceMap::new(alloc))?;
+    Ok(stream.same_tokens(&other) && other.same_tokens(&stream))
+}
+
+// The text that the stream of `text` is shown as.
+fn shown(alloc: Global, map: &mut SourceMap, text: &str) -> Result<String, ParseError> {
+    let stream = TokenStream::from_str(text, map)?;
+    Ok(format!(in alloc; "{stream:?}")?)
+}
+
+/// How many trees the stream of `text` has.
+pub fn count_trees(alloc: Global, text: &str) -> Option<usize> {
+    let mut map = SourceMap::new(alloc);
+    match TokenStream::from_str(text, &mut map) {
+        Ok(stream) => Some(stream.trees().len()),
+        Err(_) => None,
+    }
+}
+
+// The bounds of the fault of `text`, or 0 and 0 where it has none.
+fn fault_bounds(alloc: Global, text: &str) -> (u32, u32) {
+    let mut map = SourceMap::new(alloc);
+    match TokenStream::from_str(text, &mut map) {
+        Err(ParseError::Lex(fault)) => bounds(fault.span()),
+        _ => (0, 0),
+    }
+}
+
+/// Asserts that the value is displayed as this text.
+pub fn displays<T: Display>(
+    rt: &impl Abort,
+    alloc: Global,
+    value: &T,
+    want: &str,
+) -> Result<(), AllocError> {
+    let found = format!(in alloc; "{value}")?;
+    assert_eq!(found.as_str(), want);
+    Ok(())
+}
+
+/// Asserts that the value shows its parts as this text.
+pub fn shows<T: Debug>(
+    rt: &impl Abort,
+    alloc: Global,
+    value: &T,
+    want: &str,
+) -> Result<(), AllocError> {
+    let found = format!(in alloc; "{value:?}")?;
+    assert_eq!(found.as_str(), want);
+    Ok(())
+}
+
+/// Asserts that the value is displayed as this text, whatever width or precision is asked for.
+pub fn has_no_width<T: Display>(
+    rt: &impl Abort,
+    alloc: Global,
+    value: &T,
+    text: &str,
+) -> Result<(), AllocError> {
+    let found = format!(in alloc; "{value:>9}|{value:*^9}|{value:.1}")?;
+    let want = format!(in alloc; "{text}|{text}|{text}")?;
+    assert_eq!(found.as_str(), want.as_str());
+    Ok(())
+}

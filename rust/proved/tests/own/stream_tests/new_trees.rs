@@ -1,0 +1,58 @@
+// Made from crates/stream_tests/src/new_trees.rt by rust/erase: change that file, not this one.
+
+use crate::shim::prelude::HostRuntime;
+
+// Groups and trees that are made by hand.
+use crate::stream_tests::checks::{displays, shows};
+use proved::proc_macro2::{
+    Delimiter, Group, Ident, Literal, Punct, SourceMap, Spacing, Span, TokenStream, TokenTree,
+};
+use crate::shim::alloc::Global;
+use crate::shim::test::Fail;
+
+/// The stream of the text, as the first of a map.
+fn parsed(alloc: Global, text: &str) -> Result<TokenStream, Fail> {
+    Ok(TokenStream::from_str(text, &mut SourceMap::new(alloc))?)
+}
+
+#[test]
+fn a_new_group_stands_nowhere() -> Result<(), Fail> {
+    let rt = HostRuntime;
+    let alloc = rt.alloc();
+    let group = Group::new(Delimiter::Brace, parsed(alloc, "x")?);
+    displays(&rt, alloc, &group, "{ x }")?;
+    shows(
+        &rt,
+        alloc,
+        &group,
+        "Group { delimiter: Brace, stream: TokenStream [Ident { sym: x, span: bytes(1..2) }] }",
+    )?;
+    Ok(())
+}
+
+#[test]
+fn a_group_keeps_the_trees_of_its_stream() -> Result<(), Fail> {
+    let rt = HostRuntime;
+    let alloc = rt.alloc();
+    let group = Group::new(Delimiter::Parenthesis, parsed(alloc, "x + y")?);
+    let mut trees = group.stream()?.into_iter()?;
+    let _ = trees.next();
+    displays(&rt, alloc, &group, "(x + y)")?;
+    displays(&rt, alloc, &group.stream()?, "x + y")?;
+    Ok(())
+}
+
+#[test]
+fn each_kind_of_token_becomes_a_tree() -> Result<(), Fail> {
+    let rt = HostRuntime;
+    let alloc = rt.alloc();
+    let group = Group::new(Delimiter::Bracket, TokenStream::new(alloc));
+    displays(&rt, alloc, &TokenTree::from(group), "[]")?;
+    let ident = Ident::new_raw(alloc, "fn", Span::call_site())?;
+    displays(&rt, alloc, &TokenTree::from(ident), "r#fn")?;
+    let punct = Punct::new('+', Spacing::Joint);
+    displays(&rt, alloc, &TokenTree::from(punct), "+")?;
+    let literal = Literal::u8_suffixed(alloc, 7)?;
+    displays(&rt, alloc, &TokenTree::from(literal), "7u8")?;
+    Ok(())
+}

@@ -1,0 +1,131 @@
+// Made from crates/stream_tests/src/parsing.rt by rust/erase: change that file, not this one.
+
+use crate::shim::prelude::{AllocGlobal, HostRuntime, String, format};
+
+use crate::stream_tests::checks::{check_fault, check_printed};
+use proved::pm_span::SourceMap;
+use proved::pm_span::parts::span_of;
+use proved::pm_stream::TokenStream;
+use proved::pm_stream::reprinting::reprint;
+use proved::pm_token::ParseError;
+use crate::shim::alloc::{AllocError, Global};
+use crate::shim::process::Abort;
+
+#[test]
+fn tokens_are_printed_with_their_spacing() {
+    let rt = HostRuntime;
+    check_printed(&rt, "", "");
+    check_printed(&rt, "a+b", "a + b");
+    check_printed(&rt, "a += b", "a += b");
+    check_printed(&rt, "<<=", "<<=");
+    check_printed(&rt, "fn f(x) { x + y }", "fn f (x) { x + y }");
+    check_printed(&rt, "1..2", "1 .. 2");
+    check_printed(&rt, "1.f32", "1 . f32");
+    check_printed(&rt, "1.", "1.");
+    check_printed(&rt, "0E--0", "0E -- 0");
+    check_printed(&rt, "tuple.0.0", "tuple . 0.0");
+}
+
+#[test]
+fn a_fault_stands_before_what_cannot_be_read() {
+    let rt = HostRuntime;
+    check_fault(&rt, "a\"", 2);
+    check_fault(&rt, "b\"", 1);
+    check_fault(&rt, "0b12", 1);
+    check_fault(&rt, "0x_", 1);
+    check_fault(&rt, "1.5\u{301}", 3);
+    check_fault(&rt, "( \"", 3);
+    check_fault(&rt, "foo\u{FEFF}", 4);
+    check_fault(&rt, "///\r", 1);
+    check_fault(&rt, "///\r \n", 1);
+    check_fault(&rt, "(]", 2);
+    check_fault(&rt, ")", 1);
+    check_fault(&rt, "a ( [ b", 5);
+    check_fault(&rt, "( /* x", 3);
+}
+
+// Whether the text parses in a map of the limit, whether the map then holds its four characters,
+// whether it refuses the empty text, since it is full, and whether it holds one more position.
+fn at_limit(alloc: Global, text: &str, limit: u32) -> [bool; 4] {
+    let mut map = SourceMap::with_limit(alloc, limit);
+    let parses = TokenStream::from_str(text, &mut map).is_ok();
+    let holds = map.holds(span_of(1, 5));
+    let full = matches!(
+        TokenStream::from_str("", &mut map),
+        Err(ParseError::MapFull)
+    );
+    [parses, holds, full, map.holds(span_of(6, 6))]
+}
+
+/// Asserts that the text, which parses or not, stands in a map of the limit `limit`, and that the
+/// map is then full, or else holds one more position.
+fn check_limit(rt: &(impl Abort + AllocGlobal), text: &str, parses: bool, limit: u32, full: bool) {
+    let found = at_limit(rt.alloc(), text, limit);
+    assert_eq!(found,
+        [parses, true, full, !full],
+        "of {text:?} at the limit {limit}"
+    );
+}
+
+#[test]
+fn a_file_stays_in_the_map_up_to_the_limit() {
+    let rt = HostRuntime;
+    check_limit(&rt, "abcd", true, 5, true);
+    check_limit(&rt, "abcd", true, 6, false);
+    check_limit(&rt, "abc)", false, 5, true);
+    check_limit(&rt, "abc)", false, 6, false);
+}
+
+// How Debug shows what the text parses to in a new map, and without a map.
+fn both_shown(alloc: Global, text: &str) -> Result<[String; 2], AllocError> {
+    let mapped = TokenStream::from_str(text, &mut SourceMap::new(alloc));
+    let unmapped = TokenStream::parse_unmapped(alloc, text);
+    Ok([
+        format!(in alloc; "{mapped:?}")?,
+        format!(in alloc; "{unmapped:?}")?,
+    ])
+}
+
+/// Asserts that the text is parsed without a map as it is in a new one, spans and faults too.
+fn check_unmapped(rt: &(impl Abort + AllocGlobal), text: &str) {
+    let [mapped, unmapped] = both_shown(rt.alloc(), text).expect(text);
+    assert_eq!(unmapped.as_str(), mapped.as_str(), "of {text:?}");
+}
+
+#[test]
+fn a_text_is_parsed_without_a_map_as_in_a_new_one() {
+    let rt = HostRuntime;
+    check_unmapped(&rt, "");
+    check_unmapped(&rt, "/// x\nf(1, 'c') += \u{e9}");
+    check_unmapped(&rt, "a (]");
+    check_unmapped(&rt, "a ( [ b");
+}
+
+// How Debug shows the printed text of what the text parses to, by its trees and with none made.
+fn both_printed(alloc: Global, text: &str) -> Result<[String; 2], AllocError> {
+    let by_trees = match TokenStream::parse_unmapped(alloc, text) {
+        Ok(stream) => Ok(format!(in alloc; "{stream}")?),
+        Err(error) => Err(error),
+    };
+    let reprinted = reprint(alloc, text);
+    Ok([
+        format!(in alloc; "{by_trees:?}")?,
+        format!(in alloc; "{reprinted:?}")?,
+    ])
+}
+
+/// Asserts that the text is printed with no trees made as its stream is, or has the same fault.
+fn check_reprinted(rt: &(impl Abort + AllocGlobal), text: &str) {
+    let [by_trees, reprinted] = both_printed(rt.alloc(), text).expect(text);
+    assert_eq!(reprinted.as_str(), by_trees.as_str(), "of {text:?}");
+}
+
+#[test]
+fn a_text_is_reprinted_as_its_stream_is_printed() {
+    let rt = HostRuntime;
+    check_reprinted(&rt, "");
+    check_reprinted(&rt, "//! x\n/// \u{e9}\"\n{f(1, 'c') += r#a; [] ({}) 'b}");
+    check_reprinted(&rt, "a (]");
+    check_reprinted(&rt, "a ( [ b");
+    check_reprinted(&rt, "{ \"");
+}

@@ -1,0 +1,119 @@
+// Made from crates/stream_tests/src/shown_trees.rt by rust/erase: change that file, not this one.
+
+use crate::shim::prelude::{HostRuntime, String, format};
+
+// What streams and trees show of themselves, and what an empty stream prints.
+use crate::stream_tests::built_streams::{empty_group, grouped, one};
+use crate::stream_tests::checks::{check_shown, displays, has_no_width, shows};
+use proved::proc_macro2::{Delimiter, Ident, SourceMap, Span, TokenStream, TokenTree};
+use crate::shim::alloc::{AllocError, Global};
+use crate::shim::process::Abort;
+use crate::shim::test::Fail;
+
+#[test]
+fn an_empty_stream_is_printed_as_nothing() -> Result<(), AllocError> {
+    let rt = HostRuntime;
+    let alloc = rt.alloc();
+    let made = TokenStream::new(alloc);
+    displays(&rt, alloc, &made, "")?;
+    shows(&rt, alloc, &made, "TokenStream []")
+}
+
+/// The stream of a raw identifier that stands in no file.
+fn raw_name(alloc: Global, name: &str) -> Result<TokenStream, Fail> {
+    let ident = Ident::new_raw(alloc, name, Span::call_site())?;
+    Ok(one(alloc, TokenTree::Ident(ident))?)
+}
+
+#[test]
+fn a_group_without_a_place_shows_no_span() -> Result<(), Fail> {
+    let rt = HostRuntime;
+    let alloc = rt.alloc();
+    let nothing = empty_group(alloc, Delimiter::None);
+    shows(
+        &rt,
+        alloc,
+        &nothing,
+        "Group { delimiter: None, stream: TokenStream [] }",
+    )?;
+    let inside = raw_name(alloc, "ab")?;
+    let parentheses = grouped(Delimiter::Parenthesis, inside, Span::call_site());
+    shows(
+        &rt,
+        alloc,
+        &parentheses,
+        "Group { delimiter: Parenthesis, stream: TokenStream [Ident { sym: r#ab }] }",
+    )?;
+    Ok(())
+}
+
+#[test]
+fn each_kind_of_tree_shows_its_parts_and_span() {
+    let rt = HostRuntime;
+    check_shown(
+        &rt,
+        &mut SourceMap::new(rt.alloc()),
+        "\nr#a + 1 []{ 'b }",
+        "TokenStream [Ident { sym: r#a, span: bytes(2..5) }, \
+         Punct { char: '+', spacing: Alone, span: bytes(6..7) }, \
+         Literal { lit: 1, span: bytes(8..9) }, \
+         Group { delimiter: Bracket, stream: TokenStream [], span: bytes(10..12) }, \
+         Group { delimiter: Brace, stream: TokenStream [\
+         Punct { char: '\\'', spacing: Joint, span: bytes(14..15) }, \
+         Ident { sym: b, span: bytes(15..16) }], span: bytes(12..18) }]",
+    );
+}
+
+/// The stream of the text in a new map, as it is shown on lines.
+fn shown_on_lines(alloc: Global, text: &str) -> Result<String, Fail> {
+    let mut map = SourceMap::new(alloc);
+    let stream = TokenStream::from_str(text, &mut map)?;
+    Ok(format!(in alloc; "{stream:#?}")?)
+}
+
+#[test]
+fn a_stream_is_shown_on_lines() -> Result<(), Fail> {
+    let rt = HostRuntime;
+    let shown = shown_on_lines(rt.alloc(), "r#fn(b'x')")?;
+    let want = "TokenStream [
+    Ident {
+        sym: r#fn,
+        span: bytes(1..5),
+    },
+    Group {
+        delimiter: Parenthesis,
+        stream: TokenStream [
+            Literal {
+                lit: b'x',
+                span: bytes(6..10),
+            },
+        ],
+        span: bytes(5..11),
+    },
+]";
+    assert_eq!(shown.as_str(), want);
+    Ok(())
+}
+
+/// Asserts that each tree of the text is displayed as these, whatever width is asked for.
+fn trees_have_no_width(
+    rt: &impl Abort,
+    alloc: Global,
+    text: &str,
+    wanted: &[&str],
+) -> Result<(), Fail> {
+    let mut map = SourceMap::new(alloc);
+    let stream = TokenStream::from_str(text, &mut map)?;
+    has_no_width(rt, alloc, &stream, text)?;
+    for (tree, want) in stream.trees().iter().zip(wanted) {
+        has_no_width(rt, alloc, tree, want)?;
+    }
+    Ok(())
+}
+
+#[test]
+fn a_width_or_a_precision_changes_no_stream() -> Result<(), Fail> {
+    let rt = HostRuntime;
+    let trees = &["r#ab", "1.5", "+", "(x)"];
+    trees_have_no_width(&rt, rt.alloc(), "r#ab 1.5 + (x)", trees)
+}

@@ -1,0 +1,37 @@
+// Made from crates/token_tests/src/lib.rt by rust/erase: change that file, not this one.
+//! Tests of the source map, of identifiers and of literals: texts and answers from outside.
+//!
+//! They stand in a crate of their own, since a crate that has tests is proved once more with them.
+
+#[cfg(test)]
+mod checks;
+#[cfg(test)]
+mod equalities;
+#[cfg(test)]
+mod identifiers;
+#[cfg(test)]
+mod integers;
+#[cfg(test)]
+mod lengths;
+#[cfg(test)]
+mod marks;
+#[cfg(test)]
+mod places;
+#[cfg(test)]
+mod quoted;
+#[cfg(test)]
+mod shown_errors;
+#[cfg(test)]
+mod shown_parts;
+#[cfg(test)]
+mod shown_tokens;
+#[cfg(test)]
+mod single_values;
+#[cfg(test)]
+mod source_map;
+#[cfg(test)]
+mod subspans;
+#[cfg(test)]
+mod values;
+#[cfg(test)]
+mod whole_literals;

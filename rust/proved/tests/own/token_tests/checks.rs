@@ -1,0 +1,91 @@
+// Made from crates/token_tests/src/checks.rt by rust/erase: change that file, not this one.
+//! The assertions that the tests share.
+
+use crate::shim::prelude::format;
+
+use proved::pm_token::Literal;
+use crate::shim::alloc::{AllocError, Global};
+use crate::shim::fmt::{Debug, Display};
+use crate::shim::process::Abort;
+
+/// Asserts that the answer at a row of a test, which is printed if it fails, is the wanted one.
+pub fn check_same<T: PartialEq + Debug>(rt: &impl Abort, row: &str, answer: &T, want: &T) {
+    assert_eq!(answer, want, "at {row:?}");
+}
+
+/// The text of the literal, if it was made.
+fn text_of(literal: &Result<Literal, AllocError>) -> Option<&str> {
+    match literal {
+        Ok(literal) => Some(literal.text()),
+        Err(_) => None,
+    }
+}
+
+/// Asserts that the literal was made, and is written as this text.
+pub fn is_written(rt: &impl Abort, literal: Result<Literal, AllocError>, want: &str) {
+    check_same(rt, want, &text_of(&literal), &Some(want));
+}
+
+/// Asserts that the value is displayed as this text.
+pub fn displays<T: Display>(
+    rt: &impl Abort,
+    alloc: Global,
+    value: &T,
+    want: &str,
+) -> Result<(), AllocError> {
+    let shown = format!(in alloc; "{value}")?;
+    check_same(rt, want, &shown.as_str(), &want);
+    Ok(())
+}
+
+/// Asserts that the value shows its parts as this text.
+pub fn shows<T: Debug>(
+    rt: &impl Abort,
+    alloc: Global,
+    value: &T,
+    want: &str,
+) -> Result<(), AllocError> {
+    let shown = format!(in alloc; "{value:?}")?;
+    check_same(rt, want, &shown.as_str(), &want);
+    Ok(())
+}
+
+/// Asserts what each value of the table shows of itself.
+pub fn are_shown<T: Debug>(
+    rt: &impl Abort,
+    alloc: Global,
+    rows: &[(T, &str)],
+) -> Result<(), AllocError> {
+    for (value, want) in rows {
+        shows(rt, alloc, value, want)?;
+    }
+    Ok(())
+}
+
+/// Asserts what each value of the table is displayed as.
+pub fn are_displayed<T: Display>(
+    rt: &impl Abort,
+    alloc: Global,
+    rows: &[(T, &str)],
+) -> Result<(), AllocError> {
+    for (value, want) in rows {
+        displays(rt, alloc, value, want)?;
+    }
+    Ok(())
+}
+
+/// Asserts that each value of the table is equal to itself, and to no other of them.
+pub fn are_told_apart<T: PartialEq + Debug>(rt: &impl Abort, values: &[T]) {
+    for (at, value) in values.iter().enumerate() {
+        is_told_apart(rt, values, at, value);
+    }
+}
+
+/// Asserts that the value is equal to the one at this place of the table, and to no other.
+fn is_told_apart<T: PartialEq + Debug>(rt: &impl Abort, values: &[T], at: usize, value: &T) {
+    for (place, other) in values.iter().enumerate() {
+        let answers = (value == other, value != other);
+        let want = (at == place, at != place);
+        assert_eq!(answers, want, "of {value:?} and {other:?}");
+    }
+}

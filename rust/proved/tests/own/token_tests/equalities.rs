@@ -1,0 +1,38 @@
+// Made from crates/token_tests/src/equalities.rt by rust/erase: change that file, not this one.
+
+use crate::shim::prelude::HostRuntime;
+
+// Values are equal exactly where they are of one kind and have equal parts.
+use crate::token_tests::checks::are_told_apart;
+use proved::literal_escaper::EscapeError;
+use proved::pm_token::{ConversionErrorKind, Delimiter, Spacing};
+use crate::shim::alloc::AllocError;
+
+#[test]
+fn delimiters_are_equal_to_themselves_alone() {
+    let rt = HostRuntime;
+    let delimiters = [
+        Delimiter::Parenthesis,
+        Delimiter::Brace,
+        Delimiter::Bracket,
+        Delimiter::None,
+    ];
+    are_told_apart(&rt, &delimiters);
+}
+
+#[test]
+fn spacings_are_equal_to_themselves_alone() {
+    let rt = HostRuntime;
+    are_told_apart(&rt, &[Spacing::Alone, Spacing::Joint]);
+}
+
+#[test]
+fn refusals_of_values_are_equal_by_their_faults() {
+    let rt = HostRuntime;
+    let refusals = [
+        ConversionErrorKind::FailedToUnescape(EscapeError::LoneSlash),
+        ConversionErrorKind::FailedToUnescape(EscapeError::InvalidEscape),
+        ConversionErrorKind::InvalidLiteralKind,
+        ];
+    are_told_apart(&rt, &refusals);
+}

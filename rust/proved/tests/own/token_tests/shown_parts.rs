@@ -1,0 +1,139 @@
+// Made from crates/token_tests/src/shown_parts.rt by rust/erase: change that file, not this one.
+
+use crate::shim::prelude::{HostRuntime, String, format};
+
+// What the parts of tokens show of themselves, and tokens without a place.
+use crate::token_tests::checks::{are_shown, check_same, shows};
+use proved::pm_span::parts::span_of;
+use proved::pm_span::{LineColumn, SourceMap, Span};
+use proved::pm_token::parts::punct;
+use proved::pm_token::{Delimiter, Ident, Literal, ParseError, Spacing};
+use crate::shim::alloc::{AllocError, Global};
+use crate::shim::process::Abort;
+use crate::shim::test::Fail;
+
+#[test]
+fn a_delimiter_shows_its_name() -> Result<(), AllocError> {
+    let rt = HostRuntime;
+    let rows = [
+        (Delimiter::Parenthesis, "Parenthesis"),
+        (Delimiter::Brace, "Brace"),
+        (Delimiter::Bracket, "Bracket"),
+        (Delimiter::None, "None"),
+    ];
+    are_shown(&rt, rt.alloc(), &rows)
+}
+
+#[test]
+fn a_spacing_shows_its_name() -> Result<(), AllocError> {
+    let rt = HostRuntime;
+    let rows = [(Spacing::Alone, "Alone"), (Spacing::Joint, "Joint")];
+    are_shown(&rt, rt.alloc(), &rows)
+}
+
+/// Asserts what the raw identifier of the name shows of itself.
+fn raw_shows(
+    rt: &impl Abort,
+    alloc: Global,
+    name: &str,
+    span: Span,
+    want: &str,
+) -> Result<(), Fail> {
+    let ident = Ident::new_raw(alloc, name, span)?;
+    shows(rt, alloc, &ident, want)?;
+    Ok(())
+}
+
+#[test]
+fn a_raw_identifier_shows_its_front() -> Result<(), Fail> {
+    let rt = HostRuntime;
+    let alloc = rt.alloc();
+    let nowhere = Span::call_site();
+    raw_shows(&rt, alloc, "ab", nowhere, "Ident { sym: r#ab }")?;
+    let want = "Ident { sym: r#fn, span: bytes(34..38) }";
+    raw_shows(&rt, alloc, "fn", span_of(34, 38), want)
+}
+
+#[test]
+fn a_mark_without_a_place_shows_no_span() -> Result<(), AllocError> {
+    let rt = HostRuntime;
+    let nowhere = Span::call_site();
+    let rows = [
+        (
+            punct('#', Spacing::Alone, nowhere),
+            "Punct { char: '#', spacing: Alone }",
+        ),
+        (
+            punct('\'', Spacing::Joint, nowhere),
+            "Punct { char: '\\'', spacing: Joint }",
+        ),
+        (
+            punct('+', Spacing::Alone, span_of(0, 1)),
+            "Punct { char: '+', spacing: Alone, span: bytes(0..1) }",
+        ),
+    ];
+    are_shown(&rt, rt.alloc(), &rows)
+}
+
+/// The literal of the text, which stands in a new map.
+fn read(alloc: Global, text: &str) -> Result<Literal, ParseError> {
+    let mut map = SourceMap::new(alloc);
+    Literal::from_str(text, &mut map)
+}
+
+#[test]
+fn a_literal_shows_its_text_as_it_is_written() -> Result<(), Fail> {
+    let rt = HostRuntime;
+    let alloc = rt.alloc();
+    let rows = [
+        (Literal::string(alloc, "a\n")?, "Literal { lit: \"a\\n\" }"),
+        (Literal::i8_suffixed(alloc, -1)?, "Literal { lit: -1i8 }"),
+        (
+            read(alloc, "b'x'")?,
+            "Literal { lit: b'x', span: bytes(1..5) }",
+        ),
+    ];
+    are_shown(&rt, alloc, &rows)?;
+    Ok(())
+}
+
+#[test]
+fn a_place_shows_its_line_and_column() -> Result<(), AllocError> {
+    let rt = HostRuntime;
+    let place = LineColumn { line: 3, column: 0 };
+    shows(&rt, rt.alloc(), &place, "LineColumn { line: 3, column: 0 }")
+}
+
+/// What a map of these texts, with the limit 100, shows of itself.
+fn map_shown(alloc: Global, texts: &[&str]) -> Result<String, AllocError> {
+    let mut map = SourceMap::with_limit(alloc, 100);
+    for text in texts {
+        let _ = Literal::from_str(text, &mut map);
+    }
+    format!(in alloc; "{map:?}")
+}
+
+/// Asserts that the text has each of these parts.
+fn has_parts(rt: &impl Abort, text: &str, parts: &[&str]) {
+    for part in parts {
+        assert!(text.contains(*part), "of {part:?} in {text:?}");
+    }
+}
+
+#[test]
+fn a_map_shows_its_texts_and_its_limit() -> Result<(), AllocError> {
+    let rt = HostRuntime;
+    let alloc = rt.alloc();
+    let shown = map_shown(alloc, &["1", "\"a\n\"", "x y"])?;
+    let parts = [
+        "SourceMap {",
+        "\"1\"",
+        "\"\\\"a\\n\\\"\"",
+        "\"x y\"",
+        "limit: 100",
+    ];
+    has_parts(&rt, shown.as_str(), &parts);
+    let again = map_shown(alloc, &["1", "\"a\n\"", "x y"])?;
+    check_same(&rt, "the same texts", &again.as_str(), &shown.as_str());
+    Ok(())
+}

@@ -1,0 +1,140 @@
+// Made from crates/token_tests/src/whole_literals.rt by rust/erase: change that file, not this one.
+
+use crate::shim::prelude::HostRuntime;
+
+use crate::token_tests::checks::check_same;
+use proved::pm_span::SourceMap;
+use proved::pm_span::parts::{bounds, span_of};
+use proved::pm_token::{Literal, ParseError};
+use crate::shim::alloc::{AllocError, Global};
+use crate::shim::process::Abort;
+
+// Where the literal of the text stands in a new map, if it is one with this text.
+fn place(alloc: Global, text: &str) -> Option<(u32, u32)> {
+    let mut map = SourceMap::new(alloc);
+    let parsed = Literal::from_str(text, &mut map);
+    match &parsed {
+        Ok(literal) if literal.text() == text => Some(bounds(literal.span())),
+        _ => None,
+    }
+}
+
+// Where the fault of the text stands.
+fn fault_place(alloc: Global, text: &str) -> Option<(u32, u32)> {
+    let mut map = SourceMap::new(alloc);
+    let parsed = Literal::from_str(text, &mut map);
+    match &parsed {
+        Err(ParseError::Lex(fault)) => Some(bounds(fault.span())),
+        _ => None,
+    }
+}
+
+/// Asserts that each text is a whole literal, which stands in a new map from 1 up to `end`.
+fn are_whole(rt: &impl Abort, alloc: Global, rows: &[(&str, u32)]) {
+    for &(text, end) in rows {
+        let answers = (place(alloc, text), Literal::is_whole(text));
+        check_same(rt, text, &answers, &(Some((1, end)), true));
+    }
+}
+
+/// Asserts that no text is a whole literal, and that the fault of each stands nowhere.
+fn are_refused(rt: &impl Abort, alloc: Global, texts: &[&str]) {
+    for text in texts {
+        let answers = (fault_place(alloc, text), Literal::is_whole(text));
+        check_same(rt, text, &answers, &(Some((0, 0)), false));
+    }
+}
+
+/// Asserts that a literal that is made of the text, which has to be one, has it and stands nowhere.
+fn is_made(rt: &impl Abort, alloc: Global, text: &str) -> Result<(), AllocError> {
+    assert!(Literal::is_whole(text), "of {text:?}");
+    let literal = Literal::from_str_unchecked(alloc, text)?;
+    let answers = (literal.text(), bounds(literal.span()));
+    check_same(rt, text, &answers, &(text, (0, 0)));
+    Ok(())
+}
+
+// Whether a map with this limit was full for the text, and whether it then holds the first three
+// characters.
+fn outcome(alloc: Global, text: &str, limit: u32) -> (bool, bool) {
+    let mut map = SourceMap::with_limit(alloc, limit);
+    let parsed = Literal::from_str(text, &mut map);
+    let full = matches!(parsed, Err(ParseError::MapFull));
+    (full, map.holds(span_of(1, 4)))
+}
+
+/// Asserts that a map with this limit is full for the text, or that the text's file is added.
+fn are_full(rt: &impl Abort, alloc: Global, rows: &[(&str, u32, bool)]) {
+    for &(text, limit, full) in rows {
+        let answers = (limit, outcome(alloc, text, limit));
+        check_same(rt, text, &answers, &(limit, (full, !full)));
+    }
+}
+
+#[test]
+fn a_whole_literal_is_accepted() {
+    let rt = HostRuntime;
+    let rows = &[
+        ("0", 2),
+        ("0.1", 4),
+        ("-1u12", 6),
+        ("-1.0f12", 8),
+        ("-0.1", 5),
+        ("1.", 3),
+        ("0o0A", 5),
+        ("\"a\u{E9}\"", 5),
+        ("b'x'", 5),
+        ("cr##\"Hello \"world\"!\"##", 23),
+        ("'a'u8", 6),
+    ];
+    are_whole(&rt, rt.alloc(), rows);
+}
+
+#[test]
+fn a_literal_is_made_of_a_text_that_is_known_to_be_one() -> Result<(), AllocError> {
+    let rt = HostRuntime;
+    for text in ["1.5", "-3i32", "\"a\""] {
+        is_made(&rt, rt.alloc(), text)?;
+    }
+    Ok(())
+}
+
+#[test]
+fn any_other_text_is_refused_nowhere() {
+    let rt = HostRuntime;
+    let texts = &[
+        "",
+        "-",
+        " 0",
+        "0 ",
+        "0 1",
+        "0// c",
+        "/**/0",
+        "\u{FEFF}0",
+        "- 1",
+        "--1",
+        "-\"\"",
+        "-'a'",
+        "a",
+        "0b12",
+        "0x_",
+        "1..2",
+        "1.f32",
+        "1\u{301}",
+        "(/*ERROR*/)",
+        "'a",
+    ];
+    are_refused(&rt, rt.alloc(), texts);
+}
+
+#[test]
+fn a_file_is_added_where_the_text_was_read() {
+    let rt = HostRuntime;
+    let rows = &[
+        ("0x_", 3, true),
+        ("0x_", 4, false),
+        ("123", 3, true),
+        ("123", 4, false),
+    ];
+    are_full(&rt, rt.alloc(), rows);
+}
