@@ -264,12 +264,12 @@ def arguments() -> argparse.Namespace:
     return parser.parse_args()
 
 
-def main() -> int:
-    asked = arguments()
+def run(asked: argparse.Namespace, both: sides.Sides) -> int:
+    """Asks both sides what the words of the command ask for. The status is 1 if a difference was told."""
     known.check_tables()
     if asked.keep:
         asked.keep.mkdir(parents=True, exist_ok=True)
-    fuzzer = Fuzzer(sides.Sides(asked.tokens, asked.conformance, asked.twin), asked.keep)
+    fuzzer = Fuzzer(both, asked.keep)
     if asked.characters or asked.beginnings:
         fuzzer.characters() if asked.characters else fuzzer.beginnings()
         return fuzzer.report()
@@ -281,6 +281,11 @@ def main() -> int:
     fuzzer.figures["rounds"] = number - asked.first
     fuzzer.figures["seconds"] = int(time.monotonic() - begin)
     return fuzzer.report()
+
+
+def main() -> int:
+    asked = arguments()
+    return run(asked, sides.Sides(asked.tokens, asked.conformance, asked.twin))
 
 
 if __name__ == "__main__":
