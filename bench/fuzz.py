@@ -79,7 +79,7 @@ class Fuzzer:
         """Those of the texts, each with what is asked of it, that are answered otherwise."""
         failed = []
         lines = dict.fromkeys(f"{kind}\t{sides.escaped(text)}\t" for kind, text in asked)
-        answers, differing = self.both.replay(list(lines), failed)
+        answers, differing = self.both.compare_lines(list(lines), failed)
         kinds = collections.Counter(line[:line.index("\t")] for line in answers)
         self.figures["lines"] += len(answers)
         self.figures["texts accepted"] += kinds["tree"]

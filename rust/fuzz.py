@@ -35,8 +35,8 @@ class Builds(sides.Sides):
             self.compare(here, self.run(self.built.tokens, word), f"{word} of {sides.short(text)}")
         return ran
 
-    def replay(self, lines: list[str], failed: list) -> tuple[list, list]:
-        answers, differing = super().replay(lines, failed)
+    def compare_lines(self, lines: list[str], failed: list) -> tuple[list, list]:
+        answers, differing = super().compare_lines(lines, failed)
         ran = [sides.run_on(program, [], answers) for program in (self.conformance, self.built.conformance)]
         self.compare(*ran, f"{len(answers)} lines, of which the first is {answers[:1]}")
         return answers, differing

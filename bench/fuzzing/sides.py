@@ -1,8 +1,8 @@
 """The two sides: `tokens` and `conformance` of this repository, and the twin over the Rust crate.
 
 A text is asked of both in one of two ways. As a run of its own: `tokens print` and `tokens spans` beside the same
-words of the twin. Or many at once as lines of recorded answers: the twin's answers to them are replayed by
-`conformance`, which reports each that differs. A line may be of any kind that crates/conformance/README.md has.
+words of the twin. Or many at once as lines of recorded answers: `conformance` compares with the twin's
+answers to them, and reports each that differs. A line may be of any kind that crates/conformance/README.md has.
 """
 import dataclasses
 import os
@@ -105,27 +105,27 @@ class Sides:
         self.files[0].put(text)
         return {word: (self.run(self.tokens, word), self.run(self.twin, word)) for word in ("print", "spans")}
 
-    def replay(self, lines: list[str], failed: list) -> tuple[list[str], list[tuple[str, str]]]:
+    def compare_lines(self, lines: list[str], failed: list) -> tuple[list[str], list[tuple[str, str]]]:
         """The twin's answers to the lines, and each line that is answered otherwise here, with that answer.
 
         Where a side fails on lines, they are halved until it is one line, which is put into `failed`.
         """
         ran = run_on(self.twin, ["answers"], lines)
         if ran.status != 0:
-            return self.replay_halves(lines, "twin", ran, failed)
+            return self.compare_halves(lines, "twin", ran, failed)
         answers = list(dict.fromkeys(ran.out.decode().split("\n")[:-1]))
         ran = run_on(self.conformance, [], answers)
-        told = ran.out.decode().split("\n")[:-1] or [""]
-        if ran.status not in (0, 1) or not told[-1].startswith(f"{len(answers)} answers, "):
-            return self.replay_halves(lines, "conformance", ran, failed)
-        return answers, reports(told[:-1])
+        written = ran.out.decode().split("\n")[:-1] or [""]
+        if ran.status not in (0, 1) or not written[-1].startswith(f"{len(answers)} answers, "):
+            return self.compare_halves(lines, "conformance", ran, failed)
+        return answers, reports(written[:-1])
 
-    def replay_halves(self, lines: list[str], side: str, ran: Ran, failed: list) -> tuple[list, list]:
+    def compare_halves(self, lines: list[str], side: str, ran: Ran, failed: list) -> tuple[list, list]:
         if len(lines) == 1:
             failed.append((side, lines[0], ran))
             return [], []
         half = len(lines) // 2
-        first, second = self.replay(lines[:half], failed), self.replay(lines[half:], failed)
+        first, second = self.compare_lines(lines[:half], failed), self.compare_lines(lines[half:], failed)
         return first[0] + second[0], first[1] + second[1]
 
 

@@ -24,7 +24,7 @@ TOOLS = TOP / 'rust/tools'
 # The library crates, lowest first, whose text becomes modules of the package.
 LIBRARIES = ['lexical', 'literal_escaper', 'pm_span', 'pm_token', 'pm_stream', 'proc_macro2', 'quoting']
 # The crates that only a test of the package takes.
-TESTED = ['replay']
+TESTED = ['conformance']
 # The library's own tests, which another test of the package takes.
 OWN_TESTS = ['lexical_tests', 'token_tests', 'span_tests', 'building_tests', 'stream_tests', 'quoting_tests']
 # The programs, and the library that they share.

@@ -1,14 +1,25 @@
-//! Replays recorded answers of the Rust crate, from the lines of a file or of standard input, and reports each
-//! difference. The status is 1 where there is one, and 2 where the words ask for nothing, a read or a write failed, the
-//! input isn't UTF-8 or memory ran out; a line on standard error says so.
+//! Compares the library with recorded answers of the Rust crate, from the lines of a file or of standard input, and
+//! reports each difference. The status is 1 where there is one, and 2 where the words ask for nothing, a read or a
+//! write failed, the input isn't UTF-8 or memory ran out; a line on standard error says so.
 #![tactic(auto)]
 
 ghost use Rattle.std.specs.Prelude.{IfOk};
 ghost use Rattle.std.specs.Process.{exit_status};
 ghost use Rattle.conformance.specs.Run.{IsRun};
 
+mod answer;
+mod columns;
+mod contents;
+mod leaves;
+mod lines;
+mod lists;
+mod literals;
+mod spans;
+mod streams;
+mod values;
+
+use lines::compare_lines;
 use messages::{Failure, conclude, path, read_text, words};
-use replay::replay;
 use std::alloc::Global;
 use std::io::{BufRead, BufWriter, Write};
 use std::process::ExitCode;
@@ -32,14 +43,14 @@ fn asked(rt: &HostRuntime) -> Result<String, Failure> {
     path(rt.alloc(), words.as_slice(), USAGE)
 }
 
-// Replays the answers in the file at the path.
+// Compares with the answers in the file at the path.
 fn run_on(rt: &HostRuntime, path: &str) -> Result<ExitCode, Failure> {
     let text = read_text(rt, path)?;
     let mut writer = BufWriter::new(rt.alloc(), rt.stdout())?;
     Ok(run(rt.alloc(), text.as_bytes(), &mut writer)?)
 }
 
-// Replays the answers on the reader's lines, and writes what differs, and then both numbers.
+// Compares with the answers on the reader's lines, and writes what differs, and then both numbers.
 fn run<R: BufRead + Drop, W: Write>(
     alloc: Global,
     reader: R,
@@ -48,7 +59,7 @@ fn run<R: BufRead + Drop, W: Write>(
     ensures { IfOk result (λ code. IsRun (R.remaining reader) (exit_status code)
         (W.contents writer.old) (W.contents writer.new)) }
 {
-    let tally = replay(alloc, reader, writer)?;
+    let tally = compare_lines(alloc, reader, writer)?;
     writeln!(
         writer,
         "{} answers, {} differences",
@@ -61,6 +72,3 @@ fn run<R: BufRead + Drop, W: Write>(
         ExitCode::FAILURE
     })
 }
-
-#[cfg(test)]
-mod tests;

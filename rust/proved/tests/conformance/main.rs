@@ -1,7 +1,19 @@
-//! The recorded answers of the Rust crate proc-macro2 (`crates/conformance/stdin`), replayed by the erased program.
+//! The recorded answers of the Rust crate proc-macro2 (`crates/conformance/stdin`), compared by the erased program.
 
+/// The program `conformance`, but for its `main`.
 #[allow(clippy::complexity, clippy::style, unreachable_code, unused_imports)]
-mod replay;
+mod conformance {
+    mod answer;
+    mod columns;
+    mod contents;
+    mod leaves;
+    pub mod lines;
+    mod lists;
+    mod literals;
+    mod spans;
+    mod streams;
+    mod values;
+}
 
 use proved::shim::alloc::Global;
 use std::fs;
@@ -11,11 +23,11 @@ const ANSWERS: &str = "../../crates/conformance/stdin";
 const SAID: &str = "../../crates/conformance/stdout";
 
 /// What the program writes for these lines.
-fn told(lines: &[u8]) -> String {
+fn written(lines: &[u8]) -> String {
     let mut out = Vec::new();
-    let tally = replay::replay(Global, lines, &mut out).expect("lines of a text are read");
-    let told = String::from_utf8(out).expect("a report is a text");
-    format!("{told}{} answers, {} differences\n", tally.answers, tally.differences)
+    let tally = conformance::lines::compare_lines(Global, lines, &mut out).expect("lines of a text are read");
+    let reports = String::from_utf8(out).expect("a report is a text");
+    format!("{reports}{} answers, {} differences\n", tally.answers, tally.differences)
 }
 
 #[test]
@@ -23,15 +35,15 @@ fn each_recorded_answer_is_the_same_here() {
     let top = Path::new(env!("CARGO_MANIFEST_DIR"));
     let lines = fs::read(top.join(ANSWERS)).expect("the recorded answers are there");
     let wanted = fs::read_to_string(top.join(SAID)).expect("what is wanted of them is there");
-    assert_eq!(told(&lines), wanted);
+    assert_eq!(written(&lines), wanted);
 }
 
 #[test]
 fn another_answer_is_reported() {
     let wrong = "fault\t(]\t1:0";
     assert_eq!(
-        told(wrong.as_bytes()),
+        written(wrong.as_bytes()),
         format!("differs: {wrong}\nhere: fault \"1:1\"\n1 answers, 1 differences\n")
     );
-    assert_eq!(told("fault\t(]\t1:1".as_bytes()), "1 answers, 0 differences\n");
+    assert_eq!(written("fault\t(]\t1:1".as_bytes()), "1 answers, 0 differences\n");
 }

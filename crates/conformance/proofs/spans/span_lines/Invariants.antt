@@ -1,0 +1,11 @@
+use Rattle.std.proofs.Common.{length, All}
+use Rattle.proc_macro2.specs.Files.{Holds}
+use Rattle.proc_macro2.specs.TreeSpan.{extent_of}
+use Rattle.conformance.proofs.spans.span_lines.Given as goal
+
+-- the map holds the spans that are left
+abbrev pub invariant-loop-walk : goal.invariant-loop-walk
+invariant-loop-walk l = All (λ tree. Holds l.map (extent_of tree)) l.walk
+
+abbrev pub decreases-loop-walk : goal.decreases-loop-walk
+decreases-loop-walk l = length l.walk

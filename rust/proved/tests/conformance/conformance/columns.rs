@@ -1,0 +1,103 @@
+// Made from crates/conformance/src/columns.rt by rust/erase: change that file, not this one.
+//! The columns of a line of recorded answers, and the escapes in them.
+
+use proved::shim::prelude::String;
+
+use proved::shim::alloc::{AllocError, Global};
+
+/// A recorded answer.
+///
+/// On a line three columns stand with a tab between them, text and answer escaped. Two more name a
+/// difference from the Rust crate: the kind of the answer that is wanted here, and that answer.
+pub struct Recorded<'a> {
+    /// What was asked, or that the text was refused.
+    pub asked: &'a str,
+    /// The text.
+    pub text: String,
+    /// The kind of the answer that is wanted: what was asked, or that of a named difference.
+    pub kind: &'a str,
+    /// The answer that is wanted: the crate's, or that of a named difference.
+    pub answer: String,
+}
+
+/// The recorded answer of a line; `None` where it has neither three columns nor five, where one has
+/// a wrong escape, and where a named difference is none.
+///
+/// `fault`, a tab, `(]`, a tab and `1:1` are the fault of `(]`. `print`, a tab, `'''`, a tab, `'''`, a
+/// tab, `fault`, a tab and `1:0` are what the crate prints of `'''`, and the fault that is wanted.
+pub fn read_line<'a>(alloc: Global, line: &'a str) -> Result<Option<Recorded<'a>>, AllocError> {
+    let mut columns = line.split('\t');
+    let (Some(asked), Some(text), Some(answer)) = (columns.next(), columns.next(), columns.next())
+    else {
+        return Ok(None);
+    };
+    let (Some(text), Some(answer)) = (unescaped(alloc, text)?, unescaped(alloc, answer)?) else {
+        return Ok(None);
+    };
+    let (kind, answer) = match (columns.next(), columns.next(), columns.next()) {
+        (None, _, _) => (asked, answer),
+        (Some(kind), Some(wanted), None) => match unescaped(alloc, wanted)? {
+            Some(wanted) if kind != asked || wanted != answer => (kind, wanted),
+            _ => return Ok(None),
+        },
+        _ => return Ok(None),
+    };
+    Ok(Some(Recorded {
+        asked,
+        text,
+        kind,
+        answer,
+    }))
+}
+
+/// How far an escape is read.
+#[derive(Clone, Copy)]
+enum State {
+    /// No escape is open.
+    Plain,
+    /// After the backslash.
+    Backslash,
+    /// After `\u`.
+    Brace,
+    /// After the brace, with the number so far.
+    Number(u32),
+}
+
+// The text of a column; `None` where an escape is none of `\n`, `\r`, `\t`, `\\` and `\u{..}`, or
+// isn't closed. `a\tb\u{e9}` is `a`, a tab, `b` and U+00E9.
+fn unescaped(alloc: Global, column: &str) -> Result<Option<String>, AllocError> {
+    let mut text = String::new(alloc);
+    let mut state = State::Plain;
+    for c in column.chars() {
+        let Some((next, read)) = step(state, c) else {
+            return Ok(None);
+        };
+        state = next;
+        if let Some(c) = read {
+            text.push(c)?;
+        }
+    }
+    Ok(match state {
+        State::Plain => Some(text),
+        _ => None,
+    })
+}
+
+// The state after a character, and the character that is read with it; `None` at a wrong escape.
+fn step(state: State, c: char) -> Option<(State, Option<char>)> {
+    match (state, c) {
+        (State::Plain, '\\') => Some((State::Backslash, None)),
+        (State::Plain, c) | (State::Backslash, c @ '\\') => Some((State::Plain, Some(c))),
+        (State::Backslash, 'n') => Some((State::Plain, Some('\n'))),
+        (State::Backslash, 'r') => Some((State::Plain, Some('\r'))),
+        (State::Backslash, 't') => Some((State::Plain, Some('\t'))),
+        (State::Backslash, 'u') => Some((State::Brace, None)),
+        (State::Brace, '{') => Some((State::Number(0), None)),
+        (State::Number(number), '}') => Some((State::Plain, Some(char::from_u32(number)?))),
+        (State::Number(number), c) => {
+            let number = number.checked_mul(16)?.checked_add(c.to_digit(16)?)?;
+            Some((State::Number(number), None))
+        }
+        (State::Backslash | State::Brace, _) => None,
+    }
+}

@@ -1,0 +1,120 @@
+// Made from crates/conformance/src/contents.rt by rust/erase: change that file, not this one.
+//! What the library finds in the content of a literal.
+
+use proved::shim::prelude::{String, format};
+
+use crate::conformance::answer::Answer;
+use proved::proc_macro2::rustc_literal_escaper::{
+    EscapeError, MixedUnit, Mode, NonZeroChar, check_for_errors, check_raw_byte_str,
+    check_raw_c_str, check_raw_str, unescape_byte, unescape_byte_str, unescape_c_str,
+    unescape_char, unescape_str,
+};
+use proved::shim::alloc::{AllocError, Global};
+use proved::shim::ops::Range;
+
+/// What this call of the escaper gives for the content: each item by its range of bytes and its unit
+/// or error, with a semicolon after it; of a character or a byte only the unit or the error. `None`
+/// where no such call is known.
+///
+/// For `unescape_str`, `\x41b` gives `0..4 U+41;4..5 U+62;`. For `unescape_char`, `'` gives
+/// `EscapeOnlyChar`.
+pub fn content_answer<'a>(
+    alloc: Global,
+    call: &'a str,
+    content: &str,
+) -> Result<Option<Answer<'a>>, AllocError> {
+    let said = match call {
+        "unescape_str" => items(alloc, unescape_str(content))?,
+        "unescape_byte_str" => items(alloc, unescape_byte_str(content))?,
+        "unescape_c_str" => items(alloc, unescape_c_str(content))?,
+        "check_raw_str" => items(alloc, check_raw_str(content))?,
+        "check_raw_byte_str" => items(alloc, check_raw_byte_str(content))?,
+        "check_raw_c_str" => items(alloc, check_raw_c_str(content))?,
+        "unescape_char" => unit_text(alloc, unescape_char(content))?,
+        "unescape_byte" => unit_text(alloc, unescape_byte(content))?,
+        _ => match call.strip_prefix("errors_").and_then(mode) {
+            Some(mode) => errors(alloc, content, mode)?,
+            None => return Ok(None),
+        },
+    };
+    Ok(Some(Answer { kind: call, said }))
+}
+
+// The kind of literal that a word names.
+fn mode(name: &str) -> Option<Mode> {
+    match name {
+        "Char" => Some(Mode::Char),
+        "Byte" => Some(Mode::Byte),
+        "Str" => Some(Mode::Str),
+        "RawStr" => Some(Mode::RawStr),
+        "ByteStr" => Some(Mode::ByteStr),
+        "RawByteStr" => Some(Mode::RawByteStr),
+        "CStr" => Some(Mode::CStr),
+        "RawCStr" => Some(Mode::RawCStr),
+        _ => None,
+    }
+}
+
+// All items that an iterator of the escaper gives.
+fn items<U: Unit, I: Iterator<Item = (Range<usize>, Result<U, EscapeError>)>>(
+    alloc: Global,
+    items: I,
+) -> Result<String, AllocError>
+{
+    let mut said = String::new(alloc);
+    for (range, unit) in items {
+        let unit = unit_text(alloc, unit)?;
+        write!(said, "{}..{} {unit};", range.start, range.end)?;
+    }
+    Ok(said)
+}
+
+// All errors of a content of this kind, by the range of each.
+fn errors(alloc: Global, content: &str, mode: Mode) -> Result<String, AllocError> {
+    let mut said = String::new(alloc);
+    for (range, error) in check_for_errors(content, mode) {
+        write!(said, "{}..{} {error:?};", range.start, range.end)?;
+    }
+    Ok(said)
+}
+
+// A unit, or the name of what is wrong.
+fn unit_text<U: Unit>(alloc: Global, unit: Result<U, EscapeError>) -> Result<String, AllocError> {
+    match unit {
+        Ok(unit) => unit.text(alloc),
+        Err(error) => format!(in alloc; "{error:?}"),
+    }
+}
+
+/// What a content is made of.
+trait Unit: Copy {
+    /// `U+` and the character's code, or the byte in two digits of hex.
+    fn text(self, alloc: Global) -> Result<String, AllocError>;
+}
+
+impl Unit for char {
+    fn text(self, alloc: Global) -> Result<String, AllocError> {
+        format!(in alloc; "U+{:X}", u32::from(self))
+    }
+}
+
+impl Unit for u8 {
+    fn text(self, alloc: Global) -> Result<String, AllocError> {
+        format!(in alloc; "{self:02X}")
+    }
+}
+
+impl Unit for NonZeroChar {
+    fn text(self, alloc: Global) -> Result<String, AllocError> {
+        self.get().text(alloc)
+    }
+}
+
+impl Unit for MixedUnit {
+    fn text(self, alloc: Global) -> Result<String, AllocError> {
+        match self {
+            MixedUnit::Char(c) => c.text(alloc),
+            MixedUnit::HighByte(byte) => byte.get().text(alloc),
+        }
+    }
+}

@@ -1,0 +1,77 @@
+// Made from crates/conformance/src/leaves.rt by rust/erase: change that file, not this one.
+//! The trees that are no groups, as a line of a list of trees notes them.
+
+use proved::proc_macro2::{
+    Ident, IdentError, Literal, ParseError, Punct, SourceMap, Spacing, Span, TokenTree,
+};
+use proved::shim::alloc::{AllocError, Global};
+
+/// The tree that the line notes; `None` where it notes none.
+///
+/// `raw fn` is the identifier `r#fn`, and `integer -3i32` the literal `-3i32`.
+pub fn leaf(alloc: Global, line: &str) -> Result<Option<TokenTree>, ParseError> {
+    let Some((word, text)) = line.split_once(' ') else {
+        return Ok(None);
+    };
+    Ok(match word {
+        "ident" => identifier(Ident::new(alloc, text, Span::call_site()))?,
+        "raw" => identifier(Ident::new_raw(alloc, text, Span::call_site()))?,
+        "alone" => mark(text, Spacing::Alone),
+        "joint" => mark(text, Spacing::Joint),
+        "literal" => literal(alloc, text)?,
+        "integer" => integer(alloc, text)?,
+        _ => None,
+    })
+}
+
+// The identifier, unless the name has a fault.
+fn identifier(ident: Result<Ident, IdentError>) -> Result<Option<TokenTree>, AllocError> {
+    match ident {
+        Ok(ident) => Ok(Some(TokenTree::Ident(ident))),
+        Err(IdentError::Memory(error)) => Err(error),
+        Err(_) => Ok(None),
+    }
+}
+
+// The mark that is the only character of the text.
+fn mark(text: &str, spacing: Spacing) -> Option<TokenTree> {
+    let mut chars = text.chars();
+    let (Some(mark), None) = (chars.next(), chars.next()) else {
+        return None;
+    };
+    if !Punct::is_punct_char(mark) {
+        return None;
+    }
+    Some(TokenTree::Punct(Punct::new(mark, spacing)))
+}
+
+// The literal that the text is.
+fn literal(alloc: Global, text: &str) -> Result<Option<TokenTree>, ParseError> {
+    match Literal::from_str(text, &mut SourceMap::new(alloc)) {
+        Ok(literal) => Ok(Some(TokenTree::Literal(literal))),
+        Err(ParseError::Lex(_)) => Ok(None),
+        Err(error) => Err(error),
+    }
+}
+
+// What the constructor of the suffix makes of the number before it.
+fn integer(alloc: Global, text: &str) -> Result<Option<TokenTree>, AllocError> {
+    let (number, suffix) = match text.find('i') {
+        Some(at) => text.split_at(at),
+        None => (text, ""),
+    };
+    let Ok(number) = number.parse::<i8>() else {
+        return Ok(None);
+    };
+    let literal = match suffix {
+        "" => Literal::i8_unsuffixed(alloc, number)?,
+        "i8" => Literal::i8_suffixed(alloc, number)?,
+        "i16" => Literal::i16_suffixed(alloc, i16::from(number))?,
+        "i32" => Literal::i32_suffixed(alloc, i32::from(number))?,
+        "i64" => Literal::i64_suffixed(alloc, i64::from(number))?,
+        "i128" => Literal::i128_suffixed(alloc, i128::from(number))?,
+        "isize" => Literal::isize_suffixed(alloc, isize::from(number))?,
+        _ => return Ok(None),
+    };
+    Ok(Some(TokenTree::Literal(literal)))
+}

@@ -1,0 +1,68 @@
+// Made from crates/conformance/src/lines.rt by rust/erase: change that file, not this one.
+//! Compares the library with recorded answers, a line at a time.
+
+use proved::shim::prelude::{String, format};
+
+use crate::conformance::answer::answer_to;
+use crate::conformance::columns::read_line;
+use proved::proc_macro2::ParseError;
+use proved::shim::alloc::{AllocError, Global};
+use proved::shim::io;
+use proved::shim::io::{BufRead, Write};
+
+/// How many answers were compared, and how many of them differ.
+#[derive(Clone, Copy, Debug, PartialEq, Eq)]
+pub struct Tally {
+    /// The lines that were read.
+    pub answers: u64,
+    /// Those whose answer isn't the one that is wanted, or that are no recorded answer.
+    pub differences: u64,
+}
+
+/// Compares the library's answers with those on the reader's lines, and writes what differs.
+///
+/// Both numbers count lines, up to `u64::MAX`. An error is one of reading, as at a line that is no
+/// UTF-8, one of writing, or out of memory; after it the beginning of what differs is written.
+///
+/// Of the one line `fault`, a tab, `(]`, a tab and `1:1` it gives one answer and no difference, and
+/// nothing is written. A line that names a difference from the Rust crate is compared with what it
+/// wants here.
+pub fn compare_lines<R: BufRead, W: Write>(
+    alloc: Global,
+    reader: R,
+    writer: &mut W,
+) -> io::Result<Tally>
+{
+    let mut tally = Tally {
+        answers: 0,
+        differences: 0,
+    };
+    for line in reader.lines(alloc) {
+        let line = line?;
+        tally.answers = tally.answers.saturating_add(1);
+        if let Some(report) = difference(alloc, line.as_str())? {
+            tally.differences = tally.differences.saturating_add(1);
+            writer.write_all(report.as_bytes())?;
+        }
+    }
+    Ok(tally)
+}
+
+// What is reported of a line that wants another answer than the library's, or that is no recorded
+// answer; `None` where the two answers are the same.
+fn difference(alloc: Global, line: &str) -> Result<Option<String>, AllocError>
+{
+    let Some(recorded) = read_line(alloc, line)? else {
+        return Ok(Some(format!(in alloc; "no recorded answer: {line}\n")?));
+    };
+    let here = match answer_to(alloc, recorded.asked, recorded.text.as_str()) {
+        Ok(Some(found)) if found.kind == recorded.kind && found.said == recorded.answer => {
+            return Ok(None);
+        }
+        Ok(Some(found)) => format!(in alloc; "{} {:?}", found.kind, found.said)?,
+        Ok(None) => return Ok(Some(format!(in alloc; "no recorded answer: {line}\n")?)),
+        Err(ParseError::Memory(error)) => return Err(error),
+        Err(error) => format!(in alloc; "{error}")?,
+    };
+    Ok(Some(format!(in alloc; "differs: {line}\nhere: {here}\n")?))
+}

@@ -1,0 +1,122 @@
+// Made from crates/conformance/src/lists.rt by rust/erase: change that file, not this one.
+//! What the library makes of a list of trees.
+//!
+//! A tree of a list stands on a line of its own, as a word, a space and its text. A group stands on
+//! several: its opener, the trees inside, and its closer.
+//!
+//! | Line | Tree |
+//! |---|---|
+//! | `ident a`, `raw a` | the identifier, and the raw one |
+//! | `alone +`, `joint +` | the mark |
+//! | `literal "a"` | the literal of that text |
+//! | `integer -3i32`, `integer -3` | what the constructor of that suffix makes of a number from -128 to 127 |
+//! | `(` .. `)`, `[` .. `]`, `{` .. `}`, `<` .. `>` | a group, in the last case without delimiters |
+
+use proved::shim::prelude::{Vec, format};
+
+use crate::conformance::answer::Answer;
+use crate::conformance::leaves::leaf;
+use proved::proc_macro2::{Delimiter, Group, ParseError, SourceMap, TokenStream, TokenTree};
+use proved::shim::alloc::Global;
+
+/// What is printed for the trees of the list, and after a tab what that text parses to in a new map:
+/// the `same` trees up to spans, `other` ones, or a `fault`. `None` where the text notes no list.
+///
+/// Where `is_well_spaced` disagrees with that, that is noted after another tab.
+///
+/// Of `joint +` and `ident a` it is `+a`, a tab and `other`.
+pub fn list_answer<'a>(
+    alloc: Global,
+    asked: &'a str,
+    text: &str,
+) -> Result<Option<Answer<'a>>, ParseError> {
+    let Some(trees) = noted_trees(alloc, text)? else {
+        return Ok(None);
+    };
+    let stream = TokenStream::from_trees(alloc, trees)?;
+    let printed = format!(in alloc; "{stream}")?;
+    let back = match TokenStream::from_str(printed.as_str(), &mut SourceMap::new(alloc)) {
+        Ok(back) => {
+            if stream.same_tokens(&back) {
+                "same"
+            } else {
+                "other"
+            }
+        }
+        Err(ParseError::Lex(_)) => "fault",
+        Err(error) => return Err(error),
+    };
+    let spaced = stream.is_well_spaced();
+    let said = if spaced == (back == "same") {
+        format!(in alloc; "{printed}\t{back}")?
+    } else {
+        format!(in alloc; "{printed}\t{back}\tis_well_spaced: {spaced}")?
+    };
+    Ok(Some(Answer { kind: asked, said }))
+}
+
+/// A group whose closer is yet to come.
+struct Open {
+    /// What it stands between.
+    delimiter: Delimiter,
+    /// The trees before it in its list.
+    before: Vec<TokenTree>,
+}
+
+// The trees that the lines of the text note; `None` where a line notes none, or where groups aren't
+// closed in the order in which they were opened.
+fn noted_trees(alloc: Global, text: &str) -> Result<Option<Vec<TokenTree>>, ParseError> {
+    let mut open_groups = Vec::new(alloc);
+    let mut trees = Vec::new(alloc);
+    for line in text.lines() {
+        if let Some(delimiter) = opened(line) {
+            open_groups.push(Open {
+                delimiter,
+                before: trees,
+            })?;
+            trees = Vec::new(alloc);
+        } else if let Some(delimiter) = closed(line) {
+            let Some(open) = open_groups.pop() else {
+                return Ok(None);
+            };
+            if open.delimiter != delimiter {
+                return Ok(None);
+            }
+            let group = Group::new(delimiter, TokenStream::from_trees(alloc, trees)?);
+            trees = open.before;
+            trees.push(TokenTree::Group(group))?;
+        } else {
+            let Some(tree) = leaf(alloc, line)? else {
+                return Ok(None);
+            };
+            trees.push(tree)?;
+        }
+    }
+    Ok(if open_groups.is_empty() {
+        Some(trees)
+    } else {
+        None
+    })
+}
+
+// What the group stands between that the line opens.
+fn opened(line: &str) -> Option<Delimiter> {
+    match line {
+        "(" => Some(Delimiter::Parenthesis),
+        "[" => Some(Delimiter::Bracket),
+        "{" => Some(Delimiter::Brace),
+        "<" => Some(Delimiter::None),
+        _ => None,
+    }
+}
+
+// What the group stands between that the line closes.
+fn closed(line: &str) -> Option<Delimiter> {
+    match line {
+        ")" => Some(Delimiter::Parenthesis),
+        "]" => Some(Delimiter::Bracket),
+        "}" => Some(Delimiter::Brace),
+        ">" => Some(Delimiter::None),
+        _ => None,
+    }
+}
