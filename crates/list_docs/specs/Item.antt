@@ -4,7 +4,7 @@ use Rattle.std.specs.Cmp.Lexicographic.{pointwise}
 use Rattle.std.specs.Prelude.{ℕ, Bool, false, ◌==◌, ◌||◌, List, [], ◌++◌, codes, nat_eq, if◌then◌else◌}
 use Rattle.std.specs.Prelude.{Option, Some, None}
 use Rattle.proc_macro2.specs.Leaf.{Name, Text}
-use Rattle.proc_macro2.specs.Written.{name_text, written}
+use Rattle.proc_macro2.specs.Spelling.{name_text, spelling}
 use Rattle.proc_macro2.specs.declared.TokenTree.{TokenTree}
 use Rattle.proc_macro2.specs.declared.TokenTree.TheVariants.{Ident, Punct}
 use Rattle.list_docs.specs.Doc.{doc_of}
@@ -64,5 +64,5 @@ after state tree = after_literal state (doc_of tree) tree
 
 -- the line of an item whose name is the next tree, as `fn add`, and nothing of other trees
 abbrev pub line_of_item : State → TokenTree → List ℕ
-line_of_item (Keyword keyword) (Ident name) = written keyword ++ (codes " " ++ (written name ++ codes "\n"))
+line_of_item (Keyword keyword) (Ident name) = spelling keyword ++ (codes " " ++ (spelling name ++ codes "\n"))
 line_of_item _ _ = []

@@ -9,8 +9,8 @@ use Rattle.literal_escaper.specs.declared.errors.EscapeError.TheVariants.{Overlo
 use Rattle.literal_escaper.specs.declared.errors.EscapeError.TheVariants.{OutOfRangeUnicodeEscape}
 use Rattle.literal_escaper.specs.Escape.{code_unit, is_code_character, is_hex}
 use Rattle.literal_escaper.specs.Kind.{Kind, character}
-use Rattle.literal_escaper.specs.Reading.{code_answer, count_with, digit_count, digit_number, next_count, next_number}
-use Rattle.literal_escaper.specs.Reading.{number_with}
+use Rattle.literal_escaper.specs.Unescaping.{code_answer, count_with, digit_count, digit_number, next_count}
+use Rattle.literal_escaper.specs.Unescaping.{next_number, number_with}
 use Rattle.literal_escaper.specs.Text.{while_front}
 
 -- the number with one hex digit more

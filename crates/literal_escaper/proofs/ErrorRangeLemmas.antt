@@ -12,7 +12,7 @@ use Rattle.literal_escaper.specs.Character.{backslash}
 use Rattle.literal_escaper.specs.Errors.{Error, at_most_one, error_at, errors_among, errors_in, read_range}
 use Rattle.literal_escaper.specs.Errors.{single_error}
 use Rattle.literal_escaper.specs.Escape.{Read}
-use Rattle.literal_escaper.specs.Items.{Item, items, offset, raw_items}
+use Rattle.literal_escaper.specs.Items.{Item, items, byte_offset, raw_items}
 use Rattle.literal_escaper.specs.Kind.{Kind, any_char, ascii_byte, byte_kind, c_kind, string_kind}
 use Rattle.literal_escaper.specs.Single.{only, single, single_front}
 use Rattle.literal_escaper.specs.Text.{bytes}
@@ -56,8 +56,8 @@ single_end kind (c ∷ text) =
 read_within : (content rest : List ℕ) → IsUtf8 content → IsEnd (chars content) rest
     → IsRangeIn content (read_range (bytes (chars content)) rest)
 read_within content rest t e =
-    let nothing : offset (bytes (chars content)) (chars content) ≡ 0 = omega arith in
-    subst (λ (n : ℕ). IsRangeIn content (record { start = n; end = offset (bytes (chars content)) rest })) nothing
+    let nothing : byte_offset (bytes (chars content)) (chars content) ≡ 0 = omega arith in
+    subst (λ (n : ℕ). IsRangeIn content (record { start = n; end = byte_offset (bytes (chars content)) rest })) nothing
     (range_between content (chars content) rest (whole_content content t) e)
 
 error_within : {U : Type 0} (content : List ℕ) (range : Range ℕ) (unit : Result U EscapeError)

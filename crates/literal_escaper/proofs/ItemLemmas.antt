@@ -6,9 +6,9 @@ use Rattle.std.specs.Iterator.{YieldsFirst}
 use Rattle.std.proofs.lemmas.Bool.{both_ways}
 use Rattle.std.specs.declared.ops.Range.{Range}
 use Rattle.literal_escaper.specs.declared.cooked.Cooked.{Cooked}
-use Rattle.literal_escaper.specs.declared.place.Place.{Place}
+use Rattle.literal_escaper.specs.declared.content_cursor.ContentCursor.{ContentCursor}
 use Rattle.literal_escaper.specs.Items.{Item, front, items_from, items_within}
-use Rattle.literal_escaper.specs.Reading.{GivesFront, cooked_left, front_items, text_at, white_items}
+use Rattle.literal_escaper.specs.Unescaping.{GivesFront, cooked_left, front_items, text_at, white_items}
 use Rattle.literal_escaper.specs.Kind.{Kind}
 use Rattle.literal_escaper.proofs.FrontLemmas.{front_shrinks}
 
@@ -41,8 +41,9 @@ items_past kind end (c ∷ text) =
     (within_same kind end (length text) (length (front kind end (c ∷ text)).rest)
     (front kind end (c ∷ text)).rest (omega arith) (omega arith))
 
--- what was read at a place, and what is left behind it
-pub items_step : {U : Type 0} (kind : Kind U) (at after : Place) (item : Option (Item U)) (warning : Option (Range ℕ))
+-- what was read at a cursor, and what is left behind it
+pub items_step : {U : Type 0} (kind : Kind U) (at after : ContentCursor) (item : Option (Item U))
+    (warning : Option (Range ℕ))
     → GivesFront (front kind at.end (text_at at)) at item warning after
     → items_from kind at.end (text_at at) ≡ front_items item warning ++ items_from kind after.end (text_at after)
 items_step kind at after item warning given =
@@ -50,7 +51,8 @@ items_step kind at after item warning given =
     ∙ ap₂ (λ xs ys. xs ++ ys) (sym given.0) (ap₂ (λ end text. items_from kind end text) (sym given.2) (sym given.1))
 
 -- and it is shorter
-pub step_shorter : {U : Type 0} (kind : Kind U) (at after : Place) (item : Option (Item U)) (warning : Option (Range ℕ))
+pub step_shorter : {U : Type 0} (kind : Kind U) (at after : ContentCursor) (item : Option (Item U))
+    (warning : Option (Range ℕ))
     → GivesFront (front kind at.end (text_at at)) at item warning after → 0 < length (text_at at)
     → length (text_at after) < length (text_at at)
 step_shorter kind at after item warning given more =
@@ -63,7 +65,8 @@ none_from None e = refl
 none_from (Some x) e = absurd (both_ways true e refl)
 
 -- nothing was given
-pub step_none : {U : Type 0} (kind : Kind U) (at after : Place) (item : Option (Item U)) (warning : Option (Range ℕ))
+pub step_none : {U : Type 0} (kind : Kind U) (at after : ContentCursor) (item : Option (Item U))
+    (warning : Option (Range ℕ))
     → GivesFront (front kind at.end (text_at at)) at item warning after → is_some item ≡ false
     → items_from kind at.end (text_at at) ≡ items_from kind after.end (text_at after)
 step_none kind at after item warning given none =
@@ -76,16 +79,16 @@ items_end kind end text e = ap (items_from kind end) e ∙ items_none kind end 0
 
 -- a call that read up to the next item gives that, and leaves what follows
 pub next_left : {U : Type 0} (kind : Kind U) (old : Cooked) (item : Option (Item U)) (warning : Option (Range ℕ))
-    (after : Place)
+    (after : ContentCursor)
     → old.warning ≡ None
-    → items_from kind old.place.end (text_at old.place)
+    → items_from kind old.cursor.end (text_at old.cursor)
     ≡ front_items item warning ++ items_from kind after.end (text_at after)
     → IfNone item ((warning ≡ None) × (text_at after ≡ []))
-    → YieldsFirst (cooked_left kind) old item (record { place = after; warning = warning })
+    → YieldsFirst (cooked_left kind) old item (record { cursor = after; warning = warning })
 next_left kind old None warning after plain left none =
     let nothing = items_end kind after.end (text_at after) none.1 in (
-      ap (λ w. white_items w ++ items_from kind old.place.end (text_at old.place)) plain ∙ (left ∙ nothing),
+      ap (λ w. white_items w ++ items_from kind old.cursor.end (text_at old.cursor)) plain ∙ (left ∙ nothing),
       ap (λ w. white_items w ++ items_from kind after.end (text_at after)) none.0 ∙ nothing,
     )
 next_left kind old (Some item) warning after plain left none =
-    ap (λ w. white_items w ++ items_from kind old.place.end (text_at old.place)) plain ∙ left
+    ap (λ w. white_items w ++ items_from kind old.cursor.end (text_at old.cursor)) plain ∙ left

@@ -5,7 +5,7 @@ use Rattle.std.specs.Str.{IsCharBoundary, IsUtf8, all_scalars as scalars, chars,
 use Rattle.std.proofs.lemmas.Bool.{and_from, and_parts}
 use Rattle.std.proofs.lemmas.Str.{IsCharBoundary-at_seam, encodes-append, encodes-chars, scalars-chars}
 use Rattle.literal_escaper.specs.Text.{bytes}
-use Rattle.literal_escaper.specs.Items.{between, offset}
+use Rattle.literal_escaper.specs.Items.{between, byte_offset}
 use Rattle.literal_escaper.specs.Within.{IsRangeIn}
 use Rattle.literal_escaper.proofs.FrontLemmas.{IsEnd, end_of_end}
 
@@ -25,13 +25,15 @@ bytes-append : (p r : List ℕ) → bytes (p ++ r) ≡ bytes p + bytes r
 bytes-append p r = ap length (encodes-append p r) ∙ length-append (encode_utf8_all p) (encode_utf8_all r)
 
 -- what stands before an end
-before_end : (content text : List ℕ) (e : EndsIn content text) → offset (bytes (chars content)) text ≡ bytes e.is_end.0
+before_end : (content text : List ℕ) (e : EndsIn content text)
+    → byte_offset (bytes (chars content)) text ≡ bytes e.is_end.0
 before_end content text e =
     let whole : bytes (chars content) ≡ bytes e.is_end.0 + bytes text = ap bytes e.is_end.1
     ∙ bytes-append e.is_end.0 text in
     omega arith
 
-boundary : (content text : List ℕ) → EndsIn content text → IsCharBoundary content (offset (bytes (chars content)) text)
+boundary : (content text : List ℕ) → EndsIn content text
+    → IsCharBoundary content (byte_offset (bytes (chars content)) text)
 boundary content text e =
     let seam : content ≡ encode_utf8_all e.is_end.0 ++ encode_utf8_all text =
     sym (encodes-chars content e.utf8) ∙ (ap encode_utf8_all e.is_end.1 ∙ encodes-append e.is_end.0 text)
@@ -45,7 +47,7 @@ boundary content text e =
 pub ends_further : (content text rest : List ℕ) → EndsIn content text → IsEnd text rest → EndsIn content rest
 ends_further content text rest e f = record { utf8 = e.utf8; is_end = end_of_end (chars content) text rest e.is_end f }
 
--- from one place to a later one
+-- from one cursor to a later one
 pub range_between : (content text rest : List ℕ) → EndsIn content text → IsEnd text rest
     → IsRangeIn content (between (bytes (chars content)) text rest)
 range_between content text rest e f =

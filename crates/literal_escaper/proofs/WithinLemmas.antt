@@ -11,13 +11,13 @@ use Rattle.literal_escaper.specs.declared.cooked.Cooked.{Cooked}
 use Rattle.literal_escaper.specs.declared.errors.EscapeError.{EscapeError}
 use Rattle.literal_escaper.specs.declared.errors.EscapeError.TheVariants.{MultipleSkippedLinesWarning}
 use Rattle.literal_escaper.specs.declared.errors.EscapeError.TheVariants.{UnskippedWhitespaceWarning}
-use Rattle.literal_escaper.specs.declared.place.Place.{Place}
+use Rattle.literal_escaper.specs.declared.content_cursor.ContentCursor.{ContentCursor}
 use Rattle.literal_escaper.specs.Character.{backslash, is_blank, line_feed}
 use Rattle.literal_escaper.specs.Items.{Front, Item, between, front, items, items_from, items_within, line_skip}
 use Rattle.literal_escaper.specs.Items.{lines_range, raw_items, raw_items_from, raw_unit, unit_front, warning_at}
 use Rattle.literal_escaper.specs.Items.{white_range}
 use Rattle.literal_escaper.specs.Kind.{Kind}
-use Rattle.literal_escaper.specs.Reading.{cooked_left, raw_left, text_at, white_items}
+use Rattle.literal_escaper.specs.Unescaping.{cooked_left, raw_left, text_at, white_items}
 use Rattle.literal_escaper.specs.Text.{bytes, first_is, while_front, while_rest}
 use Rattle.literal_escaper.specs.Within.{AreWithin, IsRangeIn}
 use Rattle.literal_escaper.proofs.FrontLemmas.{IsEnd, drop_end, end_of_end, end_past, end_tail, end_whole, front_end}
@@ -122,17 +122,18 @@ raw_items_are_within of_char content t = within_raw of_char content (chars conte
 
 -- what is left at the front of a content with escapes
 pub cooked_within : {U : Type 0} (kind : Kind U) (content : List ℕ) (start : Cooked) → IsUtf8 content
-    → text_at start.place ≡ chars content → start.place.end ≡ bytes (chars content) → start.warning ≡ None
+    → text_at start.cursor ≡ chars content → start.cursor.end ≡ bytes (chars content) → start.warning ≡ None
     → AreWithin content (cooked_left kind start)
 cooked_within {U = U} kind content start t text end warning =
     let whole : cooked_left kind start ≡ items kind (chars content) =
-    ap (λ w. white_items w ++ items_from kind start.place.end (text_at start.place)) warning
+    ap (λ w. white_items w ++ items_from kind start.cursor.end (text_at start.cursor)) warning
     ∙ ap₂ (items_from kind) end text
     in
     subst (λ (xs : List (Item U)). AreWithin content xs) (sym whole) (items_are_within kind content t)
 
 -- what is left at the front of a raw content
-pub raw_within : {U : Type 0} (of_char : ℕ → Result U EscapeError) (content : List ℕ) (start : Place) → IsUtf8 content
+pub raw_within : {U : Type 0} (of_char : ℕ → Result U EscapeError) (content : List ℕ) (start : ContentCursor)
+    → IsUtf8 content
     → text_at start ≡ chars content → start.end ≡ bytes (chars content)
     → AreWithin content (raw_left of_char start)
 raw_within {U = U} of_char content start t text end =

@@ -6,7 +6,7 @@ use Rattle.literal_escaper.specs.declared.errors.EscapeError.{EscapeError}
 use Rattle.literal_escaper.specs.declared.mode.Mode.{Mode}
 use Rattle.literal_escaper.specs.declared.mode.Mode.TheVariants.{Char, Byte, Str, RawStr, ByteStr, RawByteStr, CStr}
 use Rattle.literal_escaper.specs.declared.mode.Mode.TheVariants.{RawCStr}
-use Rattle.literal_escaper.specs.Items.{Item, items, offset, raw_items}
+use Rattle.literal_escaper.specs.Items.{Item, items, byte_offset, raw_items}
 use Rattle.literal_escaper.specs.Kind.{Kind, any_char, ascii_byte, byte_kind, c_kind, string_kind}
 use Rattle.literal_escaper.specs.Single.{single}
 use Rattle.literal_escaper.specs.Text.{bytes}
@@ -31,7 +31,7 @@ errors_among items = filter_map error_of items
 
 -- from the front of the content to after the last character that was read
 abbrev pub read_range : ℕ → List ℕ → Range ℕ
-read_range end rest = record { start = 0; end = offset end rest }
+read_range end rest = record { start = 0; end = byte_offset end rest }
 
 -- the error of a content that is one unit
 abbrev pub single_error : {U : Type 0} → Kind U → List ℕ → Option Error

@@ -1,5 +1,5 @@
 -- The items of a content.
--- `end` counts the bytes of the whole content; a place in it is known by the text that follows it.
+-- `end` counts the bytes of the whole content; a cursor in it is known by the text that follows.
 use Rattle.std.specs.Prelude.{ℕ, zero, suc, ◌-◌, ◌&&◌, ◌==◌, if◌then◌else◌, List, [], ◌∷◌, ◌++◌, drop, length, Option}
 use Rattle.std.specs.Prelude.{Some, None, Result, Err}
 use Rattle.std.specs.Char.{is_whitespace}
@@ -19,13 +19,13 @@ use Rattle.literal_escaper.specs.Text.{bytes, first_is, while_front, while_rest}
 abbrev pub Item : Type 0 → Type 0
 Item U = Range ℕ × Result U EscapeError
 
--- how many bytes stand before the place
-abbrev pub offset : ℕ → List ℕ → ℕ
-offset end rest = end - bytes rest
+-- how many bytes stand before the rest
+abbrev pub byte_offset : ℕ → List ℕ → ℕ
+byte_offset end rest = end - bytes rest
 
--- the bytes from one place to another
+-- the bytes from the front of one text to the front of a later one
 abbrev pub between : ℕ → List ℕ → List ℕ → Range ℕ
-between end text rest = record { start = offset end text; end = offset end rest }
+between end text rest = record { start = byte_offset end text; end = byte_offset end rest }
 
 -- what the front of a text gives, and what follows the characters that were read for it
 pub record Front (U : Type 0) : Type 0 where
@@ -59,7 +59,7 @@ abbrev pub white_range : ℕ → List ℕ → List ℕ → Option (Range ℕ)
 white_range end text [] = None
 white_range end text (c ∷ rest) = if is_whitespace c then Some (between end text rest) else None
 
--- a warning, if there is a place for it
+-- a warning, if there is a range for it
 abbrev pub warning_at : {U : Type 0} → EscapeError → Option (Range ℕ) → List (Item U)
 warning_at e None = []
 warning_at e (Some range) = (range, Err e) ∷ []

@@ -10,6 +10,6 @@ pub mod Items
 pub mod Single
 pub mod Errors
 pub mod Value
-pub mod Reading
+pub mod Unescaping
 pub mod Left
 pub mod Within

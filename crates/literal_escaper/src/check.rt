@@ -4,14 +4,14 @@ ghost use Rattle.std.specs.Prelude.{◌≡◌};
 ghost use Rattle.std.specs.Iterator.{YieldsFirst};
 ghost use Rattle.std.specs.Str.{chars};
 ghost use Rattle.literal_escaper.specs.Errors.{errors_among, errors_in, single_error};
-ghost use Rattle.literal_escaper.specs.Reading.{cooked_left, raw_left};
+ghost use Rattle.literal_escaper.specs.Unescaping.{cooked_left, raw_left};
 ghost use Rattle.literal_escaper.specs.Within.{AreWithin};
 
+use crate::content_cursor::ContentCursor;
 use crate::cooked::{Cooked, next_item};
 use crate::errors::EscapeError;
 use crate::kind::{Bytes, CStr, CheckRaw, Str, Unescape};
 use crate::mode::Mode;
-use crate::place::Place;
 use crate::raw::next_raw_item;
 use crate::single::unescape_single;
 use std::marker::Model;
@@ -21,10 +21,10 @@ use std::ops::Range;
 fn error_of_single<K: Unescape>(src: &str) -> Option<(Range<usize>, EscapeError)>
     ensures { result ≡ single_error K.kind (chars src.now) }
 {
-    let (unit, end) = unescape_single::<K>(Place::new(src));
+    let (unit, end) = unescape_single::<K>(ContentCursor::new(src));
     match unit {
         Ok(_) => None,
-        Err(e) => Some((0..end.offset(), e)),
+        Err(e) => Some((0..end.byte_offset(), e)),
     }
 }
 
@@ -41,10 +41,12 @@ fn next_error<K: Unescape>(content: &mut Cooked<'_>) -> Option<(Range<usize>, Es
 }
 
 /// The next error of a raw content.
-fn next_raw_error<K: CheckRaw>(place: &mut Place<'_>) -> Option<(Range<usize>, EscapeError)>
-    ensures { YieldsFirst (λ p. errors_among (raw_left K.unit_of p)) place.old result place.new }
+fn next_raw_error<K: CheckRaw>(
+    cursor: &mut ContentCursor<'_>,
+) -> Option<(Range<usize>, EscapeError)>
+    ensures { YieldsFirst (λ p. errors_among (raw_left K.unit_of p)) cursor.old result cursor.new }
 {
-    while let Some((range, unit)) = next_raw_item::<K>(place) {
+    while let Some((range, unit)) = next_raw_item::<K>(cursor) {
         if let Err(e) = unit {
             return Some((range, e));
         }
@@ -83,11 +85,11 @@ impl Iterator for CheckForErrors<'_> {
         match self.mode {
             Mode::Char | Mode::Byte => self.single.take(),
             Mode::Str => next_error::<Str>(&mut self.content),
-            Mode::RawStr => next_raw_error::<Str>(&mut self.content.place),
+            Mode::RawStr => next_raw_error::<Str>(&mut self.content.cursor),
             Mode::ByteStr => next_error::<Bytes>(&mut self.content),
-            Mode::RawByteStr => next_raw_error::<Bytes>(&mut self.content.place),
+            Mode::RawByteStr => next_raw_error::<Bytes>(&mut self.content.cursor),
             Mode::CStr => next_error::<CStr>(&mut self.content),
-            Mode::RawCStr => next_raw_error::<CStr>(&mut self.content.place),
+            Mode::RawCStr => next_raw_error::<CStr>(&mut self.content.cursor),
         }
     }
 }

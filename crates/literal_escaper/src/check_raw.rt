@@ -7,10 +7,10 @@ ghost use Rattle.literal_escaper.specs.Kind.{any_char, ascii_byte};
 ghost use Rattle.literal_escaper.specs.Units.{raw_c_char};
 ghost use Rattle.literal_escaper.specs.Within.{AreWithin};
 
+use crate::content_cursor::ContentCursor;
 use crate::errors::EscapeError;
 use crate::kind::{Bytes, CStr, Str};
 use crate::num::NonZeroChar;
-use crate::place::Place;
 use crate::raw::next_raw_item;
 use std::marker::Model;
 use std::ops::Range;
@@ -18,18 +18,18 @@ use std::ops::Range;
 /// The items of a raw string's content that are left.
 #[derive(Drop)]
 pub struct CheckRawStr<'a> {
-    place: Place<'a>,
+    cursor: ContentCursor<'a>,
 }
 
 impl<'a> Model for CheckRawStr<'a> {
     ghost use Rattle.std.specs.Prelude.{ℕ, List};
     ghost use Rattle.literal_escaper.specs.Items.{Item};
     ghost use Rattle.literal_escaper.specs.Kind.{any_char};
-    ghost use Rattle.literal_escaper.specs.Reading.{raw_left};
+    ghost use Rattle.literal_escaper.specs.Unescaping.{raw_left};
 
     ghost Value = { List (Item ℕ) };
 
-    ghost view = { λ it. raw_left any_char it.place };
+    ghost view = { λ it. raw_left any_char it.cursor };
 }
 
 impl Iterator for CheckRawStr<'_> {
@@ -42,7 +42,7 @@ impl Iterator for CheckRawStr<'_> {
     ghost remaining = { item_count (λ left. left) };
 
     fn next(&mut self) -> Option<(Range<usize>, Result<char, EscapeError>)> {
-        next_raw_item::<Str>(&mut self.place)
+        next_raw_item::<Str>(&mut self.cursor)
     }
 }
 
@@ -55,25 +55,25 @@ pub fn check_raw_str(src: &str) -> CheckRawStr<'_>
     ensures within { AreWithin src.now result }
 {
     CheckRawStr {
-        place: Place::new(src),
+        cursor: ContentCursor::new(src),
     }
 }
 
 /// The items of a raw byte string's content that are left.
 #[derive(Drop)]
 pub struct CheckRawByteStr<'a> {
-    place: Place<'a>,
+    cursor: ContentCursor<'a>,
 }
 
 impl<'a> Model for CheckRawByteStr<'a> {
     ghost use Rattle.std.specs.Prelude.{ℕ, List};
     ghost use Rattle.literal_escaper.specs.Items.{Item};
     ghost use Rattle.literal_escaper.specs.Kind.{ascii_byte};
-    ghost use Rattle.literal_escaper.specs.Reading.{raw_left};
+    ghost use Rattle.literal_escaper.specs.Unescaping.{raw_left};
 
     ghost Value = { List (Item ℕ) };
 
-    ghost view = { λ it. raw_left ascii_byte it.place };
+    ghost view = { λ it. raw_left ascii_byte it.cursor };
 }
 
 impl Iterator for CheckRawByteStr<'_> {
@@ -86,7 +86,7 @@ impl Iterator for CheckRawByteStr<'_> {
     ghost remaining = { item_count (λ left. left) };
 
     fn next(&mut self) -> Option<(Range<usize>, Result<u8, EscapeError>)> {
-        next_raw_item::<Bytes>(&mut self.place)
+        next_raw_item::<Bytes>(&mut self.cursor)
     }
 }
 
@@ -99,25 +99,25 @@ pub fn check_raw_byte_str(src: &str) -> CheckRawByteStr<'_>
     ensures within { AreWithin src.now result }
 {
     CheckRawByteStr {
-        place: Place::new(src),
+        cursor: ContentCursor::new(src),
     }
 }
 
 /// The items of a raw C string's content that are left.
 #[derive(Drop)]
 pub struct CheckRawCStr<'a> {
-    place: Place<'a>,
+    cursor: ContentCursor<'a>,
 }
 
 impl<'a> Model for CheckRawCStr<'a> {
     ghost use Rattle.std.specs.Prelude.{ℕ, List};
     ghost use Rattle.literal_escaper.specs.Items.{Item};
     ghost use Rattle.literal_escaper.specs.Units.{raw_c_char};
-    ghost use Rattle.literal_escaper.specs.Reading.{raw_left};
+    ghost use Rattle.literal_escaper.specs.Unescaping.{raw_left};
 
     ghost Value = { List (Item ℕ) };
 
-    ghost view = { λ it. raw_left raw_c_char it.place };
+    ghost view = { λ it. raw_left raw_c_char it.cursor };
 }
 
 impl Iterator for CheckRawCStr<'_> {
@@ -130,7 +130,7 @@ impl Iterator for CheckRawCStr<'_> {
     ghost remaining = { item_count (λ left. left) };
 
     fn next(&mut self) -> Option<(Range<usize>, Result<NonZeroChar, EscapeError>)> {
-        next_raw_item::<CStr>(&mut self.place)
+        next_raw_item::<CStr>(&mut self.cursor)
     }
 }
 
@@ -143,6 +143,6 @@ pub fn check_raw_c_str(src: &str) -> CheckRawCStr<'_>
     ensures within { AreWithin src.now result }
 {
     CheckRawCStr {
-        place: Place::new(src),
+        cursor: ContentCursor::new(src),
     }
 }

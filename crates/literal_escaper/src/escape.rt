@@ -4,14 +4,14 @@ ghost use Rattle.std.specs.Prelude.{◌≡◌, ◌<◌, ◌≤◌};
 ghost use Rattle.literal_escaper.specs.Escape.{braced, coded, escape as what_escapes, hex_escape as hex_read};
 ghost use Rattle.literal_escaper.specs.Escape.{is_code_character, letter, letter_unit, second_digit};
 ghost use Rattle.literal_escaper.specs.Escape.{unicode_escape as unicode_read};
-ghost use Rattle.literal_escaper.specs.Reading.{Gives, code_answer, digit_count, digit_number, next_count, next_number};
-ghost use Rattle.literal_escaper.specs.Reading.{text_at};
+ghost use Rattle.literal_escaper.specs.Unescaping.{Gives, code_answer, digit_count, digit_number, next_count};
+ghost use Rattle.literal_escaper.specs.Unescaping.{next_number, text_at};
 ghost use Rattle.literal_escaper.specs.Text.{while_rest};
 
 use crate::classes::{Class, holds};
+use crate::content_cursor::ContentCursor;
 use crate::errors::EscapeError;
 use crate::kind::{Unescape, character_of};
-use crate::place::Place;
 
 /// The character that a letter after a backslash stands for, by the rule `item-letter`.
 fn simple_escape(c: char) -> Option<char>
@@ -41,7 +41,10 @@ fn letter_escape<K: Unescape>(c: char) -> Result<K::Unit, EscapeError>
 }
 
 /// The unit of two hex digits, the first of which was read.
-fn low_digit<K: Unescape>(high: u32, at: Place<'_>) -> (Result<K::Unit, EscapeError>, Place<'_>)
+fn low_digit<K: Unescape>(
+    high: u32,
+    at: ContentCursor<'_>,
+) -> (Result<K::Unit, EscapeError>, ContentCursor<'_>)
     requires { high < 16 }
     ensures { Gives (second_digit K.kind high (text_at at.entry)) at.entry result }
 {
@@ -56,7 +59,9 @@ fn low_digit<K: Unescape>(high: u32, at: Place<'_>) -> (Result<K::Unit, EscapeEr
 
 /// The unit of two hex digits, by the rule `item-hex`.
 #[tactic(auto, unfolding(crate::specs::Escape::hex_escape))]
-fn hex_escape<K: Unescape>(at: Place<'_>) -> (Result<K::Unit, EscapeError>, Place<'_>)
+fn hex_escape<K: Unescape>(
+    at: ContentCursor<'_>,
+) -> (Result<K::Unit, EscapeError>, ContentCursor<'_>)
     ensures { Gives (hex_read K.kind (text_at at.entry)) at.entry result }
 {
     let Some((c, after)) = at.advance() else {
@@ -78,8 +83,8 @@ struct Code<'a> {
     count: u32,
     /// Their number, as long as it may be a character's.
     number: u32,
-    /// The place after them and the underscores among them.
-    after: Place<'a>,
+    /// The cursor after them and the underscores among them.
+    after: ContentCursor<'a>,
 }
 
 /// One digit more, up to seven.
@@ -105,8 +110,8 @@ fn extended(number: u32, digit: u32) -> u32
     }
 }
 
-/// The digits from the place on, and the underscores among them.
-fn digits(at: Place<'_>) -> Code<'_>
+/// The digits from the cursor on, and the underscores among them.
+fn digits(at: ContentCursor<'_>) -> Code<'_>
     ensures count { result.count ≡ digit_count (text_at at.entry) }
     ensures number { result.number ≡ digit_number (text_at at.entry) }
     ensures rest { text_at result.after ≡ while_rest is_code_character (text_at at.entry) }
@@ -142,9 +147,11 @@ fn code_escape<K: Unescape>(count: u32, number: u32) -> Result<K::Unit, EscapeEr
     K::of_code(character_of(number))
 }
 
-/// The digits from the place on and the end of the braces.
+/// The digits from the cursor on and the end of the braces.
 #[tactic(auto, using(crate::proofs::CodeLemmas::code_unit_is), unfolding(crate::specs::Escape::coded))]
-fn rest_of_code<K: Unescape>(at: Place<'_>) -> (Result<K::Unit, EscapeError>, Place<'_>)
+fn rest_of_code<K: Unescape>(
+    at: ContentCursor<'_>,
+) -> (Result<K::Unit, EscapeError>, ContentCursor<'_>)
     ensures { Gives (coded K.kind (text_at at.entry)) at.entry result }
 {
     let code = digits(at);
@@ -156,7 +163,9 @@ fn rest_of_code<K: Unescape>(at: Place<'_>) -> (Result<K::Unit, EscapeError>, Pl
 }
 
 /// The unit of a character's code, after the opening brace.
-fn braced_escape<K: Unescape>(at: Place<'_>) -> (Result<K::Unit, EscapeError>, Place<'_>)
+fn braced_escape<K: Unescape>(
+    at: ContentCursor<'_>,
+) -> (Result<K::Unit, EscapeError>, ContentCursor<'_>)
     ensures { Gives (braced K.kind (text_at at.entry)) at.entry result }
 {
     let Some((c, after)) = at.advance() else {
@@ -176,7 +185,9 @@ fn braced_escape<K: Unescape>(at: Place<'_>) -> (Result<K::Unit, EscapeError>, P
 
 /// The unit of a character's code in braces, by the rule `item-code`.
 #[tactic(auto, unfolding(crate::specs::Escape::unicode_escape))]
-fn unicode_escape<K: Unescape>(at: Place<'_>) -> (Result<K::Unit, EscapeError>, Place<'_>)
+fn unicode_escape<K: Unescape>(
+    at: ContentCursor<'_>,
+) -> (Result<K::Unit, EscapeError>, ContentCursor<'_>)
     ensures { Gives (unicode_read K.kind (text_at at.entry)) at.entry result }
 {
     match at.advance() {
@@ -188,7 +199,9 @@ fn unicode_escape<K: Unescape>(at: Place<'_>) -> (Result<K::Unit, EscapeError>, 
 
 /// The unit of what stands after a backslash, by the rule `item-escape`.
 #[tactic(auto, unfolding(crate::specs::Escape::escape))]
-pub fn escape<K: Unescape>(at: Place<'_>) -> (Result<K::Unit, EscapeError>, Place<'_>)
+pub fn escape<K: Unescape>(
+    at: ContentCursor<'_>,
+) -> (Result<K::Unit, EscapeError>, ContentCursor<'_>)
     ensures { Gives (what_escapes K.kind (text_at at.entry)) at.entry result }
 {
     match at.advance() {

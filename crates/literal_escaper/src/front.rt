@@ -3,14 +3,14 @@
 ghost use Rattle.std.specs.Prelude.{◌≡◌, ◌<◌, [], ◌∷◌, ◌++◌, IfNone, IfSome, IsFalse, MatchOption, length};
 ghost use Rattle.literal_escaper.specs.Character.{is_blank as blank, line_feed as line_end};
 ghost use Rattle.literal_escaper.specs.Items.{front, items_from, line_skip, unit_front, white_range};
-ghost use Rattle.literal_escaper.specs.Reading.{Gives, GivesFront, front_items, skips_line, text_at};
+ghost use Rattle.literal_escaper.specs.Unescaping.{Gives, GivesFront, front_items, skips_line, text_at};
 ghost use Rattle.literal_escaper.specs.Text.{first_is, while_rest};
 
 use crate::classes::{Class, holds};
+use crate::content_cursor::ContentCursor;
 use crate::errors::EscapeError;
 use crate::escape::escape;
 use crate::kind::Unescape;
-use crate::place::Place;
 use std::ops::Range;
 
 /// An item: the bytes where it stands, and a unit or what is wrong.
@@ -23,8 +23,8 @@ pub struct Front<'a, U: Copy> {
     pub item: Option<Item<U>>,
     /// Where the warning about a white character stands that comes after that item.
     pub warning: Option<Range<usize>>,
-    /// The place after the characters that were read for it.
-    pub after: Place<'a>,
+    /// The cursor after the characters that were read for it.
+    pub after: ContentCursor<'a>,
 }
 
 /// Whether the character is skipped after a line end with a backslash before it.
@@ -34,8 +34,8 @@ fn is_blank(c: char) -> bool
     holds(Class::Blank, c)
 }
 
-/// The place after the blanks, and whether a line end is among them.
-fn skip_blanks(at: Place<'_>) -> (bool, Place<'_>)
+/// The cursor after the blanks, and whether a line end is among them.
+fn skip_blanks(at: ContentCursor<'_>) -> (bool, ContentCursor<'_>)
     ensures lines { result.0 ≡ skips_line (text_at at.entry) }
     ensures rest { text_at result.1 ≡ while_rest blank (text_at at.entry) }
     ensures end { result.1.end ≡ at.entry.end }
@@ -52,23 +52,23 @@ fn skip_blanks(at: Place<'_>) -> (bool, Place<'_>)
     (lines, after)
 }
 
-/// From the place to after the white character that stands at the other.
-fn unskipped_white(start: Place<'_>, after: Place<'_>) -> Option<Range<usize>>
+/// From the cursor to after the white character that stands at the other.
+fn unskipped_white(start: ContentCursor<'_>, after: ContentCursor<'_>) -> Option<Range<usize>>
     requires { start.end ≡ after.end }
     ensures { result ≡ white_range start.entry.end (text_at start.entry) (text_at after.entry) }
 {
     let (c, past) = after.advance()?;
     if holds(Class::White, c) {
-        Some(start.offset()..past.offset())
+        Some(start.byte_offset()..past.byte_offset())
     } else {
         None
     }
 }
 
-/// The warnings about a backslash and LF at the place, after which the line begins: no unit stands
+/// The warnings about a backslash and LF at the cursor, after which the line begins: no unit stands
 /// for them and the blanks that follow.
 #[tactic(auto, unfolding(crate::specs::Items::line_skip))]
-fn skip_line<'a, U: Copy>(at: Place<'a>, line: Place<'a>) -> Front<'a, U>
+fn skip_line<'a, U: Copy>(at: ContentCursor<'a>, line: ContentCursor<'a>) -> Front<'a, U>
     requires { at.end ≡ line.end }
     ensures { GivesFront
         (line_skip at.entry.end (text_at at.entry) (text_at line.entry))
@@ -77,7 +77,7 @@ fn skip_line<'a, U: Copy>(at: Place<'a>, line: Place<'a>) -> Front<'a, U>
     let (lines, after) = skip_blanks(line);
     let white = unskipped_white(at, after);
     if lines {
-        let skipped = at.offset()..after.offset();
+        let skipped = at.byte_offset()..after.byte_offset();
         Front {
             item: Some((skipped, Err(EscapeError::MultipleSkippedLinesWarning))),
             warning: white,
@@ -93,7 +93,10 @@ fn skip_line<'a, U: Copy>(at: Place<'a>, line: Place<'a>) -> Front<'a, U>
 }
 
 /// The unit of a character and what follows it.
-fn read_unit<K: Unescape>(c: char, after: Place<'_>) -> (Result<K::Unit, EscapeError>, Place<'_>)
+fn read_unit<K: Unescape>(
+    c: char,
+    after: ContentCursor<'_>,
+) -> (Result<K::Unit, EscapeError>, ContentCursor<'_>)
     ensures { Gives (unit_front K.kind c (text_at after.entry)) after.entry result }
 {
     if !holds(Class::StringSpecial, c) {
@@ -106,8 +109,8 @@ fn read_unit<K: Unescape>(c: char, after: Place<'_>) -> (Result<K::Unit, EscapeE
     }
 }
 
-/// The place after an LF.
-fn line_feed(at: Place<'_>) -> Option<Place<'_>>
+/// The cursor after an LF.
+fn line_feed(at: ContentCursor<'_>) -> Option<ContentCursor<'_>>
     ensures { MatchOption result (IsFalse (first_is line_end (text_at at.entry)))
         (λ line. (text_at at.entry ≡ line_end ∷ text_at line) × (line.end ≡ at.entry.end)) }
 {
@@ -117,9 +120,9 @@ fn line_feed(at: Place<'_>) -> Option<Place<'_>>
     }
 }
 
-/// What stands at the front of the content from the place on, unless nothing is left of it.
+/// What stands at the front of the content from the cursor on, unless nothing is left of it.
 #[tactic(auto, unfolding(crate::specs::Items::front))]
-pub fn read_front<K: Unescape>(at: Place<'_>) -> Option<Front<'_, K::Unit>>
+pub fn read_front<K: Unescape>(at: ContentCursor<'_>) -> Option<Front<'_, K::Unit>>
     ensures value { MatchOption result (text_at at.entry ≡ []) (λ x.
         GivesFront (front K.kind at.entry.end (text_at at.entry)) at.entry x.item x.warning x.after) }
     ensures more { IfSome result (λ x. 0 < length (text_at at.entry)) }
@@ -132,28 +135,28 @@ pub fn read_front<K: Unescape>(at: Place<'_>) -> Option<Front<'_, K::Unit>>
     }
     let (unit, rest) = read_unit::<K>(c, after);
     Some(Front {
-        item: Some((at.offset()..rest.offset(), unit)),
+        item: Some((at.byte_offset()..rest.byte_offset(), unit)),
         warning: None,
         after: rest,
     })
 }
 
-/// The first front from the place on that gives an item, or else the end of the content.
-pub fn next_front<K: Unescape>(at: Place<'_>) -> Front<'_, K::Unit>
+/// The first front from the cursor on that gives an item, or else the end of the content.
+pub fn next_front<K: Unescape>(at: ContentCursor<'_>) -> Front<'_, K::Unit>
     ensures left { items_from K.kind at.entry.end (text_at at.entry)
         ≡ front_items result.item result.warning ++ items_from K.kind result.after.end (text_at result.after) }
     ensures none { IfNone result.item ((result.warning ≡ None) × (text_at result.after ≡ [])) }
 {
-    let mut place = at;
-    while let Some(front) = read_front::<K>(place) {
+    let mut cursor = at;
+    while let Some(front) = read_front::<K>(cursor) {
         if front.item.is_some() {
             return front;
         }
-        place = front.after;
+        cursor = front.after;
     }
     Front {
         item: None,
         warning: None,
-        after: place,
+        after: cursor,
     }
 }

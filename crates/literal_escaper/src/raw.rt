@@ -3,13 +3,13 @@
 ghost use Rattle.std.specs.Prelude.{◌≡◌};
 ghost use Rattle.std.specs.Iterator.{YieldsFirst};
 ghost use Rattle.literal_escaper.specs.Items.{raw_unit};
-ghost use Rattle.literal_escaper.specs.Reading.{raw_left};
+ghost use Rattle.literal_escaper.specs.Unescaping.{raw_left};
 
 use crate::classes::{Class, holds};
+use crate::content_cursor::ContentCursor;
 use crate::errors::EscapeError;
 use crate::front::Item;
 use crate::kind::CheckRaw;
-use crate::place::Place;
 
 /// The unit of a character of a raw content.
 fn unit<K: CheckRaw>(c: char) -> Result<K::Unit, EscapeError>
@@ -22,13 +22,13 @@ fn unit<K: CheckRaw>(c: char) -> Result<K::Unit, EscapeError>
     }
 }
 
-/// The next item of a raw content, and the place after it.
+/// The next item of a raw content, and the cursor after it.
 #[tactic(auto, unfolding(crate::specs::Items::raw_items_from))]
-pub fn next_raw_item<K: CheckRaw>(place: &mut Place<'_>) -> Option<Item<K::Unit>>
-    ensures { YieldsFirst (raw_left K.unit_of) place.old result place.new }
+pub fn next_raw_item<K: CheckRaw>(cursor: &mut ContentCursor<'_>) -> Option<Item<K::Unit>>
+    ensures { YieldsFirst (raw_left K.unit_of) cursor.old result cursor.new }
 {
-    let (c, after) = place.advance()?;
-    let range = place.offset()..after.offset();
-    *place = after;
+    let (c, after) = cursor.advance()?;
+    let range = cursor.byte_offset()..after.byte_offset();
+    *cursor = after;
     Some((range, unit::<K>(c)))
 }

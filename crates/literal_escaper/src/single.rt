@@ -1,16 +1,19 @@
 //! Contents that are one unit.
 
-ghost use Rattle.literal_escaper.specs.Reading.{Gives, text_at};
+ghost use Rattle.literal_escaper.specs.Unescaping.{Gives, text_at};
 ghost use Rattle.literal_escaper.specs.Single.{single, single_front};
 
 use crate::classes::{Class, holds};
+use crate::content_cursor::ContentCursor;
 use crate::errors::EscapeError;
 use crate::escape::escape;
 use crate::kind::Unescape;
-use crate::place::Place;
 
 /// The unit of a character and what follows it.
-fn first_unit<K: Unescape>(c: char, after: Place<'_>) -> (Result<K::Unit, EscapeError>, Place<'_>)
+fn first_unit<K: Unescape>(
+    c: char,
+    after: ContentCursor<'_>,
+) -> (Result<K::Unit, EscapeError>, ContentCursor<'_>)
     ensures { Gives (single_front K.kind c (text_at after.entry)) after.entry result }
 {
     if !holds(Class::CharSpecial, c) {
@@ -23,9 +26,11 @@ fn first_unit<K: Unescape>(c: char, after: Place<'_>) -> (Result<K::Unit, Escape
     }
 }
 
-/// The one unit of the content, by the rule `single-item`, and the place after what was read.
+/// The one unit of the content, by the rule `single-item`, and the cursor after what was read.
 #[tactic(auto, unfolding(crate::specs::Single::single))]
-pub fn unescape_single<K: Unescape>(at: Place<'_>) -> (Result<K::Unit, EscapeError>, Place<'_>)
+pub fn unescape_single<K: Unescape>(
+    at: ContentCursor<'_>,
+) -> (Result<K::Unit, EscapeError>, ContentCursor<'_>)
     ensures { Gives (single K.kind (text_at at.entry)) at.entry result }
 {
     let Some((c, after)) = at.advance() else {

@@ -7,11 +7,11 @@ ghost use Rattle.literal_escaper.specs.Kind.{byte_kind, c_kind, string_kind};
 ghost use Rattle.literal_escaper.specs.Single.{single};
 ghost use Rattle.literal_escaper.specs.Within.{AreWithin};
 
+use crate::content_cursor::ContentCursor;
 use crate::cooked::{Cooked, next_item};
 use crate::errors::EscapeError;
 use crate::kind::{Bytes, CStr, Str};
 use crate::mixed_unit::MixedUnit;
-use crate::place::Place;
 use crate::single::unescape_single;
 use std::marker::Model;
 use std::ops::Range;
@@ -26,7 +26,7 @@ impl<'a> Model for UnescapeStr<'a> {
     ghost use Rattle.std.specs.Prelude.{ℕ, List};
     ghost use Rattle.literal_escaper.specs.Items.{Item};
     ghost use Rattle.literal_escaper.specs.Kind.{string_kind};
-    ghost use Rattle.literal_escaper.specs.Reading.{cooked_left};
+    ghost use Rattle.literal_escaper.specs.Unescaping.{cooked_left};
 
     ghost Value = { List (Item ℕ) };
 
@@ -71,7 +71,7 @@ impl<'a> Model for UnescapeByteStr<'a> {
     ghost use Rattle.std.specs.Prelude.{ℕ, List};
     ghost use Rattle.literal_escaper.specs.Items.{Item};
     ghost use Rattle.literal_escaper.specs.Kind.{byte_kind};
-    ghost use Rattle.literal_escaper.specs.Reading.{cooked_left};
+    ghost use Rattle.literal_escaper.specs.Unescaping.{cooked_left};
 
     ghost Value = { List (Item ℕ) };
 
@@ -115,7 +115,7 @@ impl<'a> Model for UnescapeCStr<'a> {
     ghost use Rattle.std.specs.Prelude.{List};
     ghost use Rattle.literal_escaper.specs.Items.{Item};
     ghost use Rattle.literal_escaper.specs.Kind.{c_kind};
-    ghost use Rattle.literal_escaper.specs.Reading.{cooked_left};
+    ghost use Rattle.literal_escaper.specs.Unescaping.{cooked_left};
     ghost use Rattle.literal_escaper.specs.declared.mixed_unit.MixedUnit.{MixedUnit};
 
     ghost Value = { List (Item MixedUnit) };
@@ -156,7 +156,7 @@ pub fn unescape_c_str(src: &str) -> UnescapeCStr<'_>
 pub fn unescape_char(src: &str) -> Result<char, EscapeError>
     ensures { result ≡ (single string_kind (chars src.now)).unit }
 {
-    let (unit, _) = unescape_single::<Str>(Place::new(src));
+    let (unit, _) = unescape_single::<Str>(ContentCursor::new(src));
     unit
 }
 
@@ -166,6 +166,6 @@ pub fn unescape_char(src: &str) -> Result<char, EscapeError>
 pub fn unescape_byte(src: &str) -> Result<u8, EscapeError>
     ensures { result ≡ (single byte_kind (chars src.now)).unit }
 {
-    let (unit, _) = unescape_single::<Bytes>(Place::new(src));
+    let (unit, _) = unescape_single::<Bytes>(ContentCursor::new(src));
     unit
 }

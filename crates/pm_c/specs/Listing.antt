@@ -2,7 +2,7 @@
 use Rattle.std.specs.Prelude.{ℕ, ◌+◌, List, [], ◌∷◌, length}
 use Rattle.std.specs.Str.{encode_utf8_all}
 use Rattle.proc_macro2.specs.Forest.{Forest, nil, leaf, group}
-use Rattle.proc_macro2.specs.Written.{written}
+use Rattle.proc_macro2.specs.Spelling.{spelling}
 use Rattle.proc_macro2.specs.declared.Delimiter.{Delimiter}
 use Rattle.proc_macro2.specs.declared.Delimiter.TheVariants.{Parenthesis, Brace, Bracket, None}
 use Rattle.proc_macro2.specs.declared.Spacing.{Spacing}
@@ -30,7 +30,7 @@ width (group d lo hi inside rest) = 1 + width rest
 -- the text that is kept of a tree, in bytes: that of an identifier or a literal as it is written
 abbrev pub kept_text : TokenTree → List ℕ
 kept_text (Group g) = []
-kept_text (Ident i) = written i
+kept_text (Ident i) = spelling i
 kept_text (Punct p) = []
 kept_text (Literal l) = encode_utf8_all l.text
 
@@ -46,7 +46,7 @@ record_of start (Group g) =
       count = width g.stream;
     }
 record_of start (Ident i) =
-    record { kind = 1; detail = 0; lo = i.span.lo; hi = i.span.hi; start = start; count = length (written i) }
+    record { kind = 1; detail = 0; lo = i.span.lo; hi = i.span.hi; start = start; count = length (spelling i) }
 record_of start (Punct p) =
     record { kind = 2; detail = spacing_number p.spacing; lo = p.span.lo; hi = p.span.hi; start = p.mark; count = 0 }
 record_of start (Literal l) =

@@ -19,7 +19,7 @@ use crate::display::{closer, is_brace, opener};
 use crate::parse::{delimiter, fault_at};
 use lexical::{Piece, PieceKind, past_white, piece_at};
 use pm_span::parts::fits_new;
-use pm_token::parts::Draft;
+use pm_token::parts::TextBuilder;
 use pm_token::{Delimiter, ParseError};
 use std::alloc::{AllocError, Global};
 
@@ -76,7 +76,7 @@ struct Printer {
     /// The groups that are open, the innermost last.
     groups: Vec<OpenGroup>,
     /// What is printed of what was read.
-    draft: Draft,
+    draft: TextBuilder,
     /// Whether a space goes before what is printed next.
     gap: bool,
 }
@@ -99,7 +99,7 @@ impl Printer {
     {
         Ok(Printer {
             groups: Vec::new(alloc),
-            draft: Draft::with_room(alloc, bytes)?,
+            draft: TextBuilder::with_room(alloc, bytes)?,
             gap: false,
         })
     }

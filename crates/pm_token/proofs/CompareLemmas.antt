@@ -22,7 +22,7 @@ use Rattle.lexical.proofs.PieceFacts.{name_continues, none_begins}
 use Rattle.lexical.proofs.TextLemmas.{begins_chars}
 use Rattle.pm_token.specs.Built.{IsBuiltToken}
 use Rattle.pm_token.specs.Leaf.{Name, name_token}
-use Rattle.pm_token.specs.Written.{name_text, written, name_eq, name_cmp, fed_for}
+use Rattle.pm_token.specs.Spelling.{name_text, spelling, name_eq, name_cmp, fed_for}
 use Rattle.pm_token.proofs.NameLemmas.{written_is}
 
 -- ---- what begins with a text
@@ -89,8 +89,8 @@ name_of {a} {b} s view e utf8 built = record {
 }
 
 -- the bytes of an identifier as it is written
-pub written_bytes : (a : Name) (s : List ℕ) → IsNameOf a s → written a ≡ raw_front a.raw ++ s
-written_bytes a s h = written_is a.raw a.name
+pub spelling_bytes : (a : Name) (s : List ℕ) → IsNameOf a s → spelling a ≡ raw_front a.raw ++ s
+spelling_bytes a s h = written_is a.raw a.name
     ∙ ap (λ x. raw_front a.raw ++ x) (ap encode_utf8_all h.own ∙ encodes-chars s h.utf8)
 
 -- ---- equality
@@ -98,7 +98,7 @@ written_bytes a s h = written_is a.raw a.name
 -- written alike in bytes, and in characters
 pub eq_text : (a b : Name) (r : Bool) → r ≡ name_eq a b → IsTrue r ↔ (name_text a ≡ name_text b)
 eq_text a b r is =
-    let same = bytes_eq-Decides (written a) (written b) in
+    let same = bytes_eq-Decides (spelling a) (spelling b) in
     (λ h. encodes_same (name_text a) (name_text b) (same.0 (sym is ∙ h)), λ h. is ∙ same.1 (ap encode_utf8_all h))
 
 past_front : (raw : Bool) (x y : List ℕ)
@@ -111,12 +111,12 @@ pub eq_alike : (a b : Name) (s t : List ℕ) (r : Bool) → IsNameOf a s → IsN
     → r ≡ pointwise nat_eq s t → r ≡ name_eq a b
 eq_alike a b s t r h k alike is =
     is ∙ (sym (past_front b.raw s t)
-    ∙ ap₂ (pointwise nat_eq) (ap (λ x. raw_front x ++ s) (sym alike) ∙ sym (written_bytes a s h))
-    (sym (written_bytes b t k)))
+    ∙ ap₂ (pointwise nat_eq) (ap (λ x. raw_front x ++ s) (sym alike) ∙ sym (spelling_bytes a s h))
+    (sym (spelling_bytes b t k)))
 
 -- one raw and one plain: apart
 pub eq_apart : (a b : Name) (s t : List ℕ) → IsNameOf a s → IsNameOf b t → a.raw ≢ b.raw → name_eq a b ≡ false
-eq_apart a b s t h k differ = ap₂ (pointwise nat_eq) (written_bytes a s h) (written_bytes b t k)
+eq_apart a b s t h k differ = ap₂ (pointwise nat_eq) (spelling_bytes a s h) (spelling_bytes b t k)
     ∙ fronts_apart a.raw b.raw differ
   where
     fronts_apart : (x y : Bool) → x ≢ y → pointwise nat_eq (raw_front x ++ s) (raw_front y ++ t) ≡ false
@@ -142,14 +142,14 @@ pub cmp_text : (a b : Name) (o : Ordering) → o ≡ name_cmp a b → (o ≡ Equ
 cmp_text a b o is =
     let text = eq_text a b (name_eq a b) refl in
     let tie = Equal-is o in
-    let ties = texts_ties (written a) (written b) in (
+    let ties = texts_ties (spelling a) (spelling b) in (
       λ h. text.0 (ties ∙ (ap is_eq (sym is) ∙ tie.1 h)),
       λ h. tie.0 (ap is_eq is ∙ (sym ties ∙ text.1 h)),
     )
 
 cmp_bytes : (a b : Name) (s t : List ℕ) → IsNameOf a s → IsNameOf b t
     → name_cmp a b ≡ slice_cmp nat_cmp (raw_front a.raw ++ s) (raw_front b.raw ++ t)
-cmp_bytes a b s t h k = ap₂ (slice_cmp nat_cmp) (written_bytes a s h) (written_bytes b t k)
+cmp_bytes a b s t h k = ap₂ (slice_cmp nat_cmp) (spelling_bytes a s h) (spelling_bytes b t k)
 
 cmp_fronts : (a b : Name) (s t : List ℕ) (x y : Bool) → IsNameOf a s → IsNameOf b t → a.raw ≡ x → b.raw ≡ y
     → name_cmp a b ≡ slice_cmp nat_cmp (raw_front x ++ s) (raw_front y ++ t)
@@ -182,8 +182,8 @@ other_raw x false h e = absurd (both_ways _ h ((booleans_Decides x false).1 e))
 
 -- ---- hashes
 
-pub fed_raw : (a : Name) (s : List ℕ) → IsNameOf a s → a.raw ≡ true → fed_for (written a) ≡ codes "r#" ∷ fed.str s
-fed_raw a s h p = ap fed_for (written_bytes a s h ∙ ap (λ x. raw_front x ++ s) p)
+pub fed_raw : (a : Name) (s : List ℕ) → IsNameOf a s → a.raw ≡ true → fed_for (spelling a) ≡ codes "r#" ∷ fed.str s
+fed_raw a s h p = ap fed_for (spelling_bytes a s h ∙ ap (λ x. raw_front x ++ s) p)
 
-pub fed_plain : (a : Name) (s : List ℕ) → IsNameOf a s → a.raw ≡ false → fed_for (written a) ≡ fed.str s
-fed_plain a s h p = ap fed_for (written_bytes a s h ∙ ap (λ x. raw_front x ++ s) p) ∙ cond-false _ _ _ h.plain
+pub fed_plain : (a : Name) (s : List ℕ) → IsNameOf a s → a.raw ≡ false → fed_for (spelling a) ≡ fed.str s
+fed_plain a s h p = ap fed_for (spelling_bytes a s h ∙ ap (λ x. raw_front x ++ s) p) ∙ cond-false _ _ _ h.plain

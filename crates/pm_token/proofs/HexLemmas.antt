@@ -94,7 +94,7 @@ pub record IsCoded (c : ℕ) (p : List ℕ) : Type 0 where
   pub whole : p ≡ 92 ∷ 117 ∷ 123 ∷ (digits_of (first ∷ others) ++ 125 ∷ [])
 
 abbrev at : ℕ → ℕ → ℕ
-at place c = c / place % 16
+at weight c = c / weight % 16
 
 pub coded : (c : ℕ) → IsScalar c → IsCoded c (escape_unicode c)
 coded c is =

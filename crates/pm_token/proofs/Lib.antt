@@ -1,7 +1,7 @@
 pub mod CodeReadLemmas
 pub mod ContentLemmas
 pub mod CookedValueLemmas
-pub mod DraftLemmas
+pub mod TextBuilderLemmas
 pub mod HexEscapeLemmas
 pub mod HexLemmas
 pub mod IntegerLemmas
@@ -26,4 +26,4 @@ pub mod UnicodeEscapeLemmas
 pub mod UnitLemmas
 pub mod ValueLawLemmas
 pub mod WholeLemmas
-pub mod WrittenLemmas
+pub mod SpellingLemmas

@@ -36,7 +36,7 @@ unfolding IsLiteralToken
 literal_text text all (inl literal) = (inl (inl literal), all)
 literal_text text all (inr negative) = (inr negative, all)
 
--- every map holds the place of the fault of a text that isn't whole
+-- every map holds the span of the fault of a text that isn't whole
 pub refused_held : (map : Files) (whole : Type 0) (result : Result Text ParseError)
     → IfErr result (IsRefusalOf whole) → IfErr result (λ error. IfLex error (Holds map))
 refused_held map whole (Ok literal) h = tt

@@ -17,4 +17,4 @@ pub mod SingleValue
 pub mod Subspan
 pub mod Value
 pub mod ValueLaws
-pub mod Written
+pub mod Spelling

@@ -4,7 +4,7 @@ use Rattle.pm_span.specs.Extent.{Extent, nowhere}
 use Rattle.pm_token.specs.declared.errors.ParseError.{ParseError}
 use Rattle.pm_token.specs.declared.errors.ParseError.TheVariants.{Lex, MapFull, Memory}
 
--- what holds of the place of the fault, if that is what the error says
+-- what holds of the fault's span, if that is what the error says
 abbrev pub IfLex : ParseError → (Extent → Type 0) → Type 0
 IfLex (Lex fault) holds = holds fault
 IfLex MapFull holds = Unit {0}

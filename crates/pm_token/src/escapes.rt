@@ -21,34 +21,34 @@ use ucd_category::GeneralCategory;
 
 /// A text while it is written, seen as its characters.
 #[derive(Drop)]
-pub struct Draft {
+pub struct TextBuilder {
     text: String,
 }
 
-impl Model for Draft {
+impl Model for TextBuilder {
     ghost use Rattle.std.specs.Prelude.{ℕ, List, string_bytes};
     ghost use Rattle.std.specs.Str.{chars};
 
     ghost Value = { List ℕ };
 
-    ghost view = { λ draft. chars (string_bytes draft.text) };
+    ghost view = { λ builder. chars (string_bytes builder.text) };
 }
 
-impl Draft {
+impl TextBuilder {
     /// Nothing yet.
-    pub(crate) fn new(alloc: Global) -> Draft
+    pub(crate) fn new(alloc: Global) -> TextBuilder
         ensures { result ≡ [] }
     {
-        Draft {
+        TextBuilder {
             text: String::new(alloc),
         }
     }
 
     /// Nothing yet, with room for so many bytes. Fails where memory runs out.
-    pub fn with_room(alloc: Global, bytes: usize) -> Result<Draft, AllocError>
-        ensures { IfOk result (λ draft. draft ≡ []) }
+    pub fn with_room(alloc: Global, bytes: usize) -> Result<TextBuilder, AllocError>
+        ensures { IfOk result (λ builder. builder ≡ []) }
     {
-        Ok(Draft {
+        Ok(TextBuilder {
             text: String::with_capacity(alloc, bytes)?,
         })
     }

@@ -40,7 +40,7 @@ impl Ident {
     ghost use Rattle.pm_token.specs.Built.{IsBuiltToken};
     ghost use Rattle.pm_token.specs.IdentFault.{Refuses, ident_fault};
     ghost use Rattle.pm_token.specs.Leaf.{name_token};
-    ghost use Rattle.pm_token.specs.Written.{name_text, spelled};
+    ghost use Rattle.pm_token.specs.Spelling.{name_text, spelled};
     ghost use Rattle.lexical.specs.Token as tokens;
 
     /// The identifier of this name, which has no `r#`.

@@ -50,7 +50,7 @@ pub use Rattle.pm_token.specs.SingleValue
 pub use Rattle.pm_token.specs.Subspan
 pub use Rattle.pm_token.specs.Value
 pub use Rattle.pm_token.specs.ValueLaws
-pub use Rattle.pm_token.specs.Written
+pub use Rattle.pm_token.specs.Spelling
 pub use Rattle.pm_stream.specs.Building
 pub use Rattle.pm_stream.specs.Codec
 pub use Rattle.pm_stream.specs.Delimited

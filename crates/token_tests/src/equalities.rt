@@ -1,5 +1,5 @@
 // Values are equal exactly where they are of one kind and have equal parts.
-use crate::checks::are_told_apart;
+use crate::checks::are_distinct;
 use literal_escaper::EscapeError;
 use pm_token::{ConversionErrorKind, Delimiter, Spacing};
 use std::alloc::AllocError;
@@ -12,12 +12,12 @@ fn delimiters_are_equal_to_themselves_alone(rt: HostRuntime) {
         Delimiter::Bracket,
         Delimiter::None,
     ];
-    are_told_apart(&rt, &delimiters);
+    are_distinct(&rt, &delimiters);
 }
 
 #[test]
 fn spacings_are_equal_to_themselves_alone(rt: HostRuntime) {
-    are_told_apart(&rt, &[Spacing::Alone, Spacing::Joint]);
+    are_distinct(&rt, &[Spacing::Alone, Spacing::Joint]);
 }
 
 #[test]
@@ -28,5 +28,5 @@ fn refusals_of_values_are_equal_by_their_faults(rt: HostRuntime) {
         ConversionErrorKind::InvalidLiteralKind,
         ConversionErrorKind::Memory(AllocError),
     ];
-    are_told_apart(&rt, &refusals);
+    are_distinct(&rt, &refusals);
 }

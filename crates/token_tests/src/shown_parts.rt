@@ -1,4 +1,4 @@
-// What the parts of tokens show of themselves, and tokens without a place.
+// What the parts of tokens show of themselves, and tokens without a span.
 use crate::checks::{are_shown, check_same, shows};
 use pm_span::parts::span_of;
 use pm_span::{LineColumn, SourceMap, Span};
@@ -90,8 +90,8 @@ fn a_literal_shows_its_text_as_it_is_written(rt: HostRuntime) -> Result<(), Fail
 
 #[test]
 fn a_place_shows_its_line_and_column(rt: HostRuntime) -> Result<(), AllocError> {
-    let place = LineColumn { line: 3, column: 0 };
-    shows(&rt, rt.alloc(), &place, "LineColumn { line: 3, column: 0 }")
+    let value = LineColumn { line: 3, column: 0 };
+    shows(&rt, rt.alloc(), &value, "LineColumn { line: 3, column: 0 }")
 }
 
 /// What a map of these texts, with the limit 100, shows of itself.

@@ -5,10 +5,10 @@ ghost use Rattle.lexical.specs.Text.{first_passes};
 ghost use Rattle.lexical.specs.Quoted.{is_octal_digit};
 ghost use Rattle.pm_token.specs.Escaped.{content, hex_pair, written, written_byte};
 
-use crate::escapes::Draft;
+use crate::escapes::TextBuilder;
 use std::alloc::AllocError;
 
-impl Draft {
+impl TextBuilder {
     /// Writes the bytes between these quotes, each by the rules `escaped` and `written-byte`.
     pub(crate) fn push_bytes(&mut self, quote: u8, bytes: &[u8]) -> Result<(), AllocError>
         ensures ok { OnOk result (self.new ≡ self.old ++ content quote written_byte bytes.now) }

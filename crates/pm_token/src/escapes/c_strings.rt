@@ -2,10 +2,10 @@
 ghost use Rattle.std.specs.Prelude.{◌≡◌, ◌≢◌, ◌++◌, List, [], IfOk, IsTrue, OnOk};
 ghost use Rattle.pm_token.specs.CString.{AreParts, Part, WritesFront, has_no_zero, parts_text};
 
-use crate::escapes::Draft;
+use crate::escapes::TextBuilder;
 use std::alloc::AllocError;
 
-impl Draft {
+impl TextBuilder {
     /// Writes the bytes, none of which is zero, by the rule `c-string-parts`.
     pub(crate) fn push_c_string(&mut self, bytes: &[u8]) -> Result<(), AllocError>
         requires { IsTrue (has_no_zero bytes.now) }

@@ -3,7 +3,7 @@ ghost use Rattle.std.specs.Prelude.{◌≡◌, ◌↔◌, ◌∷◌, ◌++◌, [
 ghost use Rattle.std.specs.Cmp.{on_equiv, on_per, on_po, on_total, partial_equiv_from_equiv};
 ghost use Rattle.std.specs.Cmp.Lexicographic.{nat_list_cmp_total, nat_list_eq_equiv, texts_po, texts_ties};
 ghost use Rattle.std.specs.List.{concat};
-ghost use Rattle.pm_token.specs.Written.{fed_alike, fed_for, name_cmp, name_eq, name_text, written};
+ghost use Rattle.pm_token.specs.Spelling.{fed_alike, fed_for, name_cmp, name_eq, name_text, spelling};
 
 use super::Ident;
 use std::cmp::Ordering;
@@ -12,7 +12,7 @@ use std::hash::{Hash, Hasher};
 impl PartialEq for Ident {
     ghost eq = { name_eq };
 
-    ghost laws = { on_per written (partial_equiv_from_equiv nat_list_eq_equiv) };
+    ghost laws = { on_per spelling (partial_equiv_from_equiv nat_list_eq_equiv) };
 
     /// Whether both have the same name, and both are raw or both plain, by the rule
     /// `identifier-equality`. Their spans don't count.
@@ -32,13 +32,13 @@ impl PartialEq for Ident {
 }
 
 impl Eq for Ident {
-    ghost laws = { on_equiv written nat_list_eq_equiv };
+    ghost laws = { on_equiv spelling nat_list_eq_equiv };
 }
 
 impl PartialOrd for Ident {
     ghost partial_cmp = { λ a b. Some (name_cmp a b) };
 
-    ghost laws = { on_po written texts_po };
+    ghost laws = { on_po spelling texts_po };
 
     fn partial_cmp(&self, other: &Ident) -> Option<Ordering> {
         Some(self.cmp(other))
@@ -48,11 +48,11 @@ impl PartialOrd for Ident {
 impl Ord for Ident {
     ghost cmp = { name_cmp };
 
-    ghost total = { on_total written nat_list_cmp_total };
+    ghost total = { on_total spelling nat_list_cmp_total };
 
     ghost matches_partial_cmp = { λ a b. refl };
 
-    ghost matches_eq = { λ a b. texts_ties (written a) (written b) };
+    ghost matches_eq = { λ a b. texts_ties (spelling a) (spelling b) };
 
     /// The order of the bytes that the identifiers are written with, by the rule
     /// `identifier-order`: `r`, then raw `a`, then `ra`.
@@ -76,15 +76,15 @@ impl Ord for Ident {
 }
 
 impl Hash for Ident {
-    ghost hash_input = { λ ident. fed_for (written ident) };
+    ghost hash_input = { λ ident. fed_for (spelling ident) };
 
     ghost respects_eq = { fed_alike };
 
     /// Feeds the hasher what the text of the identifier does, but `r#` in a write of its own, by the
     /// rule `identifier-hash`.
     fn hash<H: Hasher>(&self, state: &mut H)
-        ensures value { state.new ≡ fold H.write state.old (fed_for (written self.now)) }
-        ensures text { concat (fed_for (written self.now)) ≡ written self.now ++ 255 ∷ [] }
+        ensures value { state.new ≡ fold H.write state.old (fed_for (spelling self.now)) }
+        ensures text { concat (fed_for (spelling self.now)) ≡ spelling self.now ++ 255 ∷ [] }
     {
         let name = self.name.as_str();
         if self.name.is_raw() {

@@ -5,7 +5,7 @@ ghost use Rattle.pm_span.specs.Extent.{nowhere};
 ghost use Rattle.pm_token.specs.CString.{IsCStringText, has_no_zero};
 ghost use Rattle.pm_token.specs.Escaped.{byte_string_text, byte_text, character_text, string_text};
 
-use crate::escapes::Draft;
+use crate::escapes::TextBuilder;
 use crate::literals::Literal;
 use pm_span::Span;
 use std::alloc::{AllocError, Global};
@@ -27,12 +27,12 @@ impl Literal {
             literal ≡ record { text = string_text (chars text.now); span = span }) }
     {
         // Most texts have nothing to escape. One that has grows.
-        let mut draft = Draft::with_room(alloc, text.len() + 2)?;
-        draft.push('"')?;
-        draft.push_content('"', text)?;
-        draft.push('"')?;
+        let mut builder = TextBuilder::with_room(alloc, text.len() + 2)?;
+        builder.push('"')?;
+        builder.push_content('"', text)?;
+        builder.push('"')?;
         Ok(Literal {
-            text: draft.finish(alloc)?,
+            text: builder.finish(alloc)?,
             span,
         })
     }
@@ -43,12 +43,12 @@ impl Literal {
         ensures ok { IfOk result (λ literal.
             literal ≡ record { text = character_text c; span = nowhere }) }
     {
-        let mut draft = Draft::new(alloc);
-        draft.push('\'')?;
-        draft.push_escaped('\'', c, "")?;
-        draft.push('\'')?;
+        let mut builder = TextBuilder::new(alloc);
+        builder.push('\'')?;
+        builder.push_escaped('\'', c, "")?;
+        builder.push('\'')?;
         Ok(Literal {
-            text: draft.finish(alloc)?,
+            text: builder.finish(alloc)?,
             span: Span::call_site(),
         })
     }
@@ -59,13 +59,13 @@ impl Literal {
         ensures ok { IfOk result (λ literal.
             literal ≡ record { text = byte_text byte; span = nowhere }) }
     {
-        let mut draft = Draft::new(alloc);
-        draft.push('b')?;
-        draft.push('\'')?;
-        draft.push_byte(b'\'', byte, &[])?;
-        draft.push('\'')?;
+        let mut builder = TextBuilder::new(alloc);
+        builder.push('b')?;
+        builder.push('\'')?;
+        builder.push_byte(b'\'', byte, &[])?;
+        builder.push('\'')?;
         Ok(Literal {
-            text: draft.finish(alloc)?,
+            text: builder.finish(alloc)?,
             span: Span::call_site(),
         })
     }
@@ -76,13 +76,13 @@ impl Literal {
         ensures ok { IfOk result (λ literal.
             literal ≡ record { text = byte_string_text bytes.now; span = nowhere }) }
     {
-        let mut draft = Draft::new(alloc);
-        draft.push('b')?;
-        draft.push('"')?;
-        draft.push_bytes(b'"', bytes)?;
-        draft.push('"')?;
+        let mut builder = TextBuilder::new(alloc);
+        builder.push('b')?;
+        builder.push('"')?;
+        builder.push_bytes(b'"', bytes)?;
+        builder.push('"')?;
         Ok(Literal {
-            text: draft.finish(alloc)?,
+            text: builder.finish(alloc)?,
             span: Span::call_site(),
         })
     }
@@ -95,13 +95,13 @@ impl Literal {
         ensures ok { IfOk result (λ literal.
             IsCStringText bytes.now literal.text × (literal.span ≡ nowhere)) }
     {
-        let mut draft = Draft::new(alloc);
-        draft.push('c')?;
-        draft.push('"')?;
-        draft.push_c_string(bytes)?;
-        draft.push('"')?;
+        let mut builder = TextBuilder::new(alloc);
+        builder.push('c')?;
+        builder.push('"')?;
+        builder.push_c_string(bytes)?;
+        builder.push('"')?;
         Ok(Literal {
-            text: draft.finish(alloc)?,
+            text: builder.finish(alloc)?,
             span: Span::call_site(),
         })
     }

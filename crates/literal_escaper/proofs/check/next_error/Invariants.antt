@@ -1,6 +1,6 @@
 use Rattle.std.proofs.Common.{◌≡◌, length}
 use Rattle.literal_escaper.specs.Errors.{errors_among}
-use Rattle.literal_escaper.specs.Reading.{cooked_left}
+use Rattle.literal_escaper.specs.Unescaping.{cooked_left}
 use Rattle.literal_escaper.proofs.check.next_error.Given as goal
 
 abbrev pub invariant-loop-range : goal.invariant-loop-range

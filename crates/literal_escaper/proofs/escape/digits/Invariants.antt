@@ -1,7 +1,7 @@
 use Rattle.std.proofs.Common.{◌≡◌, ◌≤◌, ◌*◌, ◌+◌, length}
 use Rattle.std.specs.List.{fold}
 use Rattle.literal_escaper.specs.Escape.{is_code_character}
-use Rattle.literal_escaper.specs.Reading.{count_with, digit_count, digit_number, number_with, text_at}
+use Rattle.literal_escaper.specs.Unescaping.{count_with, digit_count, digit_number, number_with, text_at}
 use Rattle.literal_escaper.specs.Text.{while_front, while_rest}
 use Rattle.literal_escaper.proofs.escape.digits.Given as goal
 

@@ -1,6 +1,6 @@
 use Rattle.std.proofs.Common.{◌≡◌, ◌||◌, length}
 use Rattle.literal_escaper.specs.Character.{is_blank}
-use Rattle.literal_escaper.specs.Reading.{skips_line, text_at}
+use Rattle.literal_escaper.specs.Unescaping.{skips_line, text_at}
 use Rattle.literal_escaper.specs.Text.{while_rest}
 use Rattle.literal_escaper.proofs.front.skip_blanks.Given as goal
 

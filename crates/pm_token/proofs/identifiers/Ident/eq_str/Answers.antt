@@ -3,7 +3,7 @@ use Rattle.std.specs.Cmp.Lexicographic.{bytes_decides}
 use Rattle.std.specs.Str.{chars}
 use Rattle.std.proofs.lemmas.Bool.Decides.{same_from_decides}
 use Rattle.pm_token.proofs.NameLemmas.{plain_is, raw_is, raw_is_not}
-use Rattle.pm_token.proofs.WrittenLemmas.{spelled_is}
+use Rattle.pm_token.proofs.SpellingLemmas.{spelled_is}
 use Rattle.pm_token.proofs.identifiers.Ident.eq_str.Goals as goal
 
 pub returns-then-not-is_raw : goal.returns-then-not-is_raw

@@ -10,7 +10,7 @@ text c =
     c.in_ok-finish.ensures.ok ∙ (c.in_ok-push-3.ensures.ok
     ∙ ap (λ x. x ++ 34 ∷ []) (c.in_ok-push_bytes.ensures.ok
     ∙ ap (λ x. x ++ content 34 written_byte c.args.bytes.now) (c.in_ok-push-2.ensures.ok
-    ∙ ap (λ x. x ++ 34 ∷ []) (c.in_ok-push.ensures.ok ∙ ap (λ x. x ++ 98 ∷ []) c.new-draft.ensures))))
+    ∙ ap (λ x. x ++ 34 ∷ []) (c.in_ok-push.ensures.ok ∙ ap (λ x. x ++ 98 ∷ []) c.new-builder.ensures))))
 
 pub invariant_of-result : goal.invariant_of-result
 invariant_of-result c =

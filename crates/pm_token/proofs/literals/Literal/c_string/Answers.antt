@@ -14,7 +14,7 @@ text c =
       whole = c.in_ok-finish.ensures.ok ∙ (c.in_ok-push-3.ensures.ok
           ∙ ap (λ x. x ++ 34 ∷ []) (all.2
           ∙ ap (λ x. x ++ parts_text all.0) (c.in_ok-push-2.ensures.ok
-          ∙ ap (λ x. x ++ 34 ∷ []) (c.in_ok-push.ensures.ok ∙ ap (λ x. x ++ 99 ∷ []) c.new-draft.ensures))));
+          ∙ ap (λ x. x ++ 34 ∷ []) (c.in_ok-push.ensures.ok ∙ ap (λ x. x ++ 99 ∷ []) c.new-builder.ensures))));
     }
 
 pub invariant_of-result : goal.invariant_of-result

@@ -11,7 +11,7 @@ text c =
     c.in_ok-finish.ensures.ok ∙ (c.in_ok-push-2.ensures.ok
     ∙ ap (λ x. x ++ 39 ∷ []) (c.in_ok-push_escaped.ensures.ok
     ∙ ap₂ (λ x rest. x ++ written 39 written_char c.args.c rest)
-    (c.in_ok-push.ensures.ok ∙ ap (λ x. x ++ 39 ∷ []) c.new-draft.ensures) chars-nil))
+    (c.in_ok-push.ensures.ok ∙ ap (λ x. x ++ 39 ∷ []) c.new-builder.ensures) chars-nil))
 
 pub invariant_of-result : goal.invariant_of-result
 invariant_of-result c =

@@ -1,6 +1,6 @@
 use Rattle.std.specs.Prelude.{string_bytes}
 use Rattle.std.proofs.lemmas.Str.{IsUtf8-string_bytes}
-use Rattle.pm_token.proofs.DraftLemmas.{chars_pushed}
+use Rattle.pm_token.proofs.TextBuilderLemmas.{chars_pushed}
 use Rattle.pm_token.proofs.literals.values.unescaped.push_char.Goals as goal
 
 pub returns : goal.returns

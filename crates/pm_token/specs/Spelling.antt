@@ -1,0 +1,42 @@
+-- Identifiers as they are written, by which they are compared.
+use Rattle.std.specs.Prelude.{ℕ, Bool, List, ◌∷◌, cond, codes, drop, nat_eq, ◌≡◌, IsTrue}
+use Rattle.std.specs.Str.{chars, encode_utf8_all}
+use Rattle.std.specs.Hash as fed
+use Rattle.std.specs.Cmp.Lexicographic.{pointwise, slice_cmp, same_text}
+use Rattle.std.proofs.Common.{ap, sym}
+use Rattle.std.specs.Ordering.{nat_cmp}
+use Rattle.std.specs.declared.cmp.Ordering.{Ordering}
+use Rattle.lexical.specs.Ascii.{all_ascii}
+use Rattle.lexical.specs.Text.{begins_with}
+use Rattle.lexical.specs.Token.{token_text}
+use Rattle.pm_token.specs.Leaf.{Name, name_token}
+
+-- the characters of the identifier as it is written
+abbrev pub name_text : Name → List ℕ
+name_text ident = token_text (name_token ident)
+
+-- the characters that the bytes of a text spell. They are `chars` of it, but those of an ASCII text are its bytes, so
+-- that
+-- they compute where the text is known.
+abbrev pub spelled : List ℕ → List ℕ
+spelled text = cond (all_ascii text) text (chars text)
+
+-- its bytes
+abbrev pub spelling : Name → List ℕ
+spelling ident = encode_utf8_all (name_text ident)
+
+-- `identifier-equality`: whether two identifiers are written alike
+abbrev pub name_eq : Name → Name → Bool
+name_eq a b = pointwise nat_eq (spelling a) (spelling b)
+
+-- `identifier-order`: that of the bytes
+abbrev pub name_cmp : Name → Name → Ordering
+name_cmp a b = slice_cmp nat_cmp (spelling a) (spelling b)
+
+-- `identifier-hash`: what a hasher is fed for these bytes, in its calls: as for a text, but `r#` by itself
+abbrev pub fed_for : List ℕ → List (List ℕ)
+fed_for bytes = cond (begins_with (codes "r#") bytes) (codes "r#" ∷ fed.str (drop 2 bytes)) (fed.str bytes)
+
+-- identifiers that are written alike are fed alike
+pub fed_alike : (a b : Name) → IsTrue (name_eq a b) → fed_for (spelling a) ≡ fed_for (spelling b)
+fed_alike a b h = ap fed_for (same_text (spelling a) (spelling b) (sym h))
