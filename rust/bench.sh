@@ -1,22 +1,33 @@
 #!/usr/bin/env bash
 # Times the Cargo package and the public crate, by one program built over each.
 #
-#   rust/bench.sh CRATE SOURCES
+#   rust/bench.sh CRATE SOURCES [RUNS]
 #
 # CRATE is the unpacked public crate proc-macro2, SOURCES a folder with files of Rust. syn, quote and unicode-ident are
-# the distribution's, from CARGO_REGISTRY or /usr/share/cargo/registry; nothing is fetched. The two
-# programs run in turn, three times each, and the least times are printed.
+# the distribution's, from CARGO_REGISTRY or /usr/share/cargo/registry; nothing is fetched. The two programs run in
+# turn, so many times each (else 3), and the least times are printed in nanoseconds, sizes in bytes, and how long each
+# crate with its dependencies and default features takes to compile for release, in processor milliseconds.
 set -eu
 crate=$(cd "$1" && pwd)
 sources=$(cd "$2" && pwd)
+runs=${3:-3}
 cd "$(dirname "$0")"
 registry=${CARGO_REGISTRY:-/usr/share/cargo/registry}
 room=$(mktemp -d)
 trap 'rm -rf "$room"' EXIT
+
+# Compiles the dependencies of an empty program in this room, and prints the processor time in milliseconds.
+compile() {
+    local TIMEFORMAT='%U %S'
+    rm -rf "$1/target"
+    { time cargo build --release --offline --quiet --manifest-path "$1/Cargo.toml" 2> /dev/null; } 2>&1 |
+        awk '{ print "compile_ms", ($1 + $2) * 1000 }'
+}
+
 for name in package public; do
     path=$(pwd)/proc-macro2
     [ $name = public ] && path=$crate
-    mkdir -p "$room/$name/.cargo"
+    mkdir -p "$room/$name/.cargo" "$room/$name/empty/src"
     cp -r bench/Cargo.toml bench/src "$room/$name"
     cat > "$room/$name/.cargo/config.toml" << END
 [source.crates-io]
@@ -26,19 +37,22 @@ directory = "$registry"
 [patch.crates-io]
 proc-macro2 = { path = "$path" }
 END
+    sed '/^\(quote\|syn\) =/d' bench/Cargo.toml > "$room/$name/empty/Cargo.toml"
+    echo 'fn main() {}' > "$room/$name/empty/src/main.rs"
     (cd "$room/$name" && cargo build --release --offline --quiet)
 done
-for _ in 1 2 3; do
+for _ in $(seq "$runs"); do
     for name in package public; do
-        "$room/$name/target/release/token-bench" "$sources" | sed "s/^/$name /" >> "$room/times"
+        (cd "$room/$name" && target/release/token-bench "$sources" && compile empty) |
+            sed "s/^/$name /" >> "$room/times"
     done
 done
 awk '
     { key = $1 " " $2; if (!(key in least) || $3 < least[key]) least[key] = $3; if (!seen[$2]++) order[n++] = $2 }
     END {
-        printf "%-12s %14s %14s %8s\n", "what", "package", "public", "ratio"
+        printf "%-24s %14s %14s %8s\n", "what", "package", "public", "ratio"
         for (i = 0; i < n; i++) {
             a = least["package " order[i]]; b = least["public " order[i]]
-            printf "%-12s %14d %14d %8.2f\n", order[i], a, b, a / b
+            printf "%-24s %14.1f %14.1f %8.2f\n", order[i], a, b, a / b
         }
     }' "$room/times"

@@ -1,6 +1,8 @@
-//! Times of the token library that this is built over: of reading 3 MB of Rust, of syn on them, and of one word.
+//! Times of the token library that this is built over: of 3 MB of Rust, of syn on them, and of single small calls.
 //!
-//! For each the least of some runs is printed, in nanoseconds of processor time.
+//! For each the least of some runs is printed, in nanoseconds of processor time, and then sizes in bytes.
+mod rows;
+
 use proc_macro2::TokenStream;
 use quote::quote;
 use std::error::Error;
@@ -9,7 +11,6 @@ use std::path::{Path, PathBuf};
 use std::{env, fs, io};
 
 const RUNS: u32 = 15;
-const WORDS: u32 = 200_000;
 const BYTES: usize = 3_000_000;
 
 extern "C" {
@@ -77,11 +78,5 @@ fn main() -> Result<(), Box<dyn Error>> {
     println!("parse_file {}", least(|| drop(black_box(syn::parse_file(&text)))));
     println!("to_string {}", least(|| drop(black_box(stream.to_string()))));
     println!("quote {}", least(|| drop(black_box(quote!(#file).to_string()))));
-    let words = least(|| {
-        for _ in 0..WORDS {
-            drop(black_box(black_box("word").parse::<TokenStream>()));
-        }
-    });
-    println!("word {}", words / u64::from(WORDS));
-    Ok(())
+    rows::run()
 }
