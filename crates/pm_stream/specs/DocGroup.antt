@@ -3,7 +3,7 @@ use Rattle.std.specs.Cmp.Lexicographic.{pointwise}
 use Rattle.std.specs.Prelude.{◌≡◌, Bool, not, ◌==◌, ◌&&◌, List, [], ◌∷◌, ◌++◌, codes, nat_eq, if◌then◌else◌, ℕ}
 use Rattle.std.specs.Prelude.{Option, Some, None}
 use Rattle.pm_token.specs.Leaf.{Name, Mark, Text, is_joint}
-use Rattle.pm_token.specs.Written.{name_text}
+use Rattle.pm_token.specs.Spelling.{name_text}
 use Rattle.pm_token.specs.declared.delimiters.Delimiter.{Delimiter}
 use Rattle.pm_token.specs.declared.delimiters.Delimiter.TheVariants.{Bracket}
 use Rattle.pm_stream.specs.Forest.{Forest, nil, leaf, group}

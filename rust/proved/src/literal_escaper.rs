@@ -10,6 +10,7 @@
 mod check;
 mod check_raw;
 mod classes;
+mod content_cursor;
 mod cooked;
 mod errors;
 mod escape;
@@ -19,7 +20,6 @@ pub mod laws;
 mod mixed_unit;
 mod mode;
 mod num;
-mod place;
 mod raw;
 mod single;
 mod unescape;

@@ -1,11 +1,11 @@
 // Made from crates/literal_escaper/src/check.rt by rust/erase: change that file, not this one.
 //! The errors of contents.
 
+use crate::literal_escaper::content_cursor::ContentCursor;
 use crate::literal_escaper::cooked::{Cooked, next_item};
 use crate::literal_escaper::errors::EscapeError;
 use crate::literal_escaper::kind::{Bytes, CStr, CheckRaw, Str, Unescape};
 use crate::literal_escaper::mode::Mode;
-use crate::literal_escaper::place::Place;
 use crate::literal_escaper::raw::next_raw_item;
 use crate::literal_escaper::single::unescape_single;
 use crate::shim::ops::Range;
@@ -13,10 +13,10 @@ use crate::shim::ops::Range;
 /// The error of a content that is one unit, if it has one.
 fn error_of_single<K: Unescape>(src: &str) -> Option<(Range<usize>, EscapeError)>
 {
-    let (unit, end) = unescape_single::<K>(Place::new(src));
+    let (unit, end) = unescape_single::<K>(ContentCursor::new(src));
     match unit {
         Ok(_) => None,
-        Err(e) => Some((0..end.offset(), e)),
+        Err(e) => Some((0..end.byte_offset(), e)),
     }
 }
 
@@ -32,9 +32,11 @@ fn next_error<K: Unescape>(content: &mut Cooked<'_>) -> Option<(Range<usize>, Es
 }
 
 /// The next error of a raw content.
-fn next_raw_error<K: CheckRaw>(place: &mut Place<'_>) -> Option<(Range<usize>, EscapeError)>
+fn next_raw_error<K: CheckRaw>(
+    cursor: &mut ContentCursor<'_>,
+) -> Option<(Range<usize>, EscapeError)>
 {
-    while let Some((range, unit)) = next_raw_item::<K>(place) {
+    while let Some((range, unit)) = next_raw_item::<K>(cursor) {
         if let Err(e) = unit {
             return Some((range, e));
         }
@@ -56,11 +58,11 @@ impl Iterator for CheckForErrors<'_> {
         match self.mode {
             Mode::Char | Mode::Byte => self.single.take(),
             Mode::Str => next_error::<Str>(&mut self.content),
-            Mode::RawStr => next_raw_error::<Str>(&mut self.content.place),
+            Mode::RawStr => next_raw_error::<Str>(&mut self.content.cursor),
             Mode::ByteStr => next_error::<Bytes>(&mut self.content),
-            Mode::RawByteStr => next_raw_error::<Bytes>(&mut self.content.place),
+            Mode::RawByteStr => next_raw_error::<Bytes>(&mut self.content.cursor),
             Mode::CStr => next_error::<CStr>(&mut self.content),
-            Mode::RawCStr => next_raw_error::<CStr>(&mut self.content.place),
+            Mode::RawCStr => next_raw_error::<CStr>(&mut self.content.cursor),
         }
     }
 }

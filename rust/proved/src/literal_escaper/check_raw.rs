@@ -1,23 +1,23 @@
 // Made from crates/literal_escaper/src/check_raw.rt by rust/erase: change that file, not this one.
 //! The items of raw contents.
 
+use crate::literal_escaper::content_cursor::ContentCursor;
 use crate::literal_escaper::errors::EscapeError;
 use crate::literal_escaper::kind::{Bytes, CStr, Str};
 use crate::literal_escaper::num::NonZeroChar;
-use crate::literal_escaper::place::Place;
 use crate::literal_escaper::raw::next_raw_item;
 use crate::shim::ops::Range;
 
 /// The items of a raw string's content that are left.
 pub struct CheckRawStr<'a> {
-    place: Place<'a>,
+    cursor: ContentCursor<'a>,
 }
 
 impl Iterator for CheckRawStr<'_> {
     type Item = (Range<usize>, Result<char, EscapeError>);
 
     fn next(&mut self) -> Option<(Range<usize>, Result<char, EscapeError>)> {
-        next_raw_item::<Str>(&mut self.place)
+        next_raw_item::<Str>(&mut self.cursor)
     }
 }
 
@@ -28,20 +28,20 @@ impl Iterator for CheckRawStr<'_> {
 pub fn check_raw_str(src: &str) -> CheckRawStr<'_>
 {
     CheckRawStr {
-        place: Place::new(src),
+        cursor: ContentCursor::new(src),
     }
 }
 
 /// The items of a raw byte string's content that are left.
 pub struct CheckRawByteStr<'a> {
-    place: Place<'a>,
+    cursor: ContentCursor<'a>,
 }
 
 impl Iterator for CheckRawByteStr<'_> {
     type Item = (Range<usize>, Result<u8, EscapeError>);
 
     fn next(&mut self) -> Option<(Range<usize>, Result<u8, EscapeError>)> {
-        next_raw_item::<Bytes>(&mut self.place)
+        next_raw_item::<Bytes>(&mut self.cursor)
     }
 }
 
@@ -52,20 +52,20 @@ impl Iterator for CheckRawByteStr<'_> {
 pub fn check_raw_byte_str(src: &str) -> CheckRawByteStr<'_>
 {
     CheckRawByteStr {
-        place: Place::new(src),
+        cursor: ContentCursor::new(src),
     }
 }
 
 /// The items of a raw C string's content that are left.
 pub struct CheckRawCStr<'a> {
-    place: Place<'a>,
+    cursor: ContentCursor<'a>,
 }
 
 impl Iterator for CheckRawCStr<'_> {
     type Item = (Range<usize>, Result<NonZeroChar, EscapeError>);
 
     fn next(&mut self) -> Option<(Range<usize>, Result<NonZeroChar, EscapeError>)> {
-        next_raw_item::<CStr>(&mut self.place)
+        next_raw_item::<CStr>(&mut self.cursor)
     }
 }
 
@@ -76,6 +76,6 @@ impl Iterator for CheckRawCStr<'_> {
 pub fn check_raw_c_str(src: &str) -> CheckRawCStr<'_>
 {
     CheckRawCStr {
-        place: Place::new(src),
+        cursor: ContentCursor::new(src),
     }
 }

@@ -1,17 +1,17 @@
 // Made from crates/literal_escaper/src/cooked.rt by rust/erase: change that file, not this one.
 //! Contents with escapes.
 
+use crate::literal_escaper::content_cursor::ContentCursor;
 use crate::literal_escaper::errors::EscapeError;
 use crate::literal_escaper::front::{Front, Item, next_front};
 use crate::literal_escaper::kind::Unescape;
-use crate::literal_escaper::place::Place;
 use crate::shim::ops::Range;
 
-/// A content with escapes, from a place on.
+/// A content with escapes, from a cursor on.
 pub struct Cooked<'a> {
-    /// The place.
-    pub place: Place<'a>,
-    /// Where the warning about a white character stands that comes before what follows the place.
+    /// Where reading stands.
+    pub cursor: ContentCursor<'a>,
+    /// Where the warning about a white character stands that comes before what follows the cursor.
     pub warning: Option<Range<usize>>,
 }
 
@@ -20,7 +20,7 @@ impl<'a> Cooked<'a> {
     pub fn new(content: &'a str) -> Self
     {
         Cooked {
-            place: Place::new(content),
+            cursor: ContentCursor::new(content),
             warning: None,
         }
     }
@@ -36,8 +36,8 @@ pub fn next_item<K: Unescape>(content: &mut Cooked<'_>) -> Option<Item<K::Unit>>
         item,
         warning,
         after,
-    } = next_front::<K>(content.place);
-    content.place = after;
+    } = next_front::<K>(content.cursor);
+    content.cursor = after;
     content.warning = warning;
     item
 }

@@ -2,9 +2,9 @@
 //! Escapes: what stands after a backslash.
 
 use crate::literal_escaper::classes::{Class, holds};
+use crate::literal_escaper::content_cursor::ContentCursor;
 use crate::literal_escaper::errors::EscapeError;
 use crate::literal_escaper::kind::{Unescape, character_of};
-use crate::literal_escaper::place::Place;
 
 /// The character that a letter after a backslash stands for, by the rule `item-letter`.
 fn simple_escape(c: char) -> Option<char>
@@ -32,7 +32,10 @@ fn letter_escape<K: Unescape>(c: char) -> Result<K::Unit, EscapeError>
 }
 
 /// The unit of two hex digits, the first of which was read.
-fn low_digit<K: Unescape>(high: u32, at: Place<'_>) -> (Result<K::Unit, EscapeError>, Place<'_>)
+fn low_digit<K: Unescape>(
+    high: u32,
+    at: ContentCursor<'_>,
+) -> (Result<K::Unit, EscapeError>, ContentCursor<'_>)
 {
     let Some((c, after)) = at.advance() else {
         return (Err(EscapeError::TooShortHexEscape), at);
@@ -44,7 +47,9 @@ fn low_digit<K: Unescape>(high: u32, at: Place<'_>) -> (Result<K::Unit, EscapeEr
 }
 
 /// The unit of two hex digits, by the rule `item-hex`.
-fn hex_escape<K: Unescape>(at: Place<'_>) -> (Result<K::Unit, EscapeError>, Place<'_>)
+fn hex_escape<K: Unescape>(
+    at: ContentCursor<'_>,
+) -> (Result<K::Unit, EscapeError>, ContentCursor<'_>)
 {
     let Some((c, after)) = at.advance() else {
         return (Err(EscapeError::TooShortHexEscape), at);
@@ -65,8 +70,8 @@ struct Code<'a> {
     count: u32,
     /// Their number, as long as it may be a character's.
     number: u32,
-    /// The place after them and the underscores among them.
-    after: Place<'a>,
+    /// The cursor after them and the underscores among them.
+    after: ContentCursor<'a>,
 }
 
 /// One digit more, up to seven.
@@ -85,8 +90,8 @@ fn extended(number: u32, digit: u32) -> u32
     }
 }
 
-/// The digits from the place on, and the underscores among them.
-fn digits(at: Place<'_>) -> Code<'_>
+/// The digits from the cursor on, and the underscores among them.
+fn digits(at: ContentCursor<'_>) -> Code<'_>
 {
     let mut count: u32 = 0;
     let mut number: u32 = 0;
@@ -117,8 +122,10 @@ fn code_escape<K: Unescape>(count: u32, number: u32) -> Result<K::Unit, EscapeEr
     K::of_code(character_of(number))
 }
 
-/// The digits from the place on and the end of the braces.
-fn rest_of_code<K: Unescape>(at: Place<'_>) -> (Result<K::Unit, EscapeError>, Place<'_>)
+/// The digits from the cursor on and the end of the braces.
+fn rest_of_code<K: Unescape>(
+    at: ContentCursor<'_>,
+) -> (Result<K::Unit, EscapeError>, ContentCursor<'_>)
 {
     let code = digits(at);
     match code.after.advance() {
@@ -129,7 +136,9 @@ fn rest_of_code<K: Unescape>(at: Place<'_>) -> (Result<K::Unit, EscapeError>, Pl
 }
 
 /// The unit of a character's code, after the opening brace.
-fn braced_escape<K: Unescape>(at: Place<'_>) -> (Result<K::Unit, EscapeError>, Place<'_>)
+fn braced_escape<K: Unescape>(
+    at: ContentCursor<'_>,
+) -> (Result<K::Unit, EscapeError>, ContentCursor<'_>)
 {
     let Some((c, after)) = at.advance() else {
         return (Err(EscapeError::UnclosedUnicodeEscape), at);
@@ -147,7 +156,9 @@ fn braced_escape<K: Unescape>(at: Place<'_>) -> (Result<K::Unit, EscapeError>, P
 }
 
 /// The unit of a character's code in braces, by the rule `item-code`.
-fn unicode_escape<K: Unescape>(at: Place<'_>) -> (Result<K::Unit, EscapeError>, Place<'_>)
+fn unicode_escape<K: Unescape>(
+    at: ContentCursor<'_>,
+) -> (Result<K::Unit, EscapeError>, ContentCursor<'_>)
 {
     match at.advance() {
         None => (Err(EscapeError::NoBraceInUnicodeEscape), at),
@@ -157,7 +168,9 @@ fn unicode_escape<K: Unescape>(at: Place<'_>) -> (Result<K::Unit, EscapeError>, 
 }
 
 /// The unit of what stands after a backslash, by the rule `item-escape`.
-pub fn escape<K: Unescape>(at: Place<'_>) -> (Result<K::Unit, EscapeError>, Place<'_>)
+pub fn escape<K: Unescape>(
+    at: ContentCursor<'_>,
+) -> (Result<K::Unit, EscapeError>, ContentCursor<'_>)
 {
     match at.advance() {
         None => (Err(EscapeError::LoneSlash), at),

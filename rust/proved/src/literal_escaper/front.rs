@@ -2,10 +2,10 @@
 //! The front of a content with escapes.
 
 use crate::literal_escaper::classes::{Class, holds};
+use crate::literal_escaper::content_cursor::ContentCursor;
 use crate::literal_escaper::errors::EscapeError;
 use crate::literal_escaper::escape::escape;
 use crate::literal_escaper::kind::Unescape;
-use crate::literal_escaper::place::Place;
 use crate::shim::ops::Range;
 
 /// An item: the bytes where it stands, and a unit or what is wrong.
@@ -17,8 +17,8 @@ pub struct Front<'a, U: Copy> {
     pub item: Option<Item<U>>,
     /// Where the warning about a white character stands that comes after that item.
     pub warning: Option<Range<usize>>,
-    /// The place after the characters that were read for it.
-    pub after: Place<'a>,
+    /// The cursor after the characters that were read for it.
+    pub after: ContentCursor<'a>,
 }
 
 /// Whether the character is skipped after a line end with a backslash before it.
@@ -27,8 +27,8 @@ fn is_blank(c: char) -> bool
     holds(Class::Blank, c)
 }
 
-/// The place after the blanks, and whether a line end is among them.
-fn skip_blanks(at: Place<'_>) -> (bool, Place<'_>)
+/// The cursor after the blanks, and whether a line end is among them.
+fn skip_blanks(at: ContentCursor<'_>) -> (bool, ContentCursor<'_>)
 {
     let mut lines = false;
     let mut after = at;
@@ -42,25 +42,25 @@ fn skip_blanks(at: Place<'_>) -> (bool, Place<'_>)
     (lines, after)
 }
 
-/// From the place to after the white character that stands at the other.
-fn unskipped_white(start: Place<'_>, after: Place<'_>) -> Option<Range<usize>>
+/// From the cursor to after the white character that stands at the other.
+fn unskipped_white(start: ContentCursor<'_>, after: ContentCursor<'_>) -> Option<Range<usize>>
 {
     let (c, past) = after.advance()?;
     if holds(Class::White, c) {
-        Some(start.offset()..past.offset())
+        Some(start.byte_offset()..past.byte_offset())
     } else {
         None
     }
 }
 
-/// The warnings about a backslash and LF at the place, after which the line begins: no unit stands
+/// The warnings about a backslash and LF at the cursor, after which the line begins: no unit stands
 /// for them and the blanks that follow.
-fn skip_line<'a, U: Copy>(at: Place<'a>, line: Place<'a>) -> Front<'a, U>
+fn skip_line<'a, U: Copy>(at: ContentCursor<'a>, line: ContentCursor<'a>) -> Front<'a, U>
 {
     let (lines, after) = skip_blanks(line);
     let white = unskipped_white(at, after);
     if lines {
-        let skipped = at.offset()..after.offset();
+        let skipped = at.byte_offset()..after.byte_offset();
         Front {
             item: Some((skipped, Err(EscapeError::MultipleSkippedLinesWarning))),
             warning: white,
@@ -76,7 +76,10 @@ fn skip_line<'a, U: Copy>(at: Place<'a>, line: Place<'a>) -> Front<'a, U>
 }
 
 /// The unit of a character and what follows it.
-fn read_unit<K: Unescape>(c: char, after: Place<'_>) -> (Result<K::Unit, EscapeError>, Place<'_>)
+fn read_unit<K: Unescape>(
+    c: char,
+    after: ContentCursor<'_>,
+) -> (Result<K::Unit, EscapeError>, ContentCursor<'_>)
 {
     if !holds(Class::StringSpecial, c) {
         return (K::of_char(c), after);
@@ -88,8 +91,8 @@ fn read_unit<K: Unescape>(c: char, after: Place<'_>) -> (Result<K::Unit, EscapeE
     }
 }
 
-/// The place after an LF.
-fn line_feed(at: Place<'_>) -> Option<Place<'_>>
+/// The cursor after an LF.
+fn line_feed(at: ContentCursor<'_>) -> Option<ContentCursor<'_>>
 {
     match at.advance() {
         Some(('\n', line)) => Some(line),
@@ -97,8 +100,8 @@ fn line_feed(at: Place<'_>) -> Option<Place<'_>>
     }
 }
 
-/// What stands at the front of the content from the place on, unless nothing is left of it.
-pub fn read_front<K: Unescape>(at: Place<'_>) -> Option<Front<'_, K::Unit>>
+/// What stands at the front of the content from the cursor on, unless nothing is left of it.
+pub fn read_front<K: Unescape>(at: ContentCursor<'_>) -> Option<Front<'_, K::Unit>>
 {
     let (c, after) = at.advance()?;
     if c == '\\' {
@@ -108,25 +111,25 @@ pub fn read_front<K: Unescape>(at: Place<'_>) -> Option<Front<'_, K::Unit>>
     }
     let (unit, rest) = read_unit::<K>(c, after);
     Some(Front {
-        item: Some((at.offset()..rest.offset(), unit)),
+        item: Some((at.byte_offset()..rest.byte_offset(), unit)),
         warning: None,
         after: rest,
     })
 }
 
-/// The first front from the place on that gives an item, or else the end of the content.
-pub fn next_front<K: Unescape>(at: Place<'_>) -> Front<'_, K::Unit>
+/// The first front from the cursor on that gives an item, or else the end of the content.
+pub fn next_front<K: Unescape>(at: ContentCursor<'_>) -> Front<'_, K::Unit>
 {
-    let mut place = at;
-    while let Some(front) = read_front::<K>(place) {
+    let mut cursor = at;
+    while let Some(front) = read_front::<K>(cursor) {
         if front.item.is_some() {
             return front;
         }
-        place = front.after;
+        cursor = front.after;
     }
     Front {
         item: None,
         warning: None,
-        after: place,
+        after: cursor,
     }
 }

@@ -2,10 +2,10 @@
 //! Raw contents.
 
 use crate::literal_escaper::classes::{Class, holds};
+use crate::literal_escaper::content_cursor::ContentCursor;
 use crate::literal_escaper::errors::EscapeError;
 use crate::literal_escaper::front::Item;
 use crate::literal_escaper::kind::CheckRaw;
-use crate::literal_escaper::place::Place;
 
 /// The unit of a character of a raw content.
 fn unit<K: CheckRaw>(c: char) -> Result<K::Unit, EscapeError>
@@ -17,11 +17,11 @@ fn unit<K: CheckRaw>(c: char) -> Result<K::Unit, EscapeError>
     }
 }
 
-/// The next item of a raw content, and the place after it.
-pub fn next_raw_item<K: CheckRaw>(place: &mut Place<'_>) -> Option<Item<K::Unit>>
+/// The next item of a raw content, and the cursor after it.
+pub fn next_raw_item<K: CheckRaw>(cursor: &mut ContentCursor<'_>) -> Option<Item<K::Unit>>
 {
-    let (c, after) = place.advance()?;
-    let range = place.offset()..after.offset();
-    *place = after;
+    let (c, after) = cursor.advance()?;
+    let range = cursor.byte_offset()..after.byte_offset();
+    *cursor = after;
     Some((range, unit::<K>(c)))
 }

@@ -2,13 +2,16 @@
 //! Contents that are one unit.
 
 use crate::literal_escaper::classes::{Class, holds};
+use crate::literal_escaper::content_cursor::ContentCursor;
 use crate::literal_escaper::errors::EscapeError;
 use crate::literal_escaper::escape::escape;
 use crate::literal_escaper::kind::Unescape;
-use crate::literal_escaper::place::Place;
 
 /// The unit of a character and what follows it.
-fn first_unit<K: Unescape>(c: char, after: Place<'_>) -> (Result<K::Unit, EscapeError>, Place<'_>)
+fn first_unit<K: Unescape>(
+    c: char,
+    after: ContentCursor<'_>,
+) -> (Result<K::Unit, EscapeError>, ContentCursor<'_>)
 {
     if !holds(Class::CharSpecial, c) {
         return (K::of_char(c), after);
@@ -20,8 +23,10 @@ fn first_unit<K: Unescape>(c: char, after: Place<'_>) -> (Result<K::Unit, Escape
     }
 }
 
-/// The one unit of the content, by the rule `single-item`, and the place after what was read.
-pub fn unescape_single<K: Unescape>(at: Place<'_>) -> (Result<K::Unit, EscapeError>, Place<'_>)
+/// The one unit of the content, by the rule `single-item`, and the cursor after what was read.
+pub fn unescape_single<K: Unescape>(
+    at: ContentCursor<'_>,
+) -> (Result<K::Unit, EscapeError>, ContentCursor<'_>)
 {
     let Some((c, after)) = at.advance() else {
         return (Err(EscapeError::ZeroChars), at);

@@ -1,11 +1,11 @@
 // Made from crates/literal_escaper/src/unescape.rt by rust/erase: change that file, not this one.
 //! The items of contents with escapes.
 
+use crate::literal_escaper::content_cursor::ContentCursor;
 use crate::literal_escaper::cooked::{Cooked, next_item};
 use crate::literal_escaper::errors::EscapeError;
 use crate::literal_escaper::kind::{Bytes, CStr, Str};
 use crate::literal_escaper::mixed_unit::MixedUnit;
-use crate::literal_escaper::place::Place;
 use crate::literal_escaper::single::unescape_single;
 use crate::shim::ops::Range;
 
@@ -87,7 +87,7 @@ pub fn unescape_c_str(src: &str) -> UnescapeCStr<'_>
 /// `\n` gives LF, the empty text `ZeroChars`, `ab` `MoreThanOneChar`, and a bare `'` `EscapeOnlyChar`.
 pub fn unescape_char(src: &str) -> Result<char, EscapeError>
 {
-    let (unit, _) = unescape_single::<Str>(Place::new(src));
+    let (unit, _) = unescape_single::<Str>(ContentCursor::new(src));
     unit
 }
 
@@ -96,6 +96,6 @@ pub fn unescape_char(src: &str) -> Result<char, EscapeError>
 /// `\xFF` gives 0xFF, `ab` `MoreThanOneChar`, and `\u{41}` `UnicodeEscapeInByte`.
 pub fn unescape_byte(src: &str) -> Result<u8, EscapeError>
 {
-    let (unit, _) = unescape_single::<Bytes>(Place::new(src));
+    let (unit, _) = unescape_single::<Bytes>(ContentCursor::new(src));
     unit
 }

@@ -7,7 +7,7 @@ use crate::pm_stream::display::{closer, is_brace, opener};
 use crate::pm_stream::parse::{delimiter, fault_at};
 use crate::lexical::{Piece, PieceKind, past_white, piece_at};
 use crate::pm_span::parts::fits_new;
-use crate::pm_token::parts::Draft;
+use crate::pm_token::parts::TextBuilder;
 use crate::pm_token::{Delimiter, ParseError};
 use crate::shim::alloc::{AllocError, Global};
 
@@ -52,7 +52,7 @@ struct Printer {
     /// The groups that are open, the innermost last.
     groups: Vec<OpenGroup>,
     /// What is printed of what was read.
-    draft: Draft,
+    draft: TextBuilder,
     /// Whether a space goes before what is printed next.
     gap: bool,
 }
@@ -71,7 +71,7 @@ impl Printer {
     {
         Ok(Printer {
             groups: Vec::new(alloc),
-            draft: Draft::with_room(alloc, bytes)?,
+            draft: TextBuilder::with_room(alloc, bytes)?,
             gap: false,
         })
     }

@@ -6,7 +6,7 @@ use crate::shim::alloc::{AllocError, AllocFailed};
 use crate::shim::error::Error;
 use crate::shim::fmt;
 
-/// A text that couldn't be read: its fault, by the place where it stands.
+/// A text that couldn't be read: its fault, by its span.
 #[derive(Debug)]
 pub struct LexError {
     span: Span,
@@ -21,7 +21,7 @@ impl LexError {
     /// Where the fault stands, in characters. That of a token stream has an empty span, by the rule
     /// `fault`: before the character that can't be read, before the closer that doesn't close the
     /// innermost open group, or before the last opener that no closer matches. That of a literal has
-    /// the span 0..0, which tells no place.
+    /// the span 0..0, which is in no text.
     pub fn span(&self) -> Span
     {
         self.span
@@ -41,7 +41,7 @@ impl Error for LexError {}
 /// Why a text was not parsed.
 #[derive(Debug)]
 pub enum ParseError {
-    /// The text has a fault, and is a file of the map. The fault of a stream says its place there;
+    /// The text has a fault, and is a file of the map. The fault of a stream has its span there;
     /// that of a literal is 0..0.
     Lex(LexError),
     /// The text would end past the map's limit (`fits`). The map is as before.

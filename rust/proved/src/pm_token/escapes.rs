@@ -11,23 +11,23 @@ use crate::shim::alloc::{AllocError, Global};
 use crate::shim::ucd_category::GeneralCategory;
 
 /// A text while it is written, seen as its characters.
-pub struct Draft {
+pub struct TextBuilder {
     text: String,
 }
 
-impl Draft {
+impl TextBuilder {
     /// Nothing yet.
-    pub(crate) fn new(alloc: Global) -> Draft
+    pub(crate) fn new(alloc: Global) -> TextBuilder
     {
-        Draft {
+        TextBuilder {
             text: String::new(alloc),
         }
     }
 
     /// Nothing yet, with room for so many bytes. Fails where memory runs out.
-    pub fn with_room(alloc: Global, bytes: usize) -> Result<Draft, AllocError>
+    pub fn with_room(alloc: Global, bytes: usize) -> Result<TextBuilder, AllocError>
     {
-        Ok(Draft {
+        Ok(TextBuilder {
             text: String::with_capacity(alloc, bytes)?,
         })
     }

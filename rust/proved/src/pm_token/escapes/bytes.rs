@@ -1,10 +1,10 @@
 // Made from crates/pm_token/src/escapes/bytes.rt by rust/erase: change that file, not this one.
 //! How bytes are written between quotes.
 
-use crate::pm_token::escapes::Draft;
+use crate::pm_token::escapes::TextBuilder;
 use crate::shim::alloc::AllocError;
 
-impl Draft {
+impl TextBuilder {
     /// Writes the bytes between these quotes, each by the rules `escaped` and `written-byte`.
     pub(crate) fn push_bytes(&mut self, quote: u8, bytes: &[u8]) -> Result<(), AllocError>
     {

@@ -1,10 +1,10 @@
 // Made from crates/pm_token/src/escapes/c_strings.rt by rust/erase: change that file, not this one.
 //! How the bytes of a C string are written.
 
-use crate::pm_token::escapes::Draft;
+use crate::pm_token::escapes::TextBuilder;
 use crate::shim::alloc::AllocError;
 
-impl Draft {
+impl TextBuilder {
     /// Writes the bytes, none of which is zero, by the rule `c-string-parts`.
     pub(crate) fn push_c_string(&mut self, bytes: &[u8]) -> Result<(), AllocError>
     {

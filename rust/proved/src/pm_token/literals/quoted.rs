@@ -1,7 +1,7 @@
 // Made from crates/pm_token/src/literals/quoted.rt by rust/erase: change that file, not this one.
 //! The literals of texts, characters and bytes.
 
-use crate::pm_token::escapes::Draft;
+use crate::pm_token::escapes::TextBuilder;
 use crate::pm_token::literals::Literal;
 use crate::pm_span::Span;
 use crate::shim::alloc::{AllocError, Global};
@@ -19,12 +19,12 @@ impl Literal {
     pub(crate) fn string_at(alloc: Global, text: &str, span: Span) -> Result<Literal, AllocError>
     {
         // Most texts have nothing to escape. One that has grows.
-        let mut draft = Draft::with_room(alloc, text.len() + 2)?;
-        draft.push('"')?;
-        draft.push_content('"', text)?;
-        draft.push('"')?;
+        let mut builder = TextBuilder::with_room(alloc, text.len() + 2)?;
+        builder.push('"')?;
+        builder.push_content('"', text)?;
+        builder.push('"')?;
         Ok(Literal {
-            text: draft.finish(alloc)?,
+            text: builder.finish(alloc)?,
             span,
         })
     }
@@ -33,12 +33,12 @@ impl Literal {
     /// `'\''`, for `"` it is `'"'`. Fails where memory runs out.
     pub fn character(alloc: Global, c: char) -> Result<Literal, AllocError>
     {
-        let mut draft = Draft::new(alloc);
-        draft.push('\'')?;
-        draft.push_escaped('\'', c, "")?;
-        draft.push('\'')?;
+        let mut builder = TextBuilder::new(alloc);
+        builder.push('\'')?;
+        builder.push_escaped('\'', c, "")?;
+        builder.push('\'')?;
         Ok(Literal {
-            text: draft.finish(alloc)?,
+            text: builder.finish(alloc)?,
             span: Span::call_site(),
         })
     }
@@ -47,13 +47,13 @@ impl Literal {
     /// `b'\x1F'`. Fails where memory runs out.
     pub fn byte_character(alloc: Global, byte: u8) -> Result<Literal, AllocError>
     {
-        let mut draft = Draft::new(alloc);
-        draft.push('b')?;
-        draft.push('\'')?;
-        draft.push_byte(b'\'', byte, &[])?;
-        draft.push('\'')?;
+        let mut builder = TextBuilder::new(alloc);
+        builder.push('b')?;
+        builder.push('\'')?;
+        builder.push_byte(b'\'', byte, &[])?;
+        builder.push('\'')?;
         Ok(Literal {
-            text: draft.finish(alloc)?,
+            text: builder.finish(alloc)?,
             span: Span::call_site(),
         })
     }
@@ -62,13 +62,13 @@ impl Literal {
     /// `"`, 0 and `7` it is `b"\"\x007"`. Fails where memory runs out.
     pub fn byte_string(alloc: Global, bytes: &[u8]) -> Result<Literal, AllocError>
     {
-        let mut draft = Draft::new(alloc);
-        draft.push('b')?;
-        draft.push('"')?;
-        draft.push_bytes(b'"', bytes)?;
-        draft.push('"')?;
+        let mut builder = TextBuilder::new(alloc);
+        builder.push('b')?;
+        builder.push('"')?;
+        builder.push_bytes(b'"', bytes)?;
+        builder.push('"')?;
         Ok(Literal {
-            text: draft.finish(alloc)?,
+            text: builder.finish(alloc)?,
             span: Span::call_site(),
         })
     }
@@ -78,13 +78,13 @@ impl Literal {
     /// the bytes of U+0333 it is `c"\u{7f}\xFF\u{333}"`. Fails where memory runs out.
     pub fn c_string(alloc: Global, bytes: &[u8]) -> Result<Literal, AllocError>
     {
-        let mut draft = Draft::new(alloc);
-        draft.push('c')?;
-        draft.push('"')?;
-        draft.push_c_string(bytes)?;
-        draft.push('"')?;
+        let mut builder = TextBuilder::new(alloc);
+        builder.push('c')?;
+        builder.push('"')?;
+        builder.push_c_string(bytes)?;
+        builder.push('"')?;
         Ok(Literal {
-            text: draft.finish(alloc)?,
+            text: builder.finish(alloc)?,
             span: Span::call_site(),
         })
     }

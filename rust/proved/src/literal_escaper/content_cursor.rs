@@ -1,5 +1,5 @@
-// Made from crates/literal_escaper/src/place.rt by rust/erase: change that file, not this one.
-//! Places in a content.
+// Made from crates/literal_escaper/src/content_cursor.rt by rust/erase: change that file, not this one.
+//! A cursor over the contents of a literal.
 
 /// The first character of a text, and the text after it.
 fn split_first(text: &str) -> Option<(char, &str)>
@@ -9,37 +9,37 @@ fn split_first(text: &str) -> Option<(char, &str)>
     Some((first, characters.as_str()))
 }
 
-/// A place in a content.
+/// Where reading stands in the contents of a literal.
 #[derive(Clone, Copy)]
-pub struct Place<'a> {
-    /// What follows the place.
+pub struct ContentCursor<'a> {
+    /// What follows the cursor.
     pub rest: &'a str,
     /// How many bytes the whole content has.
     pub end: usize,
     // The rest is a text, and an end of the content.
 }
 
-impl<'a> Place<'a> {
+impl<'a> ContentCursor<'a> {
     /// The front of a content.
     pub fn new(content: &'a str) -> Self
     {
-        Place {
+        ContentCursor {
             rest: content,
             end: content.len(),
         }
     }
 
-    /// How many bytes of the content stand before the place.
-    pub fn offset(self) -> usize
+    /// How many bytes of the content stand before the cursor.
+    pub fn byte_offset(self) -> usize
     {
         self.end - self.rest.len()
     }
 
-    /// The character after the place, and the place after that character.
+    /// The character after the cursor, and the cursor after that character.
     pub fn advance(self) -> Option<(char, Self)>
     {
         let (first, rest) = split_first(self.rest)?;
-        let after = Place {
+        let after = ContentCursor {
             rest,
             end: self.end,
         };
