@@ -3,7 +3,7 @@ pub use Rattle.pm_stream.proofs.InOrderLemmas
 pub use Rattle.pm_stream.proofs.SpanLemmas
 pub use Rattle.pm_stream.proofs.LineColumnLemmas
 pub use Rattle.lexical.proofs.TextLemmas
-pub use Rattle.pm_token.proofs.WrittenLemmas
+pub use Rattle.pm_token.proofs.SpellingLemmas
 pub mod Places
 pub mod RunLemmas
 pub mod GiveLemmas
