@@ -72,8 +72,8 @@ front_items None warning = []
 front_items (Some item) warning = item ∷ white_items warning
 
 -- the answer is what the front of the text at the cursor gives
-abbrev pub GivesFront : {U : Type 0} → Items.Front U → ContentCursor → Option (Item U) → Option (Range ℕ) → ContentCursor
-    → Type 0
+abbrev pub GivesFront : {U : Type 0} → Items.Front U → ContentCursor → Option (Item U) → Option (Range ℕ)
+    → ContentCursor → Type 0
 GivesFront front at item warning after =
     (front_items item warning ≡ front.items) × (text_at after ≡ front.rest) × (after.end ≡ at.end)
 

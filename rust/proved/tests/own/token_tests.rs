@@ -14,9 +14,9 @@ mod integers;
 #[cfg(test)]
 mod lengths;
 #[cfg(test)]
-mod marks;
+mod line_columns;
 #[cfg(test)]
-mod places;
+mod marks;
 #[cfg(test)]
 mod quoted;
 #[cfg(test)]

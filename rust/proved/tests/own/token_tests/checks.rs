@@ -75,17 +75,17 @@ pub fn are_displayed<T: Display>(
 }
 
 /// Asserts that each value of the table is equal to itself, and to no other of them.
-pub fn are_told_apart<T: PartialEq + Debug>(rt: &impl Abort, values: &[T]) {
+pub fn are_distinct<T: PartialEq + Debug>(rt: &impl Abort, values: &[T]) {
     for (at, value) in values.iter().enumerate() {
-        is_told_apart(rt, values, at, value);
+        is_distinct(rt, values, at, value);
     }
 }
 
-/// Asserts that the value is equal to the one at this place of the table, and to no other.
-fn is_told_apart<T: PartialEq + Debug>(rt: &impl Abort, values: &[T], at: usize, value: &T) {
-    for (place, other) in values.iter().enumerate() {
+/// Asserts that the value is equal to the one at this index of the table, and to no other.
+fn is_distinct<T: PartialEq + Debug>(rt: &impl Abort, values: &[T], at: usize, value: &T) {
+    for (index, other) in values.iter().enumerate() {
         let answers = (value == other, value != other);
-        let want = (at == place, at != place);
+        let want = (at == index, at != index);
         assert_eq!(answers, want, "of {value:?} and {other:?}");
     }
 }

@@ -3,7 +3,7 @@
 use crate::shim::prelude::HostRuntime;
 
 // Values are equal exactly where they are of one kind and have equal parts.
-use crate::token_tests::checks::are_told_apart;
+use crate::token_tests::checks::are_distinct;
 use proved::literal_escaper::EscapeError;
 use proved::pm_token::{ConversionErrorKind, Delimiter, Spacing};
 use crate::shim::alloc::AllocError;
@@ -17,13 +17,13 @@ fn delimiters_are_equal_to_themselves_alone() {
         Delimiter::Bracket,
         Delimiter::None,
     ];
-    are_told_apart(&rt, &delimiters);
+    are_distinct(&rt, &delimiters);
 }
 
 #[test]
 fn spacings_are_equal_to_themselves_alone() {
     let rt = HostRuntime;
-    are_told_apart(&rt, &[Spacing::Alone, Spacing::Joint]);
+    are_distinct(&rt, &[Spacing::Alone, Spacing::Joint]);
 }
 
 #[test]
@@ -34,5 +34,5 @@ fn refusals_of_values_are_equal_by_their_faults() {
         ConversionErrorKind::FailedToUnescape(EscapeError::InvalidEscape),
         ConversionErrorKind::InvalidLiteralKind,
         ];
-    are_told_apart(&rt, &refusals);
+    are_distinct(&rt, &refusals);
 }

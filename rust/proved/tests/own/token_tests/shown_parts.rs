@@ -2,7 +2,7 @@
 
 use crate::shim::prelude::{HostRuntime, String, format};
 
-// What the parts of tokens show of themselves, and tokens without a place.
+// What the parts of tokens show of themselves, and tokens without a span.
 use crate::token_tests::checks::{are_shown, check_same, shows};
 use proved::pm_span::parts::span_of;
 use proved::pm_span::{LineColumn, SourceMap, Span};
@@ -100,8 +100,8 @@ fn a_literal_shows_its_text_as_it_is_written() -> Result<(), Fail> {
 #[test]
 fn a_place_shows_its_line_and_column() -> Result<(), AllocError> {
     let rt = HostRuntime;
-    let place = LineColumn { line: 3, column: 0 };
-    shows(&rt, rt.alloc(), &place, "LineColumn { line: 3, column: 0 }")
+    let value = LineColumn { line: 3, column: 0 };
+    shows(&rt, rt.alloc(), &value, "LineColumn { line: 3, column: 0 }")
 }
 
 /// What a map of these texts, with the limit 100, shows of itself.

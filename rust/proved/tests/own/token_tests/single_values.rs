@@ -10,7 +10,7 @@ use crate::shim::process::Abort;
 use crate::shim::test::Fail;
 
 /// The value as a character and as a byte, where the literal of the text has one; where it has none, it is asserted
-/// that the literal is told to be of another kind.
+/// that the literal is said to be of another kind.
 fn single_values(
     rt: &impl Abort,
     alloc: Global,

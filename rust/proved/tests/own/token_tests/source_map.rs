@@ -35,8 +35,8 @@ fn second_is(
 ) -> Result<(), AllocError> {
     let mut map = SourceMap::with_limit(alloc, limit);
     is_added(rt, &mut map, "abcd", 1)?;
-    let place = (limit, add(&mut map, "")?);
-    check_same(rt, "limit and place", &place, &(limit, second));
+    let added = (limit, add(&mut map, "")?);
+    check_same(rt, "limit and start", &added, &(limit, second));
     Ok(())
 }
 
@@ -52,9 +52,9 @@ fn start(map: &SourceMap, span: Span) -> Option<LineColumn> {
 /// Asserts that the map holds the empty span at each `lo`, which starts at the line and the column.
 fn start_at(rt: &impl Abort, map: &SourceMap, rows: &[(u32, usize, usize)]) {
     for &(lo, line, column) in rows {
-        let place = (lo, start(map, span_of(lo, lo)));
+        let answers = (lo, start(map, span_of(lo, lo)));
         let want = (lo, Some(LineColumn { line, column }));
-        check_same(rt, "an empty span", &place, &want);
+        check_same(rt, "an empty span", &answers, &want);
     }
 }
 

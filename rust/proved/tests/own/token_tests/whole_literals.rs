@@ -10,7 +10,7 @@ use crate::shim::alloc::{AllocError, Global};
 use crate::shim::process::Abort;
 
 // Where the literal of the text stands in a new map, if it is one with this text.
-fn place(alloc: Global, text: &str) -> Option<(u32, u32)> {
+fn literal_bounds(alloc: Global, text: &str) -> Option<(u32, u32)> {
     let mut map = SourceMap::new(alloc);
     let parsed = Literal::from_str(text, &mut map);
     match &parsed {
@@ -20,7 +20,7 @@ fn place(alloc: Global, text: &str) -> Option<(u32, u32)> {
 }
 
 // Where the fault of the text stands.
-fn fault_place(alloc: Global, text: &str) -> Option<(u32, u32)> {
+fn fault_bounds(alloc: Global, text: &str) -> Option<(u32, u32)> {
     let mut map = SourceMap::new(alloc);
     let parsed = Literal::from_str(text, &mut map);
     match &parsed {
@@ -32,7 +32,7 @@ fn fault_place(alloc: Global, text: &str) -> Option<(u32, u32)> {
 /// Asserts that each text is a whole literal, which stands in a new map from 1 up to `end`.
 fn are_whole(rt: &impl Abort, alloc: Global, rows: &[(&str, u32)]) {
     for &(text, end) in rows {
-        let answers = (place(alloc, text), Literal::is_whole(text));
+        let answers = (literal_bounds(alloc, text), Literal::is_whole(text));
         check_same(rt, text, &answers, &(Some((1, end)), true));
     }
 }
@@ -40,7 +40,7 @@ fn are_whole(rt: &impl Abort, alloc: Global, rows: &[(&str, u32)]) {
 /// Asserts that no text is a whole literal, and that the fault of each stands nowhere.
 fn are_refused(rt: &impl Abort, alloc: Global, texts: &[&str]) {
     for text in texts {
-        let answers = (fault_place(alloc, text), Literal::is_whole(text));
+        let answers = (fault_bounds(alloc, text), Literal::is_whole(text));
         check_same(rt, text, &answers, &(Some((0, 0)), false));
     }
 }

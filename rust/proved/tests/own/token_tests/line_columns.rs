@@ -1,4 +1,4 @@
-// Made from crates/token_tests/src/places.rt by rust/erase: change that file, not this one.
+// Made from crates/token_tests/src/line_columns.rt by rust/erase: change that file, not this one.
 
 use crate::shim::prelude::HostRuntime;
 
@@ -10,36 +10,36 @@ use crate::shim::collections::{BTreeMap, HashMap};
 use crate::shim::process::Abort;
 use crate::shim::test::Fail;
 
-fn place((line, column): (usize, usize)) -> LineColumn {
+fn line_column((line, column): (usize, usize)) -> LineColumn {
     LineColumn { line, column }
 }
 
-/// Asserts how each place is compared with the place beside it, by each operator.
+/// Asserts how each line with a column is compared with the one beside it, by each operator.
 fn are_compared(rt: &impl Abort, rows: &[((usize, usize), (usize, usize), Ordering)]) {
     for &(first, second, order) in rows {
-        let (a, b) = (place(first), place(second));
+        let (a, b) = (line_column(first), line_column(second));
         let want = (first, second, order, Some(order), order == Ordering::Equal);
         let answers = (first, second, a.cmp(&b), a.partial_cmp(&b), a == b);
-        check_same(rt, "two places", &answers, &want);
+        check_same(rt, "two of them", &answers, &want);
     }
 }
 
-/// How many places differ, for a map that hashes them and one that orders them.
+/// How many of them differ, for a map that hashes them and one that orders them.
 fn count(
     alloc: Global,
-    places: &[(usize, usize)],
+    numbers: &[(usize, usize)],
 ) -> Result<(usize, usize), AllocFailed<(LineColumn, ())>> {
     let mut hashed = HashMap::new(alloc);
     let mut ordered = BTreeMap::new(alloc);
-    for &at in places {
-        hashed.insert(place(at), ())?;
-        ordered.insert(place(at), ())?;
+    for &at in numbers {
+        hashed.insert(line_column(at), ())?;
+        ordered.insert(line_column(at), ())?;
     }
     Ok((hashed.len(), ordered.len()))
 }
 
 #[test]
-fn places_are_ordered_by_line_and_then_by_column() {
+fn lines_with_columns_are_ordered_by_line_and_then_by_column() {
     let rt = HostRuntime;
     let rows = &[
         ((1, 5), (2, 0), Ordering::Less),
@@ -53,7 +53,7 @@ fn places_are_ordered_by_line_and_then_by_column() {
 }
 
 #[test]
-fn a_map_keeps_places_apart_by_line_and_column() -> Result<(), Fail> {
+fn a_map_keys_them_by_line_and_column() -> Result<(), Fail> {
     let rt = HostRuntime;
     let counts = count(
         rt.alloc(),
@@ -64,10 +64,10 @@ fn a_map_keeps_places_apart_by_line_and_column() -> Result<(), Fail> {
 }
 
 #[test]
-fn a_place_shows_its_line_and_its_column() -> Result<(), Fail> {
+fn they_show_their_line_and_their_column() -> Result<(), Fail> {
     let rt = HostRuntime;
     let want = "LineColumn { line: 2, column: 3 }";
-    shows(&rt, rt.alloc(), &place((2, 3)), want)?;
+    shows(&rt, rt.alloc(), &line_column((2, 3)), want)?;
     Ok(())
 }
 
