@@ -1,19 +1,7 @@
 //! The recorded answers of the Rust crate proc-macro2 (`crates/conformance/stdin`), compared by the erased program.
 
-/// The program `conformance`, but for its `main`.
 #[allow(clippy::complexity, clippy::style, unreachable_code, unused_imports)]
-mod conformance {
-    mod answer;
-    mod columns;
-    mod contents;
-    mod leaves;
-    pub mod lines;
-    mod lists;
-    mod literals;
-    mod spans;
-    mod streams;
-    mod values;
-}
+mod conformance;
 
 use proved::shim::alloc::Global;
 use std::fs;
@@ -25,7 +13,7 @@ const SAID: &str = "../../crates/conformance/stdout";
 /// What the program writes for these lines.
 fn written(lines: &[u8]) -> String {
     let mut out = Vec::new();
-    let tally = conformance::lines::compare_lines(Global, lines, &mut out).expect("lines of a text are read");
+    let tally = conformance::compare_lines(Global, lines, &mut out).expect("lines of a text are read");
     let reports = String::from_utf8(out).expect("a report is a text");
     format!("{reports}{} answers, {} differences\n", tally.answers, tally.differences)
 }
