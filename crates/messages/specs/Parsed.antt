@@ -3,7 +3,7 @@ use Rattle.std.specs.Prelude.{ℕ, ◌≡◌, ◌-◌, List, length, Option}
 use Rattle.std.specs.Io.KnownBytes.{Keeps}
 use Rattle.proc_macro2.specs.Files.{Fits, new_map, next_lo}
 use Rattle.proc_macro2.specs.Parsing.{FaultAt}
-use Rattle.proc_macro2.specs.Place.{line_column}
+use Rattle.proc_macro2.specs.CharOffset.{line_column}
 use Rattle.proc_macro2.specs.declared.LineColumn.{LineColumn}
 use Rattle.messages.specs.declared.errors.Failure.{Failure}
 use Rattle.messages.specs.declared.errors.Failure.TheVariants.{Usage, Fault, NotUtf8, MapFull, Memory, Read, Write}

@@ -4,14 +4,14 @@ use lib.Utf8.{encode}
 use Rattle.std.specs.Prelude.{codes}
 use Rattle.pm_span.specs.FileInfo.{after_line_feeds}
 use Rattle.pm_span.specs.Files.{Files, next_lo, Fits, with_file}
-use Rattle.pm_span.specs.Place.{line_column, byte_offset}
+use Rattle.pm_span.specs.CharOffset.{line_column, byte_offset}
 
 abbrev two_lines : List ℕ
 two_lines = codes "aaa\nbbb"
 
 -- the start of a text
-first_place : line_column two_lines 0 ≡ record { line = 1; column = 0 }
-first_place = refl
+first_line : line_column two_lines 0 ≡ record { line = 1; column = 0 }
+first_line = refl
 
 -- before the line feed
 line_end : line_column two_lines 3 ≡ record { line = 1; column = 3 }
@@ -22,8 +22,8 @@ line_start : line_column two_lines 4 ≡ record { line = 2; column = 0 }
 line_start = refl
 
 -- the end of the text
-last_place : line_column two_lines 7 ≡ record { line = 2; column = 3 }
-last_place = refl
+last_line : line_column two_lines 7 ≡ record { line = 2; column = 3 }
+last_line = refl
 
 -- CR ends no line
 return_alone : line_column (codes "a\rb") 3 ≡ record { line = 1; column = 3 }

@@ -1,9 +1,9 @@
 pub mod AsciiLemmas
 pub mod ByteOffsetLemmas
 mod Examples
-pub mod EndLemmas
+pub mod BoundLemmas
 pub mod FileLemmas
 pub mod LineLemmas
-pub mod PlacedLemmas
+pub mod ConsecutiveLemmas
 pub mod SeamLemmas
 pub mod SplitLemmas

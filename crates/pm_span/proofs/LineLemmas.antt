@@ -1,4 +1,4 @@
--- Lemmas on the places after line feeds: they give the line and the column of a place.
+-- Lemmas on the offsets after line feeds: they give the line and the column of an offset.
 use Rattle.std.proofs.Common.{◌≡◌, ℕ, zero, suc, ◌+◌, ◌-◌, ◌<◌, ◌≤◌, Bool, true, false, cond, not, List, [], ◌∷◌, ◌++◌}
 use Rattle.std.proofs.Common.{length, get_or, take, drop, reverse, refl, sym, ap, ap₂, leb, ◌∙◌, arith, length-append}
 use Rattle.std.proofs.Common.{length-drop, append-nil, inl, inr}
@@ -11,7 +11,7 @@ use Rattle.std.proofs.lemmas.List.{get_or_push, length_push, take-append-drop}
 use Rattle.std.proofs.lemmas.List.Elements.{All-nil, All-cons, All-weaker}
 use Rattle.std.proofs.lemmas.List.Sums.{sum_by-cons, take_while-cons}
 use Rattle.pm_span.specs.FileInfo.{after_line_feeds_from, after_line_feeds}
-use Rattle.pm_span.specs.Place.{is_line_feed, line, column, line_column}
+use Rattle.pm_span.specs.CharOffset.{is_line_feed, line, column, line_column}
 use Rattle.pm_span.specs.declared.location.LineColumn.{LineColumn}
 
 pub after_line_feeds_from-append :
@@ -39,7 +39,7 @@ after_line_feeds-push xs c =
     after_line_feeds_from-append 0 xs (c ∷ [])
     ∙ ap (λ n. after_line_feeds xs ++ cond (is_line_feed c) ((n + 1) ∷ []) []) (omega arith)
 
--- past the place k, and at most n characters from it
+-- past the offset k, and at most n characters from it
 abbrev IsWithin : ℕ → ℕ → ℕ → Type 0
 IsWithin k n start = (k < start) × (start ≤ k + n)
 
@@ -79,7 +79,7 @@ split text k h =
     ∙ ap (λ n. after_line_feeds (take k text) ++ after_line_feeds_from n (drop k text))
     (omega (arith, length-take-le k text h)))
 
--- the line feeds before a place are as many as the line starts at or before it
+-- the line feeds before an offset are as many as the line starts at or before it
 pub line_feeds_before :
     (text : List ℕ) (k n : ℕ) → k ≤ length text → n ≤ length (after_line_feeds text)
     → ((j : ℕ) → j < n → get_or (after_line_feeds text) j 0 ≤ k)
@@ -141,7 +141,7 @@ length-last_line-push front c h =
       | false ↦ rw append-nil (omega arith)
     ])
 
--- the column is counted from the last line start at or before the place
+-- the column is counted from the last line start at or before the offset
 pub column_is : (text : List ℕ) (k : ℕ) → k ≤ length text
     → column text k + last_start (after_line_feeds (take k text)) ≡ k
 column_is text zero h = refl
@@ -154,7 +154,7 @@ column_is text (suc k) h =
     ap (λ xs. length (last_line xs) + last_start (after_line_feeds xs)) e
     ∙ (step ∙ omega (arith, length-take-le k text (omega arith)))
 
--- the column of the next place, by the character before it
+-- the column of the next offset, by the character before it
 column-next :
     (text : List ℕ) (k : ℕ) → k < length text
     → column text (k + 1) ≡ cond (not (is_line_feed (get_or text k 0))) (column text k + 1) 0
@@ -176,7 +176,7 @@ pub column-inside :
 column-inside text k less inside =
     omega (arith, column-next text k less, ap (λ b. cond b (column text k + 1) 0) inside)
 
--- the line after the one of a place begins after the place
+-- the line after the one of an offset begins after the offset
 pub next_start :
     (text : List ℕ) (k n next : ℕ) → k ≤ length text → line text k ≡ n + 1 → n < length (after_line_feeds text)
     → next ≡ get_or (after_line_feeds text) n 0 → (k < next) × (next ≤ length text)
@@ -212,10 +212,10 @@ after_line_feeds_from-rising k (c ∷ text) =
       | false ↦ more
     ]
 
-abbrev place_of : ℕ → ℕ → LineColumn
-place_of l c = record { line = l; column = c }
+abbrev pair_of : ℕ → ℕ → LineColumn
+pair_of l c = record { line = l; column = c }
 
--- where n line starts stand at or before the place, the line and the column are counted from the last of them
+-- where n line starts stand at or before the offset, the line and the column are counted from the last of them
 pub line_column_found :
     (text : List ℕ) (k n start : ℕ) → k ≤ length text → n ≤ length (after_line_feeds text)
     → IsPartitionPoint (λ y. leb y k ≡ true) (λ y. leb y k ≡ false) (after_line_feeds text) n
@@ -231,7 +231,7 @@ line_column_found text k n start within bound point is =
     let last : start ≡ last_start front = is
     ∙ (ap (λ starts. get_or (0 ∷ starts) n 0) (split text k within) ∙ last_of front rest n size) in
     let col = column_is text k within in
-    (omega arith, ap₂ place_of (omega arith) (omega arith))
+    (omega arith, ap₂ pair_of (omega arith) (omega arith))
   where
     last_of : (front rest : List ℕ) (n : ℕ) → length front ≡ n → get_or (0 ∷ (front ++ rest)) n 0 ≡ last_start front
     last_of [] rest zero e = refl

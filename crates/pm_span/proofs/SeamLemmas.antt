@@ -1,4 +1,4 @@
--- A text may be cut at each of its places, and a count of characters there is a count of bytes.
+-- A text may be cut at each of its offsets, and a count of characters there is a count of bytes.
 use Rattle.std.proofs.Common.{◌≡◌, ℕ, ◌+◌, ◌-◌, ◌<◌, ◌≤◌, true, List, [], ◌∷◌, ◌++◌, length, take, drop, Option, Some}
 use Rattle.std.proofs.Common.{None, refl, sym, ap, subst, ◌∙◌, arith, append_assoc, length-append}
 use Rattle.std.specs.Str.{chars, IsUtf8, IsCharBoundary, encode_utf8_all, all_scalars}
@@ -11,7 +11,7 @@ use Rattle.std.proofs.lemmas.List.{take-append-drop, take_at, drop_at, drop-drop
 use Rattle.std.proofs.lemmas.Str.{chars-nil, chars-encodes, chars_past_char, encodes-append, encodes-chars}
 use Rattle.std.proofs.lemmas.Str.{encodes_same, scalars-chars, chars-append, IsCharBoundary-at_seam}
 use Rattle.std.proofs.lemmas.Str.{IsCharBoundary-from_take, IsUtf8-drop, IsUtf8-past_char}
-use Rattle.pm_span.specs.Place.{byte_offset, between}
+use Rattle.pm_span.specs.CharOffset.{byte_offset, between}
 
 split_scalars : (p r : List ℕ) → all_scalars (p ++ r) ≡ true → (all_scalars p ≡ true) × (all_scalars r ≡ true)
 split_scalars [] r h = (refl, h)
@@ -20,7 +20,7 @@ split_scalars (c ∷ p) r h =
     let more = split_scalars p r parts.1 in
     (and_from _ _ parts.0 more.0, more.1)
 
--- the characters on both sides of a place
+-- the characters on both sides of an offset
 scalars_at :
     (bytes : List ℕ) (k : ℕ) → IsUtf8 bytes
     → (all_scalars (take k (chars bytes)) ≡ true) × (all_scalars (drop k (chars bytes)) ≡ true)
@@ -28,7 +28,7 @@ scalars_at bytes k utf8 =
     split_scalars (take k (chars bytes)) (drop k (chars bytes))
     (ap all_scalars (take-append-drop k (chars bytes)) ∙ scalars-chars bytes utf8)
 
--- the bytes on both sides of a place
+-- the bytes on both sides of an offset
 pub bytes_at :
     (bytes : List ℕ) (k : ℕ) → IsUtf8 bytes
     → bytes ≡ encode_utf8_all (take k (chars bytes)) ++ encode_utf8_all (drop k (chars bytes))
@@ -57,7 +57,7 @@ rest_at bytes k utf8 =
     ∙ drop_at (encode_utf8_all (take k (chars bytes))) (encode_utf8_all (drop k (chars bytes))) _ refl)
     ∙ chars-encodes (drop k (chars bytes)) (scalars_at bytes k utf8).1
 
--- bytes are counted from an earlier place on
+-- bytes are counted from an earlier offset on
 pub byte_offset-add :
     (text : List ℕ) (j m : ℕ) → byte_offset text (j + m) ≡ byte_offset text j + byte_offset (drop j text) m
 byte_offset-add text j m =
@@ -70,7 +70,7 @@ byte_offset-rising text j k le =
     let e : byte_offset text k ≡ byte_offset text (j + (k - j)) = ap (byte_offset text) (omega arith) in
     omega (arith, byte_offset-add text j (k - j))
 
--- the text between two places, cut out of the bytes
+-- the text between two offsets, cut out of the bytes
 pub between_at :
     (bytes : List ℕ) (j k : ℕ) → IsUtf8 bytes → j ≤ k
     → chars (take (byte_offset (chars bytes) k - byte_offset (chars bytes) j)
@@ -86,7 +86,7 @@ between_at bytes j k utf8 le =
     ∙ (front_at (drop from bytes) (k - j) (IsUtf8-drop bytes from utf8 (boundary_at bytes j utf8))
     ∙ ap (take (k - j)) rest)
 
--- what is left from a place on, in bytes
+-- what is left from an offset on, in bytes
 pub rest_bytes :
     (bytes rest : List ℕ) (k : ℕ) → IsUtf8 bytes → IsUtf8 rest → chars rest ≡ drop k (chars bytes)
     → byte_offset (chars bytes) k + length rest ≡ length bytes
@@ -96,7 +96,7 @@ rest_bytes bytes rest k utf8 left is =
     let same = ap length (sym (encodes-chars rest left) ∙ ap encode_utf8_all is) in
     omega arith
 
--- what is left from a place on, reached from the start of its line
+-- what is left from an offset on, reached from the start of its line
 pub rest_from_line :
     (bytes line rest : List ℕ) (k start from : ℕ) → IsUtf8 bytes → IsUtf8 rest → start ≤ k
     → from ≡ byte_offset (chars bytes) start → line ≡ drop from bytes → chars rest ≡ drop (k - start) (chars line)

@@ -1,8 +1,8 @@
-pub mod Place
+pub mod CharOffset
 pub mod Line
 pub mod Extent
 pub mod FileInfo
 pub mod Files
-pub mod Placed
+pub mod Consecutive
 pub mod Lookup
 pub mod Order

@@ -1,7 +1,7 @@
 -- Lines of a text.
 use Rattle.std.specs.Prelude.{ℕ, Bool, not, List}
 use Rattle.std.specs.List.{list_all}
-use Rattle.pm_span.specs.Place.{is_line_feed}
+use Rattle.pm_span.specs.CharOffset.{is_line_feed}
 
 -- no character is a line feed
 abbrev pub is_one_line : List ℕ → Bool

@@ -3,34 +3,34 @@ use Rattle.std.specs.Prelude.{ℕ, ◌+◌, ◌-◌, ◌≤◌, ◌≡◌, List,
 use Rattle.std.specs.declared.ops.Range.{Range}
 use Rattle.pm_span.specs.Extent.{Extent}
 use Rattle.pm_span.specs.Files.{Files, IsFile, Holds, file_name}
-use Rattle.pm_span.specs.Place.{line_column, byte_offset, between}
+use Rattle.pm_span.specs.CharOffset.{line_column, byte_offset, between}
 use Rattle.pm_span.specs.declared.location.LineColumn.{LineColumn}
 
--- `line`, `column`: those of the place in its file where the span begins
+-- `line`, `column`: those of the offset in its file where the span begins
 abbrev pub StartsAt : Files → Extent → LineColumn → Type 0
-StartsAt map span place =
+StartsAt map span start =
     (text : List ℕ) (lo : ℕ) → IsFile map text lo → lo ≤ span.lo → span.hi ≤ lo + length text
-    → place ≡ line_column text (span.lo - lo)
+    → start ≡ line_column text (span.lo - lo)
 
--- `line`, `column`: those of the place in its file where the span ends
+-- `line`, `column`: those of the offset in its file where the span ends
 abbrev pub EndsAt : Files → Extent → LineColumn → Type 0
-EndsAt map span place =
+EndsAt map span end =
     (text : List ℕ) (lo : ℕ) → IsFile map text lo → lo ≤ span.lo → span.hi ≤ lo + length text
-    → place ≡ line_column text (span.hi - lo)
+    → end ≡ line_column text (span.hi - lo)
 
--- `byte-offset`: those before the place in its file where the position is
+-- `byte-offset`: those before the offset in its file where the position is
 abbrev pub HasBytesBefore : Files → ℕ → ℕ → Type 0
 HasBytesBefore map position bytes =
     (text : List ℕ) (lo : ℕ) → IsFile map text lo → lo ≤ position → position ≤ lo + length text
     → bytes ≡ byte_offset text (position - lo)
 
--- `byte-offset`: those of the two places in its file where the span begins and ends
+-- `byte-offset`: those of the two offsets in its file where the span begins and ends
 abbrev pub HasBytes : Files → Extent → Range ℕ → Type 0
 HasBytes map span bytes =
     (text : List ℕ) (lo : ℕ) → IsFile map text lo → lo ≤ span.lo → span.hi ≤ lo + length text
     → bytes ≡ record { start = byte_offset text (span.lo - lo); end = byte_offset text (span.hi - lo) }
 
--- `source-text`: what stands in its file between the two places where the span begins and ends
+-- `source-text`: what stands in its file between the two offsets where the span begins and ends
 abbrev pub HasText : Files → Extent → List ℕ → Type 0
 HasText map span source =
     (text : List ℕ) (lo : ℕ) → IsFile map text lo → lo ≤ span.lo → span.hi ≤ lo + length text
@@ -42,7 +42,7 @@ HasName map span name =
     (text : List ℕ) (lo : ℕ) (file : IsFile map text lo) → lo ≤ span.lo → span.hi ≤ lo + length text
     → name ≡ file_name (length file.before)
 
--- `source-text`: some file of the map has the span, with this text between the two places
+-- `source-text`: some file of the map has the span, with this text between the two offsets
 pub record IsTextOf (map : Files) (span : Extent) (source : List ℕ) : Type 0 where
   pub held : Holds map span
   pub value : source ≡ between held.text (span.lo - held.lo) (span.hi - held.lo)

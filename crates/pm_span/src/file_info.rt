@@ -1,7 +1,8 @@
 ghost use Rattle.std.specs.Prelude.{◌≡◌, ◌+◌, ◌^◌, ◌<◌, ◌≤◌, List, ℕ, length, IfOk, OnOk};
 ghost use Rattle.std.specs.Str.{chars};
-ghost use Rattle.pm_span.specs.FileInfo.{PlacedText, IsLineAt, IsByteOffset, IsWideLine, AreEnds, after_line_feeds};
-ghost use Rattle.pm_span.specs.Place.{line_column, byte_offset, between};
+ghost use Rattle.pm_span.specs.FileInfo.{MappedText, IsLineAt, IsByteOffset, after_line_feeds};
+ghost use Rattle.pm_span.specs.FileInfo.{IsNonAsciiLine, AreNonAsciiBounds};
+ghost use Rattle.pm_span.specs.CharOffset.{line_column, byte_offset, between};
 
 use crate::location::LineColumn;
 use crate::text::{char_count, skip_chars, skip_chars_back, split_line};
@@ -9,7 +10,7 @@ use std::alloc::{AllocError, Global};
 use std::collections::BTreeMap;
 use std::marker::Model;
 
-/// So many characters may be walked again each time. A place that was found by more is kept.
+/// So many characters may be walked again each time. An offset that was found by more is kept.
 const SHORT_WALK: u32 = 32;
 
 /// A file of a source map: its text, the positions that it takes, and where its lines begin.
@@ -20,41 +21,41 @@ pub(crate) struct FileInfo {
     lo: u32,
     /// The position after its last character.
     hi: u32,
-    /// The places after each line feed, in characters from the start of the text.
+    /// The offsets after each line feed, in characters.
     line_starts: Vec<u32>,
     /// Where each line that isn't ASCII begins and ends.
-    wide_ends: Vec<KnownPlace>,
-    /// Places inside long lines, in characters, each with the bytes before it.
+    non_ascii_bounds: Vec<OffsetPair>,
+    /// Known offsets inside long lines, from characters to bytes.
     byte_offsets: BTreeMap<u32, usize>,
 }
 
-/// A place of a text, in characters, and the bytes before it.
+/// One offset of a text, in characters and in bytes.
 #[derive(Clone, Copy, Debug)]
-struct KnownPlace {
-    place: u32,
+struct OffsetPair {
+    chars: u32,
     bytes: usize,
 }
 
 impl Model for FileInfo {
     ghost use Rattle.std.specs.Str.{chars};
     ghost use Rattle.std.specs.String.{string_bytes};
-    ghost use Rattle.pm_span.specs.FileInfo.{PlacedText, IsKept};
+    ghost use Rattle.pm_span.specs.FileInfo.{MappedText, IsKept};
 
-    ghost Value = { PlacedText };
+    ghost Value = { MappedText };
 
     ghost view = { λ file. record { text = chars (string_bytes file.text); lo = file.lo } };
 
     ghost invariant = { λ file. IsKept (chars (string_bytes file.text)) file.lo file.hi file.line_starts.items
-        file.wide_ends.items file.byte_offsets.entries };
+        file.non_ascii_bounds.items file.byte_offsets.entries };
 }
 
 /// What one pass over a text finds.
 #[derive(Drop)]
 struct Lines {
-    /// The places after each line feed.
+    /// The offsets after each line feed, in characters.
     starts: Vec<u32>,
     /// Where each line that isn't ASCII begins and ends.
-    wide_ends: Vec<KnownPlace>,
+    non_ascii_bounds: Vec<OffsetPair>,
     /// How many characters the text has.
     count: u32,
 }
@@ -63,56 +64,57 @@ struct Lines {
 fn find_lines(alloc: Global, text: &str) -> Result<Lines, AllocError>
     requires { length (chars text.now) < 2 ^ 32 }
     ensures starts { IfOk result (λ lines. lines.starts.items ≡ after_line_feeds (chars text.now)) }
-    ensures ends { IfOk result (λ lines. AreEnds (chars text.now) lines.count lines.wide_ends.items) }
+    ensures bounds { IfOk result (λ lines.
+        AreNonAsciiBounds (chars text.now) lines.count lines.non_ascii_bounds.items) }
     ensures count { IfOk result (λ lines. lines.count ≡ length (chars text.now)) }
 {
     let mut starts = Vec::new(alloc);
-    let mut wide_ends = Vec::new(alloc);
-    let mut start = KnownPlace { place: 0, bytes: 0 };
+    let mut non_ascii_bounds = Vec::new(alloc);
+    let mut start = OffsetPair { chars: 0, bytes: 0 };
     let mut rest = text;
     while let Some((line, after)) = split_line(rest) {
-        let chars = char_count(line);
-        let next = KnownPlace {
-            place: start.place + chars as u32 + 1,
+        let count = char_count(line);
+        let next = OffsetPair {
+            chars: start.chars + count as u32 + 1,
             bytes: text.len() - after.len(),
         };
-        starts.push(next.place)?;
-        if chars < line.len() {
-            push_ends(&mut wide_ends, start, next)?;
+        starts.push(next.chars)?;
+        if count < line.len() {
+            push_bounds(&mut non_ascii_bounds, start, next)?;
         }
         start = next;
         rest = after;
     }
-    let chars = char_count(rest);
-    let end = KnownPlace {
-        place: start.place + chars as u32,
+    let count = char_count(rest);
+    let end = OffsetPair {
+        chars: start.chars + count as u32,
         bytes: text.len(),
     };
-    if chars < rest.len() {
-        push_ends(&mut wide_ends, start, end)?;
+    if count < rest.len() {
+        push_bounds(&mut non_ascii_bounds, start, end)?;
     }
     Ok(Lines {
         starts,
-        wide_ends,
-        count: end.place,
+        non_ascii_bounds,
+        count: end.chars,
     })
 }
 
-/// Keeps both ends of a line that isn't ASCII. The first one is kept already where the line before it is.
-fn push_ends(
-    ends: &mut Vec<KnownPlace>,
-    start: KnownPlace,
-    end: KnownPlace,
+/// Keeps where a line that isn't ASCII begins and ends. The first is kept already where the line before it is.
+fn push_bounds(
+    bounds: &mut Vec<OffsetPair>,
+    start: OffsetPair,
+    end: OffsetPair,
 ) -> Result<(), AllocError>
-    ensures ok { OnOk result ((text : List ℕ) → AreEnds text start.place ends.old.items
-        → IsByteOffset text start.place start.bytes → IsByteOffset text end.place end.bytes
-        → IsWideLine text start.place end.place → AreEnds text end.place ends.new.items) }
+    ensures ok { OnOk result ((text : List ℕ) → AreNonAsciiBounds text start.chars bounds.old.items
+        → IsByteOffset text start.chars start.bytes → IsByteOffset text end.chars end.bytes
+        → IsNonAsciiLine text start.chars end.chars → AreNonAsciiBounds text end.chars bounds.new.items) }
 {
-    match ends.last() {
-        Some(last) if last.place == start.place => {}
-        _ => ends.push(start)?,
+    match bounds.last() {
+        Some(last) if last.chars == start.chars => {}
+        _ => bounds.push(start)?,
     }
-    ends.push(end)?;
+    bounds.push(end)?;
     Ok(())
 }
 
@@ -128,7 +130,7 @@ impl FileInfo {
             lo,
             hi: lo + lines.count,
             line_starts: lines.starts,
-            wide_ends: lines.wide_ends,
+            non_ascii_bounds: lines.non_ascii_bounds,
             byte_offsets: BTreeMap::new(alloc),
         })
     }
@@ -147,12 +149,14 @@ impl FileInfo {
         self.hi
     }
 
-    /// How many line feeds stand before a place of the text, and where the line of the place begins.
-    fn line_at(&self, place: u32) -> (usize, u32)
-        requires { place ≤ length self.now.text }
-        ensures { IsLineAt self.now.text place result.0 result.1 }
+    /// How many line feeds stand before an offset of the text, and where its line begins, in characters.
+    fn line_at(&self, char_offset: u32) -> (usize, u32)
+        requires { char_offset ≤ length self.now.text }
+        ensures { IsLineAt self.now.text char_offset result.0 result.1 }
     {
-        let line_feeds = self.line_starts.partition_point(|start| *start <= place);
+        let line_feeds = self
+            .line_starts
+            .partition_point(|start| *start <= char_offset);
         let line_start = if line_feeds == 0 {
             0
         } else {
@@ -161,86 +165,88 @@ impl FileInfo {
         (line_feeds, line_start)
     }
 
-    /// The line and column of a place of the text, a count of its characters.
-    pub(crate) fn line_column(&self, place: u32) -> LineColumn
-        requires { place ≤ length self.now.text }
-        ensures { result ≡ line_column self.now.text place }
+    /// The line and column of an offset of the text, in characters.
+    pub(crate) fn line_column(&self, char_offset: u32) -> LineColumn
+        requires { char_offset ≤ length self.now.text }
+        ensures { result ≡ line_column self.now.text char_offset }
     {
-        let (line_feeds, line_start) = self.line_at(place);
+        let (line_feeds, line_start) = self.line_at(char_offset);
         LineColumn {
             line: line_feeds + 1,
-            column: (place - line_start) as usize,
+            column: (char_offset - line_start) as usize,
         }
     }
 
-    /// The nearest places on both sides of this one where a line that isn't ASCII begins or ends, or the text does.
-    fn ends_around(&self, place: u32) -> (KnownPlace, KnownPlace)
-        requires { place ≤ length self.now.text }
-        ensures before { IsByteOffset self.now.text result.0.place result.0.bytes × (result.0.place ≤ place) }
-        ensures after { IsByteOffset self.now.text result.1.place result.1.bytes × (place ≤ result.1.place) }
+    /// The nearest offsets on both sides of this one where a line that isn't ASCII begins or ends, or the text does.
+    fn bounds_around(&self, char_offset: u32) -> (OffsetPair, OffsetPair)
+        requires { char_offset ≤ length self.now.text }
+        ensures before { IsByteOffset self.now.text result.0.chars result.0.bytes × (result.0.chars ≤ char_offset) }
+        ensures after { IsByteOffset self.now.text result.1.chars result.1.bytes × (char_offset ≤ result.1.chars) }
     {
-        let count = self.wide_ends.partition_point(|end| end.place <= place);
+        let count = self
+            .non_ascii_bounds
+            .partition_point(|bound| bound.chars <= char_offset);
         let before = if count == 0 {
-            KnownPlace { place: 0, bytes: 0 }
+            OffsetPair { chars: 0, bytes: 0 }
         } else {
-            self.wide_ends[count - 1]
+            self.non_ascii_bounds[count - 1]
         };
-        let after = match self.wide_ends.get(count) {
-            Some(end) => *end,
-            None => KnownPlace {
-                place: self.hi - self.lo,
+        let after = match self.non_ascii_bounds.get(count) {
+            Some(bound) => *bound,
+            None => OffsetPair {
+                chars: self.hi - self.lo,
                 bytes: self.text.len(),
             },
         };
         (before, after)
     }
 
-    /// The last known place that isn't after this one, from `start` on.
-    fn known_before(&self, place: u32, start: KnownPlace) -> KnownPlace
-        requires known { IsByteOffset self.now.text start.place start.bytes }
-        requires before { start.place ≤ place }
-        ensures value { IsByteOffset self.now.text result.place result.bytes }
-        ensures before { result.place ≤ place }
+    /// The last known offset that isn't after this one, from `start` on.
+    fn known_before(&self, char_offset: u32, start: OffsetPair) -> OffsetPair
+        requires known { IsByteOffset self.now.text start.chars start.bytes }
+        requires before { start.chars ≤ char_offset }
+        ensures value { IsByteOffset self.now.text result.chars result.bytes }
+        ensures before { result.chars ≤ char_offset }
     {
-        match self.byte_offsets.range(..=place).next_back() {
-            Some((entry, bytes)) if *entry > start.place => KnownPlace {
-                place: *entry,
+        match self.byte_offsets.range(..=char_offset).next_back() {
+            Some((entry, bytes)) if *entry > start.chars => OffsetPair {
+                chars: *entry,
                 bytes: *bytes,
             },
             _ => start,
         }
     }
 
-    /// The first known place that isn't before this one, up to `end`.
-    fn known_after(&self, place: u32, end: KnownPlace) -> KnownPlace
-        requires known { IsByteOffset self.now.text end.place end.bytes }
-        requires after { place ≤ end.place }
-        ensures value { IsByteOffset self.now.text result.place result.bytes }
-        ensures after { place ≤ result.place }
+    /// The first known offset that isn't before this one, up to `end`.
+    fn known_after(&self, char_offset: u32, end: OffsetPair) -> OffsetPair
+        requires known { IsByteOffset self.now.text end.chars end.bytes }
+        requires after { char_offset ≤ end.chars }
+        ensures value { IsByteOffset self.now.text result.chars result.bytes }
+        ensures after { char_offset ≤ result.chars }
     {
-        match self.byte_offsets.range(place..).next() {
-            Some((entry, bytes)) if *entry < end.place => KnownPlace {
-                place: *entry,
+        match self.byte_offsets.range(char_offset..).next() {
+            Some((entry, bytes)) if *entry < end.chars => OffsetPair {
+                chars: *entry,
                 bytes: *bytes,
             },
             _ => end,
         }
     }
 
-    /// The bytes before a place of the text, and how many characters were walked to count them.
+    /// The bytes before an offset of the text, and how many characters were walked to count them.
     ///
-    /// It walks from the nearer one of the known places on both sides of it, and not at all where all between
+    /// It walks from the nearer one of the known offsets on both sides of it, and not at all where all between
     /// them is ASCII.
-    fn count_bytes(&self, place: u32) -> (usize, u32)
-        requires { place ≤ length self.now.text }
-        ensures { result.0 ≡ byte_offset self.now.text place }
+    fn count_bytes(&self, char_offset: u32) -> (usize, u32)
+        requires { char_offset ≤ length self.now.text }
+        ensures { result.0 ≡ byte_offset self.now.text char_offset }
     {
-        let (start, end) = self.ends_around(place);
-        let before = self.known_before(place, start);
-        let after = self.known_after(place, end);
-        let forwards = place - before.place;
-        let backwards = after.place - place;
-        if after.bytes - before.bytes == (after.place - before.place) as usize {
+        let (start, end) = self.bounds_around(char_offset);
+        let before = self.known_before(char_offset, start);
+        let after = self.known_after(char_offset, end);
+        let forwards = char_offset - before.chars;
+        let backwards = after.chars - char_offset;
+        if after.bytes - before.bytes == (after.chars - before.chars) as usize {
             return (before.bytes + forwards as usize, 0);
         }
         let text = self.text.as_str();
@@ -253,29 +259,29 @@ impl FileInfo {
         }
     }
 
-    /// A place of the text, a count of its characters, as a count of its bytes.
-    pub(crate) fn byte_offset(&self, place: u32) -> usize
-        requires { place ≤ length self.now.text }
-        ensures { result ≡ byte_offset self.now.text place }
+    /// An offset of the text in characters as one in bytes.
+    pub(crate) fn byte_offset(&self, char_offset: u32) -> usize
+        requires { char_offset ≤ length self.now.text }
+        ensures { result ≡ byte_offset self.now.text char_offset }
     {
-        let (bytes, _) = self.count_bytes(place);
+        let (bytes, _) = self.count_bytes(char_offset);
         bytes
     }
 
-    /// The same, and the place becomes a known one if the walk to it was long and there is memory.
-    pub(crate) fn find_byte_offset(&mut self, place: u32) -> usize
-        requires { place ≤ length self.old.text }
-        ensures value { result ≡ byte_offset self.old.text place }
+    /// The same, and the offset becomes a known one if the walk to it was long and there is memory.
+    pub(crate) fn find_byte_offset(&mut self, char_offset: u32) -> usize
+        requires { char_offset ≤ length self.old.text }
+        ensures value { result ≡ byte_offset self.old.text char_offset }
         ensures kept { self.new ≡ self.old }
     {
-        let (bytes, walked) = self.count_bytes(place);
+        let (bytes, walked) = self.count_bytes(char_offset);
         if walked > SHORT_WALK {
-            let _ = self.byte_offsets.insert(place, bytes);
+            let _ = self.byte_offsets.insert(char_offset, bytes);
         }
         bytes
     }
 
-    /// The text between two of its places, counts of its characters.
+    /// The text between two of its offsets, in characters.
     pub(crate) fn text_between(&self, from: u32, to: u32) -> &str
         requires ordered { from ≤ to }
         requires within { to ≤ length self.now.text }

@@ -1,4 +1,4 @@
-//! What is proved of places. The functions compute nothing: their contracts are the laws.
+//! What is proved of lines and columns. The functions compute nothing: their contracts are the laws.
 ghost use Rattle.std.specs.Prelude.{◌≡◌, ◌↔◌, ◌++◌, IsTrue, Some};
 ghost use Rattle.std.specs.Hash as fed;
 ghost use Rattle.pm_span.specs.Order.{IsBefore};
@@ -11,7 +11,7 @@ use std::hash::Hash;
 /// equal exactly if their lines and their columns are. A hasher is fed the line and then the column.
 ///
 /// Line 1, column 5 comes before line 2, column 0.
-pub fn places_by_line_then_column()
+pub fn ordered_line_columns()
     ensures equal { (a b : LineColumn) → IsTrue (⟦<LineColumn as PartialEq>⟧.eq a b)
         ↔ ((a.line ≡ b.line) × (a.column ≡ b.column)) }
     ensures less { (a b : LineColumn) → (⟦<LineColumn as Ord>⟧.cmp a b ≡ Ordering.Less) ↔ IsBefore a b }

@@ -1,4 +1,4 @@
-//! Places in source texts: positions, lines and columns, and the map of the files that were read.
+//! Positions in source texts, spans, lines and columns, and the map of the files that were read.
 //!
 //! A rule is named by its label in backquotes, such as `next-position`. `docs/GRAMMAR.md` has all of them, each
 //! with its definition.

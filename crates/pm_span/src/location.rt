@@ -1,6 +1,6 @@
 //! Lines and columns.
 
-/// A place in a text, as people count it.
+/// A line and a column of a text, as people count them.
 #[derive(Clone, Copy, Debug, PartialEq, Eq, PartialOrd, Ord, Hash)]
 pub struct LineColumn {
     /// The line, from 1 on.

@@ -56,7 +56,7 @@ impl Span {
     /// The bytes of its file's text that the span takes (`byte-offset`), in a map that holds it.
     ///
     /// They count from the start of the file, and are 0..0 for 0..0. In the text `é a` at 1..4, the span
-    /// 3..4 takes the bytes 3..4. The map stays as it is, but may remember places inside long lines, so that
+    /// 3..4 takes the bytes 3..4. The map stays as it is, but may remember offsets inside long lines, so that
     /// later look-ups there are short. Where there is no memory for that, the answer is the same.
     pub fn byte_range(self, map: &mut SourceMap) -> Range<usize>
         requires { Holds map.old self }
@@ -83,7 +83,7 @@ impl Span {
         ensures nowhere { self ≡ nowhere → result ≡ Ok None }
         ensures kept { map.new ≡ map.old }
     {
-        // Its ends become known places, from which `source_str` then walks.
+        // Its ends become known offsets, from which `source_str` then walks.
         let _ = self.byte_range(map);
         match self.source_str(map) {
             None => Ok(None),

@@ -6,7 +6,7 @@ ghost use Rattle.pm_span.specs.Files.{Fits, new_map, next_lo, with_file};
 use crate::source_map::SourceMap;
 use crate::spans::Span;
 pub use crate::text::char_count;
-use crate::text::has_fewer;
+use crate::text::has_fewer_chars;
 use std::alloc::{AllocError, Global};
 
 /// The span of the positions from `lo` up to `hi`, in characters.
@@ -43,7 +43,7 @@ pub fn fits_new(text: &str) -> Option<u32>
     ensures found { SomeIff result (Fits new_map (length (chars text.now))) (next_lo new_map) }
     ensures within { IfSome result (λ lo. lo + length (chars text.now) < 2 ^ 32) }
 {
-    if has_fewer(text, u32::MAX as usize) {
+    if has_fewer_chars(text, u32::MAX as usize) {
         Some(1)
     } else {
         None

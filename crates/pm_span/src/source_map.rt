@@ -5,12 +5,12 @@ ghost use Rattle.std.specs.Option.{unwrap_or, option_copied};
 ghost use Rattle.std.specs.Str.{chars};
 ghost use Rattle.pm_span.specs.Files.{Files, next_lo, Fits, Holds, new_map, with_file};
 ghost use Rattle.pm_span.specs.Lookup.{StartsAt, HasBytesBefore};
-ghost use Rattle.pm_span.specs.Placed.{file_0, IsFileOf};
+ghost use Rattle.pm_span.specs.Consecutive.{file_0, IsFileOf};
 
 use crate::file_info::FileInfo;
 use crate::location::LineColumn;
 use crate::spans::Span;
-use crate::text::has_fewer;
+use crate::text::has_fewer_chars;
 use std::alloc::{AllocError, Global};
 use std::marker::Model;
 
@@ -31,7 +31,7 @@ pub struct SourceMap {
 impl Model for SourceMap {
     ghost use Rattle.std.specs.Prelude.{map};
     ghost use Rattle.pm_span.specs.Files.{Files};
-    ghost use Rattle.pm_span.specs.Placed.{AreWithin};
+    ghost use Rattle.pm_span.specs.Consecutive.{AreWithin};
 
     ghost Value = { Files };
 
@@ -145,7 +145,7 @@ impl SourceMap {
         ensures within { IfSome result (λ lo. lo + length (chars text.now) < 2 ^ 32) }
     {
         let last = self.last_hi();
-        if last < self.limit && has_fewer(text, (self.limit - last) as usize) {
+        if last < self.limit && has_fewer_chars(text, (self.limit - last) as usize) {
             Some(last + 1)
         } else {
             None

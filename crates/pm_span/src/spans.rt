@@ -58,7 +58,7 @@ impl Span {
     pub fn resolved_at(self, _other: Span) -> Span
         ensures { result ≡ self }
     {
-        // Only a place is known of a span.
+        // A span has positions alone.
         self
     }
 

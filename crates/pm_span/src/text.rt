@@ -19,7 +19,7 @@ pub fn char_count(text: &str) -> usize
 ///
 /// They are counted only where its bytes, which are at least as many, don't answer it.
 #[tactic(auto, using(crate::proofs::AsciiLemmas::length_chars_le))]
-pub(crate) fn has_fewer(text: &str, count: usize) -> bool
+pub(crate) fn has_fewer_chars(text: &str, count: usize) -> bool
     ensures { IsTrue result ↔ (length (chars text.now) < count) }
 {
     text.len() < count || char_count(text) < count

@@ -5,7 +5,7 @@ use Rattle.lexical.specs.Token.{Token, Name, Mark, Literal}
 use Rattle.pm_span.specs.Extent.{Extent}
 use Rattle.pm_span.specs.Files.{Files, Holds, IsFile, all_texts, new_map, next_lo, with_file}
 use Rattle.pm_span.specs.Lookup.{StartsAt, EndsAt}
-use Rattle.pm_span.specs.Place.{line_column}
+use Rattle.pm_span.specs.CharOffset.{line_column}
 use Rattle.pm_span.specs.declared.location.LineColumn.{LineColumn}
 use Rattle.pm_stream.specs.Forest.{Forest, nil, leaf, group}
 use Rattle.pm_stream.specs.InOrder.{token_tree, in_order_onto, in_order}

@@ -13,7 +13,7 @@ use Rattle.pm_stream.specs.declared.stream.TokenTree.{TokenTree}
 use Rattle.pm_stream.proofs.CoverLemmas.{onto-append, width-append}
 use Rattle.pm_stream.proofs.FaultLemmas.{cover_within}
 use Rattle.pm_stream.proofs.InOrderLemmas.{all_listed}
-use Rattle.pm_span.specs.Place.{between}
+use Rattle.pm_span.specs.CharOffset.{between}
 use Rattle.proc_macro2.specs.GivesBack.{StandsOn, GivesBack, SpansGiveBack, ListedGiveBack}
 use Rattle.proc_macro2.proofs.RunLemmas.{each_map, each_stands}
 

@@ -30,7 +30,7 @@ pub use Rattle.literal_escaper.specs.Within
 pub use Rattle.pm_span.specs.Extent
 pub use Rattle.pm_span.specs.Files
 pub use Rattle.pm_span.specs.Lookup
-pub use Rattle.pm_span.specs.Place
+pub use Rattle.pm_span.specs.CharOffset
 pub use Rattle.pm_token.specs.Built
 pub use Rattle.pm_token.specs.CString
 pub use Rattle.pm_token.specs.Content

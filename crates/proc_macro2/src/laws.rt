@@ -31,7 +31,7 @@ ghost use Rattle.proc_macro2.specs.Laws.{
 };
 
 pub use literal_escaper::laws::equal_errors_modes_and_units;
-pub use pm_span::laws::places_by_line_then_column;
+pub use pm_span::laws::ordered_line_columns;
 pub use pm_stream::laws::printed_by_the_rule;
 pub use pm_token::laws::{
     cooked_values, equal_delimiters_spacings_and_errors, made_literals, raw_values, single_values,

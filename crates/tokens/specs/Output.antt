@@ -3,7 +3,7 @@ use Rattle.std.specs.Prelude.{ℕ, ◌+◌, ◌≡◌, List, ◌++◌, length, c
 use Rattle.std.specs.Str.{chars, IsUtf8, encode_utf8_all}
 use Rattle.proc_macro2.specs.declared.LineColumn.{LineColumn}
 use Rattle.proc_macro2.specs.Files.{Fits, new_map, next_lo}
-use Rattle.proc_macro2.specs.Place.{line_column}
+use Rattle.proc_macro2.specs.CharOffset.{line_column}
 use Rattle.proc_macro2.specs.Forest.{Forest}
 use Rattle.proc_macro2.specs.InOrder.{in_order}
 use Rattle.proc_macro2.specs.Parsing.{ParsesTo, FaultAt}

@@ -3,7 +3,7 @@ use Rattle.std.specs.Prelude.{ℕ, ◌≡◌, ◌+◌, ◌-◌, ◌≤◌, List,
 use Rattle.proc_macro2.specs.Files.{Files, new_map, next_lo, with_file}
 use Rattle.proc_macro2.specs.Forest.{Forest}
 use Rattle.proc_macro2.specs.Parsing.{ParsesTo}
-use Rattle.proc_macro2.specs.Place.{line_column}
+use Rattle.proc_macro2.specs.CharOffset.{line_column}
 use Rattle.proc_macro2.specs.TreeSpan.{extent_of}
 use Rattle.proc_macro2.specs.declared.LineColumn.{LineColumn}
 use Rattle.proc_macro2.specs.declared.TokenTree.{TokenTree}

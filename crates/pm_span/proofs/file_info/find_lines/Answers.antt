@@ -3,18 +3,18 @@ use Rattle.std.proofs.Common.{◌∙◌}
 use Rattle.std.proofs.Common.{append_assoc, append-nil, arith, inl, inr}
 use Rattle.std.proofs.lemmas.Bool.{cases_lt}
 use Rattle.std.specs.Str.{chars, IsUtf8}
-use Rattle.pm_span.specs.FileInfo.{AreEnds, IsByteOffset, IsLine, IsWideLine, after_line_feeds_from}
+use Rattle.pm_span.specs.FileInfo.{AreNonAsciiBounds, IsByteOffset, IsLine, IsNonAsciiLine, after_line_feeds_from}
 use Rattle.pm_span.specs.Line.{is_one_line}
-use Rattle.pm_span.specs.Place.{byte_offset, column}
-use Rattle.pm_span.specs.declared.file_info.KnownPlace.{KnownPlace}
+use Rattle.pm_span.specs.CharOffset.{byte_offset, column}
+use Rattle.pm_span.specs.declared.file_info.OffsetPair.{OffsetPair}
 use Rattle.pm_span.proofs.ByteOffsetLemmas.{text_end}
-use Rattle.pm_span.proofs.EndLemmas.{AreEnds-ascii}
+use Rattle.pm_span.proofs.BoundLemmas.{AreNonAsciiBounds-ascii}
 use Rattle.pm_span.proofs.SeamLemmas.{rest_bytes}
 use Rattle.pm_span.proofs.SplitLemmas.{after_line_feeds_from-line, after_line_feeds_from-split, first_line, left_after}
 use Rattle.pm_span.proofs.SplitLemmas.{line_bytes}
 use Rattle.pm_span.proofs.SplitLemmas.{only_line, split_size}
 use Rattle.pm_span.proofs.file_info.find_lines.Goals as goal
-use Rattle.pm_span.proofs.file_info.find_lines.Goals.{then-chars-rest+in_ok-push_ends-2, else-chars-rest}
+use Rattle.pm_span.proofs.file_info.find_lines.Goals.{then-count-rest+in_ok-push_bounds-2, else-count-rest}
 
 -- what is left after a line more, and the bytes before it
 next_line :
@@ -30,12 +30,12 @@ next_line text after line {rest} count n utf8 left cut size split is =
 
 pub overflow_sub-next : goal.overflow_sub-next
 overflow_sub-next c =
-    let next = next_line c.args.text.now c.in-Some.after.now (chars c.in-Some.line.now) c.loop-line.start.place
-    (c.loop-line.start.place + (length (chars c.in-Some.line.now) + 1)) c.utf8.text c.in-Some.ensures.utf8.1
+    let next = next_line c.args.text.now c.in-Some.after.now (chars c.in-Some.line.now) c.loop-line.start.chars
+    (c.loop-line.start.chars + (length (chars c.in-Some.line.now) + 1)) c.utf8.text c.in-Some.ensures.utf8.1
     c.loop-line.invariant.left c.loop-line.invariant.count c.in-Some.ensures.split.0 refl in
     omega (arith, next.2)
 
--- a line more, from one place to the next, and its bytes
+-- a line more, from one offset to the next, and its bytes
 record IsNext (text : List ℕ) (start next bytes : ℕ) : Type 0 where
   line : IsLine text start next
   begins : column text next ≡ 0
@@ -60,24 +60,24 @@ line_more text after line rest start next utf8 left first last begins cut split 
       );
     }
 
-pub loop-line-preserved-in_ok-push_ends : goal.loop-line-preserved-in_ok-push_ends
-loop-line-preserved-in_ok-push_ends c =
+pub loop-line-preserved-in_ok-push_bounds : goal.loop-line-preserved-in_ok-push_bounds
+loop-line-preserved-in_ok-push_bounds c =
     let text = c.args.text.now in
     let split = c.in-Some.ensures.split in
     let line = c.in-Some.line.now in
     let after = c.in-Some.after.now in
-    let n = c.loop-line.start.place + c.char_count-chars.result + 1 in
-    let size : n ≡ c.loop-line.start.place + (length (chars line) + 1) = omega (arith, c.char_count-chars.ensures) in
-    let next = next_line text after (chars line) c.loop-line.start.place n c.utf8.text
+    let n = c.loop-line.start.chars + c.char_count-count.result + 1 in
+    let size : n ≡ c.loop-line.start.chars + (length (chars line) + 1) = omega (arith, c.char_count-count.ensures) in
+    let next = next_line text after (chars line) c.loop-line.start.chars n c.utf8.text
     c.in-Some.ensures.utf8.1 c.loop-line.invariant.left c.loop-line.invariant.count split.0 size in
-    let one = line_more text after line c.loop-line.rest.now c.loop-line.start.place n c.utf8.text
+    let one = line_more text after line c.loop-line.rest.now c.loop-line.start.chars n c.utf8.text
     c.loop-line.invariant.utf8
     c.in-Some.ensures.utf8.0 c.in-Some.ensures.utf8.1 c.loop-line.invariant.begins c.loop-line.invariant.left split.0
     split.1 size next.2 in
     let start : IsByteOffset (chars text) n (length text - length after) =
     record { within = omega (arith, next.1); value = omega (arith, next.2) } in
     let left = after_line_feeds_from n (chars after) in
-    let more = after_line_feeds_from-split c.loop-line.start.place n _ _ _ split.0 split.1 size in
+    let more = after_line_feeds_from-split c.loop-line.start.chars n _ _ _ split.0 split.1 size in
     record {
       utf8 = c.in-Some.ensures.utf8.1;
       left = next.0;
@@ -87,8 +87,9 @@ loop-line-preserved-in_ok-push_ends c =
       starts = ap (λ xs. xs ++ left) c.in_ok-push.ensures.items
           ∙ (append_assoc c.loop-line.starts.items (n ∷ []) left
           ∙ (ap (λ xs. c.loop-line.starts.items ++ xs) (sym more) ∙ c.loop-line.invariant.starts));
-      ends = c.in_ok-push_ends.ensures.ok (chars text) c.loop-line.invariant.ends c.loop-line.invariant.start start
-          (record { line = one.line; wide = omega (arith, one.size, c.if-chars-line.true) });
+      bounds = c.in_ok-push_bounds.ensures.ok (chars text) c.loop-line.invariant.bounds c.loop-line.invariant.start
+          start
+          (record { line = one.line; more_bytes = omega (arith, one.size, c.if-count-line.true) });
     }
 
 pub loop-line-preserved : goal.loop-line-preserved
@@ -97,16 +98,16 @@ loop-line-preserved c =
     let split = c.in-Some.ensures.split in
     let line = c.in-Some.line.now in
     let after = c.in-Some.after.now in
-    let n = c.loop-line.start.place + c.char_count-chars.result + 1 in
-    let size : n ≡ c.loop-line.start.place + (length (chars line) + 1) = omega (arith, c.char_count-chars.ensures) in
-    let next = next_line text after (chars line) c.loop-line.start.place n c.utf8.text
+    let n = c.loop-line.start.chars + c.char_count-count.result + 1 in
+    let size : n ≡ c.loop-line.start.chars + (length (chars line) + 1) = omega (arith, c.char_count-count.ensures) in
+    let next = next_line text after (chars line) c.loop-line.start.chars n c.utf8.text
     c.in-Some.ensures.utf8.1 c.loop-line.invariant.left c.loop-line.invariant.count split.0 size in
-    let one = line_more text after line c.loop-line.rest.now c.loop-line.start.place n c.utf8.text
+    let one = line_more text after line c.loop-line.rest.now c.loop-line.start.chars n c.utf8.text
     c.loop-line.invariant.utf8
     c.in-Some.ensures.utf8.0 c.in-Some.ensures.utf8.1 c.loop-line.invariant.begins c.loop-line.invariant.left split.0
     split.1 size next.2 in
     let left = after_line_feeds_from n (chars after) in
-    let more = after_line_feeds_from-split c.loop-line.start.place n _ _ _ split.0 split.1 size in
+    let more = after_line_feeds_from-split c.loop-line.start.chars n _ _ _ split.0 split.1 size in
     record {
       utf8 = c.in-Some.ensures.utf8.1;
       left = next.0;
@@ -116,56 +117,57 @@ loop-line-preserved c =
       starts = ap (λ xs. xs ++ left) c.in_ok-push.ensures.items
           ∙ (append_assoc c.loop-line.starts.items (n ∷ []) left
           ∙ (ap (λ xs. c.loop-line.starts.items ++ xs) (sym more) ∙ c.loop-line.invariant.starts));
-      ends = AreEnds-ascii c.loop-line.invariant.ends one.line (omega (arith, one.size, c.if-chars-line.false));
+      bounds = AreNonAsciiBounds-ascii c.loop-line.invariant.bounds one.line
+          (omega (arith, one.size, c.if-count-line.false));
     }
 
 pub returns-clause-starts : goal.returns-clause-starts
 returns-clause-starts c =
     sym (ap (λ xs. c.loop-line.starts.items ++ xs)
-    (after_line_feeds_from-line c.loop-line.start.place (chars c.loop-line.rest.now) c.in_default.ensures.split)
+    (after_line_feeds_from-line c.loop-line.start.chars (chars c.loop-line.rest.now) c.in_default.ensures.split)
     ∙ append-nil c.loop-line.starts.items)
     ∙ c.loop-line.invariant.starts
 
 -- the last line, which may have nothing
 last_line :
-    (text rest : List ℕ) (start n count : ℕ) (places : List KnownPlace) → IsUtf8 text → IsUtf8 rest
+    (text rest : List ℕ) (start n count : ℕ) (bounds : List OffsetPair) → IsUtf8 text → IsUtf8 rest
     → column (chars text) start ≡ 0
     → chars rest ≡ drop start (chars text) → is_one_line (chars rest) ≡ true → n ≡ length (chars text)
     → n ≡ start + count
-    → (count < length rest → IsWideLine (chars text) start n)
-    × (length rest ≤ count → AreEnds (chars text) start places → AreEnds (chars text) n places)
-last_line text rest start n count places utf8 left begins cut one is size =
+    → (count < length rest → IsNonAsciiLine (chars text) start n)
+    × (length rest ≤ count → AreNonAsciiBounds (chars text) start bounds → AreNonAsciiBounds (chars text) n bounds)
+last_line text rest start n count bounds utf8 left begins cut one is size =
     let one_line : is_one_line (drop start (chars text)) ≡ true = subst (λ cs. is_one_line cs ≡ true) cut one in
     let end : byte_offset (chars text) n ≡ length text = sym (text_end n utf8 refl is).value in
     let bytes = rest_bytes text rest start utf8 left cut in
     elim (cases_lt start n) [
       | inl some ↦
           let line = only_line (chars text) start n begins one_line is some in (
-            λ wide. record { line = line; wide = omega (arith, end, bytes) },
-            λ ascii ends. AreEnds-ascii ends line (omega (arith, end, bytes)),
+            λ wide. record { line = line; more_bytes = omega (arith, end, bytes) },
+            λ ascii ends. AreNonAsciiBounds-ascii ends line (omega (arith, end, bytes)),
           )
       | inr none ↦
           let same : start ≡ n = omega arith in (
             λ wide. absurd (omega (arith, end, bytes, ap (byte_offset (chars text)) same)),
-            λ ascii ends. subst (λ m. AreEnds (chars text) m places) same ends,
+            λ ascii ends. subst (λ m. AreNonAsciiBounds (chars text) m bounds) same ends,
           )
     ]
 
-pub returns-clause-ends : goal.returns-clause-ends
-returns-clause-ends c =
+pub returns-clause-bounds : goal.returns-clause-bounds
+returns-clause-bounds c =
     let text = chars c.args.text.now in
-    let n = c.loop-line.start.place + c.char_count-chars-2.result in
-    let is : n ≡ length text = omega (arith, c.loop-line.invariant.count, c.char_count-chars-2.ensures) in
+    let n = c.loop-line.start.chars + c.char_count-count-2.result in
+    let is : n ≡ length text = omega (arith, c.loop-line.invariant.count, c.char_count-count-2.ensures) in
     let end : IsByteOffset text n (length c.args.text.now) = text_end n c.utf8.text refl is in
-    let last = last_line c.args.text.now c.loop-line.rest.now c.loop-line.start.place n c.char_count-chars-2.result
-    c.loop-line.wide_ends.items c.utf8.text c.loop-line.invariant.utf8 c.loop-line.invariant.begins
+    let last = last_line c.args.text.now c.loop-line.rest.now c.loop-line.start.chars n c.char_count-count-2.result
+    c.loop-line.non_ascii_bounds.items c.utf8.text c.loop-line.invariant.utf8 c.loop-line.invariant.begins
     c.loop-line.invariant.left c.in_default.ensures.split is refl in
-    elim c.if-chars-rest.branch [
-      | then-chars-rest+in_ok-push_ends-2 w ↦
-          subst (λ ends. AreEnds text n ends.items) (sym w.wide_ends-is)
-          (w.in_ok-push_ends-2.ensures.ok text c.loop-line.invariant.ends c.loop-line.invariant.start end
-          (last.0 w.if-chars-rest.true))
-      | else-chars-rest w ↦
-          subst (λ ends. AreEnds text n ends.items) (sym w.wide_ends-is)
-          (last.1 w.if-chars-rest.false c.loop-line.invariant.ends)
+    elim c.if-count-rest.branch [
+      | then-count-rest+in_ok-push_bounds-2 w ↦
+          subst (λ ends. AreNonAsciiBounds text n ends.items) (sym w.non_ascii_bounds-is)
+          (w.in_ok-push_bounds-2.ensures.ok text c.loop-line.invariant.bounds c.loop-line.invariant.start end
+          (last.0 w.if-count-rest.true))
+      | else-count-rest w ↦
+          subst (λ ends. AreNonAsciiBounds text n ends.items) (sym w.non_ascii_bounds-is)
+          (last.1 w.if-count-rest.false c.loop-line.invariant.bounds)
     ]

@@ -1,7 +1,7 @@
 use Rattle.std.proofs.Common.{◌≡◌, ◌+◌, ◌-◌, ◌∙◌, length, take, length-drop, ap, arith}
 use Rattle.std.specs.Str.{chars}
 use Rattle.std.proofs.lemmas.List.{length-take-le}
-use Rattle.pm_span.specs.Place.{byte_offset}
+use Rattle.pm_span.specs.CharOffset.{byte_offset}
 use Rattle.pm_span.proofs.ByteOffsetLemmas.{known_boundary, known_front, known_order, known_rest, narrow_between}
 use Rattle.pm_span.proofs.ByteOffsetLemmas.{back_from, on_from}
 use Rattle.pm_span.proofs.file_info.FileInfo.count_bytes.Goals as goal
@@ -31,7 +31,7 @@ skip_chars_back-front-requires c =
     let whole : c.known_after-after.result.bytes - 0 ≡ c.known_after-after.result.bytes = omega arith in
     let front = known_front c.as_str-text.utf8 text after
     (c.range.ensures.value ∙ ap (λ n. take n c.as_str-text.result.now) whole) in
-    omega (arith, ap length front, length-take-le c.known_after-after.result.place c.args.self.now.text after.within)
+    omega (arith, ap length front, length-take-le c.known_after-after.result.chars c.args.self.now.text after.within)
 
 pub range_from-requires : goal.range_from-requires
 range_from-requires c =
@@ -44,19 +44,19 @@ skip_chars-rest-requires c =
     let text : chars c.as_str-text.result.now ≡ c.args.self.now.text = ap chars c.as_str-text.ensures.value
     ∙ ap (λ file. file.text) c.self.view_is in
     let rest = known_rest c.as_str-text.utf8 text c.known_before-before.ensures.value c.range_from.ensures.value in
-    omega (arith, ap length rest, length-drop c.known_before-before.result.place c.args.self.now.text, c.requires)
+    omega (arith, ap length rest, length-drop c.known_before-before.result.chars c.args.self.now.text, c.requires)
 
 -- what is left of the text, in bytes
 left : (c : goal.After-skip_chars-rest)
-    → byte_offset c.args.self.now.text c.args.place + length c.skip_chars-rest.result.now
+    → byte_offset c.args.self.now.text c.args.char_offset + length c.skip_chars-rest.result.now
     ≡ length c.as_str-text.result.now
 left c =
     let text : chars c.as_str-text.result.now ≡ c.args.self.now.text = ap chars c.as_str-text.ensures.value
     ∙ ap (λ file. file.text) c.self.view_is in
     let rest = known_rest c.as_str-text.utf8 text c.known_before-before.ensures.value c.range_from.ensures.value in
     on_from c.as_str-text.result.now c.args.self.now.text c.range_from.result.now c.skip_chars-rest.result.now
-    c.known_before-before.result.place c.args.place
-    (c.args.place - c.known_before-before.result.place) c.as_str-text.utf8
+    c.known_before-before.result.chars c.args.char_offset
+    (c.args.char_offset - c.known_before-before.result.chars) c.as_str-text.utf8
     c.skip_chars-rest.utf8 text rest
     (omega (arith, c.known_before-before.ensures.before)) c.skip_chars-rest.ensures.value
 
@@ -72,8 +72,8 @@ returns-then-backwards-forwards c =
     let front = known_front c.as_str-text.utf8 text after
     (c.range.ensures.value ∙ ap (λ n. take n c.as_str-text.result.now) whole) in
     back_from c.args.self.now.text c.range.result.now c.skip_chars_back-front.result.now
-    c.known_after-after.result.place c.args.place
-    (c.known_after-after.result.place - c.args.place) c.skip_chars_back-front.utf8 front after.within
+    c.known_after-after.result.chars c.args.char_offset
+    (c.known_after-after.result.chars - c.args.char_offset) c.skip_chars_back-front.utf8 front after.within
     (omega (arith, c.known_after-after.ensures.after)) c.skip_chars_back-front.ensures.value
 
 pub returns-else-backwards-forwards : goal.returns-else-backwards-forwards

@@ -2,7 +2,7 @@ use Rattle.std.proofs.Common.{◌+◌, ap, subst, sym}
 use Rattle.std.specs.List.{All}
 use Rattle.std.specs.Str.{chars}
 use Rattle.std.proofs.lemmas.List.Elements.{All-nil}
-use Rattle.pm_span.specs.FileInfo.{AreEnds, IsByteOffset}
+use Rattle.pm_span.specs.FileInfo.{AreNonAsciiBounds, IsByteOffset}
 use Rattle.pm_span.proofs.file_info.FileInfo.new.Goals as goal
 
 pub invariant_of-result : goal.invariant_of-result
@@ -12,6 +12,7 @@ invariant_of-result c =
     rw c.in_ok-from_str.ensures.ok (record {
       ends = ap (λ n. c.args.lo + n) lines.ensures.count;
       lines = lines.ensures.starts;
-      wide = subst (λ n. AreEnds text n lines.lines.wide_ends.items) lines.ensures.count lines.ensures.ends;
+      bounds = subst (λ n. AreNonAsciiBounds text n lines.lines.non_ascii_bounds.items) lines.ensures.count
+          lines.ensures.bounds;
       known = subst (All (λ entry. IsByteOffset text entry.0 entry.1)) (sym c.new.ensures.empty) (All-nil _);
     })

@@ -1,6 +1,6 @@
 use Rattle.std.proofs.Common.{◌≡◌, ◌-◌, ◌∙◌, take, drop, sym, ap, ap₂, subst, arith}
 use Rattle.std.specs.Str.{chars, IsCharBoundary}
-use Rattle.pm_span.specs.Place.{byte_offset, between}
+use Rattle.pm_span.specs.CharOffset.{byte_offset, between}
 use Rattle.pm_span.proofs.SeamLemmas.{boundary_at, between_at, byte_offset-rising}
 use Rattle.pm_span.proofs.file_info.FileInfo.text_between.Goals as goal
 

@@ -1,7 +1,7 @@
 use Rattle.std.proofs.Common.{◌≡◌, ◌+◌, [], length, ap, arith}
 use Rattle.pm_span.specs.Files.{positions, next_lo}
 use Rattle.pm_span.proofs.FileLemmas.{positions-cons}
-use Rattle.pm_span.proofs.PlacedLemmas.{texts_of, ArePlaced-push, positions-push}
+use Rattle.pm_span.proofs.ConsecutiveLemmas.{texts_of, AreConsecutive-push, positions-push}
 use Rattle.pm_span.proofs.source_map.SourceMap.add_file.Goals as goal
 
 pub invariant_of-self-2 : goal.invariant_of-self-2
@@ -17,7 +17,7 @@ invariant_of-self-2 c =
       positions-cons [] (texts_of c.self.inside.files.items),
     ) in
     rw c.in_ok-push.ensures.items (record {
-      placed = ArePlaced-push 1 c.self.inside.files.items file c.self.invariant.placed begins;
+      consecutive = AreConsecutive-push 1 c.self.inside.files.items file c.self.invariant.consecutive begins;
       within = omega (
         arith,
         c.requires,

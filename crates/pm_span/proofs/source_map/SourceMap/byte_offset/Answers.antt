@@ -1,7 +1,7 @@
 use Rattle.std.proofs.Common.{◌≡◌, ◌-◌, length, ap, ap₂, subst, ◌∙◌, arith}
-use Rattle.pm_span.specs.Place.{byte_offset}
-use Rattle.pm_span.specs.Placed.{file_0, IsFileOf}
-use Rattle.pm_span.proofs.PlacedLemmas.{file_held, of_each, none_at_0, byte_offset-nil}
+use Rattle.pm_span.specs.CharOffset.{byte_offset}
+use Rattle.pm_span.specs.Consecutive.{file_0, IsFileOf}
+use Rattle.pm_span.proofs.ConsecutiveLemmas.{file_held, of_each, none_at_0, byte_offset-nil}
 use Rattle.pm_span.proofs.source_map.SourceMap.byte_offset.Goals as goal
 
 pub returns-then-number-eq0-clause-value : goal.returns-then-number-eq0-clause-value
@@ -16,13 +16,13 @@ pub index_mut-file-requires : goal.index_mut-file-requires
 index_mut-file-requires c =
     let held = file_held c.self.inside.limit c.self.inside.files.items c.args.position c.file_of-number.result.0 _
     file_0
-    c.self.view_is c.self.invariant.placed c.file_of-number.ensures.found c.requires c.if-number-eq0.false in
+    c.self.view_is c.self.invariant.consecutive c.file_of-number.ensures.found c.requires c.if-number-eq0.false in
     omega (arith, held.0.0)
 
 pub overflow_sub-position : goal.overflow_sub-position
 overflow_sub-position c =
     let held = file_held c.self.inside.limit c.self.inside.files.items c.args.position c.file_of-number.result.0 _
-    c.index_mut-file.result.now c.self.view_is c.self.invariant.placed c.file_of-number.ensures.found c.requires
+    c.index_mut-file.result.now c.self.view_is c.self.invariant.consecutive c.file_of-number.ensures.found c.requires
     c.if-number-eq0.false in
     omega (
       arith,
@@ -35,7 +35,7 @@ overflow_sub-position c =
 pub find_byte_offset-requires : goal.find_byte_offset-requires
 find_byte_offset-requires c =
     let held = file_held c.self.inside.limit c.self.inside.files.items c.args.position c.file_of-number.result.0 _
-    c.index_mut-file.result.now c.self.view_is c.self.invariant.placed c.file_of-number.ensures.found c.requires
+    c.index_mut-file.result.now c.self.view_is c.self.invariant.consecutive c.file_of-number.ensures.found c.requires
     c.if-number-eq0.false in
     omega (
       arith,
@@ -50,7 +50,7 @@ find_byte_offset-requires c =
 pub returns-clause-value : goal.returns-clause-value
 returns-clause-value c = λ text lo file.
     let held = file_held c.self.inside.limit c.self.inside.files.items c.args.position c.file_of-number.result.0 _
-    c.index_mut-file.result.now c.self.view_is c.self.invariant.placed c.file_of-number.ensures.found c.requires
+    c.index_mut-file.result.now c.self.view_is c.self.invariant.consecutive c.file_of-number.ensures.found c.requires
     c.if-number-eq0.false in
     let here = c.find_byte_offset.ensures.value
     ∙ ap₂ (λ t l. byte_offset t (c.args.position - l)) (ap (λ f. f.text) c.index_mut-file.ensures.value ∙ held.0.1)

@@ -1,6 +1,6 @@
 use Rattle.std.proofs.Common.{eqb-true, eq-eqb, ap, arith}
 use Rattle.std.proofs.lemmas.Bool.{leb-true, le-leb}
-use Rattle.pm_span.proofs.PlacedLemmas.{found_none, found_some, holds_at}
+use Rattle.pm_span.proofs.ConsecutiveLemmas.{found_none, found_some, holds_at}
 use Rattle.pm_span.proofs.source_map.SourceMap.holds.Goals as goal
 
 pub returns-in-None : goal.returns-in-None

@@ -1,16 +1,16 @@
 use Rattle.std.proofs.Common.{◌≡◌, ◌+◌, ◌-◌, [], length, sym, ap, subst, arith}
 use Rattle.pm_span.specs.Files.{positions, next_lo}
-use Rattle.pm_span.specs.Placed.{ArePlaced}
+use Rattle.pm_span.specs.Consecutive.{AreConsecutive}
 use Rattle.pm_span.proofs.FileLemmas.{positions-cons}
-use Rattle.pm_span.proofs.PlacedLemmas.{texts_of, last_end}
+use Rattle.pm_span.proofs.ConsecutiveLemmas.{texts_of, last_end}
 use Rattle.pm_span.proofs.source_map.SourceMap.last_hi.Goals as goal
 
 pub returns-in-Some : goal.returns-in-Some
 returns-in-Some c =
     let files = c.deref.result.now in
     let here = c.in-Some.ensures.item in
-    let placed = subst (ArePlaced 1) (sym c.deref.ensures.value) c.self.invariant.placed in
-    let end = last_end 1 files (length files - 1) c.in-Some.file.now placed (omega (arith, here.3.0)) in
+    let consecutive = subst (AreConsecutive 1) (sym c.deref.ensures.value) c.self.invariant.consecutive in
+    let end = last_end 1 files (length files - 1) c.in-Some.file.now consecutive (omega (arith, here.3.0)) in
     let last = subst (λ file. file.lo + length file.text + 1 ≡ 1 + positions (texts_of files)) (sym here.1) end in
     let value : c.hi.result + 1 ≡ next_lo c.args.self.now =
     omega (

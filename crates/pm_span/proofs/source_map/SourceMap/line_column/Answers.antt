@@ -1,6 +1,6 @@
 use Rattle.std.proofs.Common.{◌-◌, ◌≡◌, refl, ap, ◌∙◌, arith}
-use Rattle.pm_span.specs.Place.{line_column}
-use Rattle.pm_span.proofs.PlacedLemmas.{found_none, found_some, holds_at, of_each, line_column-nil}
+use Rattle.pm_span.specs.CharOffset.{line_column}
+use Rattle.pm_span.proofs.ConsecutiveLemmas.{found_none, found_some, holds_at, of_each, line_column-nil}
 use Rattle.pm_span.proofs.source_map.SourceMap.line_column.Goals as goal
 
 pub line_column-requires : goal.line_column-requires

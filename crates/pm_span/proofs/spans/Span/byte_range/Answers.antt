@@ -2,7 +2,7 @@ use Rattle.std.proofs.Common.{◌-◌, ap, ap₂, ◌∙◌, sym, subst, arith, 
 use Rattle.std.specs.declared.ops.Range.{Range}
 use Rattle.pm_span.specs.Files.{Holds}
 use Rattle.pm_span.specs.Lookup.{HasBytesBefore}
-use Rattle.pm_span.specs.Place.{byte_offset}
+use Rattle.pm_span.specs.CharOffset.{byte_offset}
 use Rattle.pm_span.proofs.FileLemmas.{holds_within}
 use Rattle.pm_span.proofs.spans.Span.byte_range.Goals as goal
 

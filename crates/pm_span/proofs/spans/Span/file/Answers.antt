@@ -6,9 +6,9 @@ use Rattle.std.proofs.lemmas.Result.{IfOk-weaker}
 use Rattle.pm_span.specs.Files.{file_name}
 use Rattle.pm_span.specs.Lookup.{HasName}
 use Rattle.std.specs.Option.{unwrap_or, option_copied}
-use Rattle.pm_span.specs.Placed.{file_0, IsFileOf}
+use Rattle.pm_span.specs.Consecutive.{file_0, IsFileOf}
 use Rattle.pm_span.proofs.AsciiLemmas.{chars-parsed_name, chars-unspecified}
-use Rattle.pm_span.proofs.PlacedLemmas.{of_each}
+use Rattle.pm_span.proofs.ConsecutiveLemmas.{of_each}
 use Rattle.pm_span.proofs.spans.Span.file.Goals as goal
 
 pub returns-then-number-eq0 : goal.returns-then-number-eq0

@@ -2,8 +2,8 @@ use Rattle.std.proofs.Common.{◌-◌, ◌≡◌, ◌≢◌, ◌<◌, ap, ap₂,
 use Rattle.std.specs.Option.{MatchOption}
 use Rattle.std.specs.Str.{chars}
 use Rattle.pm_span.specs.Extent.{nowhere}
-use Rattle.pm_span.specs.Place.{between}
-use Rattle.pm_span.proofs.PlacedLemmas.{found_none, found_some, holds_at, of_each, in_file_0, past_file_0}
+use Rattle.pm_span.specs.CharOffset.{between}
+use Rattle.pm_span.proofs.ConsecutiveLemmas.{found_none, found_some, holds_at, of_each, in_file_0, past_file_0}
 use Rattle.pm_span.proofs.spans.Span.source_str.Goals as goal
 
 pub returns-in_err-file-clause-found : goal.returns-in_err-file-clause-found

@@ -6,28 +6,28 @@ use Rattle.std.specs.Option.{unwrap_or, option_copied, MatchOption}
 use Rattle.std.specs.List.Sorted.{IsNonDecreasingBy}
 use Rattle.std.proofs.lemmas.List.{get_or_read}
 use Rattle.pm_span.specs.Extent.{Extent, nowhere}
-use Rattle.pm_span.specs.FileInfo.{PlacedText}
+use Rattle.pm_span.specs.FileInfo.{MappedText}
 use Rattle.pm_span.specs.Files.{Files, positions, IsFile, Holds}
-use Rattle.pm_span.specs.Place.{line_column, byte_offset}
-use Rattle.pm_span.specs.Placed.{file_0, ArePlaced, IsFileOf}
+use Rattle.pm_span.specs.CharOffset.{line_column, byte_offset}
+use Rattle.pm_span.specs.Consecutive.{file_0, AreConsecutive, IsFileOf}
 use Rattle.pm_span.proofs.FileLemmas.{positions-cons}
 
-abbrev pub texts_of : List PlacedText → List (List ℕ)
+abbrev pub texts_of : List MappedText → List (List ℕ)
 texts_of files = map (λ file. file.text) files
 
-pub ArePlaced-push :
-    (position : ℕ) (files : List PlacedText) (file : PlacedText) → ArePlaced position files
-    → file.lo ≡ position + positions (texts_of files) → ArePlaced position (files ++ file ∷ [])
-ArePlaced-push position [] file h e = (omega arith, tt)
-ArePlaced-push position (f ∷ files) file h e = (
+pub AreConsecutive-push :
+    (position : ℕ) (files : List MappedText) (file : MappedText) → AreConsecutive position files
+    → file.lo ≡ position + positions (texts_of files) → AreConsecutive position (files ++ file ∷ [])
+AreConsecutive-push position [] file h e = (omega arith, tt)
+AreConsecutive-push position (f ∷ files) file h e = (
   h.0,
-  ArePlaced-push (position + (length f.text + 1)) files file h.1
+  AreConsecutive-push (position + (length f.text + 1)) files file h.1
       (omega (arith, positions-cons f.text (texts_of files))),
 )
 
 -- a file more takes one position more than it has characters
 pub positions-push :
-    (files : List PlacedText) (file : PlacedText)
+    (files : List MappedText) (file : MappedText)
     → positions (texts_of (files ++ file ∷ [])) ≡ positions (texts_of files) + (length file.text + 1)
 positions-push [] file = omega (arith, positions-cons file.text [])
 positions-push (f ∷ files) file =
@@ -39,16 +39,16 @@ positions-push (f ∷ files) file =
     )
 
 -- each file stands where the files before it end
-pub placed_at :
-    (position : ℕ) (files : List PlacedText) (i : ℕ) (d : PlacedText) → ArePlaced position files
+pub begins_at :
+    (position : ℕ) (files : List MappedText) (i : ℕ) (d : MappedText) → AreConsecutive position files
     → i < length files
     → (before : List (List ℕ)) × (after : List (List ℕ))
     × (texts_of files ≡ before ++ ((get_or files i d).text ∷ after))
     × ((get_or files i d).lo ≡ position + positions before)
-placed_at position [] i d h less = absurd (omega arith)
-placed_at position (file ∷ files) zero d h less = ([], texts_of files, refl, omega arith)
-placed_at position (file ∷ files) (suc i) d h less =
-    let more = placed_at (position + (length file.text + 1)) files i d h.1 (omega arith) in (
+begins_at position [] i d h less = absurd (omega arith)
+begins_at position (file ∷ files) zero d h less = ([], texts_of files, refl, omega arith)
+begins_at position (file ∷ files) (suc i) d h less =
+    let more = begins_at (position + (length file.text + 1)) files i d h.1 (omega arith) in (
       file.text ∷ more.0,
       more.1,
       ap (λ ts. file.text ∷ ts) more.2,
@@ -57,7 +57,7 @@ placed_at position (file ∷ files) (suc i) d h less =
 
 -- the last file ends before the next one would begin
 pub last_end :
-    (position : ℕ) (files : List PlacedText) (i : ℕ) (d : PlacedText) → ArePlaced position files
+    (position : ℕ) (files : List MappedText) (i : ℕ) (d : MappedText) → AreConsecutive position files
     → length files ≡ i + 1
     → (get_or files i d).lo + length (get_or files i d).text + 1 ≡ position + positions (texts_of files)
 last_end position [] i d h e = absurd (omega arith)
@@ -72,8 +72,8 @@ last_end position (file ∷ files) (suc i) d h e =
 
 -- the file of a text that has so many before it
 numbered :
-    (position : ℕ) (files : List PlacedText) (before after : List (List ℕ)) (text : List ℕ) (d : PlacedText)
-    → ArePlaced position files
+    (position : ℕ) (files : List MappedText) (before after : List (List ℕ)) (text : List ℕ) (d : MappedText)
+    → AreConsecutive position files
     → texts_of files ≡ before ++ (text ∷ after)
     → (length before < length files) × ((get_or files (length before) d).text ≡ text)
     × ((get_or files (length before) d).lo ≡ position + positions before)
@@ -87,13 +87,13 @@ numbered position (f ∷ files) (t ∷ ts) after text d h e =
 
 -- the file that has the position is the one of its number
 pub file_at :
-    (limit : ℕ) (files : List PlacedText) (position number : ℕ) (file d : PlacedText) → ArePlaced 1 files
+    (limit : ℕ) (files : List MappedText) (position number : ℕ) (file d : MappedText) → AreConsecutive 1 files
     → IsFileOf (record { texts = texts_of files; limit = limit }) position number file
     → position ≤ file.lo + length file.text
     → (number ≡ 0 → ⊥)
     → (number - 1 < length files) × ((get_or files (number - 1) d).text ≡ file.text)
     × ((get_or files (number - 1) d).lo ≡ file.lo)
-file_at limit files position number file d placed found within some =
+file_at limit files position number file d consecutive found within some =
     at found.is_file.before found.is_file.after found.is_file.whole found.is_file.begins
     (found.only file.text file.lo found.is_file found.begins within).2
   where
@@ -105,18 +105,18 @@ file_at limit files position number file d placed found within some =
         × ((get_or files (number - 1) d).lo ≡ file.lo)
     at [] after whole begins count = absurd (some (sym count))
     at (t ∷ before) after whole begins count =
-        let here = numbered 1 files before after file.text d placed (cc) in
+        let here = numbered 1 files before after file.text d consecutive (cc) in
         let first : [] ≡ t = cc in
-        let place : number - 1 ≡ length before = omega (arith, count) in
-        rw place (here.0, here.1, omega (arith, here.2, begins, positions-cons t before, ap length first))
+        let index : number - 1 ≡ length before = omega (arith, count) in
+        rw index (here.0, here.1, omega (arith, here.2, begins, positions-cons t before, ap length first))
 
 begins_past :
-    (position : ℕ) (files : List PlacedText) (i : ℕ) (d : PlacedText) → ArePlaced position files
+    (position : ℕ) (files : List MappedText) (i : ℕ) (d : MappedText) → AreConsecutive position files
     → i < length files → position ≤ (get_or files i d).lo
-begins_past position files i d h less = omega (arith, (placed_at position files i d h less).3)
+begins_past position files i d h less = omega (arith, (begins_at position files i d h less).3)
 
 -- files ascend
-pub rising : (position : ℕ) (files : List PlacedText) → ArePlaced position files
+pub rising : (position : ℕ) (files : List MappedText) → AreConsecutive position files
     → IsNonDecreasingBy (λ file. file.lo) files
 rising position [] h i j d le less = absurd (omega arith)
 rising position (file ∷ files) h zero j d le less = omega (arith, begins_past position (file ∷ files) j d h less)
@@ -126,11 +126,11 @@ rising position (file ∷ files) h (suc i) (suc j) d le less =
 
 -- of `file ∷ files` with n of `files` at or before the position, only the one at n may have it
 only_at :
-    (file : PlacedText) (files : List PlacedText) (n position : ℕ) (d : PlacedText) (before after : List (List ℕ))
+    (file : MappedText) (files : List MappedText) (n position : ℕ) (d : MappedText) (before after : List (List ℕ))
     (text : List ℕ)
-    → ArePlaced (file.lo + (length file.text + 1)) files → n ≤ length files
-    → ((j : ℕ) (e : PlacedText) → j < n → (get_or files j e).lo ≤ position)
-    → ((j : ℕ) (e : PlacedText) → n ≤ j → j < length files → position < (get_or files j e).lo)
+    → AreConsecutive (file.lo + (length file.text + 1)) files → n ≤ length files
+    → ((j : ℕ) (e : MappedText) → j < n → (get_or files j e).lo ≤ position)
+    → ((j : ℕ) (e : MappedText) → n ≤ j → j < length files → position < (get_or files j e).lo)
     → file.text ∷ texts_of files ≡ before ++ (text ∷ after) → file.lo + positions before ≤ position
     → position ≤ file.lo + positions before + length text
     → (text ≡ (get_or (file ∷ files) n d).text) × (file.lo + positions before ≡ (get_or (file ∷ files) n d).lo)
@@ -149,18 +149,18 @@ only_at file (f ∷ files) (suc n) position d (t ∷ ts) after text h bound belo
     let same : file.text ≡ t = cc in
     let k : f.lo + positions ts ≡ file.lo + positions (t ∷ ts) =
     omega (arith, h.0, ap length same, positions-cons t ts) in
-    let placed : ArePlaced (f.lo + (length f.text + 1)) files =
-    subst (λ p. ArePlaced (p + (length f.text + 1)) files) (sym h.0) h.1 in
-    let rest = only_at f files n position d ts after text placed (omega arith)
+    let consecutive : AreConsecutive (f.lo + (length f.text + 1)) files =
+    subst (λ p. AreConsecutive (p + (length f.text + 1)) files) (sym h.0) h.1 in
+    let rest = only_at f files n position d ts after text consecutive (omega arith)
     (λ j e less. below (suc j) e (omega arith)) (λ j e le less. above (suc j) e (omega arith) (omega arith))
     (cc) (omega arith) (omega arith) in
     (rest.0, sym k ∙ rest.1, omega (arith, rest.2))
 
 -- what a search for the last file that begins at or before the position finds
 pub file_found :
-    (limit : ℕ) (files : List PlacedText) (n position : ℕ) (d : PlacedText) → ArePlaced 1 files
-    → n ≤ length files → ((j : ℕ) (e : PlacedText) → j < n → (get_or files j e).lo ≤ position)
-    → ((j : ℕ) (e : PlacedText) → n ≤ j → j < length files → position < (get_or files j e).lo)
+    (limit : ℕ) (files : List MappedText) (n position : ℕ) (d : MappedText) → AreConsecutive 1 files
+    → n ≤ length files → ((j : ℕ) (e : MappedText) → j < n → (get_or files j e).lo ≤ position)
+    → ((j : ℕ) (e : MappedText) → n ≤ j → j < length files → position < (get_or files j e).lo)
     → IsFileOf (record { texts = texts_of files; limit = limit }) position n (get_or (file_0 ∷ files) n d)
 file_found limit files n position d h bound below above = record {
   is_file = (is_file n bound);
@@ -177,7 +177,7 @@ file_found limit files n position d h bound below above = record {
         (get_or (file_0 ∷ files) n d).lo
     is_file zero bound = record { before = []; after = texts_of files; whole = refl; begins = refl }
     is_file (suc n) bound =
-        let at = placed_at 1 files n d h (omega arith) in
+        let at = begins_at 1 files n d h (omega arith) in
         record {
           before = [] ∷ at.0;
           after = at.1;
@@ -186,12 +186,12 @@ file_found limit files n position d h bound below above = record {
         }
 
     begins :
-        (n : ℕ) → n ≤ length files → ((j : ℕ) (e : PlacedText) → j < n → (get_or files j e).lo ≤ position)
+        (n : ℕ) → n ≤ length files → ((j : ℕ) (e : MappedText) → j < n → (get_or files j e).lo ≤ position)
         → (get_or (file_0 ∷ files) n d).lo ≤ position
     begins zero bound below = omega arith
     begins (suc n) bound below = below n d (omega arith)
 
--- the element before the place n, or the first that stands for none
+-- the element before the index n, or the first that stands for none
 pub get_or_before : {X : Type 0} (xs : List X) (n : ℕ) (x d : X) → (n ≡ 0 → ⊥) → n ≤ length xs → x ≡ get_or xs (n - 1) x
     → x ≡ get_or (d ∷ xs) n d
 get_or_before xs zero x d some bound e = absurd (some refl)
@@ -201,14 +201,14 @@ get_or_before xs (suc n) x d some bound e =
 
 -- the file that the search answers
 pub found_none :
-    {map : Files} {p q number : ℕ} {file : Option (Bor PlacedText)} → p ≡ q → file ≡ None
+    {map : Files} {p q number : ℕ} {file : Option (Bor MappedText)} → p ≡ q → file ≡ None
     → IsFileOf map p number (unwrap_or (option_copied file) file_0) → IsFileOf map q number file_0
 found_none {map} {p} {q} {number} same is found =
     subst (λ r. IsFileOf map r number file_0) same
     (subst (λ o. IsFileOf map p number (unwrap_or (option_copied o) file_0)) is found)
 
 pub found_some :
-    {map : Files} {p q number : ℕ} {file : Option (Bor PlacedText)} {some : Bor PlacedText} → p ≡ q → file ≡ Some some
+    {map : Files} {p q number : ℕ} {file : Option (Bor MappedText)} {some : Bor MappedText} → p ≡ q → file ≡ Some some
     → IsFileOf map p number (unwrap_or (option_copied file) file_0) → IsFileOf map q number some.now
 found_some {map} {p} {q} {number} {file} {some} same is found =
     subst (λ r. IsFileOf map r number some.now) same
@@ -216,14 +216,14 @@ found_some {map} {p} {q} {number} {file} {some} same is found =
 
 -- at number 0 the search answers no file
 pub none_at_0 :
-    {number : ℕ} (file : Option (Bor PlacedText)) → MatchOption file (number ≡ 0) (λ _. 0 < number) → number ≡ 0
+    {number : ℕ} (file : Option (Bor MappedText)) → MatchOption file (number ≡ 0) (λ _. 0 < number) → number ≡ 0
     → unwrap_or (option_copied file) file_0 ≡ file_0
 none_at_0 None h is = refl
 none_at_0 (Some file) h is = absurd (omega arith)
 
 -- a span is held exactly if it ends in the file that may have its beginning
 pub holds_at :
-    {map : Files} {number : ℕ} {file : PlacedText} (span : Extent) → IsFileOf map span.lo number file
+    {map : Files} {number : ℕ} {file : MappedText} (span : Extent) → IsFileOf map span.lo number file
     → span.lo ≤ span.hi
     → (span.hi ≤ file.lo + length file.text) ↔ Holds map span
 holds_at {map} {number} {file} span found ordered = (
@@ -235,22 +235,24 @@ holds_at {map} {number} {file} span found ordered = (
 
 -- the file of the number that was found, where the position is held
 pub file_held :
-    {map : Files} (limit : ℕ) (files : List PlacedText) (position number : ℕ) (file d : PlacedText)
-    → record { texts = texts_of files; limit = limit } ≡ map → ArePlaced 1 files → IsFileOf map position number file
+    {map : Files} (limit : ℕ) (files : List MappedText) (position number : ℕ) (file d : MappedText)
+    → record { texts = texts_of files; limit = limit } ≡ map → AreConsecutive 1 files
+    → IsFileOf map position number file
     → Holds map (record { lo = position; hi = position }) → (number ≡ 0 → ⊥)
     → ((number - 1 < length files) × ((get_or files (number - 1) d).text ≡ file.text)
     × ((get_or files (number - 1) d).lo ≡ file.lo))
     × (position ≤ file.lo + length file.text)
-file_held limit files position number file d view placed found held some =
+file_held limit files position number file d view consecutive found held some =
     let within = (holds_at (record { lo = position; hi = position }) found (omega arith)).1 held in (
-      file_at limit files position number file d placed (subst (λ m. IsFileOf m position number file) (sym view) found)
+      file_at limit files position number file d consecutive
+          (subst (λ m. IsFileOf m position number file) (sym view) found)
           within some,
       within,
     )
 
 -- what holds of the file that was found holds of any file of the map that has the span
 pub of_each :
-    {map : Files} {number : ℕ} {file : PlacedText} (span : Extent) (P : ℕ → List ℕ → ℕ → Type 0)
+    {map : Files} {number : ℕ} {file : MappedText} (span : Extent) (P : ℕ → List ℕ → ℕ → Type 0)
     → IsFileOf map span.lo number file → span.lo ≤ span.hi → P number file.text file.lo
     → (text : List ℕ) (lo : ℕ) (other : IsFile map text lo) → lo ≤ span.lo → span.hi ≤ lo + length text
     → P (length other.before) text lo
@@ -271,7 +273,7 @@ in_file_0 span found ordered held =
     ap₂ extent_of (omega arith) (omega arith)
 
 pub past_file_0 :
-    {map : Files} {number : ℕ} {file : PlacedText} (span : Extent) → IsFileOf map span.lo number file → 0 < number
+    {map : Files} {number : ℕ} {file : MappedText} (span : Extent) → IsFileOf map span.lo number file → 0 < number
     → span ≢ nowhere
 past_file_0 {map} span found past same =
     let lo = ap (λ s. s.lo) same in
@@ -279,7 +281,7 @@ past_file_0 {map} span found past same =
     (omega arith) in
     omega (arith, zero.2)
 
--- the places of file 0
+-- what holds of file 0
 pub line_column-nil : (k : ℕ) → record { line = 1; column = 0 } ≡ line_column [] k
 line_column-nil zero = refl
 line_column-nil (suc k) = refl
