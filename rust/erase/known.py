@@ -19,7 +19,7 @@ TOOLCHAIN_CRATES = {'hex', 'itoa', 'memchr', 'ucd_category', 'unicode_ident'}
 
 # Methods of std's types that Rust's types have too, with the same answers, or that the shim's types have.
 METHODS = set('''
-    all allocator and_then any append as_bytes as_mut_slice as_slice as_str
+    abs_diff all allocator and_then any append as_bytes as_mut_slice as_slice as_str
     bytes checked_add checked_mul checked_sub chars clear clone cmp collect contains copy_from_slice count
     debug_list debug_struct encode_utf8 entry escape_unicode extend_from_slice
     field filter find finish first fmt format from_mut get hash

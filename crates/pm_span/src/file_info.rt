@@ -27,13 +27,15 @@ pub(crate) struct FileInfo {
     non_ascii_bounds: Vec<OffsetPair>,
     /// Known offsets inside long lines, from characters to bytes.
     byte_offsets: BTreeMap<u32, usize>,
+    /// The known offset that was used last.
+    used: OffsetPair,
 }
 
 /// One offset of a text, in characters and in bytes.
 #[derive(Clone, Copy, Debug)]
-struct OffsetPair {
-    chars: u32,
-    bytes: usize,
+pub(crate) struct OffsetPair {
+    pub(crate) chars: u32,
+    pub(crate) bytes: usize,
 }
 
 impl Model for FileInfo {
@@ -46,7 +48,7 @@ impl Model for FileInfo {
     ghost view = { λ file. record { text = chars (string_bytes file.text); lo = file.lo } };
 
     ghost invariant = { λ file. IsKept (chars (string_bytes file.text)) file.lo file.hi file.line_starts.items
-        file.non_ascii_bounds.items file.byte_offsets.entries };
+        file.non_ascii_bounds.items file.byte_offsets.entries file.used };
 }
 
 /// What one pass over a text finds.
@@ -132,6 +134,7 @@ impl FileInfo {
             line_starts: lines.starts,
             non_ascii_bounds: lines.non_ascii_bounds,
             byte_offsets: BTreeMap::new(alloc),
+            used: OffsetPair { chars: 0, bytes: 0 },
         })
     }
 
@@ -233,29 +236,44 @@ impl FileInfo {
         }
     }
 
-    /// The bytes before an offset of the text, and how many characters were walked to count them.
-    ///
-    /// It walks from the nearer one of the known offsets on both sides of it, and not at all where all between
-    /// them is ASCII.
-    fn count_bytes(&self, char_offset: u32) -> (usize, u32)
+    /// A known offset to walk from to this one: the one used last if it is near, else the nearer one of those on
+    /// both sides. Where all around the offset is ASCII, it is known itself.
+    fn nearest_known(&self, char_offset: u32) -> OffsetPair
         requires { char_offset ≤ length self.now.text }
-        ensures { result.0 ≡ byte_offset self.now.text char_offset }
+        ensures { IsByteOffset self.now.text result.chars result.bytes }
     {
         let (start, end) = self.bounds_around(char_offset);
+        if end.bytes - start.bytes == (end.chars - start.chars) as usize {
+            return OffsetPair {
+                chars: char_offset,
+                bytes: start.bytes + (char_offset - start.chars) as usize,
+            };
+        }
+        if char_offset.abs_diff(self.used.chars) <= SHORT_WALK {
+            return self.used;
+        }
         let before = self.known_before(char_offset, start);
         let after = self.known_after(char_offset, end);
-        let forwards = char_offset - before.chars;
-        let backwards = after.chars - char_offset;
-        if after.bytes - before.bytes == (after.chars - before.chars) as usize {
-            return (before.bytes + forwards as usize, 0);
-        }
-        let text = self.text.as_str();
-        if backwards < forwards {
-            let front = skip_chars_back(&text[..after.bytes], backwards as usize);
-            (front.len(), backwards)
+        if after.chars - char_offset < char_offset - before.chars {
+            after
         } else {
-            let rest = skip_chars(&text[before.bytes..], forwards as usize);
-            (text.len() - rest.len(), forwards)
+            before
+        }
+    }
+
+    /// The bytes before an offset of the text, counted on or back from a known one.
+    fn count_from(&self, known: OffsetPair, char_offset: u32) -> usize
+        requires known { IsByteOffset self.now.text known.chars known.bytes }
+        requires within { char_offset ≤ length self.now.text }
+        ensures { result ≡ byte_offset self.now.text char_offset }
+    {
+        let text = self.text.as_str();
+        if char_offset < known.chars {
+            let front = skip_chars_back(&text[..known.bytes], (known.chars - char_offset) as usize);
+            front.len()
+        } else {
+            let rest = skip_chars(&text[known.bytes..], (char_offset - known.chars) as usize);
+            text.len() - rest.len()
         }
     }
 
@@ -264,8 +282,7 @@ impl FileInfo {
         requires { char_offset ≤ length self.now.text }
         ensures { result ≡ byte_offset self.now.text char_offset }
     {
-        let (bytes, _) = self.count_bytes(char_offset);
-        bytes
+        self.count_from(self.nearest_known(char_offset), char_offset)
     }
 
     /// The same, and the offset becomes a known one if the walk to it was long and there is memory.
@@ -274,19 +291,27 @@ impl FileInfo {
         ensures value { result ≡ byte_offset self.old.text char_offset }
         ensures kept { self.new ≡ self.old }
     {
-        let (bytes, walked) = self.count_bytes(char_offset);
-        if walked > SHORT_WALK {
+        let known = self.nearest_known(char_offset);
+        let bytes = self.count_from(known, char_offset);
+        if char_offset.abs_diff(known.chars) > SHORT_WALK {
             let _ = self.byte_offsets.insert(char_offset, bytes);
+            self.used = OffsetPair {
+                chars: char_offset,
+                bytes,
+            };
+        } else {
+            self.used = known;
         }
         bytes
     }
 
-    /// The text between two of its offsets, in characters.
-    pub(crate) fn text_between(&self, from: u32, to: u32) -> &str
-        requires ordered { from ≤ to }
-        requires within { to ≤ length self.now.text }
-        ensures value { chars result.now ≡ between self.now.text from to }
+    /// The text between two of its offsets.
+    pub(crate) fn text_between(&self, from: OffsetPair, to: OffsetPair) -> &str
+        requires ordered { from.chars ≤ to.chars }
+        requires from { IsByteOffset self.now.text from.chars from.bytes }
+        requires to { IsByteOffset self.now.text to.chars to.bytes }
+        ensures value { chars result.now ≡ between self.now.text from.chars to.chars }
     {
-        &self.text.as_str()[self.byte_offset(from)..self.byte_offset(to)]
+        &self.text.as_str()[from.bytes..to.bytes]
     }
 }

@@ -6,6 +6,7 @@ ghost use Rattle.pm_span.specs.Extent.{nowhere};
 ghost use Rattle.pm_span.specs.Files.{Holds};
 ghost use Rattle.pm_span.specs.Lookup.{StartsAt, EndsAt, HasBytes, HasText, HasName, IsTextOf, AreInOneFile, joined};
 
+use crate::file_info::OffsetPair;
 use crate::location::LineColumn;
 use crate::source_map::SourceMap;
 use crate::spans::Span;
@@ -83,12 +84,33 @@ impl Span {
         ensures nowhere { self ≡ nowhere → result ≡ Ok None }
         ensures kept { map.new ≡ map.old }
     {
-        // Its ends become known offsets, from which `source_str` then walks.
-        let _ = self.byte_range(map);
-        match self.source_str(map) {
+        let bytes = self.byte_range(map);
+        match self.text_of(bytes, map) {
             None => Ok(None),
             Some(text) => Ok(Some(String::from_str(map.allocator(), text)?)),
         }
+    }
+
+    /// The text of the span, which takes these bytes of its file.
+    fn text_of(self, bytes: Range<usize>, map: &SourceMap) -> Option<&str>
+        requires held { Holds map.now self }
+        requires bytes { HasBytes map.now self bytes }
+        ensures found { MatchOption result (self ≡ nowhere) (λ _. self ≢ nowhere) }
+        ensures value { IfSome result (λ text. HasText map.now self (chars text.now)) }
+        ensures text { IfSome result (λ text. IsTextOf map.now self (chars text.now)) }
+    {
+        let (lo, hi) = self.bounds();
+        let (_, file) = map.file_of(lo);
+        let file = file?;
+        let from = OffsetPair {
+            chars: lo - file.lo(),
+            bytes: bytes.start,
+        };
+        let to = OffsetPair {
+            chars: hi - file.lo(),
+            bytes: bytes.end,
+        };
+        Some(file.text_between(from, to))
     }
 
     /// The text of the span (`source-text`), in a map that holds it; `None` for 0..0 alone.
@@ -104,7 +126,17 @@ impl Span {
         let (lo, hi) = self.bounds();
         let (_, file) = map.file_of(lo);
         let file = file?;
-        Some(file.text_between(lo - file.lo(), hi - file.lo()))
+        let start = lo - file.lo();
+        let end = hi - file.lo();
+        let from = OffsetPair {
+            chars: start,
+            bytes: file.byte_offset(start),
+        };
+        let to = OffsetPair {
+            chars: end,
+            bytes: file.byte_offset(end),
+        };
+        Some(file.text_between(from, to))
     }
 
     /// The span from where the first of the two begins to where the last of them ends (`join`), in a map

@@ -1,5 +1,5 @@
 // Made from crates/pm_span/src/lib.rt by rust/erase: change that file, not this one.
-//! Places in source texts: positions, lines and columns, and the map of the files that were read.
+//! Positions in source texts, spans, lines and columns, and the map of the files that were read.
 //!
 //! A rule is named by its label in backquotes, such as `next-position`. `docs/GRAMMAR.md` has all of them, each
 //! with its definition.

@@ -7,7 +7,7 @@ use crate::pm_span::text::{char_count, skip_chars, skip_chars_back, split_line};
 use crate::shim::alloc::{AllocError, Global};
 use crate::shim::collections::BTreeMap;
 
-/// So many characters may be walked again each time. A place that was found by more is kept.
+/// So many characters may be walked again each time. An offset that was found by more is kept.
 const SHORT_WALK: u32 = 32;
 
 /// A file of a source map: its text, the positions that it takes, and where its lines begin.
@@ -18,27 +18,29 @@ pub(crate) struct FileInfo {
     lo: u32,
     /// The position after its last character.
     hi: u32,
-    /// The places after each line feed, in characters from the start of the text.
+    /// The offsets after each line feed, in characters.
     line_starts: Vec<u32>,
     /// Where each line that isn't ASCII begins and ends.
-    wide_ends: Vec<KnownPlace>,
-    /// Places inside long lines, in characters, each with the bytes before it.
+    non_ascii_bounds: Vec<OffsetPair>,
+    /// Known offsets inside long lines, from characters to bytes.
     byte_offsets: BTreeMap<u32, usize>,
+    /// The known offset that was used last.
+    used: OffsetPair,
 }
 
-/// A place of a text, in characters, and the bytes before it.
+/// One offset of a text, in characters and in bytes.
 #[derive(Clone, Copy, Debug)]
-struct KnownPlace {
-    place: u32,
-    bytes: usize,
+pub(crate) struct OffsetPair {
+    pub(crate) chars: u32,
+    pub(crate) bytes: usize,
 }
 
 /// What one pass over a text finds.
 struct Lines {
-    /// The places after each line feed.
+    /// The offsets after each line feed, in characters.
     starts: Vec<u32>,
     /// Where each line that isn't ASCII begins and ends.
-    wide_ends: Vec<KnownPlace>,
+    non_ascii_bounds: Vec<OffsetPair>,
     /// How many characters the text has.
     count: u32,
 }
@@ -47,49 +49,49 @@ struct Lines {
 fn find_lines(alloc: Global, text: &str) -> Result<Lines, AllocError>
 {
     let mut starts = Vec::new(alloc);
-    let mut wide_ends = Vec::new(alloc);
-    let mut start = KnownPlace { place: 0, bytes: 0 };
+    let mut non_ascii_bounds = Vec::new(alloc);
+    let mut start = OffsetPair { chars: 0, bytes: 0 };
     let mut rest = text;
     while let Some((line, after)) = split_line(rest) {
-        let chars = char_count(line);
-        let next = KnownPlace {
-            place: start.place + chars as u32 + 1,
+        let count = char_count(line);
+        let next = OffsetPair {
+            chars: start.chars + count as u32 + 1,
             bytes: text.len() - after.len(),
         };
-        starts.push(next.place)?;
-        if chars < line.len() {
-            push_ends(&mut wide_ends, start, next)?;
+        starts.push(next.chars)?;
+        if count < line.len() {
+            push_bounds(&mut non_ascii_bounds, start, next)?;
         }
         start = next;
         rest = after;
     }
-    let chars = char_count(rest);
-    let end = KnownPlace {
-        place: start.place + chars as u32,
+    let count = char_count(rest);
+    let end = OffsetPair {
+        chars: start.chars + count as u32,
         bytes: text.len(),
     };
-    if chars < rest.len() {
-        push_ends(&mut wide_ends, start, end)?;
+    if count < rest.len() {
+        push_bounds(&mut non_ascii_bounds, start, end)?;
     }
     Ok(Lines {
         starts,
-        wide_ends,
-        count: end.place,
+        non_ascii_bounds,
+        count: end.chars,
     })
 }
 
-/// Keeps both ends of a line that isn't ASCII. The first one is kept already where the line before it is.
-fn push_ends(
-    ends: &mut Vec<KnownPlace>,
-    start: KnownPlace,
-    end: KnownPlace,
+/// Keeps where a line that isn't ASCII begins and ends. The first is kept already where the line before it is.
+fn push_bounds(
+    bounds: &mut Vec<OffsetPair>,
+    start: OffsetPair,
+    end: OffsetPair,
 ) -> Result<(), AllocError>
 {
-    match ends.last() {
-        Some(last) if last.place == start.place => {}
-        _ => ends.push(start)?,
+    match bounds.last() {
+        Some(last) if last.chars == start.chars => {}
+        _ => bounds.push(start)?,
     }
-    ends.push(end)?;
+    bounds.push(end)?;
     Ok(())
 }
 
@@ -103,8 +105,9 @@ impl FileInfo {
             lo,
             hi: lo + lines.count,
             line_starts: lines.starts,
-            wide_ends: lines.wide_ends,
+            non_ascii_bounds: lines.non_ascii_bounds,
             byte_offsets: BTreeMap::new(alloc),
+            used: OffsetPair { chars: 0, bytes: 0 },
         })
     }
 
@@ -120,10 +123,12 @@ impl FileInfo {
         self.hi
     }
 
-    /// How many line feeds stand before a place of the text, and where the line of the place begins.
-    fn line_at(&self, place: u32) -> (usize, u32)
+    /// How many line feeds stand before an offset of the text, and where its line begins, in characters.
+    fn line_at(&self, char_offset: u32) -> (usize, u32)
     {
-        let line_feeds = self.line_starts.partition_point(|start| *start <= place);
+        let line_feeds = self
+            .line_starts
+            .partition_point(|start| *start <= char_offset);
         let line_start = if line_feeds == 0 {
             0
         } else {
@@ -132,103 +137,123 @@ impl FileInfo {
         (line_feeds, line_start)
     }
 
-    /// The line and column of a place of the text, a count of its characters.
-    pub(crate) fn line_column(&self, place: u32) -> LineColumn
+    /// The line and column of an offset of the text, in characters.
+    pub(crate) fn line_column(&self, char_offset: u32) -> LineColumn
     {
-        let (line_feeds, line_start) = self.line_at(place);
+        let (line_feeds, line_start) = self.line_at(char_offset);
         LineColumn {
             line: line_feeds + 1,
-            column: (place - line_start) as usize,
+            column: (char_offset - line_start) as usize,
         }
     }
 
-    /// The nearest places on both sides of this one where a line that isn't ASCII begins or ends, or the text does.
-    fn ends_around(&self, place: u32) -> (KnownPlace, KnownPlace)
+    /// The nearest offsets on both sides of this one where a line that isn't ASCII begins or ends, or the text does.
+    fn bounds_around(&self, char_offset: u32) -> (OffsetPair, OffsetPair)
     {
-        let count = self.wide_ends.partition_point(|end| end.place <= place);
+        let count = self
+            .non_ascii_bounds
+            .partition_point(|bound| bound.chars <= char_offset);
         let before = if count == 0 {
-            KnownPlace { place: 0, bytes: 0 }
+            OffsetPair { chars: 0, bytes: 0 }
         } else {
-            self.wide_ends[count - 1]
+            self.non_ascii_bounds[count - 1]
         };
-        let after = match self.wide_ends.get(count) {
-            Some(end) => *end,
-            None => KnownPlace {
-                place: self.hi - self.lo,
+        let after = match self.non_ascii_bounds.get(count) {
+            Some(bound) => *bound,
+            None => OffsetPair {
+                chars: self.hi - self.lo,
                 bytes: self.text.len(),
             },
         };
         (before, after)
     }
 
-    /// The last known place that isn't after this one, from `start` on.
-    fn known_before(&self, place: u32, start: KnownPlace) -> KnownPlace
+    /// The last known offset that isn't after this one, from `start` on.
+    fn known_before(&self, char_offset: u32, start: OffsetPair) -> OffsetPair
     {
-        match self.byte_offsets.range(..=place).next_back() {
-            Some((entry, bytes)) if *entry > start.place => KnownPlace {
-                place: *entry,
+        match self.byte_offsets.range(..=char_offset).next_back() {
+            Some((entry, bytes)) if *entry > start.chars => OffsetPair {
+                chars: *entry,
                 bytes: *bytes,
             },
             _ => start,
         }
     }
 
-    /// The first known place that isn't before this one, up to `end`.
-    fn known_after(&self, place: u32, end: KnownPlace) -> KnownPlace
+    /// The first known offset that isn't before this one, up to `end`.
+    fn known_after(&self, char_offset: u32, end: OffsetPair) -> OffsetPair
     {
-        match self.byte_offsets.range(place..).next() {
-            Some((entry, bytes)) if *entry < end.place => KnownPlace {
-                place: *entry,
+        match self.byte_offsets.range(char_offset..).next() {
+            Some((entry, bytes)) if *entry < end.chars => OffsetPair {
+                chars: *entry,
                 bytes: *bytes,
             },
             _ => end,
         }
     }
 
-    /// The bytes before a place of the text, and how many characters were walked to count them.
-    ///
-    /// It walks from the nearer one of the known places on both sides of it, and not at all where all between
-    /// them is ASCII.
-    fn count_bytes(&self, place: u32) -> (usize, u32)
+    /// A known offset to walk from to this one: the one used last if it is near, else the nearer one of those on
+    /// both sides. Where all around the offset is ASCII, it is known itself.
+    fn nearest_known(&self, char_offset: u32) -> OffsetPair
     {
-        let (start, end) = self.ends_around(place);
-        let before = self.known_before(place, start);
-        let after = self.known_after(place, end);
-        let forwards = place - before.place;
-        let backwards = after.place - place;
-        if after.bytes - before.bytes == (after.place - before.place) as usize {
-            return (before.bytes + forwards as usize, 0);
+        let (start, end) = self.bounds_around(char_offset);
+        if end.bytes - start.bytes == (end.chars - start.chars) as usize {
+            return OffsetPair {
+                chars: char_offset,
+                bytes: start.bytes + (char_offset - start.chars) as usize,
+            };
         }
-        let text = self.text.as_str();
-        if backwards < forwards {
-            let front = skip_chars_back(&text[..after.bytes], backwards as usize);
-            (front.len(), backwards)
+        if char_offset.abs_diff(self.used.chars) <= SHORT_WALK {
+            return self.used;
+        }
+        let before = self.known_before(char_offset, start);
+        let after = self.known_after(char_offset, end);
+        if after.chars - char_offset < char_offset - before.chars {
+            after
         } else {
-            let rest = skip_chars(&text[before.bytes..], forwards as usize);
-            (text.len() - rest.len(), forwards)
+            before
         }
     }
 
-    /// A place of the text, a count of its characters, as a count of its bytes.
-    pub(crate) fn byte_offset(&self, place: u32) -> usize
+    /// The bytes before an offset of the text, counted on or back from a known one.
+    fn count_from(&self, known: OffsetPair, char_offset: u32) -> usize
     {
-        let (bytes, _) = self.count_bytes(place);
-        bytes
+        let text = self.text.as_str();
+        if char_offset < known.chars {
+            let front = skip_chars_back(&text[..known.bytes], (known.chars - char_offset) as usize);
+            front.len()
+        } else {
+            let rest = skip_chars(&text[known.bytes..], (char_offset - known.chars) as usize);
+            text.len() - rest.len()
+        }
     }
 
-    /// The same, and the place becomes a known one if the walk to it was long and there is memory.
-    pub(crate) fn find_byte_offset(&mut self, place: u32) -> usize
+    /// An offset of the text in characters as one in bytes.
+    pub(crate) fn byte_offset(&self, char_offset: u32) -> usize
     {
-        let (bytes, walked) = self.count_bytes(place);
-        if walked > SHORT_WALK {
-            let _ = self.byte_offsets.insert(place, bytes);
+        self.count_from(self.nearest_known(char_offset), char_offset)
+    }
+
+    /// The same, and the offset becomes a known one if the walk to it was long and there is memory.
+    pub(crate) fn find_byte_offset(&mut self, char_offset: u32) -> usize
+    {
+        let known = self.nearest_known(char_offset);
+        let bytes = self.count_from(known, char_offset);
+        if char_offset.abs_diff(known.chars) > SHORT_WALK {
+            let _ = self.byte_offsets.insert(char_offset, bytes);
+            self.used = OffsetPair {
+                chars: char_offset,
+                bytes,
+            };
+        } else {
+            self.used = known;
         }
         bytes
     }
 
-    /// The text between two of its places, counts of its characters.
-    pub(crate) fn text_between(&self, from: u32, to: u32) -> &str
+    /// The text between two of its offsets.
+    pub(crate) fn text_between(&self, from: OffsetPair, to: OffsetPair) -> &str
     {
-        &self.text.as_str()[self.byte_offset(from)..self.byte_offset(to)]
+        &self.text.as_str()[from.bytes..to.bytes]
     }
 }

@@ -1,5 +1,5 @@
 // Made from crates/pm_span/src/laws.rt by rust/erase: change that file, not this one.
-//! What is proved of places. The functions compute nothing: their contracts are the laws.
+//! What is proved of lines and columns. The functions compute nothing: their contracts are the laws.
 
 use crate::pm_span::location::LineColumn;
 use crate::shim::cmp::Ordering;
@@ -9,5 +9,5 @@ use crate::shim::hash::Hash;
 /// equal exactly if their lines and their columns are. A hasher is fed the line and then the column.
 ///
 /// Line 1, column 5 comes before line 2, column 0.
-pub fn places_by_line_then_column()
+pub fn ordered_line_columns()
 {}

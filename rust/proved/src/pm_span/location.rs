@@ -1,7 +1,7 @@
 // Made from crates/pm_span/src/location.rt by rust/erase: change that file, not this one.
 //! Lines and columns.
 
-/// A place in a text, as people count it.
+/// A line and a column of a text, as people count them.
 #[derive(Clone, Copy, Debug, PartialEq, Eq, PartialOrd, Ord, Hash)]
 pub struct LineColumn {
     /// The line, from 1 on.

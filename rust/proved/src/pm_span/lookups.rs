@@ -3,6 +3,7 @@
 
 use crate::shim::prelude::{String, format};
 
+use crate::pm_span::file_info::OffsetPair;
 use crate::pm_span::location::LineColumn;
 use crate::pm_span::source_map::SourceMap;
 use crate::pm_span::spans::Span;
@@ -47,7 +48,7 @@ impl Span {
     /// The bytes of its file's text that the span takes (`byte-offset`), in a map that holds it.
     ///
     /// They count from the start of the file, and are 0..0 for 0..0. In the text `é a` at 1..4, the span
-    /// 3..4 takes the bytes 3..4. The map stays as it is, but may remember places inside long lines, so that
+    /// 3..4 takes the bytes 3..4. The map stays as it is, but may remember offsets inside long lines, so that
     /// later look-ups there are short. Where there is no memory for that, the answer is the same.
     pub fn byte_range(self, map: &mut SourceMap) -> Range<usize>
     {
@@ -63,12 +64,28 @@ impl Span {
     /// there is no memory for the copy.
     pub fn source_text(self, map: &mut SourceMap) -> Result<Option<String>, AllocError>
     {
-        // Its ends become known places, from which `source_str` then walks.
-        let _ = self.byte_range(map);
-        match self.source_str(map) {
+        let bytes = self.byte_range(map);
+        match self.text_of(bytes, map) {
             None => Ok(None),
             Some(text) => Ok(Some(String::from_str(map.allocator(), text)?)),
         }
+    }
+
+    /// The text of the span, which takes these bytes of its file.
+    fn text_of(self, bytes: Range<usize>, map: &SourceMap) -> Option<&str>
+    {
+        let (lo, hi) = self.bounds();
+        let (_, file) = map.file_of(lo);
+        let file = file?;
+        let from = OffsetPair {
+            chars: lo - file.lo(),
+            bytes: bytes.start,
+        };
+        let to = OffsetPair {
+            chars: hi - file.lo(),
+            bytes: bytes.end,
+        };
+        Some(file.text_between(from, to))
     }
 
     /// The text of the span (`source-text`), in a map that holds it; `None` for 0..0 alone.
@@ -80,7 +97,17 @@ impl Span {
         let (lo, hi) = self.bounds();
         let (_, file) = map.file_of(lo);
         let file = file?;
-        Some(file.text_between(lo - file.lo(), hi - file.lo()))
+        let start = lo - file.lo();
+        let end = hi - file.lo();
+        let from = OffsetPair {
+            chars: start,
+            bytes: file.byte_offset(start),
+        };
+        let to = OffsetPair {
+            chars: end,
+            bytes: file.byte_offset(end),
+        };
+        Some(file.text_between(from, to))
     }
 
     /// The span from where the first of the two begins to where the last of them ends (`join`), in a map

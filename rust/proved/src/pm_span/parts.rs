@@ -4,7 +4,7 @@
 use crate::pm_span::source_map::SourceMap;
 use crate::pm_span::spans::Span;
 pub use crate::pm_span::text::char_count;
-use crate::pm_span::text::has_fewer;
+use crate::pm_span::text::has_fewer_chars;
 use crate::shim::alloc::{AllocError, Global};
 
 /// The span of the positions from `lo` up to `hi`, in characters.
@@ -33,7 +33,7 @@ pub fn fits(map: &SourceMap, text: &str) -> Option<u32>
 /// (`fits`): 1, without a map being made.
 pub fn fits_new(text: &str) -> Option<u32>
 {
-    if has_fewer(text, u32::MAX as usize) {
+    if has_fewer_chars(text, u32::MAX as usize) {
         Some(1)
     } else {
         None

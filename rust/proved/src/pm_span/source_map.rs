@@ -6,7 +6,7 @@ use crate::shim::prelude::Vec;
 use crate::pm_span::file_info::FileInfo;
 use crate::pm_span::location::LineColumn;
 use crate::pm_span::spans::Span;
-use crate::pm_span::text::has_fewer;
+use crate::pm_span::text::has_fewer_chars;
 use crate::shim::alloc::{AllocError, Global};
 
 /// The texts that were read, each a file at positions of its own.
@@ -110,7 +110,7 @@ impl SourceMap {
     pub(crate) fn fits(&self, text: &str) -> Option<u32>
     {
         let last = self.last_hi();
-        if last < self.limit && has_fewer(text, (self.limit - last) as usize) {
+        if last < self.limit && has_fewer_chars(text, (self.limit - last) as usize) {
             Some(last + 1)
         } else {
             None

@@ -37,7 +37,7 @@ impl Span {
     /// No names are resolved here, so it is this span: 1..2 resolved at 3..4 is 1..2.
     pub fn resolved_at(self, _other: Span) -> Span
     {
-        // Only a place is known of a span.
+        // A span has positions alone.
         self
     }
 

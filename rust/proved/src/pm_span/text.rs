@@ -13,7 +13,7 @@ pub fn char_count(text: &str) -> usize
 /// Whether the text has fewer characters than `count`.
 ///
 /// They are counted only where its bytes, which are at least as many, don't answer it.
-pub(crate) fn has_fewer(text: &str, count: usize) -> bool
+pub(crate) fn has_fewer_chars(text: &str, count: usize) -> bool
 {
     text.len() < count || char_count(text) < count
 }

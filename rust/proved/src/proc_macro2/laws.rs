@@ -13,7 +13,7 @@
 //! | built (`built`) | what `TokenStream::trees`, `is_well_spaced` and `Group::stream_ref` say of every stream |
 
 pub use crate::literal_escaper::laws::equal_errors_modes_and_units;
-pub use crate::pm_span::laws::places_by_line_then_column;
+pub use crate::pm_span::laws::ordered_line_columns;
 pub use crate::pm_stream::laws::printed_by_the_rule;
 pub use crate::pm_token::laws::{
     cooked_values, equal_delimiters_spacings_and_errors, made_literals, raw_values, single_values,

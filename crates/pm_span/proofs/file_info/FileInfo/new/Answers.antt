@@ -1,4 +1,4 @@
-use Rattle.std.proofs.Common.{◌+◌, ap, subst, sym}
+use Rattle.std.proofs.Common.{◌+◌, ap, subst, sym, refl, arith}
 use Rattle.std.specs.List.{All}
 use Rattle.std.specs.Str.{chars}
 use Rattle.std.proofs.lemmas.List.Elements.{All-nil}
@@ -15,4 +15,5 @@ invariant_of-result c =
       bounds = subst (λ n. AreNonAsciiBounds text n lines.lines.non_ascii_bounds.items) lines.ensures.count
           lines.ensures.bounds;
       known = subst (All (λ entry. IsByteOffset text entry.0 entry.1)) (sym c.new.ensures.empty) (All-nil _);
+      last_used = record { within = omega arith; value = refl };
     })
