@@ -85,8 +85,8 @@ fn check_in_order<const N: usize>(
     }
     let mut map = SourceMap::new(alloc);
     let base = add(rt, &mut map, line.as_str())?;
-    for place in order.iter() {
-        if let Some(((from, to), (start, end))) = parts.get(*place) {
+    for index in order.iter() {
+        if let Some(((from, to), (start, end))) = parts.get(*index) {
             let chars = (from.saturating_add(margin), to.saturating_add(margin));
             let bytes = (start.saturating_add(before), end.saturating_add(before));
             check(rt, &mut map, (line.as_str(), base), chars, bytes)?;
@@ -108,7 +108,7 @@ fn any_order_of_five_spans_gives_the_same_bytes() -> Result<(), AllocError> {
             code / 125 % 5,
             code / 625 % 5,
         ];
-        if (0..5usize).all(|place| order.contains(&place)) {
+        if (0..5usize).all(|index| order.contains(&index)) {
             orders = orders.saturating_add(1);
             check_in_order(&rt, alloc, ("\"aéb𓀕c\"", 0), &PARTS, order)?;
             check_in_order(&rt, alloc, ("\"aéb𓀕c\"", 100), &PARTS, order)?;
@@ -143,7 +143,7 @@ fn draw(seed: &mut u32, end: u32) -> u32 {
     (*seed >> 8) % end.max(1)
 }
 
-/// A text of so many characters of one to four bytes, and the bytes before each of its places.
+/// A text of so many characters of one to four bytes, and the bytes before each of its characters.
 fn random_text(
     alloc: Global,
     seed: &mut u32,
@@ -165,7 +165,7 @@ fn random_text(
     Ok((text, offsets))
 }
 
-/// Asserts the bytes of a span between two places that are drawn.
+/// Asserts the bytes of a span between two offsets that are drawn.
 fn check_drawn(
     rt: &impl Abort,
     map: &mut SourceMap,
@@ -173,8 +173,8 @@ fn check_drawn(
     base: u32,
     seed: &mut u32,
 ) -> Result<(), AllocError> {
-    let places = offsets.len().min(60000) as u32;
-    let (first, second) = (draw(seed, places), draw(seed, places));
+    let count = offsets.len().min(60000) as u32;
+    let (first, second) = (draw(seed, count), draw(seed, count));
     let (from, to) = (first.min(second), first.max(second));
     if let (Some(start), Some(end)) = (offsets.get(from as usize), offsets.get(to as usize)) {
         check(rt, map, (text, base), (from, to), (*start, *end))?;

@@ -11,9 +11,9 @@ use crate::shim::alloc::{AllocError, Global};
 use crate::shim::process::Abort;
 
 /// Where a whole group stands, where it opens and where it closes.
-type Places = ((u32, u32), (u32, u32), (u32, u32));
+type GroupSpans = ((u32, u32), (u32, u32), (u32, u32));
 
-fn places(group: &Group) -> Places {
+fn spans_of(group: &Group) -> GroupSpans {
     (
         bounds(group.span()),
         bounds(group.span_open()),
@@ -21,7 +21,7 @@ fn places(group: &Group) -> Places {
     )
 }
 
-fn places_together(span: DelimSpan) -> Places {
+fn spans_of_delimiters(span: DelimSpan) -> GroupSpans {
     (
         bounds(span.join()),
         bounds(span.open()),
@@ -30,9 +30,9 @@ fn places_together(span: DelimSpan) -> Places {
 }
 
 /// Asserts where the group and its delimiters stand.
-fn check_places(rt: &impl Abort, group: &Group, want: Places) {
-    assert_eq!(places(group), want, "of the group");
-    assert_eq!(places_together(group.delim_span()),
+fn check_spans(rt: &impl Abort, group: &Group, want: GroupSpans) {
+    assert_eq!(spans_of(group), want, "of the group");
+    assert_eq!(spans_of_delimiters(group.delim_span()),
         want,
         "of its delim_span"
     );
@@ -42,12 +42,12 @@ fn check_places(rt: &impl Abort, group: &Group, want: Places) {
 fn check_first(
     rt: &(impl Abort + AllocGlobal),
     text: &str,
-    want: Places,
+    want: GroupSpans,
 ) -> Result<(), ParseError> {
     let mut map = SourceMap::new(rt.alloc());
     let stream = TokenStream::from_str(text, &mut map)?;
     match stream.trees().get(0) {
-        Some(TokenTree::Group(group)) => check_places(rt, group, want),
+        Some(TokenTree::Group(group)) => check_spans(rt, group, want),
         _ => assert!(false, "{text:?} begins with no group"),
     }
     Ok(())
@@ -66,14 +66,14 @@ fn a_group_whose_span_was_set_opens_and_closes_there() {
     let rt = HostRuntime;
     let inside = TokenStream::new(rt.alloc());
     let mut group = group(Delimiter::Parenthesis, inside, span_of(1, 4));
-    check_places(&rt, &group, ((1, 4), (1, 2), (3, 4)));
+    check_spans(&rt, &group, ((1, 4), (1, 2), (3, 4)));
     group.set_span(Span::call_site());
-    check_places(&rt, &group, ((0, 0), (0, 0), (0, 0)));
+    check_spans(&rt, &group, ((0, 0), (0, 0), (0, 0)));
     group.set_span(span_of(2, 3));
-    check_places(&rt, &group, ((2, 3), (2, 3), (2, 3)));
+    check_spans(&rt, &group, ((2, 3), (2, 3), (2, 3)));
     group.set_span(span_of(4294967295, 4294967295));
     let end = (4294967295, 4294967295);
-    check_places(&rt, &group, (end, end, end));
+    check_spans(&rt, &group, (end, end, end));
 }
 
 #[test]

@@ -20,12 +20,12 @@ fn held(rt: &impl Abort, map: &SourceMap, positions: (u32, u32)) -> Span
     span
 }
 
-fn pair(place: LineColumn) -> (usize, usize) {
-    (place.line, place.column)
+fn pair(at: LineColumn) -> (usize, usize) {
+    (at.line, at.column)
 }
 
 /// Asserts where the span starts and ends, by line and column, and which bytes it takes.
-fn check_places(
+fn check_look_ups(
     rt: &impl Abort,
     map: &mut SourceMap,
     positions: (u32, u32),
@@ -92,14 +92,14 @@ fn check_spans(
     Ok(())
 }
 
-/// Asserts the places and the text of each span: its positions, where it starts and ends, and its bytes.
+/// Asserts the look-ups and the text of each span: its positions, where it starts and ends, and its bytes.
 fn check_rows(
     rt: &impl Abort,
     map: &mut SourceMap,
     rows: &[((u32, u32), [(usize, usize); 3], &str)],
 ) -> Result<(), AllocError> {
-    for &(positions, places, text) in rows {
-        check_places(rt, map, positions, places);
+    for &(positions, want, text) in rows {
+        check_look_ups(rt, map, positions, want);
         check_text(rt, map, positions, Some(text))?;
     }
     Ok(())
@@ -160,7 +160,7 @@ fn after_invalidate_texts_begin_at_1_again() -> Result<(), Fail> {
     map.invalidate();
     check_only_file_0(&rt, map, 5);
     check_text(&rt, map, (0, 0), None)?;
-    check_places(&rt, map, (0, 0), [(1, 0), (1, 0), (0, 0)]);
+    check_look_ups(&rt, map, (0, 0), [(1, 0), (1, 0), (0, 0)]);
     check_spans(&rt, map, "1", &[(1, 2)])?;
     assert!(TokenStream::from_str("123", map).is_err(),
         "the limit stays"
@@ -193,7 +193,7 @@ fn a_span_of_no_text_has_none() -> Result<(), Fail> {
     let rt = HostRuntime;
     let map = &mut SourceMap::new(rt.alloc());
     check_spans(&rt, map, "a", &[(1, 2)])?;
-    check_places(&rt, map, (0, 0), [(1, 0), (1, 0), (0, 0)]);
+    check_look_ups(&rt, map, (0, 0), [(1, 0), (1, 0), (0, 0)]);
     check_text(&rt, map, (0, 0), None)?;
     check_name(&rt, map, (0, 0), "<unspecified>")?;
     Ok(())
@@ -283,8 +283,8 @@ fn a_map_shows_its_files() -> Result<(), Fail> {
     check_spans(&rt, map, "é\nb", &[(1, 2), (3, 4)])?;
     let shown = format!(in rt.alloc(); "{map:?}")?;
     let want = "SourceMap { alloc: Global, files: [FileInfo { text: \"é\\nb\", lo: 1, hi: 4, \
-        line_starts: [2], wide_ends: [KnownPlace { place: 0, bytes: 0 }, KnownPlace { place: 2, bytes: 3 }], \
-        byte_offsets: {} }], limit: 9 }";
+        line_starts: [2], non_ascii_bounds: [OffsetPair { chars: 0, bytes: 0 }, OffsetPair { chars: 2, bytes: 3 }], \
+        byte_offsets: {}, used: OffsetPair { chars: 0, bytes: 0 } }], limit: 9 }";
     assert_eq!(shown.as_str(), want, "of one file");
     Ok(())
 }
@@ -307,7 +307,7 @@ fn a_text_past_a_mebibyte_becomes_a_file() -> Result<(), Fail> {
     let stream = TokenStream::from_str(text.as_str(), &mut map)?;
     assert_eq!(stream.trees().len(), 20_000);
     // The first character of the last line.
-    let places = [(20_000, 0), (20_000, 1), (1_999_900, 1_999_902)];
-    check_places(&rt, &mut map, (1_979_902, 1_979_903), places);
+    let want = [(20_000, 0), (20_000, 1), (1_999_900, 1_999_902)];
+    check_look_ups(&rt, &mut map, (1_979_902, 1_979_903), want);
     Ok(())
 }

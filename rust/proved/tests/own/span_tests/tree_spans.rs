@@ -7,7 +7,7 @@ use proved::proc_macro2::{LineColumn, Literal, ParseError, SourceMap, TokenStrea
 use crate::shim::test::Fail;
 
 // Where the last tree of the text begins that stands in no group.
-fn last_place(text: &str, map: &mut SourceMap) -> Result<Option<LineColumn>, ParseError> {
+fn start_of_last(text: &str, map: &mut SourceMap) -> Result<Option<LineColumn>, ParseError> {
     let stream = TokenStream::from_str(text, map)?;
     let mut last = None;
     for tree in stream.trees() {
@@ -17,17 +17,17 @@ fn last_place(text: &str, map: &mut SourceMap) -> Result<Option<LineColumn>, Par
 }
 
 // Where the last tree of the text begins that stands in at most one group.
-fn last_place_inside(text: &str, map: &mut SourceMap) -> Result<Option<LineColumn>, ParseError> {
+fn start_of_last_inside(text: &str, map: &mut SourceMap) -> Result<Option<LineColumn>, ParseError> {
     let stream = TokenStream::from_str(text, map)?;
     let mut last = None;
     for tree in stream.trees() {
-        last = Some(last_place_of(tree, map));
+        last = Some(start_of_last_in(tree, map));
     }
     Ok(last)
 }
 
 // Where the tree begins, or the last tree in it.
-fn last_place_of(tree: &TokenTree, map: &SourceMap) -> LineColumn
+fn start_of_last_in(tree: &TokenTree, map: &SourceMap) -> LineColumn
 {
     let mut last = tree.span().start(map);
     if let TokenTree::Group(group) = tree {
@@ -39,7 +39,7 @@ fn last_place_of(tree: &TokenTree, map: &SourceMap) -> LineColumn
 }
 
 // Where the literal that is the whole text begins.
-fn place_of_literal(text: &str, map: &mut SourceMap) -> Result<LineColumn, ParseError> {
+fn start_of_literal(text: &str, map: &mut SourceMap) -> Result<LineColumn, ParseError> {
     let literal = Literal::from_str(text, map)?;
     Ok(literal.span().start(map))
 }
@@ -48,11 +48,11 @@ fn place_of_literal(text: &str, map: &mut SourceMap) -> Result<LineColumn, Parse
 fn the_map_holds_each_span_of_what_was_read() -> Result<(), Fail> {
     let rt = HostRuntime;
     let mut map = SourceMap::new(rt.alloc());
-    let place = last_place("a\n (b\nc)", &mut map)?;
-    assert_eq!(place, Some(LineColumn { line: 2, column: 1 }));
-    let place = last_place_inside("a\n (b\nc)", &mut map)?;
-    assert_eq!(place, Some(LineColumn { line: 3, column: 0 }));
-    let place = place_of_literal("-1u8", &mut map)?;
-    assert_eq!(place, LineColumn { line: 1, column: 0 });
+    let start = start_of_last("a\n (b\nc)", &mut map)?;
+    assert_eq!(start, Some(LineColumn { line: 2, column: 1 }));
+    let start = start_of_last_inside("a\n (b\nc)", &mut map)?;
+    assert_eq!(start, Some(LineColumn { line: 3, column: 0 }));
+    let start = start_of_literal("-1u8", &mut map)?;
+    assert_eq!(start, LineColumn { line: 1, column: 0 });
     Ok(())
 }
