@@ -1,0 +1,6 @@
+pub mod HeldLemmas
+pub mod ReadLemmas
+pub mod CutLemmas
+pub mod BuiltLemmas
+pub mod FilledLemmas
+pub mod LifetimeLemmas

@@ -1,0 +1,63 @@
+-- What a cursor's calls answer, by the trees that are left.
+use Rattle.std.specs.Prelude.{ℕ, ◌≡◌, ◌==◌, ◌&&◌, Bool, true, false, List, Option, Some, None}
+use Rattle.std.specs.Str.{chars}
+use Rattle.lexical.specs.Token.{Token, Name, Mark, Literal}
+use Rattle.pm_token.specs.Escaped.{string_text}
+use Rattle.pm_token.specs.Leaf.{is_joint}
+use Rattle.pm_token.specs.declared.delimiters.Delimiter.{Delimiter}
+use Rattle.pm_stream.specs.Forest.{Forest, nil, leaf, group}
+use Rattle.token_buffer.specs.Left.{trees_of}
+use Rattle.token_buffer.specs.declared.cursor.Cursor.{Cursor}
+use Rattle.token_buffer.specs.declared.cursor.LiteralText.{LiteralText}
+use Rattle.token_buffer.specs.declared.cursor.LiteralText.TheVariants as literals
+use Rattle.token_buffer.specs.declared.cursor.TokenText.{TokenText}
+use Rattle.token_buffer.specs.declared.cursor.TokenText.TheVariants as texts
+
+-- the trees that are left
+abbrev pub left : Cursor → Forest
+left cursor = trees_of cursor.text.now cursor.entries.now
+
+-- the text of a literal
+abbrev pub literal_text : LiteralText → List ℕ
+literal_text (literals.Source text) = chars text.now
+literal_text (literals.Doc text) = string_text (chars text.now)
+
+-- the token comes first, and then what the other cursor has
+abbrev pub BeginsWith : Token → Cursor → Cursor → Type 0
+BeginsWith token cursor rest = (lo : ℕ) × (hi : ℕ) × (left cursor ≡ leaf token lo hi (left rest))
+
+-- the group of what the second cursor has comes first, and then what the last one has
+abbrev pub BeginsWithGroup : Delimiter → Cursor → Cursor → Cursor → Type 0
+BeginsWithGroup d cursor inside after =
+    (lo : ℕ) × (hi : ℕ) × (left cursor ≡ group d lo hi (left inside) (left after))
+
+-- this comes first
+abbrev pub Begins : TokenText → Cursor → Cursor → Type 0
+Begins (texts.Ident name) cursor rest = BeginsWith (Name name.raw (chars name.text.now)) cursor rest
+Begins (texts.Punct mark spacing) cursor rest = BeginsWith (Mark mark (is_joint spacing)) cursor rest
+Begins (texts.Literal literal) cursor rest = BeginsWith (Literal (literal_text literal)) cursor rest
+Begins (texts.Group delimiter inside) cursor rest = BeginsWithGroup delimiter cursor inside rest
+
+-- whether an identifier comes first; a mark; a literal
+abbrev pub name_first : Forest → Bool
+name_first (leaf (Name raw name) lo hi rest) = true
+name_first _ = false
+
+abbrev pub mark_first : Forest → Bool
+mark_first (leaf (Mark c joint) lo hi rest) = true
+mark_first _ = false
+
+abbrev pub literal_first : Forest → Bool
+literal_first (leaf (Literal text) lo hi rest) = true
+literal_first _ = false
+
+-- whether a lone quote and a name come first
+abbrev pub lifetime_first : Forest → Bool
+lifetime_first (leaf (Mark c joint) lo hi rest) = (c == 39) && joint && name_first rest
+lifetime_first _ = false
+
+-- how the group that comes first is delimited
+abbrev pub group_first : Forest → Option Delimiter
+group_first nil = None
+group_first (leaf token lo hi rest) = None
+group_first (group d lo hi inside rest) = Some d

@@ -1,0 +1,247 @@
+//! A place among the tokens of a buffer.
+ghost use Rattle.std.specs.Prelude.{◌≡◌, ◌≢◌, MatchOption, IfSome, IfNone, false, true};
+ghost use Rattle.std.specs.Str.{chars};
+ghost use Rattle.pm_token.specs.Leaf.{is_joint};
+ghost use Rattle.pm_stream.specs.Forest.{IsBuilt, nil};
+ghost use Rattle.pm_stream.specs.Size.{is_nil};
+ghost use Rattle.token_buffer.specs.Held.{Holds, Holds-prop};
+ghost use Rattle.token_buffer.specs.Left.{trees_of};
+
+use crate::entry::Entry;
+use pm_token::{Delimiter, Spacing};
+
+/// The trees of a buffer, or of a group in it, from one on. It is copied freely, and lends the texts of its tokens.
+///
+/// What reads trees goes on by the cursors that the calls answer, and backs up by an older one. Each call takes the
+/// same time whatever is left, and no memory, but those that say otherwise.
+#[derive(Clone, Copy)]
+pub struct Cursor<'a> {
+    text: &'a str,
+    entries: &'a [Entry],
+    ghost holds: { Holds text.now entries.now (trees_of text.now entries.now) } by { Holds-prop text.now entries.now (trees_of text.now entries.now) },
+    ghost built: { ∥ IsBuilt (trees_of text.now entries.now) ∥₁ },
+}
+
+/// An identifier.
+#[derive(Clone, Copy)]
+pub struct Name<'a> {
+    /// Whether it is written with `r#`.
+    pub raw: bool,
+    /// Its name, without `r#`.
+    pub text: &'a str,
+}
+
+/// The text of a literal.
+#[derive(Clone, Copy)]
+pub enum LiteralText<'a> {
+    /// The literal as it is written.
+    Source(&'a str),
+    /// What a doc comment says. The literal is the string of it (`string-literal`), which isn't written anywhere.
+    Doc(&'a str),
+}
+
+/// A tree, by its text.
+#[derive(Clone, Copy)]
+pub enum TokenText<'a> {
+    /// An identifier.
+    Ident(Name<'a>),
+    /// A mark.
+    Punct(char, Spacing),
+    /// A literal.
+    Literal(LiteralText<'a>),
+    /// A group, and its trees.
+    Group(Delimiter, Cursor<'a>),
+}
+
+impl<'a> Cursor<'a> {
+    ghost use Rattle.lexical.specs.Token as tokens;
+    ghost use Rattle.token_buffer.specs.Reads.{left, Begins, BeginsWith, BeginsWithGroup, literal_text};
+    ghost use Rattle.token_buffer.specs.Reads.{name_first, mark_first, literal_first, lifetime_first, group_first};
+
+    /// The cursor over the trees of these entries.
+    pub(crate) fn over(text: &'a str, entries: &'a [Entry]) -> Cursor<'a>
+        requires holds { Holds text.now entries.now (trees_of text.now entries.now) }
+        requires built { IsBuilt (trees_of text.now entries.now) }
+        ensures { left result ≡ trees_of text.now entries.now }
+    {
+        Cursor { text, entries }
+    }
+
+    /// Whether no tree is left.
+    pub fn eof(self) -> bool
+        ensures { result ≡ is_nil (left self.entry) }
+    {
+        self.entries.is_empty()
+    }
+
+    /// The first tree and those after it. None at the end.
+    ///
+    /// Of `a (b)` it is the identifier `a`, and what is left is the group.
+    pub fn next(self) -> Option<(TokenText<'a>, Cursor<'a>)>
+        ensures { MatchOption result (left self.entry ≡ nil) (λ found. Begins found.0 self.entry found.1) }
+    {
+        let text = self.text;
+        let Some((entry, entries)) = self.entries.split_first() else {
+            return None;
+        };
+        match *entry {
+            Entry::Name { raw, lo, hi, at } => {
+                let _ = at;
+                let name = Name {
+                    raw,
+                    text: &text[lo as usize..hi as usize],
+                };
+                Some((TokenText::Ident(name), Cursor { text, entries }))
+            }
+            Entry::Mark {
+                joint,
+                mark,
+                at,
+                end,
+            } => {
+                let _ = at;
+                let _ = end;
+                Some((
+                    TokenText::Punct(mark, spacing(joint)),
+                    Cursor { text, entries },
+                ))
+            }
+            Entry::Literal { lo, hi, at } => {
+                let _ = at;
+                let literal = LiteralText::Source(&text[lo as usize..hi as usize]);
+                Some((TokenText::Literal(literal), Cursor { text, entries }))
+            }
+            Entry::Open {
+                delimiter,
+                at,
+                count,
+            } => {
+                let _ = at;
+                let (inside, _) = entries.split_at(count as usize);
+                let (_, after) = entries.split_at(count as usize + 1);
+                let inside = Cursor {
+                    text,
+                    entries: inside,
+                };
+                let after = Cursor {
+                    text,
+                    entries: after,
+                };
+                Some((TokenText::Group(delimiter, inside), after))
+            }
+            Entry::Close { delimiter, end } => {
+                let _ = delimiter;
+                let _ = end;
+                unreachable!()
+            }
+            Entry::DocName { at, end } => {
+                let _ = at;
+                let _ = end;
+                let name = Name {
+                    raw: false,
+                    text: "doc",
+                };
+                Some((TokenText::Ident(name), Cursor { text, entries }))
+            }
+            Entry::DocText {
+                closing,
+                lo,
+                hi,
+                at,
+            } => {
+                let _ = closing;
+                let _ = at;
+                let literal = LiteralText::Doc(&text[lo as usize..hi as usize]);
+                Some((TokenText::Literal(literal), Cursor { text, entries }))
+            }
+        }
+    }
+
+    /// The trees after the first one, which may be a group. None at the end.
+    pub fn skip(self) -> Option<Cursor<'a>>
+        ensures none { IfNone result (left self.entry ≡ nil) }
+        ensures some { IfSome result (λ rest. (first : TokenText) × Begins first self.entry rest) }
+    {
+        let (_, rest) = self.next()?;
+        Some(rest)
+    }
+
+    /// The identifier that comes first, if one does, and the trees after it.
+    pub fn ident(self) -> Option<(Name<'a>, Cursor<'a>)>
+        ensures { MatchOption result (name_first (left self.entry) ≡ false)
+            (λ found. BeginsWith (tokens.Name found.0.raw (chars found.0.text.now)) self.entry found.1) }
+    {
+        match self.next() {
+            Some((TokenText::Ident(name), rest)) => Some((name, rest)),
+            _ => None,
+        }
+    }
+
+    /// The mark that comes first, if one does, with its spacing, and the trees after it.
+    pub fn punct(self) -> Option<(char, Spacing, Cursor<'a>)>
+        ensures { MatchOption result (mark_first (left self.entry) ≡ false)
+            (λ found. BeginsWith (tokens.Mark found.0 (is_joint found.1)) self.entry found.2) }
+    {
+        match self.next() {
+            Some((TokenText::Punct(mark, spacing), rest)) => Some((mark, spacing, rest)),
+            _ => None,
+        }
+    }
+
+    /// The literal that comes first, if one does, and the trees after it.
+    pub fn literal(self) -> Option<(LiteralText<'a>, Cursor<'a>)>
+        ensures { MatchOption result (literal_first (left self.entry) ≡ false)
+            (λ found. BeginsWith (tokens.Literal (literal_text found.0)) self.entry found.1) }
+    {
+        match self.next() {
+            Some((TokenText::Literal(literal), rest)) => Some((literal, rest)),
+            _ => None,
+        }
+    }
+
+    /// The name of the lifetime that comes first, if one does, and the trees after it: of `'a` the mark `'`, Joint,
+    /// and the identifier `a`.
+    pub fn lifetime(self) -> Option<(Name<'a>, Cursor<'a>)>
+        ensures { MatchOption result (lifetime_first (left self.entry) ≡ false)
+            (λ found. (name : Cursor) × BeginsWith (tokens.Mark 39 true) self.entry name
+            × BeginsWith (tokens.Name found.0.raw (chars found.0.text.now)) name found.1) }
+    {
+        match self.punct() {
+            Some(('\'', Spacing::Joint, name)) => name.ident(),
+            _ => None,
+        }
+    }
+
+    /// The trees in the group that comes first, if one does that is delimited so, and the trees after it.
+    pub fn group(self, delimiter: Delimiter) -> Option<(Cursor<'a>, Cursor<'a>)>
+        ensures { MatchOption result (group_first (left self.entry) ≢ Some delimiter)
+            (λ found. BeginsWithGroup delimiter self.entry found.0 found.1) }
+    {
+        match self.any_group() {
+            Some((found, inside, after)) if found == delimiter => Some((inside, after)),
+            _ => None,
+        }
+    }
+
+    /// The delimiter and the trees of the group that comes first, if one does, and the trees after it.
+    pub fn any_group(self) -> Option<(Delimiter, Cursor<'a>, Cursor<'a>)>
+        ensures { MatchOption result (group_first (left self.entry) ≡ None)
+            (λ found. BeginsWithGroup found.0 self.entry found.1 found.2) }
+    {
+        match self.next() {
+            Some((TokenText::Group(delimiter, inside), after)) => Some((delimiter, inside, after)),
+            _ => None,
+        }
+    }
+}
+
+/// The spacing of a mark.
+fn spacing(joint: bool) -> Spacing
+    ensures { is_joint result ≡ joint }
+{
+    if joint {
+        Spacing::Joint
+    } else {
+        Spacing::Alone
+    }
+}
