@@ -3,8 +3,8 @@
 #
 #   rust/archive.sh
 #
-# It is `rt lib`, which takes what earlier checks kept. After `rt ci` from nothing nothing is kept that it takes, and so
-# it proves pm_c and the libraries below it once more.
+# It is `rt lib`, which takes what earlier checks kept. Where there are only the libraries that `rt ci` left, without the
+# stamp that `rt lib` asks for, it is the build with which `rt lib` ends, over those: so pm_c alone is proved once more.
 set -eu
 crates=$(cd "$(dirname "$0")/../crates" && pwd)
 archive=$crates/pm_c/out/libpm_c.a
@@ -17,4 +17,24 @@ is_new() {
 
 is_new "$archive" && exit
 cd "$crates/pm_c"
-exec rt lib
+libraries=$(sed -n 's/^pm_c staticlib: //p' ../../crates.txt)
+for name in $libraries; do
+    left=../$name/out/rlib
+    if [ -d "../$name" ] && { [ -e "$left/stamp" ] || ! is_new "$left/$name.rlib/format"; }; then
+        exec rt lib
+    fi
+done
+python3 - "$(dirname "$(readlink -f "$(command -v rt)")")" << 'END' || exec rt lib
+import os
+import sys
+
+sys.path.insert(0, sys.argv[1])
+sys.dont_write_bytecode = True
+import rtlib
+
+crate = rtlib.Crate(os.getcwd(), os.path.realpath("../.."), {})
+if not all(os.path.isdir(library.rlib) for library in crate.below()):
+    sys.exit(1)
+os.makedirs("out", exist_ok=True)
+sys.exit(crate.build_static(["--jobs", "2"]))
+END
