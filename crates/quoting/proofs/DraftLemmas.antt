@@ -1,4 +1,4 @@
--- One list that is respaced up to a place.
+-- One list of which the first trees are respaced.
 use Rattle.std.proofs.Common.{◌≡◌, ℕ, ◌+◌, ◌<◌, All, Option, Some, None, Result, Ok, Err, IfOk, MatchResult, List, []}
 use Rattle.std.proofs.Common.{◌∷◌, ◌++◌, length, take, drop, append-nil, get_or, refl, sym, ap, ap₂, subst, ◌∙◌}
 use Rattle.std.proofs.Math.Seq.{take-add}

@@ -4,16 +4,16 @@ use Rattle.proc_macro2.specs.Extent.{Extent}
 use Rattle.proc_macro2.specs.Forest.{Forest, nil, leaf, group}
 use Rattle.proc_macro2.specs.Token.{Name, Mark, Literal}
 use Rattle.proc_macro2.specs.declared.Delimiter.TheVariants.{Parenthesis, Brace, Bracket}
-use Rattle.quoting.specs.Filled.{at_top, filled, woven}
+use Rattle.quoting.specs.Filled.{at_top, filled, filled_by}
 use Rattle.quoting.specs.Holes.{One, Each, Named}
 use Rattle.quoting.specs.declared.errors.TemplateError.TheVariants.{NoHole, LoneList, NoList, UnequalLists, Nested}
 use Rattle.quoting.specs.declared.errors.TemplateError.TheVariants.{TooDeep}
 
--- the place of one character
+-- the span of one character
 abbrev at : ℕ → Extent
 at n = record { lo = n; hi = n + 1 }
 
--- a mark, and a name, at such a place before other trees
+-- a mark, and a name, at such a span before other trees
 abbrev mark : ℕ → ℕ → Forest → Forest
 mark c n = leaf (Mark c false) n (n + 1)
 
@@ -24,7 +24,7 @@ name text n = leaf (Name false text) n (n + 1)
 abbrev hash : ℕ → Forest → Forest
 hash = mark 35
 
--- `+ 7`, `a` and `b`, with places of their own
+-- `+ 7`, `a` and `b`, with spans of their own
 abbrev sum : Forest
 sum = mark 43 90 (leaf (Literal (codes "7")) 91 92 nil)
 
@@ -46,7 +46,7 @@ holes =
 abbrev hole : List ℕ → ℕ → Forest → Forest
 hole text n rest = hash n (name text (n + 1) rest)
 
--- parentheses at a place
+-- parentheses at a span
 abbrev parens : ℕ → ℕ → Forest → Forest → Forest
 parens = group Parenthesis
 
@@ -157,7 +157,7 @@ nested :
 nested = refl
 
 -- `((x))` where groups may nest one deep
-too_deep : woven (at_top holes) 1 0 (parens 0 5 (parens 1 4 a nil) nil) ≡ Err (TooDeep (record { lo = 1; hi = 4 }))
+too_deep : filled_by (at_top holes) 1 0 (parens 0 5 (parens 1 4 a nil) nil) ≡ Err (TooDeep (record { lo = 1; hi = 4 }))
 too_deep = refl
 
 -- a Joint mark is Alone before a hole, and stays Joint before another `#`: `&#0 &#[a]`

@@ -5,7 +5,7 @@ mod PartLemmas
 mod DraftLemmas
 mod PushLemmas
 mod Examples
-mod WeaveLemmas
+mod FillLemmas
 mod TurnLemmas
 mod NameLemmas
 mod TextLemmas

@@ -1,4 +1,4 @@
--- Lists that are respaced up to a place, each in the group that comes next in the one around it.
+-- Lists of which the first trees are respaced, each in the group that comes next in the one around it.
 use Rattle.std.proofs.Common.{◌≡◌, ℕ, ◌+◌, ◌*◌, ◌<◌, Result, Ok, Err, IfOk, List, [], ◌∷◌, ◌++◌, refl, sym, ap, ap₂}
 use Rattle.std.proofs.Common.{subst, ◌∙◌, arith}
 use Rattle.proc_macro2.specs.Forest.{Forest, nil, leaf, group, joined}

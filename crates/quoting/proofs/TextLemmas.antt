@@ -10,22 +10,23 @@ use Rattle.quoting.specs.declared.errors.TemplateError.{TemplateError}
 use Rattle.quoting.specs.declared.errors.TemplateError.TheVariants.{NoHole, LoneList, NoList, UnequalLists, Nested}
 use Rattle.quoting.specs.declared.errors.TemplateError.TheVariants.{TooDeep, Parse, Memory}
 
--- the fault of the template that a text parses to is told of the text
-told : (first : ℕ) (text : List ℕ) (holes : List Named) (template : Forest) (fault : TemplateError)
+-- the fault of the template that a text parses to is that of the text
+fault_of_text : (first : ℕ) (text : List ℕ) (holes : List Named) (template : Forest) (fault : TemplateError)
     → ParsesTo first text template
     → UnlessMemory fault (filled holes template ≡ Err fault) → IsTextFault first text holes fault
-told first text holes template (NoHole place) parses is = (template, parses, is)
-told first text holes template (LoneList place) parses is = (template, parses, is)
-told first text holes template (NoList place) parses is = (template, parses, is)
-told first text holes template (UnequalLists place) parses is = (template, parses, is)
-told first text holes template (Nested place) parses is = (template, parses, is)
-told first text holes template (TooDeep place) parses is = (template, parses, is)
-told first text holes template (Parse error) parses is = absurd is
-told first text holes template (Memory error) parses is = (template, parses)
+fault_of_text first text holes template (NoHole span) parses is = (template, parses, is)
+fault_of_text first text holes template (LoneList span) parses is = (template, parses, is)
+fault_of_text first text holes template (NoList span) parses is = (template, parses, is)
+fault_of_text first text holes template (UnequalLists span) parses is = (template, parses, is)
+fault_of_text first text holes template (Nested span) parses is = (template, parses, is)
+fault_of_text first text holes template (TooDeep span) parses is = (template, parses, is)
+fault_of_text first text holes template (Parse error) parses is = absurd is
+fault_of_text first text holes template (Memory error) parses is = (template, parses)
 
-pub all_told : (first : ℕ) (text : List ℕ) (holes : List Named) (template : Forest)
+pub fault_of_parsed : (first : ℕ) (text : List ℕ) (holes : List Named) (template : Forest)
     (r : Result (Unit {0}) TemplateError)
     → ParsesTo first text template → IfErr r (λ fault. UnlessMemory fault (filled holes template ≡ Err fault))
     → IfErr r (IsTextFault first text holes)
-all_told first text holes template (Ok u) parses is = tt
-all_told first text holes template (Err fault) parses is = told first text holes template fault parses is
+fault_of_parsed first text holes template (Ok u) parses is = tt
+fault_of_parsed first text holes template (Err fault) parses is =
+    fault_of_text first text holes template fault parses is

@@ -1,4 +1,4 @@
--- Turns that are counted and filled up to a place.
+-- Turns that are counted, and of which the first are filled.
 use Rattle.std.proofs.Common.{◌≡◌, Bor, ℕ, zero, suc, ◌+◌, ◌-◌, ◌<◌, ◌==◌, Bool, true, false, if◌then◌else◌}
 use Rattle.std.proofs.Common.{Option, Some, None, is_some, Ok, Err, List, [], ◌∷◌, ◌++◌, length}
 use Rattle.std.proofs.Common.{refl, sym, ap, ap₂, subst, ◌∙◌, arith}
@@ -10,20 +10,22 @@ use Rattle.proc_macro2.specs.Trees.{before, forest, inside}
 use Rattle.proc_macro2.specs.declared.Group.{Group as Grouped}
 use Rattle.proc_macro2.specs.declared.TokenTree.{TokenTree}
 use Rattle.proc_macro2.specs.declared.TokenTree.TheVariants.{Group, Ident, Punct, Literal}
-use Rattle.quoting.specs.Filled.{at_top, before_turn, followed, in_turn, repeated_so, turns_from, unless_fault, woven}
-use Rattle.quoting.specs.Given.{UnlessMemory, gives, named_all, repeats_of, separator_of, starts}
+use Rattle.quoting.specs.Filled.{at_top, before_turn, filled_by, followed, in_turn, repeated_so, turns_from}
+use Rattle.quoting.specs.Filled.{unless_fault}
+use Rattle.quoting.specs.Given.{UnlessMemory, gives, named_all, repeats_of, separator_of, interpolation_of}
 use Rattle.quoting.specs.Holes.{Filling, One, Each, Named, Outcome, filling_of}
-use Rattle.quoting.specs.Start.{Start, Names, Repeats, start, taken}
-use Rattle.quoting.specs.Turns.{Check, and_then, checked, name_checked, named_length, or_else, start_checked, turns_of}
+use Rattle.quoting.specs.Interpolation.{Interpolation, Names, Repeats, interpolation, taken}
+use Rattle.quoting.specs.Turns.{Check, and_then, checked, interpolation_checked, name_checked, named_length}
+use Rattle.quoting.specs.Turns.{or_else, turns_of}
 use Rattle.quoting.specs.Turns.{turns_or}
 use Rattle.quoting.specs.declared.errors.TemplateError.{TemplateError}
 use Rattle.quoting.specs.declared.errors.TemplateError.TheVariants.{NoHole, LoneList, NoList, UnequalLists, Nested}
 use Rattle.quoting.specs.declared.errors.TemplateError.TheVariants.{TooDeep, Parse, Memory}
 use Rattle.quoting.specs.declared.holes.Hole.{Hole}
-use Rattle.quoting.specs.declared.start.Repetition.{Repetition}
+use Rattle.quoting.specs.declared.interpolation.Repetition.{Repetition}
 use Rattle.quoting.proofs.FaultLemmas.{Rests, after_found, end_found, inside_found, left_found, rests_found}
 use Rattle.quoting.proofs.PartLemmas.{joined_assoc, joined_nil}
-use Rattle.quoting.proofs.WeaveLemmas.{followed_more, followed_nil}
+use Rattle.quoting.proofs.FillLemmas.{followed_more, followed_nil}
 
 -- ---- turns that are counted
 
@@ -33,7 +35,7 @@ left_turns holes left outer = left_found (turns_or holes) left outer
 
 -- a list that is named first is the first
 turns_here : (holes : List Named) (t : TokenTree) (rest : Forest) (more : Option ℕ) (turns : ℕ)
-    → named_length holes (starts t rest) ≡ Some turns → turns_or holes (before t rest) more ≡ Some turns
+    → named_length holes (interpolation_of t rest) ≡ Some turns → turns_or holes (before t rest) more ≡ Some turns
 turns_here holes (Group g) rest more turns h = absurd (cc)
 turns_here holes (Ident i) rest more turns h = ap (λ n. or_else n (turns_or holes rest more)) h
 turns_here holes (Punct p) rest more turns h = ap (λ n. or_else n (turns_or holes rest more)) h
@@ -41,7 +43,7 @@ turns_here holes (Literal l) rest more turns h = ap (λ n. or_else n (turns_or h
 
 -- where none is named, the first comes from inside the tree or after it
 turns_later : (holes : List Named) (t : TokenTree) (rest : Forest) (more : Option ℕ)
-    → named_length holes (starts t rest) ≡ None
+    → named_length holes (interpolation_of t rest) ≡ None
     → turns_or holes (before t rest) more ≡ turns_or holes (inside t) (turns_or holes rest more)
 turns_later holes (Group g) rest more h = refl
 turns_later holes (Ident i) rest more h = ap (λ n. or_else n (turns_or holes rest more)) h
@@ -49,7 +51,7 @@ turns_later holes (Punct p) rest more h = ap (λ n. or_else n (turns_or holes re
 turns_later holes (Literal l) rest more h = ap (λ n. or_else n (turns_or holes rest more)) h
 
 pub counted_here : (holes : List Named) (left after : List TokenTree) (t : TokenTree) (outer : Rests) (turns : ℕ)
-    → left ≡ t ∷ after → Some turns ≡ named_length holes (starts t (forest after))
+    → left ≡ t ∷ after → Some turns ≡ named_length holes (interpolation_of t (forest after))
     → left_turns holes left outer ≡ Some turns
 counted_here holes left after t outer turns whole is =
     ap (λ ts. left_turns holes ts outer) whole
@@ -57,14 +59,14 @@ counted_here holes left after t outer turns whole is =
 
 pub inside_turns : (holes : List Named) (left within : List TokenTree) (after : Bor (List TokenTree)) (t : TokenTree)
     (g : Grouped) (outer new : Rests)
-    → left ≡ t ∷ after.now → t ≡ Group g → None ≡ named_length holes (starts t (forest after.now))
+    → left ≡ t ∷ after.now → t ≡ Group g → None ≡ named_length holes (interpolation_of t (forest after.now))
     → forest within ≡ g.stream → new ≡ outer ++ after ∷ [] → left_turns holes within new ≡ left_turns holes left outer
 inside_turns holes left within after t g outer new whole is none into push =
     inside_found (turns_or holes) left within after t g outer new whole is
     (λ more. turns_later holes t (forest after.now) more (sym none)) into push
 
 pub token_turns : (holes : List Named) (left after : List TokenTree) (t : TokenTree) (outer : Rests) → left ≡ t ∷ after
-    → ((g : Grouped) → t ≡ Group g → ⊥) → None ≡ named_length holes (starts t (forest after))
+    → ((g : Grouped) → t ≡ Group g → ⊥) → None ≡ named_length holes (interpolation_of t (forest after))
     → left_turns holes after outer ≡ left_turns holes left outer
 token_turns holes left after (Group g) outer whole other none = absurd (other g refl)
 token_turns holes left after (Ident i) outer whole other none =
@@ -135,7 +137,7 @@ turns_ended given between all out turn end so_far same =
 
 -- the turns of a body
 abbrev pub turn_of : List Hole → ℕ → Forest → ℕ → Outcome
-turn_of holes inner body = λ turn. woven (in_turn (named_all holes) turn) inner 0 body
+turn_of holes inner body = λ turn. filled_by (in_turn (named_all holes) turn) inner 0 body
 
 pub before_none : (turn : ℕ) → before_turn nil turn ≡ nil
 before_none zero = refl
@@ -175,7 +177,7 @@ pub all_turns : (holes : List Hole) (turn : Option ℕ) (depth inner turns : ℕ
     → is_some turn ≡ false → depth ≡ suc inner → trees ≡ repetition.body.now.stream
     → turns_of (named_all holes) trees ≡ Some turns → checked (named_all holes) inner turns 0 trees ≡ Ok tt
     → gives holes turn depth (repeats_of repetition)
-    ≡ turns_from (λ i. woven (in_turn (named_all holes) i) inner 0 repetition.body.now.stream)
+    ≡ turns_from (λ i. filled_by (in_turn (named_all holes) i) inner 0 repetition.body.now.stream)
     (separator_of repetition.separator) 0 turns
 all_turns holes turn depth inner turns repetition trees none deep whole counts checks =
     checked_turns holes turn depth inner turns repetition trees none deep whole counts
@@ -186,24 +188,24 @@ all_turns holes turn depth inner turns repetition trees none deep whole counts c
 
 -- whether a list is as long as there are turns
 abbrev length_checked : Bool → Extent → Check
-length_checked b place = if b then Ok tt else Err (UnequalLists place)
+length_checked b span = if b then Ok tt else Err (UnequalLists span)
 
-length_parses : (b : Bool) (place : Extent) (error : ParseError) → length_checked b place ≡ Err (Parse error) → ⊥
-length_parses true place error h = absurd (cc)
-length_parses false place error h = absurd (cc)
+length_parses : (b : Bool) (span : Extent) (error : ParseError) → length_checked b span ≡ Err (Parse error) → ⊥
+length_parses true span error h = absurd (cc)
+length_parses false span error h = absurd (cc)
 
-name_parses : (turns : ℕ) (place : Extent) (filling : Option Filling) (error : ParseError)
-    → name_checked turns place filling ≡ Err (Parse error) → ⊥
-name_parses turns place None error h = absurd (cc)
-name_parses turns place (Some (One stream)) error h = absurd (cc)
-name_parses turns place (Some (Each streams)) error h = length_parses (length streams == turns) place error h
+name_parses : (turns : ℕ) (span : Extent) (filling : Option Filling) (error : ParseError)
+    → name_checked turns span filling ≡ Err (Parse error) → ⊥
+name_parses turns span None error h = absurd (cc)
+name_parses turns span (Some (One stream)) error h = absurd (cc)
+name_parses turns span (Some (Each streams)) error h = length_parses (length streams == turns) span error h
 
-start_parses : (holes : List Named) (turns : ℕ) (s : Option Start) (error : ParseError)
-    → start_checked holes turns s ≡ Err (Parse error) → ⊥
-start_parses holes turns None error h = absurd (cc)
-start_parses holes turns (Some (Names name place)) error h =
-    name_parses turns place (filling_of holes name) error h
-start_parses holes turns (Some (Repeats body place between)) error h = absurd (cc)
+interpolation_parses : (holes : List Named) (turns : ℕ) (s : Option Interpolation) (error : ParseError)
+    → interpolation_checked holes turns s ≡ Err (Parse error) → ⊥
+interpolation_parses holes turns None error h = absurd (cc)
+interpolation_parses holes turns (Some (Names name span)) error h =
+    name_parses turns span (filling_of holes name) error h
+interpolation_parses holes turns (Some (Repeats body span between)) error h = absurd (cc)
 
 both_parse : (first more : Check) (error : ParseError) → (first ≡ Err (Parse error) → ⊥)
     → (more ≡ Err (Parse error) → ⊥) → and_then first more ≡ Err (Parse error) → ⊥
@@ -214,10 +216,10 @@ body_parses : (holes : List Named) (depth turns passed : ℕ) (body : Forest) (e
     → checked holes depth turns passed body ≡ Err (Parse error) → ⊥
 body_parses holes depth turns passed nil error h = absurd (cc)
 body_parses holes depth turns zero (leaf token lo hi rest) error h =
-    both_parse (start_checked holes turns (start token rest))
-    (checked holes depth turns (taken (start token rest)) rest) error
-    (start_parses holes turns (start token rest) error)
-    (body_parses holes depth turns (taken (start token rest)) rest error) h
+    both_parse (interpolation_checked holes turns (interpolation token rest))
+    (checked holes depth turns (taken (interpolation token rest)) rest) error
+    (interpolation_parses holes turns (interpolation token rest) error)
+    (body_parses holes depth turns (taken (interpolation token rest)) rest error) h
 body_parses holes depth turns (suc passed) (leaf token lo hi rest) error h =
     body_parses holes depth turns passed rest error h
 body_parses holes depth turns (suc passed) (group d lo hi inside rest) error h =
@@ -229,12 +231,12 @@ body_parses holes (suc depth) turns zero (group d lo hi inside rest) error h =
 
 of_template : (fault : TemplateError) (P : Type 0) → ((error : ParseError) → fault ≡ Parse error → ⊥) → P
     → UnlessMemory fault P
-of_template (NoHole place) P other h = h
-of_template (LoneList place) P other h = h
-of_template (NoList place) P other h = h
-of_template (UnequalLists place) P other h = h
-of_template (Nested place) P other h = h
-of_template (TooDeep place) P other h = h
+of_template (NoHole span) P other h = h
+of_template (LoneList span) P other h = h
+of_template (NoList span) P other h = h
+of_template (UnequalLists span) P other h = h
+of_template (Nested span) P other h = h
+of_template (TooDeep span) P other h = h
 of_template (Parse error) P other h = absurd (other error refl)
 of_template (Memory error) P other h = tt
 

@@ -5,7 +5,7 @@ use Rattle.proc_macro2.specs.Forest.{Forest, nil, leaf, group, joined}
 use Rattle.proc_macro2.specs.Token.{Token, Name, Mark, Literal}
 use Rattle.proc_macro2.specs.declared.Delimiter.{Delimiter}
 use Rattle.quoting.specs.Holes.{Named, Outcome, filling_of, put_in}
-use Rattle.quoting.specs.Start.{Start, Names, Repeats, start, taken}
+use Rattle.quoting.specs.Interpolation.{Interpolation, Names, Repeats, interpolation, taken}
 use Rattle.quoting.specs.Turns.{Check, checked, turns_of}
 use Rattle.quoting.specs.declared.errors.TemplateError.TheVariants.{NoList, Nested, TooDeep}
 
@@ -21,18 +21,18 @@ enclosed_in d lo hi (Err fault) = Err fault
 enclosed_in d lo hi (Ok inside) = Ok (group d lo hi inside nil)
 
 -- a token that begins nothing, or what comes in the place of what it begins
-abbrev pub replaced : (Start → Outcome) → Token → ℕ → ℕ → Option Start → Outcome
+abbrev pub replaced : (Interpolation → Outcome) → Token → ℕ → ℕ → Option Interpolation → Outcome
 replaced gives token lo hi None = Ok (leaf token lo hi nil)
 replaced gives token lo hi (Some found) = gives found
 
 -- whether what comes first has a meaning
-abbrev pub is_found : Option Start → Bool
+abbrev pub is_found : Option Interpolation → Bool
 is_found None = false
 is_found (Some found) = true
 
 abbrev pub has_meaning : Forest → Bool
 has_meaning nil = false
-has_meaning (leaf token lo hi rest) = is_found (start token rest)
+has_meaning (leaf token lo hi rest) = is_found (interpolation token rest)
 has_meaning (group d lo hi inside rest) = false
 
 -- the token before that: a mark is Alone, since what comes next to it is not what the template has there
@@ -44,21 +44,21 @@ set_apart true (Literal text) = Literal text
 
 -- the trees in order, after some that are passed over, where groups may nest so deep: each group filled inside,
 -- each other tree as it is but for `set_apart`, and `gives` of what has a meaning and of how deep groups may nest there
-abbrev pub woven : (ℕ → Start → Outcome) → ℕ → ℕ → Forest → Outcome
-woven gives depth passed nil = Ok nil
-woven gives depth zero (leaf token lo hi rest) =
-    followed (replaced (gives depth) (set_apart (has_meaning rest) token) lo hi (start token rest))
-    (woven gives depth (taken (start token rest)) rest)
-woven gives depth (suc passed) (leaf token lo hi rest) = woven gives depth passed rest
-woven gives depth (suc passed) (group d lo hi inside rest) = woven gives depth passed rest
-woven gives zero zero (group d lo hi inside rest) = Err (TooDeep (record { lo = lo; hi = hi }))
-woven gives (suc depth) zero (group d lo hi inside rest) =
-    followed (enclosed_in d lo hi (woven gives depth 0 inside)) (woven gives (suc depth) 0 rest)
+abbrev pub filled_by : (ℕ → Interpolation → Outcome) → ℕ → ℕ → Forest → Outcome
+filled_by gives depth passed nil = Ok nil
+filled_by gives depth zero (leaf token lo hi rest) =
+    followed (replaced (gives depth) (set_apart (has_meaning rest) token) lo hi (interpolation token rest))
+    (filled_by gives depth (taken (interpolation token rest)) rest)
+filled_by gives depth (suc passed) (leaf token lo hi rest) = filled_by gives depth passed rest
+filled_by gives depth (suc passed) (group d lo hi inside rest) = filled_by gives depth passed rest
+filled_by gives zero zero (group d lo hi inside rest) = Err (TooDeep (record { lo = lo; hi = hi }))
+filled_by gives (suc depth) zero (group d lo hi inside rest) =
+    followed (enclosed_in d lo hi (filled_by gives depth 0 inside)) (filled_by gives (suc depth) 0 rest)
 
 -- in a turn of a repetition
-abbrev pub in_turn : List Named → ℕ → ℕ → Start → Outcome
-in_turn holes turn depth (Names name place) = put_in (Some turn) place (filling_of holes name)
-in_turn holes turn depth (Repeats body place between) = Err (Nested place)
+abbrev pub in_turn : List Named → ℕ → ℕ → Interpolation → Outcome
+in_turn holes turn depth (Names name span) = put_in (Some turn) span (filling_of holes name)
+in_turn holes turn depth (Repeats body span between) = Err (Nested span)
 
 -- the separator before a turn: none before the first
 abbrev pub before_turn : Forest → ℕ → Forest
@@ -75,23 +75,23 @@ turns_from gives between turn (suc more) =
 abbrev pub unless_fault : List Named → ℕ → Forest → Forest → ℕ → Check → Outcome
 unless_fault holes depth body between turns (Err fault) = Err fault
 unless_fault holes depth body between turns (Ok done) =
-    turns_from (λ turn. woven (in_turn holes turn) depth 0 body) between 0 turns
+    turns_from (λ turn. filled_by (in_turn holes turn) depth 0 body) between 0 turns
 
 -- a repetition that has turns, or else names no list. Its parentheses come before what is wrong inside
 abbrev pub repeated_so : List Named → ℕ → Forest → Extent → Forest → Option ℕ → Outcome
-repeated_so holes depth body place between None = Err (NoList place)
-repeated_so holes depth body place between (Some turns) =
+repeated_so holes depth body span between None = Err (NoList span)
+repeated_so holes depth body span between (Some turns) =
     unless_fault holes depth body between turns (checked holes depth turns 0 body)
 
 abbrev pub repeated : List Named → ℕ → Forest → Extent → Forest → Outcome
-repeated holes zero body place between = Err (TooDeep place)
-repeated holes (suc depth) body place between =
-    repeated_so holes depth body place between (turns_of holes body)
+repeated holes zero body span between = Err (TooDeep span)
+repeated holes (suc depth) body span between =
+    repeated_so holes depth body span between (turns_of holes body)
 
 -- outside of repetitions
-abbrev pub at_top : List Named → ℕ → Start → Outcome
-at_top holes depth (Names name place) = put_in None place (filling_of holes name)
-at_top holes depth (Repeats body place between) = repeated holes depth body place between
+abbrev pub at_top : List Named → ℕ → Interpolation → Outcome
+at_top holes depth (Names name span) = put_in None span (filling_of holes name)
+at_top holes depth (Repeats body span between) = repeated holes depth body span between
 
 -- how deep the groups of a template may nest
 abbrev pub depth_limit : ℕ
@@ -102,4 +102,4 @@ depth_limit = 64
 -- of
 -- parentheses `Nested` comes first, then `TooDeep`, then `NoList`.
 abbrev pub filled : List Named → Forest → Outcome
-filled holes template = woven (at_top holes) depth_limit 0 template
+filled holes template = filled_by (at_top holes) depth_limit 0 template

@@ -15,20 +15,21 @@ use Rattle.proc_macro2.specs.declared.Group.{Group as Grouped}
 use Rattle.proc_macro2.specs.declared.TokenTree.{TokenTree}
 use Rattle.proc_macro2.specs.declared.TokenTree.TheVariants.{Group, Ident, Punct, Literal}
 use Rattle.proc_macro2.specs.declared.Spacing.TheVariants.{Alone}
-use Rattle.quoting.specs.Filled.{at_top, has_meaning, in_turn, woven}
+use Rattle.quoting.specs.Filled.{at_top, has_meaning, in_turn, filled_by}
 use Rattle.quoting.specs.Holes.{Filling, One, Each, Named, Outcome}
-use Rattle.quoting.specs.Start.{Start, Names, Repeats, after_hash, start}
+use Rattle.quoting.specs.Interpolation.{Interpolation, Names, Repeats, after_hash, interpolation}
 use Rattle.quoting.specs.declared.errors.TemplateError.{TemplateError}
 use Rattle.quoting.specs.declared.errors.TemplateError.TheVariants.{NoHole, LoneList, NoList, UnequalLists, Nested}
 use Rattle.quoting.specs.declared.errors.TemplateError.TheVariants.{TooDeep, Parse, Memory}
 use Rattle.quoting.specs.declared.holes.Filling.{Filling as Filler}
 use Rattle.quoting.specs.declared.holes.Filling.TheVariants.{One as OneStream, Each as EachStream}
 use Rattle.quoting.specs.declared.holes.Hole.{Hole}
-use Rattle.quoting.specs.declared.holes.Name.{Name}
-use Rattle.quoting.specs.declared.holes.Name.TheVariants.{Word, Digits}
-use Rattle.quoting.specs.declared.start.Repetition.{Repetition}
-use Rattle.quoting.specs.declared.start.Start.{Start as Found}
-use Rattle.quoting.specs.declared.start.Start.TheVariants.{Names as FoundName, Repeats as FoundRepetition}
+use Rattle.quoting.specs.declared.holes.HoleName.{HoleName}
+use Rattle.quoting.specs.declared.holes.HoleName.TheVariants.{Word, Digits}
+use Rattle.quoting.specs.declared.interpolation.Repetition.{Repetition}
+use Rattle.quoting.specs.declared.interpolation.FoundInterpolation.{FoundInterpolation as Found}
+use Rattle.quoting.specs.declared.interpolation.FoundInterpolation.TheVariants.{Names as FoundName}
+use Rattle.quoting.specs.declared.interpolation.FoundInterpolation.TheVariants.{Repeats as FoundRepetition}
 
 -- what a hole stands for
 abbrev pub filling_by : Filler → Filling
@@ -49,19 +50,19 @@ named_all [] = []
 named_all (hole ∷ holes) = named hole ∷ named_all holes
 
 -- the text of a name
-abbrev pub text_of : Name → List ℕ
+abbrev pub text_of : HoleName → List ℕ
 text_of (Word ident) = token_text (name_token ident.now)
 text_of (Digits literal) = literal.now.text
 
--- where it stands
-abbrev pub place_of : Name → Extent
-place_of (Word ident) = ident.now.span
-place_of (Digits literal) = literal.now.span
+-- its span
+abbrev pub span_of : HoleName → Extent
+span_of (Word ident) = ident.now.span
+span_of (Digits literal) = literal.now.span
 
 -- what a name begins after a `#`
-abbrev pub named_by : Option Name → Option Start
+abbrev pub named_by : Option HoleName → Option Interpolation
 named_by None = None
-named_by (Some name) = Some (Names (text_of name) (place_of name))
+named_by (Some name) = Some (Names (text_of name) (span_of name))
 
 -- what stands between the turns
 abbrev pub separator_of : Option (Bor leaves.Mark) → Forest
@@ -69,16 +70,16 @@ separator_of None = nil
 separator_of (Some mark) = leaf (tokens.Mark mark.now.mark false) mark.now.span.lo mark.now.span.hi nil
 
 -- a repetition
-abbrev pub repeats_of : Repetition → Start
+abbrev pub repeats_of : Repetition → Interpolation
 repeats_of repetition =
     Repeats repetition.body.now.stream repetition.body.now.span (separator_of repetition.separator)
 
 -- what was found
-abbrev pub seen : Found → Start
-seen (FoundName name rest) = Names (text_of name) (place_of name)
+abbrev pub seen : Found → Interpolation
+seen (FoundName name rest) = Names (text_of name) (span_of name)
 seen (FoundRepetition repetition rest) = repeats_of repetition
 
-abbrev pub begun_as : Option Found → Option Start
+abbrev pub begun_as : Option Found → Option Interpolation
 begun_as None = None
 begun_as (Some found) = Some (seen found)
 
@@ -88,11 +89,11 @@ rest_of (FoundName name rest) = rest.now
 rest_of (FoundRepetition repetition rest) = rest.now
 
 -- what a tree begins before these
-abbrev pub starts : TokenTree → Forest → Option Start
-starts (Group g) rest = None
-starts (Ident i) rest = start (name_token i) rest
-starts (Punct p) rest = start (mark_token p) rest
-starts (Literal l) rest = start (text_token l) rest
+abbrev pub interpolation_of : TokenTree → Forest → Option Interpolation
+interpolation_of (Group g) rest = None
+interpolation_of (Ident i) rest = interpolation (name_token i) rest
+interpolation_of (Punct p) rest = interpolation (mark_token p) rest
+interpolation_of (Literal l) rest = interpolation (text_token l) rest
 
 -- a tree before others, a mark Alone where what comes first there has a meaning
 abbrev pub apart : Bool → TokenTree → TokenTree
@@ -106,11 +107,11 @@ abbrev pub apart_before : Forest → TokenTree → TokenTree
 apart_before rest = apart (has_meaning rest)
 
 -- what a group begins after a `#`, before these
-abbrev pub repeats : Grouped → Forest → Option Start
+abbrev pub repeats : Grouped → Forest → Option Interpolation
 repeats g rest = after_hash (group g.delimiter g.span.lo g.span.hi g.stream rest)
 
 -- the hole that a tree names
-abbrev pub tree_name : TokenTree → Option Start
+abbrev pub tree_name : TokenTree → Option Interpolation
 tree_name (Group g) = None
 tree_name (Ident i) = Some (Names (token_text (name_token i)) i.span)
 tree_name (Punct p) = None
@@ -123,22 +124,22 @@ tree_is_mark c (Punct p) = p.mark == c
 tree_is_mark c (Literal l) = false
 
 -- what comes in the place of what has a meaning, in a turn or outside of repetitions
-abbrev pub gives : List Hole → Option ℕ → ℕ → Start → Outcome
+abbrev pub gives : List Hole → Option ℕ → ℕ → Interpolation → Outcome
 gives holes None = at_top (named_all holes)
 gives holes (Some turn) = in_turn (named_all holes) turn
 
 -- what comes out of the inside of a group
-abbrev pub inside_at : (ℕ → Start → Outcome) → ℕ → Grouped → Outcome
+abbrev pub inside_at : (ℕ → Interpolation → Outcome) → ℕ → Grouped → Outcome
 inside_at given zero g = Err (TooDeep g.span)
-inside_at given (suc depth) g = woven given depth 0 g.stream
+inside_at given (suc depth) g = filled_by given depth 0 g.stream
 
 -- that holds of a template's fault, which isn't that of a text; want of memory says nothing
 abbrev pub UnlessMemory : TemplateError → Type 0 → Type 0
-UnlessMemory (NoHole place) holds = holds
-UnlessMemory (LoneList place) holds = holds
-UnlessMemory (NoList place) holds = holds
-UnlessMemory (UnequalLists place) holds = holds
-UnlessMemory (Nested place) holds = holds
-UnlessMemory (TooDeep place) holds = holds
+UnlessMemory (NoHole span) holds = holds
+UnlessMemory (LoneList span) holds = holds
+UnlessMemory (NoList span) holds = holds
+UnlessMemory (UnequalLists span) holds = holds
+UnlessMemory (Nested span) holds = holds
+UnlessMemory (TooDeep span) holds = holds
 UnlessMemory (Parse error) holds = ⊥
 UnlessMemory (Memory error) holds = Unit {0}

@@ -28,12 +28,12 @@ filling_of (hole ∷ holes) name = if pointwise nat_eq name hole.name then Some 
 
 -- the stream of the list for a turn
 abbrev pub of_list : Extent → Option Forest → Outcome
-of_list place None = Err (UnequalLists place)
-of_list place (Some stream) = Ok stream
+of_list span None = Err (UnequalLists span)
+of_list span (Some stream) = Ok stream
 
 -- what comes in the place of a hole: outside of repetitions a stream alone may come, in a turn also that of a list
 abbrev pub put_in : Option ℕ → Extent → Option Filling → Outcome
-put_in turn place None = Err (NoHole place)
-put_in turn place (Some (One stream)) = Ok stream
-put_in None place (Some (Each streams)) = Err (LoneList place)
-put_in (Some turn) place (Some (Each streams)) = of_list place (slice_get streams turn)
+put_in turn span None = Err (NoHole span)
+put_in turn span (Some (One stream)) = Ok stream
+put_in None span (Some (Each streams)) = Err (LoneList span)
+put_in (Some turn) span (Some (Each streams)) = of_list span (slice_get streams turn)

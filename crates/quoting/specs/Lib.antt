@@ -5,7 +5,7 @@ pub mod Choice
 pub mod Part
 pub mod Laws
 pub mod Holes
-pub mod Start
+pub mod Interpolation
 pub mod Turns
 pub mod Filled
 pub mod Given

@@ -15,11 +15,11 @@ quote_message (Memory error) = codes "no memory"
 
 -- what the errors of templates say
 abbrev pub template_message : TemplateError → List ℕ
-template_message (NoHole place) = codes "no hole of this name"
-template_message (LoneList place) = codes "a list outside of a repetition"
-template_message (NoList place) = codes "a repetition that names no list"
-template_message (UnequalLists place) = codes "lists of different lengths"
-template_message (Nested place) = codes "a repetition inside a repetition"
-template_message (TooDeep place) = codes "groups nested too deep"
+template_message (NoHole span) = codes "no hole of this name"
+template_message (LoneList span) = codes "a list outside of a repetition"
+template_message (NoList span) = codes "a repetition that names no list"
+template_message (UnequalLists span) = codes "lists of different lengths"
+template_message (Nested span) = codes "a repetition inside a repetition"
+template_message (TooDeep span) = codes "groups nested too deep"
 template_message (Parse error) = message error
 template_message (NoMemory error) = codes "no memory"

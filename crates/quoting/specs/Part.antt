@@ -1,4 +1,4 @@
--- A list of trees that is respaced up to a place.
+-- A list of trees of which the first are respaced.
 use Rattle.std.specs.Prelude.{ℕ, ◌≡◌, refl, List, [], ◌∷◌, Option, Some, None, take}
 use Rattle.std.specs.Coded.{Coded, code_by, coded×, coded_list}
 use Rattle.proc_macro2.specs.Codec.{coded_forest}

@@ -15,15 +15,15 @@ abbrev pub IsTemplateFault : ℕ → List ℕ → List Named → TemplateError �
 IsTemplateFault first text holes fault =
     (template : Forest) × ParsesTo first text template × (filled holes template ≡ Err fault)
 
--- a fault of the template; or of its text, with the place where it is. Want of memory in filling says that the text
+-- a fault of the template; or of its text, with its span. Want of memory in filling says that the text
 -- parses, and in parsing nothing
 abbrev pub IsTextFault : ℕ → List ℕ → List Named → TemplateError → Type 0
-IsTextFault first text holes (NoHole place) = IsTemplateFault first text holes (NoHole place)
-IsTextFault first text holes (LoneList place) = IsTemplateFault first text holes (LoneList place)
-IsTextFault first text holes (NoList place) = IsTemplateFault first text holes (NoList place)
-IsTextFault first text holes (UnequalLists place) = IsTemplateFault first text holes (UnequalLists place)
-IsTextFault first text holes (Nested place) = IsTemplateFault first text holes (Nested place)
-IsTextFault first text holes (TooDeep place) = IsTemplateFault first text holes (TooDeep place)
+IsTextFault first text holes (NoHole span) = IsTemplateFault first text holes (NoHole span)
+IsTextFault first text holes (LoneList span) = IsTemplateFault first text holes (LoneList span)
+IsTextFault first text holes (NoList span) = IsTemplateFault first text holes (NoList span)
+IsTextFault first text holes (UnequalLists span) = IsTemplateFault first text holes (UnequalLists span)
+IsTextFault first text holes (Nested span) = IsTemplateFault first text holes (Nested span)
+IsTextFault first text holes (TooDeep span) = IsTemplateFault first text holes (TooDeep span)
 IsTextFault first text holes (Parse (Lex fault)) = (fault.lo ≡ fault.hi) × FaultAt first text fault.lo
 IsTextFault first text holes (Parse MapFull) = Unit {0}
 IsTextFault first text holes (Parse (NoMemory error)) = Unit {0}
@@ -33,12 +33,12 @@ IsTextFault first text holes (Memory error) = (template : Forest) × ParsesTo fi
 -- parsing it ran out
 abbrev pub LeavesMap : Files → List ℕ → Files → Result (Unit {0}) TemplateError → Type 0
 LeavesMap old text new (Ok done) = new ≡ with_file old text
-LeavesMap old text new (Err (NoHole place)) = new ≡ with_file old text
-LeavesMap old text new (Err (LoneList place)) = new ≡ with_file old text
-LeavesMap old text new (Err (NoList place)) = new ≡ with_file old text
-LeavesMap old text new (Err (UnequalLists place)) = new ≡ with_file old text
-LeavesMap old text new (Err (Nested place)) = new ≡ with_file old text
-LeavesMap old text new (Err (TooDeep place)) = new ≡ with_file old text
+LeavesMap old text new (Err (NoHole span)) = new ≡ with_file old text
+LeavesMap old text new (Err (LoneList span)) = new ≡ with_file old text
+LeavesMap old text new (Err (NoList span)) = new ≡ with_file old text
+LeavesMap old text new (Err (UnequalLists span)) = new ≡ with_file old text
+LeavesMap old text new (Err (Nested span)) = new ≡ with_file old text
+LeavesMap old text new (Err (TooDeep span)) = new ≡ with_file old text
 LeavesMap old text new (Err (Parse (Lex fault))) = new ≡ with_file old text
 LeavesMap old text new (Err (Parse MapFull)) = new ≡ old
 LeavesMap old text new (Err (Parse (NoMemory error))) = new ≡ old

@@ -3,7 +3,7 @@ use Rattle.std.specs.Prelude.{ℕ, zero, suc, ◌==◌, List, Option, Some, None
 use Rattle.proc_macro2.specs.Extent.{Extent}
 use Rattle.proc_macro2.specs.Forest.{Forest, nil, leaf, group}
 use Rattle.quoting.specs.Holes.{Filling, One, Each, Named, filling_of}
-use Rattle.quoting.specs.Start.{Start, Names, Repeats, start, taken}
+use Rattle.quoting.specs.Interpolation.{Interpolation, Names, Repeats, interpolation, taken}
 use Rattle.quoting.specs.declared.errors.TemplateError.{TemplateError}
 use Rattle.quoting.specs.declared.errors.TemplateError.TheVariants.{NoHole, UnequalLists, Nested, TooDeep}
 
@@ -16,10 +16,10 @@ list_length (Some (One stream)) = None
 list_length (Some (Each streams)) = Some (length streams)
 
 -- the length of a list that is named
-abbrev pub named_length : List Named → Option Start → Option ℕ
+abbrev pub named_length : List Named → Option Interpolation → Option ℕ
 named_length holes None = None
-named_length holes (Some (Names name place)) = list_length (filling_of holes name)
-named_length holes (Some (Repeats body place between)) = None
+named_length holes (Some (Names name span)) = list_length (filling_of holes name)
+named_length holes (Some (Repeats body span between)) = None
 
 -- a length, or else another
 abbrev pub or_else : Option ℕ → Option ℕ → Option ℕ
@@ -30,7 +30,7 @@ or_else (Some turns) after = Some turns
 abbrev pub turns_or : List Named → Forest → Option ℕ → Option ℕ
 turns_or holes nil after = after
 turns_or holes (leaf token lo hi rest) after =
-    or_else (named_length holes (start token rest)) (turns_or holes rest after)
+    or_else (named_length holes (interpolation token rest)) (turns_or holes rest after)
 turns_or holes (group d lo hi inside rest) after = turns_or holes inside (turns_or holes rest after)
 
 -- how many turns a repetition of these trees has: `None` where they name no list at any depth
@@ -49,22 +49,22 @@ and_then (Ok done) more = more
 
 -- a name has a hole, and a list as many streams as there are turns
 abbrev pub name_checked : ℕ → Extent → Option Filling → Check
-name_checked turns place None = Err (NoHole place)
-name_checked turns place (Some (One stream)) = Ok tt
-name_checked turns place (Some (Each streams)) = if length streams == turns then Ok tt else Err (UnequalLists place)
+name_checked turns span None = Err (NoHole span)
+name_checked turns span (Some (One stream)) = Ok tt
+name_checked turns span (Some (Each streams)) = if length streams == turns then Ok tt else Err (UnequalLists span)
 
 -- what has a meaning is a name, and no repetition
-abbrev pub start_checked : List Named → ℕ → Option Start → Check
-start_checked holes turns None = Ok tt
-start_checked holes turns (Some (Names name place)) = name_checked turns place (filling_of holes name)
-start_checked holes turns (Some (Repeats body place between)) = Err (Nested place)
+abbrev pub interpolation_checked : List Named → ℕ → Option Interpolation → Check
+interpolation_checked holes turns None = Ok tt
+interpolation_checked holes turns (Some (Names name span)) = name_checked turns span (filling_of holes name)
+interpolation_checked holes turns (Some (Repeats body span between)) = Err (Nested span)
 
 -- the trees of a repetition of so many turns in order, after some that are passed over, where groups may nest so deep
 abbrev pub checked : List Named → ℕ → ℕ → ℕ → Forest → Check
 checked holes depth turns passed nil = Ok tt
 checked holes depth turns zero (leaf token lo hi rest) =
-    and_then (start_checked holes turns (start token rest))
-    (checked holes depth turns (taken (start token rest)) rest)
+    and_then (interpolation_checked holes turns (interpolation token rest))
+    (checked holes depth turns (taken (interpolation token rest)) rest)
 checked holes depth turns (suc passed) (leaf token lo hi rest) = checked holes depth turns passed rest
 checked holes depth turns (suc passed) (group d lo hi inside rest) = checked holes depth turns passed rest
 checked holes zero turns zero (group d lo hi inside rest) = Err (TooDeep (record { lo = lo; hi = hi }))

@@ -2,7 +2,7 @@
 ghost use Rattle.std.specs.Prelude.{◌≡◌, IfErr, IfOk, Ok, Err, nat_eq};
 ghost use Rattle.std.specs.Cmp.Lexicographic.{pointwise};
 ghost use Rattle.std.specs.Str.{chars};
-ghost use Rattle.quoting.specs.Given.{UnlessMemory, looked_up, named, named_all, place_of, text_of};
+ghost use Rattle.quoting.specs.Given.{UnlessMemory, looked_up, named, named_all, span_of, text_of};
 ghost use Rattle.quoting.specs.Holes.{filling_of, put_in};
 ghost use Rattle.quoting.specs.Holes.{One as OneStream, Each as EachStream};
 
@@ -49,19 +49,19 @@ impl<'a> Hole<'a> {
 
 // What names a hole in a template.
 #[derive(Clone, Copy)]
-pub(crate) enum Name<'a> {
+pub(crate) enum HoleName<'a> {
     Word(&'a Ident),
     Digits(&'a Literal),
 }
 
-impl<'a> Name<'a> {
+impl<'a> HoleName<'a> {
     // Where it stands.
     pub(crate) fn span(&self) -> Span
-        ensures { result ≡ place_of self.now }
+        ensures { result ≡ span_of self.now }
     {
         match self {
-            Name::Word(ident) => ident.span(),
-            Name::Digits(literal) => literal.span(),
+            HoleName::Word(ident) => ident.span(),
+            HoleName::Digits(literal) => literal.span(),
         }
     }
 
@@ -70,8 +70,8 @@ impl<'a> Name<'a> {
         ensures { result ≡ pointwise nat_eq (text_of self.now) (chars text.now) }
     {
         match self {
-            Name::Word(ident) => ident.eq_str(text),
-            Name::Digits(literal) => literal.text() == text,
+            HoleName::Word(ident) => ident.eq_str(text),
+            HoleName::Digits(literal) => literal.text() == text,
         }
     }
 
@@ -94,9 +94,9 @@ impl<'a> Name<'a> {
         turn: Option<usize>,
     ) -> Result<TokenStream, TemplateError>
         ensures ok { IfOk result (λ stream.
-            put_in turn (place_of self.now) (filling_of (named_all holes.now) (text_of self.now)) ≡ Ok stream) }
+            put_in turn (span_of self.now) (filling_of (named_all holes.now) (text_of self.now)) ≡ Ok stream) }
         ensures fault { IfErr result (λ fault. UnlessMemory fault
-            (put_in turn (place_of self.now) (filling_of (named_all holes.now) (text_of self.now)) ≡ Err fault)) }
+            (put_in turn (span_of self.now) (filling_of (named_all holes.now) (text_of self.now)) ≡ Err fault)) }
     {
         let stream = match self.filling(holes) {
             None => return Err(TemplateError::NoHole(self.span())),

@@ -3,15 +3,15 @@
 
 mod errors;
 mod faults;
+mod fill;
 mod holes;
+mod interpolation;
 pub mod laws;
 mod neighbours;
 mod quote;
 mod respace;
-mod start;
 mod template;
 mod turns;
-mod weave;
 
 pub use errors::{QuoteError, TemplateError};
 pub use holes::Hole;

@@ -9,9 +9,9 @@ ghost use Rattle.quoting.specs.Given.{UnlessMemory, named_all};
 ghost use Rattle.quoting.specs.TextFault.{IsTextFault, LeavesMap};
 
 use crate::errors::TemplateError;
+use crate::fill::filled;
 use crate::holes::Hole;
 use crate::quote::Quote;
-use crate::weave::woven;
 use proc_macro2::{ParseError, SourceMap, TokenStream};
 
 // How many groups may stand one inside the other in a template.
@@ -37,13 +37,13 @@ impl Quote {
             UnlessMemory fault (filled (named_all holes.now) template.now ≡ Err fault)) }
         ensures kept { OnErr result (self.new ≡ self.old) }
     {
-        let stream = woven(self.alloc(), template, holes, None, DEPTH_LIMIT)?;
+        let stream = filled(self.alloc(), template, holes, None, DEPTH_LIMIT)?;
         self.push_stream(stream)?;
         Ok(())
     }
 
     /// Puts the template that the text parses to after the other trees, its holes filled, as `fill` does. The text
-    /// becomes the next file of the map, and the spans of the template are places in it.
+    /// becomes the next file of the map, and the spans of the template lie in it.
     ///
     /// `Parse` tells why the text was not parsed: `Lex` where it has a fault, `MapFull` exactly where it would end
     /// past the map's limit, and `Memory` where memory for that ran out. Any other error is one of filling. The quote

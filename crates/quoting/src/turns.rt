@@ -1,13 +1,13 @@
 //! How many turns a repetition has, and what is wrong inside of it.
 ghost use Rattle.std.specs.Prelude.{◌≡◌, IfOk};
 ghost use Rattle.proc_macro2.specs.Trees.{forest};
-ghost use Rattle.quoting.specs.Given.{named_all, place_of, starts, text_of};
+ghost use Rattle.quoting.specs.Given.{named_all, span_of, interpolation_of, text_of};
 ghost use Rattle.quoting.specs.Holes.{filling_of};
 ghost use Rattle.quoting.specs.Turns.{checked, name_checked, named_length, turns_of};
 
 use crate::errors::TemplateError;
-use crate::holes::{Filling, Hole, Name};
-use crate::start::{Start, start_at};
+use crate::holes::{Filling, Hole, HoleName};
+use crate::interpolation::{FoundInterpolation, interpolation_at};
 use proc_macro2::TokenTree;
 use std::alloc::{AllocError, Global};
 
@@ -47,9 +47,9 @@ pub(crate) fn turns_of(
 
 // How many streams the list has that the tree before these names, if it is the `#` of a list.
 fn named_length(tree: &TokenTree, after: &[TokenTree], holes: &[Hole<'_>]) -> Option<usize>
-    ensures { result ≡ named_length (named_all holes.now) (starts tree.now (forest after.now)) }
+    ensures { result ≡ named_length (named_all holes.now) (interpolation_of tree.now (forest after.now)) }
 {
-    let Some(Start::Names(name, _)) = start_at(tree, after) else {
+    let Some(FoundInterpolation::Names(name, _)) = interpolation_at(tree, after) else {
         return None;
     };
     match name.filling(holes) {
@@ -70,7 +70,7 @@ pub(crate) fn checked(
 {
     let mut left = trees;
     while let Some((tree, after)) = left.split_first() {
-        match start_at(tree, after) {
+        match interpolation_at(tree, after) {
             None => {
                 if let TokenTree::Group(group) = tree {
                     let Some(inner) = depth.checked_sub(1) else {
@@ -80,11 +80,11 @@ pub(crate) fn checked(
                 }
                 left = after;
             }
-            Some(Start::Names(name, rest)) => {
+            Some(FoundInterpolation::Names(name, rest)) => {
                 name_checked(&name, holes, turns)?;
                 left = rest;
             }
-            Some(Start::Repeats(repetition, _)) => {
+            Some(FoundInterpolation::Repeats(repetition, _)) => {
                 return Err(TemplateError::Nested(repetition.body.span()));
             }
         }
@@ -93,8 +93,8 @@ pub(crate) fn checked(
 }
 
 // Checks that the name has a hole, and a list as many streams as there are turns.
-fn name_checked(name: &Name<'_>, holes: &[Hole<'_>], turns: usize) -> Result<(), TemplateError>
-    ensures { result ≡ name_checked turns (place_of name.now) (filling_of (named_all holes.now) (text_of name.now)) }
+fn name_checked(name: &HoleName<'_>, holes: &[Hole<'_>], turns: usize) -> Result<(), TemplateError>
+    ensures { result ≡ name_checked turns (span_of name.now) (filling_of (named_all holes.now) (text_of name.now)) }
 {
     match name.filling(holes) {
         None => Err(TemplateError::NoHole(name.span())),

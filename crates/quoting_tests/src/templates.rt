@@ -29,7 +29,7 @@ fn fault(
         return Ok(None);
     };
     let message = format!(in alloc; "{error}")?;
-    Ok(match place(&error) {
+    Ok(match span_of(&error) {
         Some(span) if map.holds(span) => {
             Some((message, span.start(&map).column, span.end(&map).column))
         }
@@ -37,7 +37,7 @@ fn fault(
     })
 }
 
-fn place(error: &TemplateError) -> Option<Span> {
+fn span_of(error: &TemplateError) -> Option<Span> {
     match error {
         TemplateError::NoHole(span)
         | TemplateError::LoneList(span)
@@ -191,7 +191,7 @@ fn tokens_of_the_template_and_of_the_holes_keep_their_spans(rt: HostRuntime) -> 
 }
 
 #[test]
-fn each_fault_is_told_with_its_place(rt: HostRuntime) -> Result<(), Fail> {
+fn each_fault_has_its_span(rt: HostRuntime) -> Result<(), Fail> {
     let alloc = rt.alloc();
     let one = parsed(alloc, "a")?;
     let (two, three) = (
@@ -249,7 +249,7 @@ fn parentheses_come_before_what_is_wrong_inside(rt: HostRuntime) -> Result<(), F
         ("#( #( #x )* )*", (no_list, 1, 13)),
         ("#( #( #missing )* )*", (no_list, 1, 19)),
         ("#( )*", (no_list, 1, 4)),
-        // A list is named, at any depth and at any place, so the first fault is inside.
+        // A list is named, at any depth, so the first fault is inside.
         ("#( #missing #two )*", (no_hole, 4, 11)),
         ("#( #two #missing )*", (no_hole, 9, 16)),
         ("#( #missing [(#two)] )*", (no_hole, 4, 11)),

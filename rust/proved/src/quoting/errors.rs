@@ -39,7 +39,7 @@ impl From<AllocError> for QuoteError {
     }
 }
 
-/// Why a template is not filled: its first fault with the place in the template, that its text was not parsed, or that
+/// Why a template is not filled: its first fault with its span in the template, that its text was not parsed, or that
 /// memory ran out.
 ///
 /// The first fault is the first in reading order, a group coming before its contents. So of `#( #missing )*` it is

@@ -44,18 +44,18 @@ impl<'a> Hole<'a> {
 
 // What names a hole in a template.
 #[derive(Clone, Copy)]
-pub(crate) enum Name<'a> {
+pub(crate) enum HoleName<'a> {
     Word(&'a Ident),
     Digits(&'a Literal),
 }
 
-impl<'a> Name<'a> {
+impl<'a> HoleName<'a> {
     // Where it stands.
     pub(crate) fn span(&self) -> Span
     {
         match self {
-            Name::Word(ident) => ident.span(),
-            Name::Digits(literal) => literal.span(),
+            HoleName::Word(ident) => ident.span(),
+            HoleName::Digits(literal) => literal.span(),
         }
     }
 
@@ -63,8 +63,8 @@ impl<'a> Name<'a> {
     fn is(&self, text: &str) -> bool
     {
         match self {
-            Name::Word(ident) => ident.eq_str(text),
-            Name::Digits(literal) => literal.text() == text,
+            HoleName::Word(ident) => ident.eq_str(text),
+            HoleName::Digits(literal) => literal.text() == text,
         }
     }
 

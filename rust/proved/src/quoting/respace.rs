@@ -33,7 +33,7 @@ pub(crate) fn respaced(alloc: Global, stream: &TokenStream) -> Result<TokenStrea
     }
 }
 
-// The trees of one list, respaced up to a place.
+// The trees of one list, of which the first are respaced.
 struct Draft<'a> {
     // The list as it was.
     stream: &'a TokenStream,

@@ -2,9 +2,9 @@
 //! Templates that are filled and pushed.
 
 use crate::quoting::errors::TemplateError;
+use crate::quoting::fill::filled;
 use crate::quoting::holes::Hole;
 use crate::quoting::quote::Quote;
-use crate::quoting::weave::woven;
 use crate::proc_macro2::{ParseError, SourceMap, TokenStream};
 
 // How many groups may stand one inside the other in a template.
@@ -25,13 +25,13 @@ impl Quote {
     /// `y`, and with neither `NoList` at the parentheses.
     pub fn fill(&mut self, template: &TokenStream, holes: &[Hole<'_>]) -> Result<(), TemplateError>
     {
-        let stream = woven(self.alloc(), template, holes, None, DEPTH_LIMIT)?;
+        let stream = filled(self.alloc(), template, holes, None, DEPTH_LIMIT)?;
         self.push_stream(stream)?;
         Ok(())
     }
 
     /// Puts the template that the text parses to after the other trees, its holes filled, as `fill` does. The text
-    /// becomes the next file of the map, and the spans of the template are places in it.
+    /// becomes the next file of the map, and the spans of the template lie in it.
     ///
     /// `Parse` tells why the text was not parsed: `Lex` where it has a fault, `MapFull` exactly where it would end
     /// past the map's limit, and `Memory` where memory for that ran out. Any other error is one of filling. The quote

@@ -4,8 +4,8 @@
 use crate::shim::prelude::Vec;
 
 use crate::quoting::errors::TemplateError;
-use crate::quoting::holes::{Filling, Hole, Name};
-use crate::quoting::start::{Start, start_at};
+use crate::quoting::holes::{Filling, Hole, HoleName};
+use crate::quoting::interpolation::{FoundInterpolation, interpolation_at};
 use crate::proc_macro2::TokenTree;
 use crate::shim::alloc::{AllocError, Global};
 
@@ -45,7 +45,7 @@ pub(crate) fn turns_of(
 // How many streams the list has that the tree before these names, if it is the `#` of a list.
 fn named_length(tree: &TokenTree, after: &[TokenTree], holes: &[Hole<'_>]) -> Option<usize>
 {
-    let Some(Start::Names(name, _)) = start_at(tree, after) else {
+    let Some(FoundInterpolation::Names(name, _)) = interpolation_at(tree, after) else {
         return None;
     };
     match name.filling(holes) {
@@ -65,7 +65,7 @@ pub(crate) fn checked(
 {
     let mut left = trees;
     while let Some((tree, after)) = left.split_first() {
-        match start_at(tree, after) {
+        match interpolation_at(tree, after) {
             None => {
                 if let TokenTree::Group(group) = tree {
                     let Some(inner) = depth.checked_sub(1) else {
@@ -75,11 +75,11 @@ pub(crate) fn checked(
                 }
                 left = after;
             }
-            Some(Start::Names(name, rest)) => {
+            Some(FoundInterpolation::Names(name, rest)) => {
                 name_checked(&name, holes, turns)?;
                 left = rest;
             }
-            Some(Start::Repeats(repetition, _)) => {
+            Some(FoundInterpolation::Repeats(repetition, _)) => {
                 return Err(TemplateError::Nested(repetition.body.span()));
             }
         }
@@ -88,7 +88,7 @@ pub(crate) fn checked(
 }
 
 // Checks that the name has a hole, and a list as many streams as there are turns.
-fn name_checked(name: &Name<'_>, holes: &[Hole<'_>], turns: usize) -> Result<(), TemplateError>
+fn name_checked(name: &HoleName<'_>, holes: &[Hole<'_>], turns: usize) -> Result<(), TemplateError>
 {
     match name.filling(holes) {
         None => Err(TemplateError::NoHole(name.span())),

@@ -1,7 +1,7 @@
 use Rattle.quoting.proofs.NameLemmas.{same_text}
 use Rattle.std.proofs.Common.{◌∙◌, ap, sym}
 use Rattle.quoting.specs.Given.{text_of}
-use Rattle.quoting.proofs.holes.Name.is.Goals as goal
+use Rattle.quoting.proofs.holes.HoleName.is.Goals as goal
 
 pub returns-in-Digits : goal.returns-in-Digits
 returns-in-Digits c =

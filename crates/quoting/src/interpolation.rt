@@ -5,17 +5,17 @@ ghost use Rattle.std.specs.List.{list_all};
 ghost use Rattle.std.specs.Str.{chars};
 ghost use Rattle.proc_macro2.specs.Trees.{forest};
 ghost use Rattle.proc_macro2.specs.declared.TokenTree.TheVariants.{Group as GroupTree};
-ghost use Rattle.quoting.specs.Given.{begun_as, named_by, repeats, rest_of, starts, tree_is_mark, tree_name};
-ghost use Rattle.quoting.specs.Start.{taken};
+ghost use Rattle.quoting.specs.Given.{begun_as, named_by, repeats, rest_of, interpolation_of, tree_is_mark, tree_name};
+ghost use Rattle.quoting.specs.Interpolation.{taken};
 
-use crate::holes::Name;
+use crate::holes::HoleName;
 use proc_macro2::{Delimiter, Group, Punct, TokenTree};
 
 // What has a meaning in a template, and the trees after it.
 #[derive(Clone, Copy)]
-pub(crate) enum Start<'a> {
+pub(crate) enum FoundInterpolation<'a> {
     // `#` and the name of a hole.
-    Names(Name<'a>, &'a [TokenTree]),
+    Names(HoleName<'a>, &'a [TokenTree]),
     // `#( .. )*`, or with a mark before `*`.
     Repeats(Repetition<'a>, &'a [TokenTree]),
 }
@@ -28,9 +28,12 @@ pub(crate) struct Repetition<'a> {
 }
 
 // What the tree begins before these. `None` where it stands for itself.
-pub(crate) fn start_at<'a>(tree: &TokenTree, after: &'a [TokenTree]) -> Option<Start<'a>>
-    ensures found { begun_as result ≡ starts tree.now (forest after.now) }
-    ensures rest { IfSome result (λ start. rest_of start ≡ drop (taken (begun_as result)) after.now) }
+pub(crate) fn interpolation_at<'a>(
+    tree: &TokenTree,
+    after: &'a [TokenTree],
+) -> Option<FoundInterpolation<'a>>
+    ensures found { begun_as result ≡ interpolation_of tree.now (forest after.now) }
+    ensures rest { IfSome result (λ found. rest_of found ≡ drop (taken (begun_as result)) after.now) }
 {
     if !is_mark(tree, '#') {
         return None;
@@ -39,14 +42,14 @@ pub(crate) fn start_at<'a>(tree: &TokenTree, after: &'a [TokenTree]) -> Option<S
     if let TokenTree::Group(body) = first {
         return repetition_of(body, rest);
     }
-    Some(Start::Names(name_of(first)?, rest))
+    Some(FoundInterpolation::Names(name_of(first)?, rest))
 }
 
 // The repetition of the group before these trees, where there is one.
-fn repetition_of<'a>(body: &'a Group, after: &'a [TokenTree]) -> Option<Start<'a>>
+fn repetition_of<'a>(body: &'a Group, after: &'a [TokenTree]) -> Option<FoundInterpolation<'a>>
     ensures found { begun_as result ≡ repeats body.now (forest after.now) }
-    ensures rest { IfSome result (λ start.
-        rest_of start ≡ drop (taken (begun_as result)) (GroupTree body.now ∷ after.now)) }
+    ensures rest { IfSome result (λ found.
+        rest_of found ≡ drop (taken (begun_as result)) (GroupTree body.now ∷ after.now)) }
 {
     if body.delimiter() != Delimiter::Parenthesis {
         return None;
@@ -54,7 +57,7 @@ fn repetition_of<'a>(body: &'a Group, after: &'a [TokenTree]) -> Option<Start<'a
     let (first, rest) = after.split_first()?;
     if is_mark(first, '*') {
         let separator = None;
-        return Some(Start::Repeats(Repetition { body, separator }, rest));
+        return Some(FoundInterpolation::Repeats(Repetition { body, separator }, rest));
     }
     let (second, rest) = rest.split_first()?;
     let TokenTree::Punct(mark) = first else {
@@ -64,16 +67,18 @@ fn repetition_of<'a>(body: &'a Group, after: &'a [TokenTree]) -> Option<Start<'a
         return None;
     }
     let separator = Some(mark);
-    Some(Start::Repeats(Repetition { body, separator }, rest))
+    Some(FoundInterpolation::Repeats(Repetition { body, separator }, rest))
 }
 
 // The name that the tree is: an identifier, or a literal of digits alone.
-fn name_of(tree: &TokenTree) -> Option<Name<'_>>
+fn name_of(tree: &TokenTree) -> Option<HoleName<'_>>
     ensures { named_by result ≡ tree_name tree.now }
 {
     match tree {
-        TokenTree::Ident(ident) => Some(Name::Word(ident)),
-        TokenTree::Literal(literal) if all_digits(literal.text()) => Some(Name::Digits(literal)),
+        TokenTree::Ident(ident) => Some(HoleName::Word(ident)),
+        TokenTree::Literal(literal) if all_digits(literal.text()) => Some(HoleName::Digits(
+            literal,
+        )),
         _ => None,
     }
 }

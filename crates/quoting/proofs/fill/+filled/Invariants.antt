@@ -2,11 +2,11 @@ use Rattle.std.proofs.Common.{◌+◌, ◌*◌, length}
 use Rattle.quoting.specs.Filled.{turns_from}
 use Rattle.quoting.specs.Given.{gives, separator_of}
 use Rattle.quoting.proofs.TurnLemmas.{TurnsOn, turn_of}
-use Rattle.quoting.proofs.WeaveLemmas.{IsUpTo}
-use Rattle.quoting.proofs.weave.+woven.Given as goal
+use Rattle.quoting.proofs.FillLemmas.{IsUpTo}
+use Rattle.quoting.proofs.fill.+filled.Given as goal
 
-abbrev pub decreases-woven : goal.decreases-woven
-decreases-woven l = 2 * l.depth + 1
+abbrev pub decreases-filled : goal.decreases-filled
+decreases-filled l = 2 * l.depth + 1
 
 abbrev pub decreases-filled_inside : goal.decreases-filled_inside
 decreases-filled_inside l = 2 * l.depth
@@ -14,11 +14,11 @@ decreases-filled_inside l = 2 * l.depth
 abbrev pub decreases-repeated : goal.decreases-repeated
 decreases-repeated l = 2 * l.depth
 
-abbrev pub invariant-woven-loop-tree : goal.invariant-woven-loop-tree
-invariant-woven-loop-tree l = IsUpTo (gives l.holes l.turn) l.depth l.template l.out l.left
+abbrev pub invariant-filled-loop-tree : goal.invariant-filled-loop-tree
+invariant-filled-loop-tree l = IsUpTo (gives l.holes l.turn) l.depth l.template l.out l.left
 
-abbrev pub decreases-woven-loop-tree : goal.decreases-woven-loop-tree
-decreases-woven-loop-tree l = length l.left
+abbrev pub decreases-filled-loop-tree : goal.decreases-filled-loop-tree
+decreases-filled-loop-tree l = length l.left
 
 abbrev pub invariant-repeated-loop-turn : goal.invariant-repeated-loop-turn
 invariant-repeated-loop-turn l =

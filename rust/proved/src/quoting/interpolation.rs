@@ -1,14 +1,14 @@
-// Made from crates/quoting/src/start.rt by rust/erase: change that file, not this one.
+// Made from crates/quoting/src/interpolation.rt by rust/erase: change that file, not this one.
 //! What has a meaning in a template.
 
-use crate::quoting::holes::Name;
+use crate::quoting::holes::HoleName;
 use crate::proc_macro2::{Delimiter, Group, Punct, TokenTree};
 
 // What has a meaning in a template, and the trees after it.
 #[derive(Clone, Copy)]
-pub(crate) enum Start<'a> {
+pub(crate) enum FoundInterpolation<'a> {
     // `#` and the name of a hole.
-    Names(Name<'a>, &'a [TokenTree]),
+    Names(HoleName<'a>, &'a [TokenTree]),
     // `#( .. )*`, or with a mark before `*`.
     Repeats(Repetition<'a>, &'a [TokenTree]),
 }
@@ -21,7 +21,10 @@ pub(crate) struct Repetition<'a> {
 }
 
 // What the tree begins before these. `None` where it stands for itself.
-pub(crate) fn start_at<'a>(tree: &TokenTree, after: &'a [TokenTree]) -> Option<Start<'a>>
+pub(crate) fn interpolation_at<'a>(
+    tree: &TokenTree,
+    after: &'a [TokenTree],
+) -> Option<FoundInterpolation<'a>>
 {
     if !is_mark(tree, '#') {
         return None;
@@ -30,11 +33,11 @@ pub(crate) fn start_at<'a>(tree: &TokenTree, after: &'a [TokenTree]) -> Option<S
     if let TokenTree::Group(body) = first {
         return repetition_of(body, rest);
     }
-    Some(Start::Names(name_of(first)?, rest))
+    Some(FoundInterpolation::Names(name_of(first)?, rest))
 }
 
 // The repetition of the group before these trees, where there is one.
-fn repetition_of<'a>(body: &'a Group, after: &'a [TokenTree]) -> Option<Start<'a>>
+fn repetition_of<'a>(body: &'a Group, after: &'a [TokenTree]) -> Option<FoundInterpolation<'a>>
 {
     if body.delimiter() != Delimiter::Parenthesis {
         return None;
@@ -42,7 +45,7 @@ fn repetition_of<'a>(body: &'a Group, after: &'a [TokenTree]) -> Option<Start<'a
     let (first, rest) = after.split_first()?;
     if is_mark(first, '*') {
         let separator = None;
-        return Some(Start::Repeats(Repetition { body, separator }, rest));
+        return Some(FoundInterpolation::Repeats(Repetition { body, separator }, rest));
     }
     let (second, rest) = rest.split_first()?;
     let TokenTree::Punct(mark) = first else {
@@ -52,15 +55,17 @@ fn repetition_of<'a>(body: &'a Group, after: &'a [TokenTree]) -> Option<Start<'a
         return None;
     }
     let separator = Some(mark);
-    Some(Start::Repeats(Repetition { body, separator }, rest))
+    Some(FoundInterpolation::Repeats(Repetition { body, separator }, rest))
 }
 
 // The name that the tree is: an identifier, or a literal of digits alone.
-fn name_of(tree: &TokenTree) -> Option<Name<'_>>
+fn name_of(tree: &TokenTree) -> Option<HoleName<'_>>
 {
     match tree {
-        TokenTree::Ident(ident) => Some(Name::Word(ident)),
-        TokenTree::Literal(literal) if all_digits(literal.text()) => Some(Name::Digits(literal)),
+        TokenTree::Ident(ident) => Some(HoleName::Word(ident)),
+        TokenTree::Literal(literal) if all_digits(literal.text()) => Some(HoleName::Digits(
+            literal,
+        )),
         _ => None,
     }
 }

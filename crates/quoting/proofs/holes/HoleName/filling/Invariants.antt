@@ -1,7 +1,7 @@
 use Rattle.std.proofs.Common.{◌≡◌, drop}
 use Rattle.quoting.specs.Given.{named_all, text_of}
 use Rattle.quoting.specs.Holes.{filling_of}
-use Rattle.quoting.proofs.holes.Name.filling.Given as goal
+use Rattle.quoting.proofs.holes.HoleName.filling.Given as goal
 
 abbrev pub invariant-loop-hole : goal.invariant-loop-hole
 invariant-loop-hole l =

@@ -5,9 +5,9 @@ use Rattle.proc_macro2.specs.Forest.{joined}
 use Rattle.std.proofs.lemmas.Result.{err_from_is_err_and}
 use Rattle.quoting.proofs.TurnLemmas.{all_turns, checked_fault, turn_fault, turn_more, turn_of, turns_begun}
 use Rattle.quoting.proofs.TurnLemmas.{turns_ended}
-use Rattle.quoting.proofs.WeaveLemmas.{IsUpTo, copy_inside, ended, found_step, gives_name, group_step, token_step}
-use Rattle.quoting.proofs.WeaveLemmas.{unless_weaker}
-use Rattle.quoting.proofs.weave.+woven.Goals as goal
+use Rattle.quoting.proofs.FillLemmas.{IsUpTo, copy_inside, ended, found_step, gives_name, group_step, token_step}
+use Rattle.quoting.proofs.FillLemmas.{unless_weaker}
+use Rattle.quoting.proofs.fill.+filled.Goals as goal
 
 pub repeated-loop-turn-init : goal.repeated-loop-turn-init
 repeated-loop-turn-init t c =
@@ -64,22 +64,22 @@ repeated-returns-clause-ok t c =
     c.in-Some-2.turns
     c.loop-turn.invariant (omega (arith, c.loop-turn-test.false, c.loop-turn.auto.turn-end))
 
-pub woven-loop-tree-preserved-in_ok-put-in-None : goal.woven-loop-tree-preserved-in_ok-put-in-None
-woven-loop-tree-preserved-in_ok-put-in-None t c =
+pub filled-loop-tree-preserved-in_ok-put-in-None : goal.filled-loop-tree-preserved-in_ok-put-in-None
+filled-loop-tree-preserved-in_ok-put-in-None t c =
     group_step (gives c.args.holes.now c.args.turn) c.args.depth c.args.template.now _ _ _ c.in-Some.tree.now
     c.in-Group.group _ _ c.in-Some.after.now
     c.loop-tree.invariant c.in-Some.ensures.cases.0 c.in-Group.is c.in_ok-inside-in-None.ensures.ok
     c.regrouped.ensures c.in_ok-put-in-None.ensures
 
-pub woven-loop-tree-preserved-in_ok-put-in-None-2 : goal.woven-loop-tree-preserved-in_ok-put-in-None-2
-woven-loop-tree-preserved-in_ok-put-in-None-2 t c =
+pub filled-loop-tree-preserved-in_ok-put-in-None-2 : goal.filled-loop-tree-preserved-in_ok-put-in-None-2
+filled-loop-tree-preserved-in_ok-put-in-None-2 t c =
     token_step (gives c.args.holes.now c.args.turn) c.args.depth c.args.template.now _ _ c.in-Some.tree.now _ _
     c.in-Some.after.now
     c.loop-tree.invariant c.in-Some.ensures.cases.0 c.in_default-tree.not-Group c.in-None.ensures.found
     c.in_ok-apart_before-in-None.ensures c.in_ok-put-in-None-2.ensures
 
-pub woven-loop-tree-preserved-in-Some-Names : goal.woven-loop-tree-preserved-in-Some-Names
-woven-loop-tree-preserved-in-Some-Names t c =
+pub filled-loop-tree-preserved-in-Some-Names : goal.filled-loop-tree-preserved-in-Some-Names
+filled-loop-tree-preserved-in-Some-Names t c =
     let found = c.in-Some-Names in
     subst (IsUpTo (gives c.args.holes.now c.args.turn) c.args.depth c.args.template.now c.append.new.stream)
     (search rules)
@@ -92,8 +92,8 @@ woven-loop-tree-preserved-in-Some-Names t c =
     ∙ (rw found.field-0-is at c.in_ok-put_in-in-Some-Names.ensures.ok)))
     c.in_ok-append-in-Some-Names.ensures)
 
-pub woven-loop-tree-preserved : goal.woven-loop-tree-preserved
-woven-loop-tree-preserved t c =
+pub filled-loop-tree-preserved : goal.filled-loop-tree-preserved
+filled-loop-tree-preserved t c =
     let found = c.in-Some-Repeats in
     subst (IsUpTo (gives c.args.holes.now c.args.turn) c.args.depth c.args.template.now
     c.append-in-Some-Repeats.new.stream) (search rules)
@@ -105,13 +105,13 @@ woven-loop-tree-preserved t c =
     ∙ (rw found.field-0-is at c.in_ok-repeated-in-Some-Repeats.ensures.ok))
     c.in_ok-append-in-Some-Repeats.ensures)
 
-pub woven-put-requires-in_default-tree : goal.woven-put-requires-in_default-tree
-woven-put-requires-in_default-tree t c =
+pub filled-put-requires-in_default-tree : goal.filled-put-requires-in_default-tree
+filled-put-requires-in_default-tree t c =
     copy_inside (gives c.args.holes.now c.args.turn) c.args.depth c.args.template.now _ c.in-Some.tree.now _ _
     c.in-Some.after.now
     c.loop-tree.invariant c.in-Some.ensures.cases.0 c.in_ok-apart_before-in-None.ensures
 
-pub woven-returns-clause-ok : goal.woven-returns-clause-ok
-woven-returns-clause-ok t c =
+pub filled-returns-clause-ok : goal.filled-returns-clause-ok
+filled-returns-clause-ok t c =
     ended (gives c.args.holes.now c.args.turn) c.args.depth c.args.template.now _ c.loop-tree.left.now
     c.loop-tree.invariant c.in_default.ensures.cases

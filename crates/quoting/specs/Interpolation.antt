@@ -1,4 +1,4 @@
--- What a template's trees begin with, from one place on.
+-- What a template's trees begin with.
 use Rattle.std.specs.Prelude.{ℕ, ◌+◌, Bool, false, ◌==◌, List, Option, Some, None, if◌then◌else◌}
 use Rattle.std.specs.Char.{is_ascii_digit}
 use Rattle.std.specs.List.{list_all}
@@ -10,17 +10,17 @@ use Rattle.proc_macro2.specs.Token.{Token, Name, Mark, Literal, token_text}
 use Rattle.proc_macro2.specs.declared.Delimiter.TheVariants.{Parenthesis, Brace, Bracket, None as Bare}
 
 -- what has a meaning in a template
-pub data Start : Type 0 where
-  -- `#` and the name of a hole, with the place of the name
-  Names : List ℕ → Extent → Start
-  -- `#( .. )*`, or with a mark before `*`: what is repeated, the place of its parentheses, and the mark
-  Repeats : Forest → Extent → Forest → Start
+pub data Interpolation : Type 0 where
+  -- `#` and the name of a hole, with the span of the name
+  Names : List ℕ → Extent → Interpolation
+  -- `#( .. )*`, or with a mark before `*`: what is repeated, the span of its parentheses, and the mark
+  Repeats : Forest → Extent → Forest → Interpolation
 
 -- how many trees after the `#` it is made of
-abbrev pub taken : Option Start → ℕ
+abbrev pub taken : Option Interpolation → ℕ
 taken None = 0
-taken (Some (Names name place)) = 1
-taken (Some (Repeats body place separator)) = 2 + count separator
+taken (Some (Names name span)) = 1
+taken (Some (Repeats body span separator)) = 2 + count separator
 
 abbrev pub is_mark_of : ℕ → Token → Bool
 is_mark_of c (Name raw name) = false
@@ -46,18 +46,18 @@ separator (leaf token lo hi rest) = if is_mark_of 42 token then Some nil else se
 separator (group d lo hi inside rest) = None
 
 -- the repetition of what stands in parentheses
-abbrev pub repetition : Forest → Extent → Option Forest → Option Start
-repetition body place None = None
-repetition body place (Some between) = Some (Repeats body place between)
+abbrev pub repetition : Forest → Extent → Option Forest → Option Interpolation
+repetition body span None = None
+repetition body span (Some between) = Some (Repeats body span between)
 
 -- the hole that the token names: an identifier, raw or not, or a literal of digits alone
-abbrev pub name_of : Token → Extent → Option Start
-name_of (Name raw name) place = Some (Names (token_text (Name raw name)) place)
-name_of (Mark c joint) place = None
-name_of (Literal text) place = if list_all is_ascii_digit text then Some (Names text place) else None
+abbrev pub name_of : Token → Extent → Option Interpolation
+name_of (Name raw name) span = Some (Names (token_text (Name raw name)) span)
+name_of (Mark c joint) span = None
+name_of (Literal text) span = if list_all is_ascii_digit text then Some (Names text span) else None
 
 -- what a `#` before these trees begins
-abbrev pub after_hash : Forest → Option Start
+abbrev pub after_hash : Forest → Option Interpolation
 after_hash nil = None
 after_hash (leaf token lo hi rest) = name_of token (record { lo = lo; hi = hi })
 after_hash (group Parenthesis lo hi inside rest) = repetition inside (record { lo = lo; hi = hi }) (separator rest)
@@ -66,5 +66,5 @@ after_hash (group Bracket lo hi inside rest) = None
 after_hash (group Bare lo hi inside rest) = None
 
 -- what the token begins, before these trees
-abbrev pub start : Token → Forest → Option Start
-start token rest = if is_mark_of hash_sign token then after_hash rest else None
+abbrev pub interpolation : Token → Forest → Option Interpolation
+interpolation token rest = if is_mark_of hash_sign token then after_hash rest else None

@@ -1,4 +1,4 @@
-// Made from crates/quoting/src/weave.rt by rust/erase: change that file, not this one.
+// Made from crates/quoting/src/fill.rt by rust/erase: change that file, not this one.
 //! Templates whose holes are filled.
 //!
 //! Groups nest no deeper in a template than a limit, so that the functions may call themselves for them.
@@ -7,15 +7,15 @@ use crate::shim::prelude::Clone;
 
 use crate::quoting::errors::TemplateError;
 use crate::quoting::holes::Hole;
+use crate::quoting::interpolation::{FoundInterpolation, Repetition, interpolation_at};
 use crate::quoting::respace::{put, regrouped, spaced};
-use crate::quoting::start::{Repetition, Start, start_at};
 use crate::quoting::turns::{checked, turns_of};
 use crate::proc_macro2::{Group, Punct, Spacing, TokenStream, TokenTree};
 use crate::shim::alloc::{AllocError, Global};
 
 // The trees with the holes filled, where groups may nest so deep. In a turn of a repetition the turn's stream of each
 // list comes.
-pub(crate) fn woven(
+pub(crate) fn filled(
     alloc: Global,
     template: &TokenStream,
     holes: &[Hole<'_>],
@@ -26,7 +26,7 @@ pub(crate) fn woven(
     let mut out = TokenStream::new(alloc);
     let mut left = template.trees();
     while let Some((tree, after)) = left.split_first() {
-        match start_at(tree, after) {
+        match interpolation_at(tree, after) {
             None => {
                 if let TokenTree::Group(group) = tree {
                     let inside = filled_inside(alloc, group, holes, turn, depth)?;
@@ -36,11 +36,11 @@ pub(crate) fn woven(
                 }
                 left = after;
             }
-            Some(Start::Names(name, rest)) => {
+            Some(FoundInterpolation::Names(name, rest)) => {
                 append(&mut out, name.put_in(holes, turn)?)?;
                 left = rest;
             }
-            Some(Start::Repeats(repetition, rest)) => {
+            Some(FoundInterpolation::Repeats(repetition, rest)) => {
                 append(&mut out, repeated(alloc, &repetition, holes, turn, depth)?)?;
                 left = rest;
             }
@@ -65,7 +65,7 @@ fn apart_before(tree: &TokenTree, after: &[TokenTree]) -> Result<TokenTree, Allo
 fn has_meaning(trees: &[TokenTree]) -> bool
 {
     match trees.split_first() {
-        Some((first, after)) => start_at(first, after).is_some(),
+        Some((first, after)) => interpolation_at(first, after).is_some(),
         None => false,
     }
 }
@@ -82,7 +82,7 @@ fn filled_inside(
     let Some(inner) = depth.checked_sub(1) else {
         return Err(TemplateError::TooDeep(group.span()));
     };
-    woven(alloc, group.stream_ref(), holes, turn, inner)
+    filled(alloc, group.stream_ref(), holes, turn, inner)
 }
 
 // The turns of a repetition, with the separator between them. That it names no list comes before what is wrong inside.
@@ -109,7 +109,7 @@ fn repeated(
     let mut out = TokenStream::new(alloc);
     for turn in 0..turns {
         separate(&mut out, repetition.separator, turn)?;
-        let part = woven(alloc, body.stream_ref(), holes, Some(turn), inner)?;
+        let part = filled(alloc, body.stream_ref(), holes, Some(turn), inner)?;
         append(&mut out, part)?;
     }
     Ok(out)

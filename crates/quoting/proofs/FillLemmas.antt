@@ -1,4 +1,4 @@
--- Templates that are filled up to a place.
+-- Templates whose first trees are filled.
 use Rattle.std.proofs.Common.{◌≡◌, ℕ, Bool, true, false, zero, suc, All, Option, Some, None, Ok, Err, List, [], ◌∷◌}
 use Rattle.std.proofs.Common.{drop, length, refl, sym, ap, ap₂, subst, ◌∙◌, arith}
 use Rattle.std.proofs.lemmas.List.Elements.{All-drop}
@@ -10,29 +10,30 @@ use Rattle.proc_macro2.specs.Token.{Token}
 use Rattle.proc_macro2.specs.declared.Group.{Group as Grouped}
 use Rattle.proc_macro2.specs.declared.TokenTree.{TokenTree}
 use Rattle.proc_macro2.specs.declared.TokenTree.TheVariants.{Group, Ident, Punct, Literal}
-use Rattle.quoting.specs.Filled.{followed, enclosed_in, has_meaning, replaced, set_apart, woven}
-use Rattle.quoting.specs.Given.{UnlessMemory, apart, apart_before, gives, inside_at, named_all, place_of, starts}
+use Rattle.quoting.specs.Filled.{followed, enclosed_in, has_meaning, replaced, set_apart, filled_by}
+use Rattle.quoting.specs.Given.{UnlessMemory, apart, apart_before, gives, inside_at, interpolation_of, named_all}
+use Rattle.quoting.specs.Given.{span_of}
 use Rattle.quoting.specs.Given.{text_of}
 use Rattle.quoting.specs.Holes.{Outcome, filling_of, put_in}
-use Rattle.quoting.specs.Start.{Start, Names, taken}
+use Rattle.quoting.specs.Interpolation.{Interpolation, Names, taken}
 use Rattle.quoting.specs.declared.errors.TemplateError.{TemplateError}
 use Rattle.quoting.specs.declared.holes.Hole.{Hole}
-use Rattle.quoting.specs.declared.holes.Name.{Name}
+use Rattle.quoting.specs.declared.holes.HoleName.{HoleName}
 use Rattle.quoting.specs.declared.errors.TemplateError.TheVariants.{NoHole, LoneList, NoList, UnequalLists, Nested}
 use Rattle.quoting.specs.declared.errors.TemplateError.TheVariants.{TooDeep, Parse, Memory}
 use Rattle.quoting.proofs.PartLemmas.{joined_assoc, joined_nil}
 
 -- what comes of what has a meaning
 abbrev pub Giving : Type 0
-Giving = ℕ → Start → Outcome
+Giving = ℕ → Interpolation → Outcome
 
 pub unless_weaker : (fault : TemplateError) (P Q : Type 0) → (P → Q) → UnlessMemory fault P → UnlessMemory fault Q
-unless_weaker (NoHole place) P Q f h = f h
-unless_weaker (LoneList place) P Q f h = f h
-unless_weaker (NoList place) P Q f h = f h
-unless_weaker (UnequalLists place) P Q f h = f h
-unless_weaker (Nested place) P Q f h = f h
-unless_weaker (TooDeep place) P Q f h = f h
+unless_weaker (NoHole span) P Q f h = f h
+unless_weaker (LoneList span) P Q f h = f h
+unless_weaker (NoList span) P Q f h = f h
+unless_weaker (UnequalLists span) P Q f h = f h
+unless_weaker (Nested span) P Q f h = f h
+unless_weaker (TooDeep span) P Q f h = f h
 unless_weaker (Parse error) P Q f h = absurd h
 unless_weaker (Memory error) P Q f h = tt
 
@@ -50,7 +51,7 @@ followed_more f g (Err fault) = refl
 
 -- trees that are passed over
 pub passed_over : (given : Giving) (depth n : ℕ) (ts : List TokenTree)
-    → woven given depth n (forest ts) ≡ woven given depth 0 (forest (drop n ts))
+    → filled_by given depth n (forest ts) ≡ filled_by given depth 0 (forest (drop n ts))
 passed_over given depth zero ts = refl
 passed_over given depth (suc n) [] = refl
 passed_over given depth (suc n) (Group g ∷ ts) = passed_over given depth n ts
@@ -59,11 +60,11 @@ passed_over given depth (suc n) (Punct p ∷ ts) = passed_over given depth n ts
 passed_over given depth (suc n) (Literal l ∷ ts) = passed_over given depth n ts
 
 -- a token, by what it begins
-abbrev by_start : Giving → ℕ → Token → ℕ → ℕ → Forest → Option Start → Outcome
-by_start given depth token lo hi rest s =
-    followed (replaced (given depth) token lo hi s) (woven given depth (taken s) rest)
+abbrev by_interpolation : Giving → ℕ → Token → ℕ → ℕ → Forest → Option Interpolation → Outcome
+by_interpolation given depth token lo hi rest s =
+    followed (replaced (given depth) token lo hi s) (filled_by given depth (taken s) rest)
 
--- a token with its place, a mark Alone or as it is
+-- a token with its span, a mark Alone or as it is
 apart_name : (i : leaves.Name) (b : Bool)
     → leaf (set_apart b (name_token i)) i.span.lo i.span.hi nil ≡ alone (apart b (Ident i))
 apart_name i false = refl
@@ -80,70 +81,73 @@ apart_text l false = refl
 apart_text l true = refl
 
 pub token_alone : (given : Giving) (depth : ℕ) (t : TokenTree) (rest : Forest) → ((g : Grouped) → t ≡ Group g → ⊥)
-    → starts t rest ≡ None
-    → woven given depth 0 (before t rest) ≡ followed (Ok (alone (apart_before rest t))) (woven given depth 0 rest)
+    → interpolation_of t rest ≡ None
+    → filled_by given depth 0 (before t rest)
+    ≡ followed (Ok (alone (apart_before rest t))) (filled_by given depth 0 rest)
 token_alone given depth (Group g) rest other h = absurd (other g refl)
 token_alone given depth (Ident i) rest other h =
-    ap (by_start given depth (set_apart (has_meaning rest) (name_token i)) i.span.lo i.span.hi rest) h
-    ∙ ap (λ f. followed (Ok f) (woven given depth 0 rest)) (apart_name i (has_meaning rest))
+    ap (by_interpolation given depth (set_apart (has_meaning rest) (name_token i)) i.span.lo i.span.hi rest) h
+    ∙ ap (λ f. followed (Ok f) (filled_by given depth 0 rest)) (apart_name i (has_meaning rest))
 token_alone given depth (Punct p) rest other h =
-    ap (by_start given depth (set_apart (has_meaning rest) (mark_token p)) p.span.lo p.span.hi rest) h
-    ∙ ap (λ f. followed (Ok f) (woven given depth 0 rest)) (apart_mark p (has_meaning rest))
+    ap (by_interpolation given depth (set_apart (has_meaning rest) (mark_token p)) p.span.lo p.span.hi rest) h
+    ∙ ap (λ f. followed (Ok f) (filled_by given depth 0 rest)) (apart_mark p (has_meaning rest))
 token_alone given depth (Literal l) rest other h =
-    ap (by_start given depth (set_apart (has_meaning rest) (text_token l)) l.span.lo l.span.hi rest) h
-    ∙ ap (λ f. followed (Ok f) (woven given depth 0 rest)) (apart_text l (has_meaning rest))
+    ap (by_interpolation given depth (set_apart (has_meaning rest) (text_token l)) l.span.lo l.span.hi rest) h
+    ∙ ap (λ f. followed (Ok f) (filled_by given depth 0 rest)) (apart_text l (has_meaning rest))
 
-pub begins_some : (given : Giving) (depth : ℕ) (t : TokenTree) (rest : Forest) (s : Start) → starts t rest ≡ Some s
-    → woven given depth 0 (before t rest) ≡ followed (given depth s) (woven given depth (taken (Some s)) rest)
+pub begins_some : (given : Giving) (depth : ℕ) (t : TokenTree) (rest : Forest) (s : Interpolation)
+    → interpolation_of t rest ≡ Some s
+    → filled_by given depth 0 (before t rest) ≡ followed (given depth s) (filled_by given depth (taken (Some s)) rest)
 begins_some given depth (Group g) rest s h = absurd (cc)
 begins_some given depth (Ident i) rest s h =
-    ap (by_start given depth (set_apart (has_meaning rest) (name_token i)) i.span.lo i.span.hi rest) h
+    ap (by_interpolation given depth (set_apart (has_meaning rest) (name_token i)) i.span.lo i.span.hi rest) h
 begins_some given depth (Punct p) rest s h =
-    ap (by_start given depth (set_apart (has_meaning rest) (mark_token p)) p.span.lo p.span.hi rest) h
+    ap (by_interpolation given depth (set_apart (has_meaning rest) (mark_token p)) p.span.lo p.span.hi rest) h
 begins_some given depth (Literal l) rest s h =
-    ap (by_start given depth (set_apart (has_meaning rest) (text_token l)) l.span.lo l.span.hi rest) h
+    ap (by_interpolation given depth (set_apart (has_meaning rest) (text_token l)) l.span.lo l.span.hi rest) h
 
 pub group_filled : (given : Giving) (depth : ℕ) (g : Grouped) (inside rest : Forest)
     → inside_at given depth g ≡ Ok inside
-    → woven given depth 0 (before (Group g) rest)
-    ≡ followed (Ok (group g.delimiter g.span.lo g.span.hi inside nil)) (woven given depth 0 rest)
+    → filled_by given depth 0 (before (Group g) rest)
+    ≡ followed (Ok (group g.delimiter g.span.lo g.span.hi inside nil)) (filled_by given depth 0 rest)
 group_filled given zero g inside rest h = absurd (cc)
 group_filled given (suc depth) g inside rest h =
-    ap (λ o. followed (enclosed_in g.delimiter g.span.lo g.span.hi o) (woven given (suc depth) 0 rest)) h
+    ap (λ o. followed (enclosed_in g.delimiter g.span.lo g.span.hi o) (filled_by given (suc depth) 0 rest)) h
 
 pub group_fault : (given : Giving) (depth : ℕ) (g : Grouped) (fault : TemplateError) (rest : Forest)
     → inside_at given depth g ≡ Err fault
-    → woven given depth 0 (before (Group g) rest) ≡ Err fault
+    → filled_by given depth 0 (before (Group g) rest) ≡ Err fault
 group_fault given zero g fault rest h = h
 group_fault given (suc depth) g fault rest h =
-    ap (λ o. followed (enclosed_in g.delimiter g.span.lo g.span.hi o) (woven given (suc depth) 0 rest)) h
+    ap (λ o. followed (enclosed_in g.delimiter g.span.lo g.span.hi o) (filled_by given (suc depth) 0 rest)) h
 
 -- ---- the state of the walk
 
 -- the outcome of all is what came out, followed by that of what is left, whose trees may be put into streams
 pub record IsUpTo (given : Giving) (depth : ℕ) (all out : Forest) (left : List TokenTree) : Type 0 where
-  pub so_far : woven given depth 0 all ≡ followed (Ok out) (woven given depth 0 (forest left))
+  pub so_far : filled_by given depth 0 all ≡ followed (Ok out) (filled_by given depth 0 (forest left))
   pub inside : All GoesInside left
 
 pub begun : (given : Giving) (depth : ℕ) (all out : Forest) (left : List TokenTree) → out ≡ nil → forest left ≡ all
     → All GoesInside left → IsUpTo given depth all out left
 begun given depth all out left none whole inside = record {
   so_far =
-      sym (ap₂ (λ f g. followed (Ok f) (woven given depth 0 g)) none whole ∙ followed_nil (woven given depth 0 all));
+      sym (ap₂ (λ f g. followed (Ok f) (filled_by given depth 0 g)) none whole
+      ∙ followed_nil (filled_by given depth 0 all));
   inside = inside;
 }
 
 pub step : (given : Giving) (depth n : ℕ) (all out new part : Forest) (t : TokenTree) (left after rest : List TokenTree)
     → IsUpTo given depth all out left → left ≡ t ∷ after → rest ≡ drop n after
-    → woven given depth 0 (before t (forest after)) ≡ followed (Ok part) (woven given depth n (forest after))
+    → filled_by given depth 0 (before t (forest after)) ≡ followed (Ok part) (filled_by given depth n (forest after))
     → new ≡ joined out part → IsUpTo given depth all new rest
 step given depth n all out new part t left after rest was whole drops one put = record {
   so_far =
       was.so_far
-      ∙ (ap (λ ts. followed (Ok out) (woven given depth 0 (forest ts))) whole
+      ∙ (ap (λ ts. followed (Ok out) (filled_by given depth 0 (forest ts))) whole
       ∙ (ap (followed (Ok out)) (one ∙ ap (followed (Ok part)) (passed_over given depth n after))
-      ∙ (followed_more out part (woven given depth 0 (forest (drop n after)))
-      ∙ ap₂ (λ f ts. followed (Ok f) (woven given depth 0 (forest ts))) (sym put) (sym drops))));
+      ∙ (followed_more out part (filled_by given depth 0 (forest (drop n after)))
+      ∙ ap₂ (λ f ts. followed (Ok f) (filled_by given depth 0 (forest ts))) (sym put) (sym drops))));
   inside =
       subst (All GoesInside) (sym drops)
       (All-drop GoesInside n after
@@ -167,7 +171,7 @@ copy_inside given depth all out t copy left after was whole cloned =
 -- a token that begins nothing
 pub token_step : (given : Giving) (depth : ℕ) (all out new : Forest) (t copy : TokenTree) (left after : List TokenTree)
     → IsUpTo given depth all out left → left ≡ t ∷ after → ((g : Grouped) → t ≡ Group g → ⊥)
-    → None ≡ starts t (forest after)
+    → None ≡ interpolation_of t (forest after)
     → copy ≡ apart_before (forest after) t → new ≡ joined out (alone copy) → IsUpTo given depth all new after
 token_step given depth all out new t copy left after was whole other none cloned put =
     step given depth 0 all out new (alone (apart_before (forest after) t)) t left after after was whole refl
@@ -180,30 +184,30 @@ pub group_step : (given : Giving) (depth : ℕ) (all out new inside : Forest) (t
     → filled ≡ record g { stream = inside } → new ≡ joined out (alone (Group filled)) → IsUpTo given depth all new after
 group_step given depth all out new inside t g filled left after was whole is fills regrouped put =
     step given depth 0 all out new (group g.delimiter g.span.lo g.span.hi inside nil) t left after after was whole refl
-    (ap (λ u. woven given depth 0 (before u (forest after))) is
+    (ap (λ u. filled_by given depth 0 (before u (forest after))) is
     ∙ group_filled given depth g inside (forest after) fills)
     (put ∙ ap (λ u. joined out (alone (Group u))) regrouped)
 
 -- what has a meaning
-pub found_step : (given : Giving) (depth : ℕ) (all out new part : Forest) (t : TokenTree) (found : Start)
+pub found_step : (given : Giving) (depth : ℕ) (all out new part : Forest) (t : TokenTree) (found : Interpolation)
     (left after rest : List TokenTree)
-    → IsUpTo given depth all out left → left ≡ t ∷ after → Some found ≡ starts t (forest after)
+    → IsUpTo given depth all out left → left ≡ t ∷ after → Some found ≡ interpolation_of t (forest after)
     → rest ≡ drop (taken (Some found)) after → given depth found ≡ Ok part → new ≡ joined out part
     → IsUpTo given depth all new rest
 found_step given depth all out new part t found left after rest was whole is drops gives put =
     step given depth (taken (Some found)) all out new part t left after rest was whole drops
     (begins_some given depth t (forest after) found (sym is)
-    ∙ ap (λ o. followed o (woven given depth (taken (Some found)) (forest after))) gives)
+    ∙ ap (λ o. followed o (filled_by given depth (taken (Some found)) (forest after))) gives)
     put
 
 pub ended : (given : Giving) (depth : ℕ) (all out : Forest) (left : List TokenTree) → IsUpTo given depth all out left
-    → length left ≡ 0 → woven given depth 0 all ≡ Ok out
+    → length left ≡ 0 → filled_by given depth 0 all ≡ Ok out
 ended given depth all out [] was none = was.so_far ∙ ap Ok (joined_nil out)
 ended given depth all out (t ∷ left) was none = absurd (omega (arith, none))
 
 -- what comes in the place of a name
-pub gives_name : (holes : List Hole) (turn : Option ℕ) (depth : ℕ) (name : Name)
-    → gives holes turn depth (Names (text_of name) (place_of name))
-    ≡ put_in turn (place_of name) (filling_of (named_all holes) (text_of name))
+pub gives_name : (holes : List Hole) (turn : Option ℕ) (depth : ℕ) (name : HoleName)
+    → gives holes turn depth (Names (text_of name) (span_of name))
+    ≡ put_in turn (span_of name) (filling_of (named_all holes) (text_of name))
 gives_name holes None depth name = refl
 gives_name holes (Some turn) depth name = refl

@@ -4,35 +4,35 @@
 ghost use Rattle.std.specs.Prelude.{◌≡◌, IfErr, IfOk, Ok, Err, OnOk};
 ghost use Rattle.proc_macro2.specs.Forest.{joined};
 ghost use Rattle.proc_macro2.specs.Trees.{forest};
-ghost use Rattle.quoting.specs.Filled.{before_turn, has_meaning, woven};
+ghost use Rattle.quoting.specs.Filled.{before_turn, has_meaning, filled_by};
 ghost use Rattle.quoting.specs.Given.{UnlessMemory, apart_before, gives, inside_at, repeats_of, separator_of};
 
 use crate::errors::TemplateError;
 use crate::holes::Hole;
+use crate::interpolation::{FoundInterpolation, Repetition, interpolation_at};
 use crate::respace::{put, regrouped, spaced};
-use crate::start::{Repetition, Start, start_at};
 use crate::turns::{checked, turns_of};
 use proc_macro2::{Group, Punct, Spacing, TokenStream, TokenTree};
 use std::alloc::{AllocError, Global};
 
 // The trees with the holes filled, where groups may nest so deep. In a turn of a repetition the turn's stream of each
 // list comes.
-#[cycle(woven)]
-pub(crate) fn woven(
+#[cycle(filled)]
+pub(crate) fn filled(
     alloc: Global,
     template: &TokenStream,
     holes: &[Hole<'_>],
     turn: Option<usize>,
     depth: usize,
 ) -> Result<TokenStream, TemplateError>
-    ensures ok { IfOk result (λ stream. woven (gives holes.now turn) depth 0 template.now ≡ Ok stream) }
+    ensures ok { IfOk result (λ stream. filled_by (gives holes.now turn) depth 0 template.now ≡ Ok stream) }
     ensures fault { IfErr result (λ fault.
-        UnlessMemory fault (woven (gives holes.now turn) depth 0 template.now ≡ Err fault)) }
+        UnlessMemory fault (filled_by (gives holes.now turn) depth 0 template.now ≡ Err fault)) }
 {
     let mut out = TokenStream::new(alloc);
     let mut left = template.trees();
     while let Some((tree, after)) = left.split_first() {
-        match start_at(tree, after) {
+        match interpolation_at(tree, after) {
             None => {
                 if let TokenTree::Group(group) = tree {
                     let inside = filled_inside(alloc, group, holes, turn, depth)?;
@@ -42,11 +42,11 @@ pub(crate) fn woven(
                 }
                 left = after;
             }
-            Some(Start::Names(name, rest)) => {
+            Some(FoundInterpolation::Names(name, rest)) => {
                 append(&mut out, name.put_in(holes, turn)?)?;
                 left = rest;
             }
-            Some(Start::Repeats(repetition, rest)) => {
+            Some(FoundInterpolation::Repeats(repetition, rest)) => {
                 append(&mut out, repeated(alloc, &repetition, holes, turn, depth)?)?;
                 left = rest;
             }
@@ -73,13 +73,13 @@ fn has_meaning(trees: &[TokenTree]) -> bool
     ensures { result ≡ has_meaning (forest trees.now) }
 {
     match trees.split_first() {
-        Some((first, after)) => start_at(first, after).is_some(),
+        Some((first, after)) => interpolation_at(first, after).is_some(),
         None => false,
     }
 }
 
 // The trees of the group with the holes filled, where it stands inside of such trees.
-#[cycle(woven)]
+#[cycle(filled)]
 fn filled_inside(
     alloc: Global,
     group: &Group,
@@ -94,11 +94,11 @@ fn filled_inside(
     let Some(inner) = depth.checked_sub(1) else {
         return Err(TemplateError::TooDeep(group.span()));
     };
-    woven(alloc, group.stream_ref(), holes, turn, inner)
+    filled(alloc, group.stream_ref(), holes, turn, inner)
 }
 
 // The turns of a repetition, with the separator between them. That it names no list comes before what is wrong inside.
-#[cycle(woven)]
+#[cycle(filled)]
 fn repeated(
     alloc: Global,
     repetition: &Repetition<'_>,
@@ -125,7 +125,7 @@ fn repeated(
     let mut out = TokenStream::new(alloc);
     for turn in 0..turns {
         separate(&mut out, repetition.separator, turn)?;
-        let part = woven(alloc, body.stream_ref(), holes, Some(turn), inner)?;
+        let part = filled(alloc, body.stream_ref(), holes, Some(turn), inner)?;
         append(&mut out, part)?;
     }
     Ok(out)

@@ -1,6 +1,6 @@
 use Rattle.std.proofs.Common.{arith}
 use Rattle.quoting.proofs.TurnLemmas.{no_separator, nothing_between}
-use Rattle.quoting.proofs.weave.separate.Goals as goal
+use Rattle.quoting.proofs.fill.separate.Goals as goal
 
 pub returns-in_default : goal.returns-in_default
 returns-in_default c = nothing_between _ _ c.args.turn (omega (arith, c.if-turn-gt0.false))
