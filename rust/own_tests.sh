@@ -3,9 +3,10 @@
 #
 #   rust/own_tests.sh CRATE [TABLE]
 #
-# CRATE is the unpacked public crate proc-macro2. syn and quote are the distribution's, from CARGO_REGISTRY or
-# /usr/share/cargo/registry, and so are the crates that their tests want; nothing is fetched. Left out on both sides,
-# and named, are files of tests that fetch the Rust repository, and those that want a crate that isn't there.
+# CRATE is the unpacked public crate proc-macro2. syn, of the version SYN (2 if that is there, else 1), and quote are
+# the distribution's, from CARGO_REGISTRY or /usr/share/cargo/registry, and so are the crates that their tests want;
+# rust/packages.sh gets them. Left out on both sides, and named, are files of tests that fetch the Rust repository, and
+# those that want a crate that isn't there.
 #
 # Each test that doesn't pass over both has a line, and the file TABLE gets a line for every test. A test fails here if
 # it passes over the public crate and not over the package. The last line is `N passed, M failed`: of the tests that
@@ -15,6 +16,8 @@ crate=$(cd "$1" && pwd)
 table=${2:+$(realpath "$2")}
 cd "$(dirname "$0")"
 registry=${CARGO_REGISTRY:-/usr/share/cargo/registry}
+compgen -G "$registry/syn-2.*" > /dev/null && newest=2
+syn=${SYN:-${newest:-1}}
 room=$(mktemp -d)
 trap 'rm -rf "$room"' EXIT
 # What is built of no crate under test serves both sides.
@@ -37,7 +40,7 @@ wants() {
 # Says where crates are, and which is under test, and lays out syn and quote with the tests that can be run, in this
 # room. What is left out has a line.
 prepare() {
-    local path=$1 room=$2 name wanted file
+    local path=$1 room=$2 name version wanted file
     mkdir -p "$room/.cargo"
     cat > "$room/.cargo/config.toml" << END
 [source.crates-io]
@@ -48,7 +51,9 @@ directory = "$registry"
 proc-macro2 = { path = "$path" }
 END
     for name in syn quote; do
-        cp -rL "$registry/$name"-1.* "$room/$name"
+        version=1
+        [ $name = syn ] && version=$syn
+        cp -rL "$registry/$name-$version".* "$room/$name"
         for file in "$room/$name"/tests/*.rs; do
             grep -q '^mod repo;' "$file" && leave_out $name "$file" "fetches the Rust repository"
         done
