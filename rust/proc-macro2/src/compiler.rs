@@ -15,6 +15,7 @@ const INSIDE: u8 = 2;
 static WHERE: AtomicU8 = AtomicU8::new(UNKNOWN);
 
 /// Whether tokens are to be the compiler's.
+#[inline(always)]
 pub(crate) fn inside() -> bool {
     // Who asks for what a stable compiler doesn't offer gets the wrapper's own tokens.
     if cfg!(procmacro2_semver_exempt) || !cfg!(feature = "proc-macro") {

@@ -28,13 +28,11 @@ impl Ident {
     ///
     /// Where the name is empty, a number, or no name of the language.
     #[track_caller]
+    #[inline]
     pub fn new(string: &str, span: Span) -> Ident {
         match span.repr {
             SpanRepr::Own(place) => Ident::own(made(Own::new(Global, string, place), string)),
-            SpanRepr::Compiler(span) => {
-                made(Own::new(Global, string, Place::call_site()), string);
-                Ident::compiler(proc_macro::Ident::new(string, span))
-            }
+            SpanRepr::Compiler(span) => inside(string, span),
         }
     }
 
@@ -44,6 +42,7 @@ impl Ident {
     ///
     /// As [`new`](Ident::new), and where the name is `_`, `super`, `self`, `Self` or `crate`.
     #[track_caller]
+    #[inline]
     pub fn new_raw(string: &str, span: Span) -> Ident {
         match span.repr {
             SpanRepr::Own(place) => Ident::own(made(Own::new_raw(Global, string, place), string)),
@@ -63,36 +62,65 @@ impl Ident {
     }
 }
 
+/// The plain identifier of the compiler's.
+#[cold]
+#[track_caller]
+fn inside(name: &str, span: proc_macro::Span) -> Ident {
+    made(Own::new(Global, name, Place::call_site()), name);
+    Ident::compiler(proc_macro::Ident::new(name, span))
+}
+
 /// The identifier of a name, which panics where the name has a fault.
 #[track_caller]
+#[inline(always)]
 fn made(ident: Result<Own, IdentError>, name: &str) -> Own {
     match ident {
         Ok(ident) => ident,
-        Err(IdentError::Empty) => panic!("Ident is not allowed to be empty; use Option<Ident>"),
-        Err(IdentError::Number) => panic!("Ident cannot be a number; use Literal instead"),
-        Err(IdentError::Invalid) => panic!("{name:?} is not a valid Ident"),
-        Err(IdentError::Reserved) => panic!("`r#{name}` cannot be a raw identifier"),
-        Err(IdentError::Memory(never)) => match never {},
+        Err(error) => refused(error, name),
+    }
+}
+
+#[cold]
+#[track_caller]
+fn refused(error: IdentError, name: &str) -> ! {
+    match error {
+        IdentError::Empty => panic!("Ident is not allowed to be empty; use Option<Ident>"),
+        IdentError::Number => panic!("Ident cannot be a number; use Literal instead"),
+        IdentError::Invalid => panic!("{name:?} is not a valid Ident"),
+        IdentError::Reserved => panic!("`r#{name}` cannot be a raw identifier"),
+        IdentError::Memory(never) => match never {},
     }
 }
 
 impl PartialEq for Ident {
+    #[inline]
     fn eq(&self, other: &Ident) -> bool {
         match (&self.repr, &other.repr) {
             (Repr::Own(ident), Repr::Own(other)) => ident == other,
-            _ => self.cmp(other) == Ordering::Equal,
+            _ => is_same(self, other),
         }
     }
 }
 
 /// Whether the text is how the identifier is written.
 impl<T: ?Sized + AsRef<str>> PartialEq<T> for Ident {
+    #[inline]
     fn eq(&self, other: &T) -> bool {
         match &self.repr {
             Repr::Own(ident) => ident.eq_str(other.as_ref()),
-            Repr::Compiler(ident) => ident.to_string() == other.as_ref(),
+            Repr::Compiler(ident) => is_text(ident, other.as_ref()),
         }
     }
+}
+
+#[cold]
+fn is_same(one: &Ident, other: &Ident) -> bool {
+    one.cmp(other) == Ordering::Equal
+}
+
+#[cold]
+fn is_text(ident: &proc_macro::Ident, text: &str) -> bool {
+    ident.to_string() == text
 }
 
 impl Eq for Ident {}

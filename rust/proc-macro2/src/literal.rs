@@ -26,12 +26,19 @@ pub struct Literal {
 
 token!(Literal, Own);
 
+/// A literal of the compiler's.
+#[cold]
+fn inside(make: impl FnOnce() -> proc_macro::Literal) -> Literal {
+    Literal::compiler(make())
+}
+
 macro_rules! literals {
     ($($(#[$doc:meta])* $name:ident($value:ident: $type:ty) => $given:expr;)*) => {$(
         $(#[$doc])*
+        #[inline]
         pub fn $name($value: $type) -> Literal {
             if compiler::inside() {
-                Literal::compiler(proc_macro::Literal::$name($value))
+                inside(|| proc_macro::Literal::$name($value))
             } else {
                 Literal::own(sure(Own::$name(Global, $given)))
             }

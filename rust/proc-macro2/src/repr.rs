@@ -17,7 +17,7 @@ impl<C, O> Repr<C, O> {
         }
     }
 
-    #[inline]
+    #[inline(always)]
     pub(crate) fn into_own(self) -> O {
         match self {
             Repr::Own(token) => token,
@@ -27,7 +27,7 @@ impl<C, O> Repr<C, O> {
 }
 
 impl<C: Clone, O: shim::clone::Clone> Clone for Repr<C, O> {
-    #[inline]
+    #[inline(always)]
     fn clone(&self) -> Repr<C, O> {
         match self {
             Repr::Own(token) => Repr::Own(sure(token.clone())),
@@ -45,7 +45,7 @@ macro_rules! token {
                 $name { repr }
             }
 
-            #[inline]
+            #[inline(always)]
             pub(crate) fn own(token: $own) -> $name {
                 let repr = Repr::Own(token);
                 $name { repr }

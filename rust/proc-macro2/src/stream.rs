@@ -22,10 +22,15 @@ impl TokenStream {
     #[inline]
     pub fn new() -> TokenStream {
         if compiler::inside() {
-            TokenStream::compiler(proc_macro::TokenStream::new())
+            TokenStream::new_inside()
         } else {
             TokenStream::own(Own::new(Global))
         }
+    }
+
+    #[cold]
+    fn new_inside() -> TokenStream {
+        TokenStream::compiler(proc_macro::TokenStream::new())
     }
 
     pub(crate) fn compiler(stream: proc_macro::TokenStream) -> TokenStream {
@@ -89,6 +94,7 @@ impl From<TokenStream> for proc_macro::TokenStream {
 }
 
 impl From<TokenTree> for TokenStream {
+    #[inline]
     fn from(tree: TokenTree) -> TokenStream {
         TokenStream::from_iter([tree])
     }
@@ -112,10 +118,11 @@ impl FromIterator<TokenStream> for TokenStream {
 }
 
 impl Extend<TokenTree> for TokenStream {
+    #[inline]
     fn extend<I: IntoIterator<Item = TokenTree>>(&mut self, trees: I) {
         let trees = trees.into_iter();
         match &mut self.repr {
-            Repr::Compiler(stream) => trees.for_each(|tree| stream.push(tree)),
+            Repr::Compiler(stream) => push_all(stream, trees),
             Repr::Own(own) => sure(own.extend_trees(trees.map(into_own))),
         }
     }
@@ -174,6 +181,7 @@ impl IntoIterator for TokenStream {
     type Item = TokenTree;
     type IntoIter = IntoIter;
 
+    #[inline]
     fn into_iter(self) -> IntoIter {
         let left = match self.repr {
             Repr::Compiler(stream) => Repr::Compiler(stream.finish().into_iter()),
@@ -186,6 +194,7 @@ impl IntoIterator for TokenStream {
 impl Iterator for IntoIter {
     type Item = TokenTree;
 
+    #[inline]
     fn next(&mut self) -> Option<TokenTree> {
         match &mut self.left {
             Repr::Own(trees) => trees.next().map(of_own),
@@ -201,7 +210,13 @@ impl Iterator for IntoIter {
     }
 }
 
+#[cold]
+fn push_all(stream: &mut compiler::Stream, trees: impl Iterator<Item = TokenTree>) {
+    trees.for_each(|tree| stream.push(tree));
+}
+
 /// A tree of the compiler's.
+#[cold]
 fn of_compiler(tree: proc_macro::TokenTree) -> TokenTree {
     match tree {
         proc_macro::TokenTree::Group(group) => TokenTree::Group(Group::compiler(group)),

@@ -33,20 +33,20 @@ impl<K: fmt::Debug, V: fmt::Debug> fmt::Debug for BTreeMap<K, V> {
     }
 }
 
-/// A queue with two ends. Contract: it is seen as its items, in order.
-pub struct VecDeque<T>(std::collections::VecDeque<T>);
+/// A queue, from whose front items are taken. Contract: it is seen as its items, in order.
+pub struct VecDeque<T>(std::vec::IntoIter<T>);
 
 impl<T> VecDeque<T> {
     /// Contract: the same items, in order, and no memory taken.
     #[inline]
     pub fn from_vec(items: Vec<T>) -> VecDeque<T> {
-        VecDeque(items.into_rust().into())
+        VecDeque(items.into_iter())
     }
 
     /// Contract: takes the first item away and answers it, or answers `None` where there is none.
     #[inline]
     pub fn pop_front(&mut self) -> Option<T> {
-        self.0.pop_front()
+        self.0.next()
     }
 
     /// Contract: the number of items.
@@ -60,14 +60,17 @@ impl<T> VecDeque<T> {
 /// Contract: copies of the items, in order.
 impl<T: Clone> Clone for VecDeque<T> {
     fn clone(&self) -> Result<VecDeque<T>, AllocError> {
-        let copies: Result<_, AllocError> = self.0.iter().map(T::clone).collect();
-        Ok(VecDeque(copies?))
+        let mut copies = std::vec::Vec::with_capacity(self.0.len());
+        for item in self.0.as_slice() {
+            copies.push(item.clone()?);
+        }
+        Ok(VecDeque(copies.into_iter()))
     }
 }
 
 impl<T: fmt::Debug> fmt::Debug for VecDeque<T> {
     fn fmt(&self, f: &mut fmt::Formatter<'_>) -> fmt::Result {
-        self.0.fmt(f)
+        self.0.as_slice().fmt(f)
     }
 }
 

@@ -1,27 +1,74 @@
 //! Numbers in decimal digits.
 
-/// Room for the digits of a number.
+/// The digits of the numbers below 100, two each.
+static PAIRS: [u8; 200] = *b"\
+    0001020304050607080910111213141516171819202122232425262728293031323334353637383940414243444546474849\
+    5051525354555657585960616263646566676869707172737475767778798081828384858687888990919293949596979899";
+
+/// A number of at most 64 bits: whether it is negative, and its distance from zero.
+pub trait Integer: Copy {
+    /// Contract: whether the number is less than 0, and how far it is from it.
+    fn parts(self) -> (bool, u64);
+}
+
+impl Integer for usize {
+    #[inline(always)]
+    fn parts(self) -> (bool, u64) {
+        (false, self as u64)
+    }
+}
+
+impl Integer for u64 {
+    #[inline(always)]
+    fn parts(self) -> (bool, u64) {
+        (false, self)
+    }
+}
+
+impl Integer for i64 {
+    #[inline(always)]
+    fn parts(self) -> (bool, u64) {
+        (self < 0, self.unsigned_abs())
+    }
+}
+
+/// Room for the digits of a number and its sign.
 pub struct Buffer {
     digits: [u8; 20],
 }
 
 impl Buffer {
-    /// Room for the digits of a number.
+    /// Room for the digits of a number and its sign.
     #[allow(clippy::new_without_default)]
+    #[inline(always)]
     pub fn new() -> Buffer {
-        Buffer { digits: [0; 20] }
+        Buffer { digits: [b'0'; 20] }
     }
 
-    /// Contract: the number in decimal digits, without zeros at the front; 0 is `0`.
-    pub fn format(&mut self, number: usize) -> &str {
-        let (mut rest, mut at) = (number, self.digits.len());
-        loop {
+    /// Contract: the number in decimal digits, without zeros at the front; 0 is `0`. A negative one has a `-` first.
+    #[inline]
+    pub fn format<I: Integer>(&mut self, number: I) -> &str {
+        let (negative, mut rest) = number.parts();
+        let mut at = self.digits.len();
+        while rest >= 100 {
+            let pair = (rest % 100) as usize * 2;
+            at -= 2;
+            self.digits[at..at + 2].copy_from_slice(&PAIRS[pair..pair + 2]);
+            rest /= 100;
+        }
+        at -= 1;
+        self.digits[at] = b'0' + (rest % 10) as u8;
+        if rest >= 10 {
             at -= 1;
-            self.digits[at] = b'0' + (rest % 10) as u8;
-            rest /= 10;
-            if rest == 0 {
-                return super::str::from_utf8_unchecked(&self.digits[at..]);
-            }
+            self.digits[at] = b'0' + (rest / 10) as u8;
+        }
+        if negative {
+            at -= 1;
+            self.digits[at] = b'-';
+        }
+        match core::str::from_utf8(&self.digits[at..]) {
+            Ok(text) => text,
+            Err(_) => unreachable!("digits are ASCII"),
         }
     }
 }
@@ -31,8 +78,12 @@ mod tests {
     #[test]
     fn a_number_has_its_decimal_digits() {
         let mut buffer = super::Buffer::new();
-        for number in (0..2_000).chain([u32::MAX as usize, usize::MAX / 10, usize::MAX - 1, usize::MAX]) {
+        for number in (0..20_000).chain([u32::MAX as u64, u64::MAX / 10, u64::MAX - 1, u64::MAX]) {
             assert_eq!(buffer.format(number), number.to_string());
+            let negative = (number as i64).wrapping_neg();
+            assert_eq!(buffer.format(negative), negative.to_string());
         }
+        assert_eq!(buffer.format(7usize), "7");
+        assert_eq!(buffer.format(i64::MIN), i64::MIN.to_string());
     }
 }

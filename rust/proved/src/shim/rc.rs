@@ -2,6 +2,7 @@
 
 use super::alloc::{AllocError, Global};
 use super::clone::Clone;
+use super::string::String;
 use core::ops::Deref;
 
 /// A value with several owners, in one thread. Contract: it is seen as the value.
@@ -23,15 +24,22 @@ impl<T> Rc<T> {
 
 impl<T: Clone> Rc<T> {
     /// Contract: the value, to be changed. Where there are other owners it is a copy, which this one owns from then on.
-    #[inline]
+    #[inline(always)]
     pub fn make_mut(this: &mut Rc<T>) -> Result<&mut T, AllocError> {
         if std::rc::Rc::get_mut(&mut this.0).is_none() {
-            this.0 = std::rc::Rc::new(this.0.as_ref().clone()?);
+            this.unshare()?;
         }
         match std::rc::Rc::get_mut(&mut this.0) {
             Some(value) => Ok(value),
             None => unreachable!("a new value has one owner"),
         }
+    }
+
+    /// A copy in place of the value, with no other owner.
+    #[cold]
+    fn unshare(&mut self) -> Result<(), AllocError> {
+        self.0 = std::rc::Rc::new(self.0.as_ref().clone()?);
+        Ok(())
     }
 
     /// Contract: the value where there is no other owner, and else a copy.
@@ -61,6 +69,37 @@ impl<T> Deref for Rc<T> {
     }
 }
 
+/// A text with several owners, in one thread. Contract: it is seen as the text.
+pub struct RcStr(std::rc::Rc<str>);
+
+impl RcStr {
+    /// Contract: the same text, with one owner.
+    #[inline(always)]
+    pub fn from_str(_: Global, text: &str) -> Result<RcStr, AllocError> {
+        Ok(RcStr(text.into()))
+    }
+
+    /// Contract: the same text, with one owner.
+    #[inline(always)]
+    pub fn from_string(text: String) -> Result<RcStr, AllocError> {
+        Ok(RcStr(text.into_rust().into()))
+    }
+
+    /// Contract: the text.
+    #[inline(always)]
+    pub fn as_str(&self) -> &str {
+        &self.0
+    }
+}
+
+/// Contract: one more owner of the same text.
+impl Clone for RcStr {
+    #[inline(always)]
+    fn clone(&self) -> Result<RcStr, AllocError> {
+        Ok(RcStr(std::rc::Rc::clone(&self.0)))
+    }
+}
+
 #[cfg(test)]
 mod tests {
     use super::super::vec::Vec;
@@ -85,6 +124,15 @@ mod tests {
         let place = other.as_ptr();
         assert_ne!(Rc::unwrap_or_clone(one)?.as_ptr(), place);
         assert_eq!(Rc::unwrap_or_clone(other)?.as_ptr(), place);
+        Ok(())
+    }
+
+    #[test]
+    fn owners_of_a_text_share_it() -> Result<(), AllocError> {
+        let text = RcStr::from_str(Global, "aé")?;
+        let copy = text.clone()?;
+        assert_eq!((copy.as_str(), copy.as_str().as_ptr()), ("aé", text.as_str().as_ptr()));
+        assert_eq!(RcStr::from_string(String::from_str(Global, "aé")?)?.as_str(), "aé");
         Ok(())
     }
 }

@@ -116,8 +116,11 @@ impl<T: Copy> Vec<T> {
 /// Contract: copies of the items, in order.
 impl<T: Clone> Clone for Vec<T> {
     fn clone(&self) -> Result<Vec<T>, AllocError> {
-        let copies: Result<_, AllocError> = self.0.iter().map(T::clone).collect();
-        Ok(Vec(copies?))
+        let mut copies = std::vec::Vec::with_capacity(self.0.len());
+        for item in &self.0 {
+            copies.push(item.clone()?);
+        }
+        Ok(Vec(copies))
     }
 }
 
