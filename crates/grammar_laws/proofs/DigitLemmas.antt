@@ -17,7 +17,7 @@ use Rattle.lexical.specs.Cover.{onto, StandBefore}
 use Rattle.lexical.specs.Quiet.{is_quiet, ends_quiet}
 use Rattle.lexical.specs.Finder.{find_run}
 use Rattle.lexical.specs.PieceFinder.{literal_kind, found}
-use Rattle.lexical.specs.declared.class.Start.TheVariants as starts
+use Rattle.lexical.specs.declared.class.PieceStart.TheVariants as starts
 use Rattle.lexical.proofs.TextLemmas.{first_more}
 use Rattle.lexical.proofs.FinderLemmas.{finds_run, found_is, one_split}
 use Rattle.lexical.proofs.ClassLemmas.{start_digit}

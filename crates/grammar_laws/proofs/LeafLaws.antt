@@ -1,4 +1,4 @@
--- What literals, comments, identifiers and marks give to the laws of printed, joined and broken texts, in one place.
+-- What literals, comments, identifiers and marks give to the laws of printed, joined and broken texts, in one file.
 -- A stop is a space, LF, a closer or the end.
 
 -- ---- at most one stands, and nothing else where it does

@@ -170,7 +170,7 @@ first_out passes (c ∷ text) out = elim (and_cases (passes c) (list_all passes 
   | inr there ↦ let at = first_out passes text there in (c ∷ at.0, at.1, at.2, ap (λ x. c ∷ x) at.3, at.4)
 ]
 
--- a number before pieces stays one where a stop takes the place of what follows them: of nothing,
+-- a number before pieces stays one where a stop stands in place of what follows them: of nothing,
 -- or of any text after a piece that is neither a mark nor a number
 pub number_broken : (p : List ℕ) (us : List Piece) (v s : List ℕ) → stops s ≡ true → (v ≡ []) ⊎ (ends_quiet us ≡ true)
     → Number p (onto us v) → StandBefore false us v → Number p (onto us s)

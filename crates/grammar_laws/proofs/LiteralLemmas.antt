@@ -5,7 +5,7 @@ use Rattle.std.proofs.lemmas.List.{drop_all}
 use Rattle.lexical.specs.Class.{is_ident_continue}
 use Rattle.lexical.specs.Rule.{Then}
 use Rattle.lexical.specs.Quoted.{Str, escape, close}
-use Rattle.lexical.specs.RawString.{is_raw, raw_quotes, raw_string}
+use Rattle.lexical.specs.RawString.{may_stand_raw, raw_quotes, raw_string}
 use Rattle.lexical.specs.SingleQuoted as single
 use Rattle.lexical.specs.Literal.{QuotedLiteral, Literal, AnyLiteral, IsLiteralToken, quoted_literal, string}
 use Rattle.lexical.specs.declared.quoted.StringKind.{StringKind}
@@ -15,7 +15,7 @@ use Rattle.grammar_laws.proofs.StableLemmas.{least, Stable, ends_after, Looks, s
 use Rattle.grammar_laws.proofs.NumberLemmas.{looks_suffix}
 use Rattle.grammar_laws.proofs.IntegerLemmas.{number_before_stop}
 
--- ---- literals where a text that goes on with no identifier takes the place of what follows
+-- ---- literals where a text that goes on with no identifier stands in place of what follows
 
 -- no escape looks at more than the quote after it
 looks_escape : (kind : StringKind) → Looks is_ident_continue 1 (escape kind)
@@ -32,7 +32,7 @@ looks_raw kind = (
   tt,
   λ hashes.
       let quoted = 34 ∷ hashes in
-      let opens = ends_after is_ident_continue (0 + least (raw_quotes (is_raw kind) hashes)) (λ c. c == 35)
+      let opens = ends_after is_ident_continue (0 + least (raw_quotes (may_stand_raw kind) hashes)) (λ c. c == 35)
       (omega arith) in
       let past = 0 + least (close quoted) + 1 in
       let closing = ap (λ rest. list_all is_ident_continue rest && true) (drop_all past quoted (omega arith)) in
@@ -46,7 +46,7 @@ looks_single : (kind : StringKind)
     → Looks is_ident_continue 0 (Then (single.unit (single.is_plain kind) (escape kind)) (close (codes "'")))
 looks_single kind = ((tt, (tt, looks_escape kind)), looks_close (codes "'"))
 
--- one between quotes stays one where a text that goes on with no identifier takes the place of what follows, near or
+-- one between quotes stays one where a text that goes on with no identifier stands in place of what follows, near or
 -- far
 pub quoted_stable : Stable is_ident_continue QuotedLiteral
 unfolding Str

@@ -9,10 +9,10 @@ use Rattle.lexical.specs.Text.{begins_any, first_passes}
 use Rattle.lexical.specs.Form.{Form, Then, Exactly}
 use Rattle.lexical.specs.Mark.{FollowsQuote, follows_quote, quotable_fronts}
 use Rattle.lexical.specs.Quoted.{cooked}
-use Rattle.lexical.specs.RawString.{is_raw, raw_front, raw_string}
+use Rattle.lexical.specs.RawString.{may_stand_raw, raw_front, raw_string}
 use Rattle.lexical.specs.Rule.{Stands, find}
 use Rattle.lexical.specs.Literal.{QuotedLiteral, Literal, AnyLiteral}
-use Rattle.lexical.specs.declared.class.Start.TheVariants as starts
+use Rattle.lexical.specs.declared.class.PieceStart.TheVariants as starts
 use Rattle.lexical.specs.declared.quoted.StringKind.{StringKind}
 use Rattle.lexical.specs.declared.quoted.StringKind.TheVariants as kinds
 use Rattle.lexical.proofs.TextLemmas.{begins_each}
@@ -62,7 +62,7 @@ front_bars front A p r h out follows =
 raw_quotable : (kind : StringKind) (p r : List ℕ) → Stands (raw_string kind) p r → Quotable p r
 unfolding unicode_ident find
 raw_quotable kind p r h =
-    let at = raw_text (raw_front kind) (is_raw kind) p r h in
+    let at = raw_text (raw_front kind) (may_stand_raw kind) p r h in
     rw at.2 (begins_each (λ t. Quotable (raw_front kind ++ t) r) raw_fronts (at.0 ++ (34 ∷ at.1))
     (hashes_begin at.0 at.1 at.3)
     (each_kind (λ k. AllByRecursion (λ f. (tail : List ℕ) → Quotable (raw_front k ++ (f ++ tail)) r) raw_fronts)

@@ -85,7 +85,7 @@ least_holds rule p r is = omega arith
 -- ---- rules that keep their pieces
 
 -- the form keeps its pieces where n characters at least follow them, and then a text that begins with none of the class
--- takes the place of another
+-- stands in place of another
 abbrev pub Keeps : (ℕ → Bool) → ℕ → Form → Type 0
 Keeps class n A = (p b r s : List ℕ) → n ≤ length b → first_passes class s ≡ false → A p (b ++ r) → A p (b ++ s)
 

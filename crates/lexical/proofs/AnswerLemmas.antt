@@ -15,14 +15,14 @@ use Rattle.lexical.specs.Piece.{Kind, Leaf, IsPiece}
 use Rattle.lexical.specs.Found.{kind_of, LendsText, IsPieceAt, IsAt}
 use Rattle.lexical.specs.Finder.{Answer, Finds}
 use Rattle.lexical.specs.PieceFinder.{Found, find_lone_quote, literal_kind, mark_kind, name_kind, tagged, or_found}
-use Rattle.lexical.specs.PieceFinder.{start, found_identifier, found_literal, found_from, found}
-use Rattle.lexical.specs.Reading.{IsFound, Answers}
+use Rattle.lexical.specs.PieceFinder.{piece_start, found_identifier, found_literal, found_from, found}
+use Rattle.lexical.specs.PieceStep.{IsFound, Answers}
 use Rattle.lexical.specs.Step.{Passes}
 use Rattle.lexical.specs.declared.cursor.Cursor.{Cursor}
 use Rattle.lexical.specs.declared.piece.PieceKind.{PieceKind}
 use Rattle.lexical.specs.declared.piece.PieceKind.TheVariants as kinds
-use Rattle.lexical.specs.declared.class.Start.{Start}
-use Rattle.lexical.specs.declared.class.Start.TheVariants as starts
+use Rattle.lexical.specs.declared.class.PieceStart.{PieceStart}
+use Rattle.lexical.specs.declared.class.PieceStart.TheVariants as starts
 use Rattle.lexical.proofs.FinderLemmas.{found_is}
 use Rattle.lexical.proofs.RuleSteps.{passed, one_found, past_text, then_reads, IsBetween}
 use Rattle.lexical.proofs.NameFinderLemmas.{clear_written, written_named}
@@ -39,12 +39,12 @@ unfolding find
 one_found_not_at fronts passes text rest c e plain h = cond-false _ _ _ plain ∙ one_found passes c text rest e h
 
 -- the first character, by what it starts
-pub first_found : (s : Start) {text rest : List ℕ} {c : ℕ} → text ≡ c ∷ rest → s ≡ start c
+pub first_found : (s : PieceStart) {text rest : List ℕ} {c : ℕ} → text ≡ c ∷ rest → s ≡ piece_start c
     → find (One (is_of s)) text ≡ Some (c ∷ [], rest)
 first_found s {text} {rest} {c} e h = one_found (is_of s) c text rest e (of_start s c h)
 
 -- a lone quote
-pub quote_found : {text rest : List ℕ} {c : ℕ} → text ≡ c ∷ rest → starts.Quote ≡ start c
+pub quote_found : {text rest : List ℕ} {c : ℕ} → text ≡ c ∷ rest → starts.Quote ≡ piece_start c
     → find_lone_quote text ≡ cond (follows_quote rest) (Some (39 ∷ [], rest)) None
 unfolding find
 quote_found {rest = rest} {c = c} e h =
@@ -52,7 +52,7 @@ quote_found {rest = rest} {c = c} e h =
 
 -- ---- what a step answers
 
--- the kind and the place after it, by what was found
+-- the kind and the cursor after it, by what was found
 pub read_as : (kind : List ℕ → List ℕ → Kind) (o : Answer) (answer : Found) (at end : Cursor) (k : PieceKind)
     (front : List ℕ)
     → answer ≡ tagged kind o → o ≡ Some (front, chars end.rest.now) → end.chars_before ≡ at.chars_before + length front
@@ -81,7 +81,7 @@ pub same_answers : {answer other : Found} (at : Cursor) (result : Option (PieceK
 same_answers at result e h = subst (λ o. Answers o at result) (sym e) h
 
 -- a text that starts so
-pub at_start : (first : Bool) (s : Start) {text rest : List ℕ} {c : ℕ} → text ≡ c ∷ rest → s ≡ start c
+pub at_start : (first : Bool) (s : PieceStart) {text rest : List ℕ} {c : ℕ} → text ≡ c ∷ rest → s ≡ piece_start c
     → found first text ≡ found_from first s text
 at_start first s {text} {rest} {c} e is = from_start first text c rest s e (sym is)
 
@@ -150,7 +150,7 @@ is_at rule A finds at end text bytes e h size =
     let whole = ap chars (sym e) ∙ is.0 in
     record { front = h.front; rest = chars end.rest.now; whole = whole; stands = is.1; size = size h.front whole }
 
--- what was read stands at the place
+-- what was read stands at the cursor
 pub read_stands : (first : Bool) (at : Cursor) (x : PieceKind × Cursor) (text : List ℕ) → chars at.rest.now ≡ text
     → (h : IsFound (found first (chars at.rest.now)) at x)
     → (text ≡ h.front ++ chars x.1.rest.now) × IsPiece first (kind_of x.0 h.front) h.front (chars x.1.rest.now)

@@ -37,12 +37,12 @@ all_low class = all_pass _ _ (λ c is. (and_parts _ _ is).0)
 
 -- so many bytes are of the run
 module _ (class : Class) (at : Cursor) (bytes : List ℕ) (same : bytes ≡ at.rest.now) (utf8 : IsUtf8 bytes)
-    (n : ℕ) (counted : n ≡ length (while_front (ascii_in class) bytes)) where
+    (n : ℕ) (is_length : n ≡ length (while_front (ascii_in class) bytes)) where
   text_utf8 : IsUtf8 at.rest.now
   text_utf8 = subst IsUtf8 same utf8
 
   size : n ≡ length (while_front (ascii_in class) at.rest.now)
-  size = counted ∙ ap (λ x. length (while_front (ascii_in class) x)) same
+  size = is_length ∙ ap (λ x. length (while_front (ascii_in class) x)) same
 
   pub ascii_boundary : IsCharBoundary at.rest.now n
   ascii_boundary = run_boundary (ascii_in class) false (ascii_past class) at.rest.now text_utf8 n size

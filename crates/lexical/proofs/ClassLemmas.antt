@@ -13,9 +13,9 @@ use Rattle.lexical.specs.Class.{is_white, is_ident_start, is_ident_continue}
 use Rattle.lexical.specs.Text.{begins_any}
 use Rattle.lexical.specs.Mark.{is_mark, marks, comment_fronts}
 use Rattle.lexical.specs.Delimiter.{is_opener, is_closer}
-use Rattle.lexical.specs.PieceFinder.{start}
-use Rattle.lexical.specs.declared.class.Start.{Start}
-use Rattle.lexical.specs.declared.class.Start.TheVariants as starts
+use Rattle.lexical.specs.PieceFinder.{piece_start}
+use Rattle.lexical.specs.declared.class.PieceStart.{PieceStart}
+use Rattle.lexical.specs.declared.class.PieceStart.TheVariants as starts
 
 -- ---- ASCII
 
@@ -53,10 +53,10 @@ sub_listed class (d ∷ ds) all c any =
 
 -- ---- how a piece starts
 
-pub start_white : (c : ℕ) → is_white c ≡ true → start c ≡ starts.White
+pub start_white : (c : ℕ) → is_white c ≡ true → piece_start c ≡ starts.White
 start_white c white = cond-true _ _ _ white
 
-pub start_letter : (c : ℕ) → is_ident_start c ≡ true → start c ≡ starts.Letter
+pub start_letter : (c : ℕ) → is_ident_start c ≡ true → piece_start c ≡ starts.Letter
 start_letter c letter =
     let other : is_white c ≡ false = not-true _ (and_parts _ _ (and_parts _ _ letter).0).1 in
     cond-false _ _ _ other ∙ cond-true _ _ _ letter
@@ -72,7 +72,7 @@ sub_digits class all c h =
     sym (ap (λ b. not b || class c) h)
     ∙ agree_below_at (λ x. not (is_ascii_digit x) || class x) (λ x. true) 128 c all (digit_below c h)
 
-pub start_digit : (c : ℕ) → is_ascii_digit c ≡ true → start c ≡ starts.Digit
+pub start_digit : (c : ℕ) → is_ascii_digit c ≡ true → piece_start c ≡ starts.Digit
 unfolding unicode_ident
 start_digit c digit =
     let none = sub_digits (λ x. not (is_white x || is_ident_start x)) refl c digit in
@@ -80,48 +80,49 @@ start_digit c digit =
     cond-false (is_white c) _ _ parts.0
     ∙ (cond-false (is_ident_start c) _ _ parts.1 ∙ cond-true (is_ascii_digit c) _ _ digit)
 
-pub start_opener : (c : ℕ) → is_opener c ≡ true → start c ≡ starts.Opener
+pub start_opener : (c : ℕ) → is_opener c ≡ true → piece_start c ≡ starts.Opener
 unfolding unicode_ident
-start_opener c h = any_of (λ d. start d ≡ starts.Opener) (codes "([{") c (refl, (refl, (refl, tt))) h
+start_opener c h = any_of (λ d. piece_start d ≡ starts.Opener) (codes "([{") c (refl, (refl, (refl, tt))) h
 
-pub start_closer : (c : ℕ) → is_closer c ≡ true → start c ≡ starts.Closer
+pub start_closer : (c : ℕ) → is_closer c ≡ true → piece_start c ≡ starts.Closer
 unfolding unicode_ident
-start_closer c h = any_of (λ d. start d ≡ starts.Closer) (codes ")]}") c (refl, (refl, (refl, tt))) h
+start_closer c h = any_of (λ d. piece_start d ≡ starts.Closer) (codes ")]}") c (refl, (refl, (refl, tt))) h
 
 -- how a piece starts with a mark
-abbrev mark_start : ℕ → Start
+abbrev mark_start : ℕ → PieceStart
 mark_start c = if c == 47 then starts.Slash else if c == 39 then starts.Quote else starts.Mark
 
 -- a mark, but `'`
-pub start_mark : (c : ℕ) → is_mark c ≡ true → (c == 39) ≡ false → (start c ≡ starts.Mark) ⊎ (start c ≡ starts.Slash)
+pub start_mark : (c : ℕ) → is_mark c ≡ true → (c == 39) ≡ false
+    → (piece_start c ≡ starts.Mark) ⊎ (piece_start c ≡ starts.Slash)
 unfolding unicode_ident
 start_mark c h plain =
-    let is : start c ≡ mark_start c = any_of (λ d. start d ≡ mark_start d) marks c (assumption) h in
+    let is : piece_start c ≡ mark_start c = any_of (λ d. piece_start d ≡ mark_start d) marks c (assumption) h in
     elim (cases_Bool (c == 47)) [
       | inl slash ↦ inr (is ∙ cond-true _ _ _ slash)
       | inr other ↦ inl (is ∙ (cond-false _ _ _ other ∙ cond-false _ _ _ plain))
     ]
 
-pub start_slash : start 47 ≡ starts.Slash
+pub start_slash : piece_start 47 ≡ starts.Slash
 unfolding unicode_ident
 start_slash = refl
 
-pub start_quote : start 39 ≡ starts.Quote
+pub start_quote : piece_start 39 ≡ starts.Quote
 unfolding unicode_ident
 start_quote = refl
 
-pub start_double_quote : start 34 ≡ starts.DoubleQuote
+pub start_double_quote : piece_start 34 ≡ starts.DoubleQuote
 unfolding unicode_ident
 start_double_quote = refl
 
-pub start_front_mark : start 0xFEFF ≡ starts.FrontMark
+pub start_front_mark : piece_start 0xFEFF ≡ starts.FrontMark
 unfolding unicode_ident
 start_front_mark = refl
 
 -- ---- what a start tells
 
 -- of which class the character is, at each start
-abbrev pub is_of : Start → ℕ → Bool
+abbrev pub is_of : PieceStart → ℕ → Bool
 is_of starts.White c = is_white c
 is_of starts.Letter c = is_ident_start c
 is_of starts.Digit c = is_ascii_digit c
@@ -134,11 +135,11 @@ is_of starts.FrontMark c = c == 0xFEFF
 is_of starts.Mark c = is_mark c
 is_of starts.Other c = true
 
-of_choice : (c : ℕ) (b : Bool) (x y : Start) → (b ≡ true → is_of x c ≡ true) → is_of y c ≡ true
+of_choice : (c : ℕ) (b : Bool) (x y : PieceStart) → (b ≡ true → is_of x c ≡ true) → is_of y c ≡ true
     → is_of (cond b x y) c ≡ true
 of_choice c b x y here there = cond_both b x y (λ s. is_of s c ≡ true) here (λ _. there)
 
-pub of_start : (s : Start) (c : ℕ) → s ≡ start c → is_of s c ≡ true
+pub of_start : (s : PieceStart) (c : ℕ) → s ≡ piece_start c → is_of s c ≡ true
 of_start s c h =
     subst (λ s. is_of s c ≡ true) (sym h)
     (of_choice c (is_white c) _ _ (λ h. h) (of_choice c (is_ident_start c) _ _ (λ h. h)
@@ -148,14 +149,15 @@ of_start s c h =
     (of_choice c (c == 0xFEFF) _ _ (λ h. h) (of_choice c (is_mark c) _ _ (λ h. h) refl))))))))))
 
 -- characters that start otherwise differ
-other_start : (s t : Start) (c d : ℕ) → s ≡ start c → t ≡ start d → (s ≡ t → ⊥) → (c == d) ≡ false
-other_start s t c d h e differs = false_from_ne_true _ (λ same. differs (h ∙ (ap start (eqb-true c d same) ∙ sym e)))
+other_start : (s t : PieceStart) (c d : ℕ) → s ≡ piece_start c → t ≡ piece_start d → (s ≡ t → ⊥) → (c == d) ≡ false
+other_start s t c d h e differs =
+    false_from_ne_true _ (λ same. differs (h ∙ (ap piece_start (eqb-true c d same) ∙ sym e)))
 
-pub mark_not_quote : (c : ℕ) → starts.Mark ≡ start c → (c == 39) ≡ false
+pub mark_not_quote : (c : ℕ) → starts.Mark ≡ piece_start c → (c == 39) ≡ false
 mark_not_quote c h = other_start starts.Mark starts.Quote c 39 h (sym start_quote) (λ e. cc)
 
 -- no comment begins with a mark that isn't `/`
-pub mark_plain : (c : ℕ) (text rest : List ℕ) → text ≡ c ∷ rest → starts.Mark ≡ start c
+pub mark_plain : (c : ℕ) (text rest : List ℕ) → text ≡ c ∷ rest → starts.Mark ≡ piece_start c
     → begins_any comment_fronts text ≡ false
 mark_plain c text rest e h =
     let slash : (47 == c) ≡ false = other_start starts.Slash starts.Mark 47 c (sym start_slash) h (λ e. cc) in

@@ -11,12 +11,12 @@ use Rattle.lexical.specs.Mark.{LoneQuote, bars_quote, follows_quote, unbarred}
 use Rattle.lexical.specs.Number.{number}
 use Rattle.lexical.specs.Literal.{quoted_literal, QuotedLiteral, Literal}
 use Rattle.lexical.specs.Quoted.{is_one_of, Str, cooked}
-use Rattle.lexical.specs.RawString.{is_raw, raw_front, raw_string, Raw}
+use Rattle.lexical.specs.RawString.{may_stand_raw, raw_front, raw_string, Raw}
 use Rattle.lexical.specs.Rule.{Rule, Either, Stands, find}
 use Rattle.lexical.specs.SingleQuoted.{byte, Character}
 use Rattle.lexical.specs.Finder.{Answer, Finds, and_find, find_run, if_passes}
-use Rattle.lexical.specs.PieceFinder.{find_literal, find_lone_quote, start}
-use Rattle.lexical.specs.declared.class.Start.TheVariants as starts
+use Rattle.lexical.specs.PieceFinder.{find_literal, find_lone_quote, piece_start}
+use Rattle.lexical.specs.declared.class.PieceStart.TheVariants as starts
 use Rattle.lexical.specs.declared.quoted.StringKind.{StringKind}
 use Rattle.lexical.specs.declared.quoted.StringKind.TheVariants as kinds
 use Rattle.lexical.proofs.TextLemmas.{begins_each, any_begins_more, any_first, first_cons}
@@ -39,7 +39,7 @@ pub record StartsLetter (text : List ℕ) : Type 0 where
   pub first : ℕ
   pub rest : List ℕ
   pub whole : text ≡ first ∷ rest
-  pub starts : start first ≡ starts.Letter
+  pub starts : piece_start first ≡ starts.Letter
   pub prefixed : begins_any literal_prefixes text ≡ true
 
 prefixed_starts : (text : List ℕ) → begins_any literal_prefixes text ≡ true → StartsLetter text
@@ -85,7 +85,7 @@ raw_prefixed kind text h =
 
 raw_starts : (kind : StringKind) (p r : List ℕ) → Stands (raw_string kind) p r → StartsLetter (p ++ r)
 raw_starts kind p r h =
-    let at = raw_text (raw_front kind) (is_raw kind) p r h in
+    let at = raw_text (raw_front kind) (may_stand_raw kind) p r h in
     prefixed_starts (p ++ r) (any_begins_more literal_prefixes p r
     (ap (begins_any literal_prefixes) at.2 ∙ raw_prefixed kind (at.0 ++ (34 ∷ at.1)) (hashes_begin at.0 at.1 at.3)))
 

@@ -21,11 +21,11 @@ use Rattle.lexical.specs.Comment.{comment, Comment, is_doc, has_bare_return}
 use Rattle.lexical.specs.Piece.{Kind, FrontMark, Gap, Doc, Open, Close, Leaf, IsPiece, HasNoPiece}
 use Rattle.lexical.specs.Finder.{Answer, Finds}
 use Rattle.lexical.specs.PieceFinder.{Found, find_front_mark, front_mark_kind, gap_kind, literal_kind, tagged, or_found}
-use Rattle.lexical.specs.PieceFinder.{with_kind, comment_found, start, found_identifier, found_from, found, opener_kind}
-use Rattle.lexical.specs.PieceFinder.{closer_kind, name_kind, mark_kind, quote_kind, found_literal}
+use Rattle.lexical.specs.PieceFinder.{with_kind, comment_found, piece_start, found_identifier, found_from, found}
+use Rattle.lexical.specs.PieceFinder.{opener_kind, closer_kind, name_kind, mark_kind, quote_kind, found_literal}
 use Rattle.lexical.specs.CommentKind.{comment_kind, doc_text}
-use Rattle.lexical.specs.declared.class.Start.{Start}
-use Rattle.lexical.specs.declared.class.Start.TheVariants as starts
+use Rattle.lexical.specs.declared.class.PieceStart.{PieceStart}
+use Rattle.lexical.specs.declared.class.PieceStart.TheVariants as starts
 use Rattle.lexical.proofs.FinderLemmas.{IsSplit, finds_if}
 use Rattle.lexical.proofs.RuleLemmas.{Clear, exact}
 use Rattle.lexical.proofs.NameFinderLemmas.{clear_written, written_named, named_written, named_begins, named_start}
@@ -106,7 +106,7 @@ unfolding literals.Literal
 number_sound first text = tagged_sound first Number literal_kind (λ p r h. (refl, inl (inr h))) text _
     (finds_number.sound text)
 
-start_sound : (first : Bool) (s : Start) (text : List ℕ) → IfSome (found_from first s text) (IsTagged first text)
+start_sound : (first : Bool) (s : PieceStart) (text : List ℕ) → IfSome (found_from first s text) (IsTagged first text)
 start_sound first starts.White text = rule_sound first (rules.One is_white) tt gap_kind (λ p r h. inl h) text
 start_sound first starts.Letter text =
     let raw = begins_with (codes "r#") text in
@@ -136,7 +136,7 @@ start_sound first starts.Other text = tt
 pub found_sound : (first : Bool) (text : List ℕ) → IfSome (found first text) (IsTagged first text)
 unfolding found
 found_sound first [] = tt
-found_sound first (c ∷ text) = start_sound first (start c) (c ∷ text)
+found_sound first (c ∷ text) = start_sound first (piece_start c) (c ∷ text)
 
 -- ---- a piece is found
 
@@ -146,7 +146,8 @@ unfolding found
 found_end first text e = ap (found first) e
 
 -- a text that starts so
-pub from_start : (first : Bool) (text : List ℕ) (c : ℕ) (rest : List ℕ) (s : Start) → text ≡ c ∷ rest → start c ≡ s
+pub from_start : (first : Bool) (text : List ℕ) (c : ℕ) (rest : List ℕ) (s : PieceStart) → text ≡ c ∷ rest
+    → piece_start c ≡ s
     → found first text ≡ found_from first s text
 unfolding found
 from_start first text c rest s e is = ap (found first) e
@@ -299,7 +300,7 @@ found_complete first (Leaf (Literal text)) p r h = rw h.0 (elim h.1 [
 
 -- ---- the laws
 
--- at most one piece stands at a place
+-- at most one piece stands at a byte offset
 pub one_piece : (first : Bool) (k l : Kind) (p q r s : List ℕ) → IsPiece first k p r → IsPiece first l q s
     → p ++ r ≡ q ++ s → (k ≡ l) × (p ≡ q) × (r ≡ s)
 one_piece first k l p q r s h j e =

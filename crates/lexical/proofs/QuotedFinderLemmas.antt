@@ -5,7 +5,7 @@ use Rattle.std.specs.Str.{chars}
 use Rattle.std.proofs.lemmas.Bool.{and_from, or_left}
 use Rattle.lexical.specs.Quoted.{is_code_digit, code_digits, unit, Str, body, cooked}
 use Rattle.lexical.specs.Literal.{string, quoted_literal, QuotedLiteral}
-use Rattle.lexical.specs.RawString.{is_raw, raw_unit, raw_string}
+use Rattle.lexical.specs.RawString.{may_stand_raw, raw_unit, raw_string}
 use Rattle.lexical.specs.SingleQuoted.{character, byte}
 use Rattle.lexical.specs.Finder.{Finds}
 use Rattle.lexical.specs.Rule.{Stands, find}
@@ -42,9 +42,9 @@ pub clear_body : (kind : StringKind) → Clear (body (unit kind) (codes "\""))
 clear_body = each_kind (λ k. Clear (body (unit k) (codes "\""))) (assumption) (assumption) (assumption)
 
 -- where a unit of a raw string stands, what closes the string does not begin
-pub clear_raw_body : (kind : StringKind) (text : List ℕ) → Clear (body (raw_unit (is_raw kind) text) text)
+pub clear_raw_body : (kind : StringKind) (text : List ℕ) → Clear (body (raw_unit (may_stand_raw kind) text) text)
 clear_raw_body kind text = (
-  each_kind (λ k. Clear (raw_unit (is_raw k) text)) (assumption) (assumption) (assumption) kind,
+  each_kind (λ k. Clear (raw_unit (may_stand_raw k) text)) (assumption) (assumption) (assumption) kind,
   assumption,
   refl,
   or_left _ _ (or_left _ _ (begins_self text)),

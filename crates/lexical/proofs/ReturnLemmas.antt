@@ -20,7 +20,7 @@ none_in : (p r : List ℕ) → list_all other p ≡ true → has_bare_return (p 
 none_in [] r all = refl
 none_in (c ∷ p) r all = grind (arith, all, none_in p r)
 
--- the place is at the next CR, or at the end
+-- the cursor is at the next CR, or at the end
 pub record AtReturn (text : List ℕ) (at : Cursor) : Type 0 where
   pub same : has_bare_return (chars at.rest.now) ≡ has_bare_return text
   pub stands : first_passes other (chars at.rest.now) ≡ false

@@ -23,9 +23,9 @@ pub find_either : (a b : Rule) (text : List ℕ) → find (Either a b) text ≡ 
 unfolding find
 find_either a b text = refl
 
-pub find_other : (a b : Rule) (text : List ℕ) → find (Else a b) text ≡ or_find (find a text) (find b text)
+pub find_else : (a b : Rule) (text : List ℕ) → find (Else a b) text ≡ or_find (find a text) (find b text)
 unfolding find
-find_other a b text = refl
+find_else a b text = refl
 
 pub find_not_before : (passes : ℕ → Bool) (a : Rule) (text : List ℕ)
     → find (NotBefore passes a) text ≡ if_passes (λ p r. not (first_passes passes r)) (find a text)
@@ -43,7 +43,7 @@ find_nothing text = refl
 
 -- ---- what was passed
 
--- what was passed stands at the place
+-- what was passed stands at the cursor
 pub passed : (rule : Rule) → Clear rule → (at to : Cursor) (h : Passes rule at to)
     → (chars at.rest.now ≡ h.front ++ chars to.rest.now) × Stands rule h.front (chars to.rest.now)
 passed rule clear at to h = found_is _ _ (exact rule clear) _ h.front _ h.found
@@ -138,15 +138,15 @@ pub either_reads : (a b : Rule) (at : Cursor) (result : Option Cursor) → find 
 either_reads a b at result none h = reads_same b (Either a b) at result (rw (find_either, none)) h
 
 pub else_first : (a b : Rule) (at to : Cursor) → Passes a at to → Passes (Else a b) at to
-else_first a b at to h = record { front = h.front; found = rw (find_other, h.found); count = h.count }
+else_first a b at to h = record { front = h.front; found = rw (find_else, h.found); count = h.count }
 
 pub else_reads : (a b : Rule) (at : Cursor) (result : Option Cursor) → find a (chars at.rest.now) ≡ None
     → Reads b at result → Reads (Else a b) at result
-else_reads a b at result none h = reads_same b (Else a b) at result (rw (find_other, none)) h
+else_reads a b at result none h = reads_same b (Else a b) at result (rw (find_else, none)) h
 
--- the place itself, where there may be nothing
+-- the cursor itself, where there may be nothing
 pub perhaps_stays : (a : Rule) (at : Cursor) → find a (chars at.rest.now) ≡ None → Passes (perhaps a) at at
-perhaps_stays a at none = record { front = []; found = rw (find_other, none, find_nothing); count = omega arith }
+perhaps_stays a at none = record { front = []; found = rw (find_else, none, find_nothing); count = omega arith }
 
 -- ---- `NotAt`
 
@@ -187,7 +187,7 @@ before_lacks passes a at to h e = rw (find_not_before, h.found, e)
 
 -- ---- `Where`
 
--- the text is what stands between the places
+-- the text is what stands between the cursors
 abbrev pub IsBetween : List ℕ → Cursor → Cursor → Type 0
 IsBetween text at to = (front : List ℕ) → chars at.rest.now ≡ front ++ chars to.rest.now → text ≡ front
 
@@ -206,7 +206,7 @@ where_lacks test a clear at to text h same e = rw (find_where, h.found, ← same
 pub ruleset steps = (
   find_then,
   find_either,
-  find_other,
+  find_else,
   find_not_before,
   find_where,
   find_nothing,

@@ -8,7 +8,7 @@ use Rattle.lexical.specs.Step.{Passes}
 use Rattle.lexical.specs.declared.cursor.Cursor.{Cursor}
 use Rattle.lexical.proofs.FinderLemmas.{while_rest_none}
 
--- the run from one place goes on at the other
+-- the run from one cursor goes on at the other
 abbrev pub GoesOn : (ℕ → Bool) → Cursor → Cursor → Type 0
 GoesOn test at end = (while_rest test (chars end.rest.now) ≡ while_rest test (chars at.rest.now))
     × (end.chars_before + length (while_front test (chars end.rest.now))

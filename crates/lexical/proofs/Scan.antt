@@ -64,7 +64,7 @@ module _ (test : ℕ → Bool) (beyond : Bool) (high : (c : ℕ) → 128 ≤ c �
     pub run_rest : chars (drop n text) ≡ while_rest test (chars text)
     run_rest = seam_drop text _ _ n utf8 whole bytes_of
 
-  -- and the place after them is that after the run
+  -- and the cursor after them is that after the run
   pub run_over : (at to : Cursor) → IsUtf8 at.rest.now → (n : ℕ) → n ≡ length (while_front test at.rest.now)
       → to.rest.now ≡ drop n at.rest.now
       → to.chars_before ≡ at.chars_before + length (chars (take n at.rest.now)) → Passes (Run test) at to

@@ -9,7 +9,7 @@ use Rattle.memchr.specs.Find.{IsFirstByte, is_byte3}
 use Rattle.memchr.specs.Find as bytes
 use Rattle.lexical.specs.Finder.{while_front}
 use Rattle.lexical.specs.Quoted.{is_plain}
-use Rattle.lexical.specs.RawString.{is_raw}
+use Rattle.lexical.specs.RawString.{may_stand_raw}
 use Rattle.lexical.specs.Rule.{Run}
 use Rattle.lexical.specs.Step.{Passes}
 use Rattle.lexical.specs.declared.cursor.Cursor.{Cursor}
@@ -36,7 +36,7 @@ module _ (test : ℕ → Bool) where
   found_end bs (Some k) h =
       run_to bs k (omega (arith, h.0.high)) (λ i before hit. h.0.before i (omega arith) before hit) (λ more. h.1)
 
-  -- the place where the search ends is that after the run
+  -- the cursor where the search ends is that after the run
   pub found_run : ((c : ℕ) → 128 ≤ c → test c ≡ false) → (at to : Cursor) (bs : List ℕ) (r : Option ℕ) (n : ℕ)
       → IsUtf8 bs → bs ≡ at.rest.now
       → IsFirstByte test bs r → n ≡ unwrap_or r (length bs) → to.rest.now ≡ drop n at.rest.now
@@ -63,13 +63,13 @@ module _ (test allowed both : ℕ → Bool) (same : (c : ℕ) → both c ≡ (al
   module _ (past : (c : ℕ) → 128 ≤ c → test c ≡ false) (beyond : Bool) (high : (c : ℕ) → 128 ≤ c → allowed c ≡ beyond)
       (at : Cursor) (bs : List ℕ) (r : Option ℕ) (m n : ℕ) (utf8 : IsUtf8 bs) (whole : bs ≡ at.rest.now)
       (found : IsFirstByte test bs r) (end : m ≡ unwrap_or r (length bs))
-      (counted : n ≡ length (while_front allowed (take m bs))) where
+      (is_length : n ≡ length (while_front allowed (take m bs))) where
     both_high : (c : ℕ) → 128 ≤ c → both c ≡ beyond
     both_high c h = grind (arith, same c, past c h, high c h)
 
     size : n ≡ length (while_front both at.rest.now)
     size =
-        counted ∙ (ap (λ k. length (while_front allowed (take k bs))) (end ∙ sym (found_end test bs r found))
+        is_length ∙ (ap (λ k. length (while_front allowed (take k bs))) (end ∙ sym (found_end test bs r found))
         ∙ (count_both bs ∙ ap (λ x. length (while_front both x)) whole))
 
     pub allowed_boundary : IsCharBoundary at.rest.now n
@@ -79,8 +79,8 @@ module _ (test allowed both : ℕ → Bool) (same : (c : ℕ) → both c ≡ (al
         → to.chars_before ≡ at.chars_before + length (chars (take n at.rest.now)) → Passes (Run both) at to
     allowed_run to rest count = run_over both beyond both_high at to (subst IsUtf8 whole utf8) n size rest count
 
--- what a string forbids is told by ASCII: it may have each character past that, or none
-pub raw_past : (kind : StringKind) (c : ℕ) → 128 ≤ c → is_raw kind c ≡ is_raw kind 128
+-- what a string forbids depends on ASCII alone: it may have each character past that, or none
+pub raw_past : (kind : StringKind) (c : ℕ) → 128 ≤ c → may_stand_raw kind c ≡ may_stand_raw kind 128
 raw_past kinds.Plain c h = refl
 raw_past kinds.Byte c h = grind arith
 raw_past kinds.C c h = grind arith
@@ -88,7 +88,7 @@ raw_past kinds.C c h = grind arith
 -- ---- what a string may have, among the bytes of a stretch
 
 -- all of them, where nothing is forbidden
-pub allowed_plain : (bs : List ℕ) → length bs ≡ length (while_front (is_raw kinds.Plain) bs)
+pub allowed_plain : (bs : List ℕ) → length bs ≡ length (while_front (may_stand_raw kinds.Plain) bs)
 allowed_plain [] = refl
 allowed_plain (b ∷ bs) = ap suc (allowed_plain bs)
 
@@ -99,7 +99,7 @@ allowed_ascii (b ∷ bs) low =
     ap suc (allowed_ascii bs (λ i. low (suc i))) ∙ sym (ap length (cond-true _ _ _ (lt-ltb b 128 (low 0))))
 
 -- the characters that stand for themselves in a string with escapes
-pub plain_allowed : (kind : StringKind) (c : ℕ) → is_plain kind c ≡ (is_raw kind c && not (is_byte3 34 92 13 c))
+pub plain_allowed : (kind : StringKind) (c : ℕ) → is_plain kind c ≡ (may_stand_raw kind c && not (is_byte3 34 92 13 c))
 plain_allowed kinds.Plain c = grind arith
 plain_allowed kinds.Byte c = grind arith
 plain_allowed kinds.C c = grind arith

@@ -9,7 +9,7 @@ use Rattle.lexical.specs.Finder.{Answer, and_find, and_next, behind, find_many}
 use Rattle.lexical.specs.Rule.{Rule, Run, Exactly, Then, Next, UpTo, Stands, find}
 use Rattle.lexical.specs.Quoted.{is_plain, unit as unit_of}
 use Rattle.lexical.specs.declared.quoted.StringKind.{StringKind}
-use Rattle.lexical.specs.RawString.{is_raw, is_raw_plain, raw_unit}
+use Rattle.lexical.specs.RawString.{may_stand_raw, is_raw_plain, raw_unit}
 use Rattle.lexical.specs.Step.{Leads, Passes, PassesText, Reads}
 use Rattle.lexical.specs.declared.cursor.Cursor.{Cursor}
 use Rattle.lexical.proofs.BlockLemmas.{behind_nothing, behind_behind}
@@ -129,5 +129,5 @@ plain_unit kind c text e = rw e
 
 -- and of a raw one
 pub raw_plain_unit : (kind : StringKind) (hashes : List ℕ) (c : ℕ) (text : List ℕ) → is_raw_plain kind c ≡ true
-    → find (raw_unit (is_raw kind) (34 ∷ hashes)) (c ∷ text) ≡ Some (c ∷ [], text)
-raw_plain_unit kind hashes c text e = grind (arith, e, raw_one (is_raw kind) hashes (c ∷ text) text c refl)
+    → find (raw_unit (may_stand_raw kind) (34 ∷ hashes)) (c ∷ text) ≡ Some (c ∷ [], text)
+raw_plain_unit kind hashes c text e = grind (arith, e, raw_one (may_stand_raw kind) hashes (c ∷ text) text c refl)

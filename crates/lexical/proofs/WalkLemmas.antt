@@ -15,9 +15,9 @@ pub next_is : (at : PieceWalk) (next : PlacedPiece) (to : PieceWalk) → IsUtf8 
     → IsPieceAt at.at_front (chars at.rest.now) next.piece
     → next.text.now ≡ take next.piece.bytes at.rest.now → to.rest.now ≡ drop next.piece.bytes at.rest.now
     → next.piece.bytes ≡ length next.text.now → IsUtf8 next.text.now
-    → next.place ≡ at.place → to.place ≡ at.place + next.piece.bytes → to.at_front ≡ false
+    → next.byte_offset ≡ at.byte_offset → to.byte_offset ≡ at.byte_offset + next.piece.bytes → to.at_front ≡ false
     → IsNext at next to
-next_is at next to utf8 found cut left size text place past behind =
+next_is at next to utf8 found cut left size text byte_offset past behind =
     let front : chars next.text.now ≡ found.front =
     ap chars cut ∙ piece_front at.at_front at.rest.now next.piece utf8 found in
     let rest : chars to.rest.now ≡ found.rest =
@@ -36,7 +36,7 @@ next_is at next to utf8 found cut left size text place past behind =
       count = found.chars ∙ sym (ap length front);
       lends = found.lends;
       utf8 = text;
-      place = place;
-      past = past ∙ ap (λ n. at.place + n) size;
+      byte_offset = byte_offset;
+      past = past ∙ ap (λ n. at.byte_offset + n) size;
       behind = behind;
     }

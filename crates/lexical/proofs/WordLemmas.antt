@@ -125,7 +125,7 @@ module _ (f : Finder) (A : Form) (h : Finds f A) (some : NotEmpty A) where
 
 -- ---- forms that begin with different texts
 
--- whether two texts differ at some place that both have
+-- whether two texts differ at some index that both have
 abbrev pub differ : List ℕ → List ℕ → Bool
 differ [] q = false
 differ (c ∷ p) [] = false

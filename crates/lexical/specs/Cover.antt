@@ -12,7 +12,7 @@ abbrev pub width : List Piece → ℕ
 width [] = 0
 width (piece ∷ pieces) = length piece.1 + width pieces
 
--- each piece stands before what follows it, and r follows them all; `first` says that they begin at place 0
+-- each piece stands before what follows it, and r follows them all; `first` says that they begin at byte offset 0
 abbrev pub StandBefore : Bool → List Piece → List ℕ → Type 0
 StandBefore first [] r = Unit {0}
 StandBefore first (piece ∷ pieces) r = IsPiece first piece.0 piece.1 (onto pieces r) × StandBefore false pieces r

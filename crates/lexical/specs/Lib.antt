@@ -26,6 +26,6 @@ pub mod Block
 pub mod Rule
 pub mod CommentKind
 pub mod PieceFinder
-pub mod Reading
+pub mod PieceStep
 pub mod Step
 pub mod Walk

@@ -32,7 +32,7 @@ Stands (Mark c joint) r =
     ⊎ (marks.LoneQuote (c ∷ []) r × IsTrue joint)
 Stands (Literal text) r = literals.AnyLiteral text r
 
--- the piece stands before r; `first` says that it stands at place 0
+-- the piece stands before r; `first` says that it stands at byte offset 0
 abbrev pub IsPiece : Bool → Kind → Form
 IsPiece first FrontMark = fronts.FrontMark first
 IsPiece first Gap = gaps.Gap

@@ -15,8 +15,8 @@ use Rattle.lexical.specs.CommentKind.{comment_kind}
 use Rattle.lexical.specs.Literal.{quoted_literal, literal}
 use Rattle.lexical.specs.Piece.{Kind, FrontMark, Gap, Open, Close, Leaf}
 use Rattle.lexical.specs.Finder.{Answer, Finder, find_if, find_where}
-use Rattle.lexical.specs.declared.class.Start.{Start}
-use Rattle.lexical.specs.declared.class.Start.TheVariants as starts
+use Rattle.lexical.specs.declared.class.PieceStart.{PieceStart}
+use Rattle.lexical.specs.declared.class.PieceStart.TheVariants as starts
 
 -- ---- the finders that are more than a rule
 
@@ -91,8 +91,8 @@ comment_found None = None
 comment_found (Some x) = with_kind x (comment_kind x.0 x.1)
 
 -- what the first character of a text says of the piece that may stand there
-abbrev pub start : ℕ → Start
-start c =
+abbrev pub piece_start : ℕ → PieceStart
+piece_start c =
     if is_white c then starts.White
     else if is_ident_start c then starts.Letter
     else if is_ascii_digit c then starts.Digit
@@ -114,7 +114,7 @@ abbrev pub found_literal : Rule → List ℕ → Found
 found_literal rule text = tagged literal_kind (find rule text)
 
 -- the piece at the front of a text that starts so
-abbrev pub found_from : Bool → Start → List ℕ → Found
+abbrev pub found_from : Bool → PieceStart → List ℕ → Found
 found_from first starts.White text = tagged gap_kind (find (One is_white) text)
 found_from first starts.Letter text = or_found (found_identifier text) (found_literal quoted_literal text)
 found_from first starts.Digit text = found_literal number text
@@ -130,7 +130,7 @@ found_from first starts.FrontMark text = tagged front_mark_kind (find_front_mark
 found_from first starts.Mark text = tagged mark_kind (find mark text)
 found_from first starts.Other text = None
 
--- the piece at the front of a text; `first` says that this is place 0
+-- the piece at the front of a text; `first` says that this is byte offset 0
 unfoldable pub found : Bool → List ℕ → Found
 found first [] = None
-found first (c ∷ text) = found_from first (start c) (c ∷ text)
+found first (c ∷ text) = found_from first (piece_start c) (c ∷ text)

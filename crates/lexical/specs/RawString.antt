@@ -26,14 +26,14 @@ abbrev pub raw : List ℕ → (ℕ → Bool) → Rule
 raw front allowed = Then (Exactly front) (Next hashes (raw_quotes allowed))
 
 -- the characters that may stand in a raw string
-abbrev pub is_raw : StringKind → ℕ → Bool
-is_raw Plain c = true
-is_raw Byte c = is_ascii c
-is_raw C c = not (c == 0)
+abbrev pub may_stand_raw : StringKind → ℕ → Bool
+may_stand_raw Plain c = true
+may_stand_raw Byte c = is_ascii c
+may_stand_raw C c = not (c == 0)
 
 -- and neither end it nor begin CR LF
 abbrev pub is_raw_plain : StringKind → ℕ → Bool
-is_raw_plain kind c = is_raw kind c && not ((c == double_quote) || (c == carriage_return))
+is_raw_plain kind c = may_stand_raw kind c && not ((c == double_quote) || (c == carriage_return))
 
 -- what opens a raw string
 abbrev pub raw_front : StringKind → List ℕ
@@ -43,7 +43,7 @@ raw_front C = codes "cr"
 
 -- `raw-string`, `raw-byte-string`, `raw-c-string`
 abbrev pub raw_string : StringKind → Rule
-raw_string kind = raw (raw_front kind) (is_raw kind)
+raw_string kind = raw (raw_front kind) (may_stand_raw kind)
 
 -- ---- what they say
 

@@ -7,7 +7,7 @@ use Rattle.lexical.specs.Ascii.{all_ascii}
 use Rattle.lexical.specs.Rule.{Rule, find}
 use Rattle.lexical.specs.declared.cursor.Cursor.{Cursor}
 
--- from one place to the other stands a piece of the rule
+-- from one cursor to the other stands a piece of the rule
 pub record Passes (rule : Rule) (at to : Cursor) : Type 0 where
   pub front : List ℕ
   pub found : find rule (chars at.rest.now) ≡ Some (front, chars to.rest.now)
@@ -17,13 +17,13 @@ pub record Passes (rule : Rule) (at to : Cursor) : Type 0 where
 abbrev pub Reads : Rule → Cursor → Option Cursor → Type 0
 Reads rule at result = MatchOption result (find rule (chars at.rest.now) ≡ None) (Passes rule at)
 
--- from one place to the other stands the front of a piece of the rule, and the rest of it is a piece of the other rule
+-- from one cursor to the other stands the front of a piece of the rule, and the rest of it is a piece of the other rule
 pub record Leads (rule : Rule) (at : Cursor) (rest : Rule) (to : Cursor) : Type 0 where
   pub front : List ℕ
   pub found : find rule (chars at.rest.now) ≡ behind front (find rest (chars to.rest.now))
   pub count : to.chars_before ≡ at.chars_before + length front
 
--- from one place to the other stands a piece of the rule, and this is its text, which is ASCII
+-- from one cursor to the other stands a piece of the rule, and this is its text, which is ASCII
 pub record PassesText (rule : Rule) (at : Cursor) (x : Bor (List ℕ) × Cursor) : Type 0 where
   pub found : find rule (chars at.rest.now) ≡ Some (x.0.now, chars x.1.rest.now)
   pub count : x.1.chars_before ≡ at.chars_before + length x.0.now

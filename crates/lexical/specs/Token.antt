@@ -1,4 +1,4 @@
--- Tokens without their places.
+-- Tokens without their spans.
 use Rattle.std.specs.Prelude.{ℕ, Bool, true, false, List, [], ◌∷◌, ◌++◌, codes}
 
 -- an identifier, raw or not, by its name; a mark, and whether it is Joint; a literal by its text

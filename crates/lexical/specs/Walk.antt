@@ -6,7 +6,8 @@ use Rattle.lexical.specs.Piece.{IsPiece}
 use Rattle.lexical.specs.declared.walk.PlacedPiece.{PlacedPiece}
 use Rattle.lexical.specs.declared.walk.PieceWalk.{PieceWalk}
 
--- from one place to the other stands this piece, at its place and with its text; only the first stands at place 0
+-- from one cursor to the other stands this piece, at its byte offset and with its text; only the first stands at byte
+-- offset 0
 pub record IsNext (at : PieceWalk) (next : PlacedPiece) (to : PieceWalk) : Type 0 where
   pub whole : chars at.rest.now ≡ chars next.text.now ++ chars to.rest.now
   pub joined : at.rest.now ≡ next.text.now ++ to.rest.now
@@ -17,6 +18,6 @@ pub record IsNext (at : PieceWalk) (next : PlacedPiece) (to : PieceWalk) : Type 
   pub count : next.piece.chars ≡ length (chars next.text.now)
   pub lends : LendsText next.piece.kind
   pub utf8 : IsUtf8 next.text.now
-  pub place : next.place ≡ at.place
-  pub past : to.place ≡ at.place + length next.text.now
+  pub byte_offset : next.byte_offset ≡ at.byte_offset
+  pub past : to.byte_offset ≡ at.byte_offset + length next.text.now
   pub behind : to.at_front ≡ false

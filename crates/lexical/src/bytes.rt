@@ -1,4 +1,4 @@
-//! Classes of characters, and what stands at a place by its class.
+//! Classes of characters, and what stands at a byte offset by its class.
 //!
 //! ASCII is read byte by byte, each by one look at a table. A character past ASCII is read whole.
 #![tactic(auto, using(crate::proofs::RuleSteps::steps))]
@@ -203,7 +203,7 @@ fn count_ascii(bytes: &[u8], class: Class) -> usize
     count
 }
 
-/// The place after the ASCII characters of the class, up to one that isn't.
+/// The cursor after the ASCII characters of the class, up to one that isn't.
 #[inline(always)]
 fn skip_ascii(at: Cursor<'_>, class: Class) -> Cursor<'_>
     ensures { Passes (Run (ascii_in class)) at.entry result }
@@ -215,7 +215,7 @@ fn skip_ascii(at: Cursor<'_>, class: Class) -> Cursor<'_>
     }
 }
 
-/// The place after all the characters of the class, up to one that isn't.
+/// The cursor after all the characters of the class, up to one that isn't.
 #[inline]
 pub fn skip(at: Cursor<'_>, class: Class) -> Cursor<'_>
     ensures { Passes (Run (is_in class)) at.entry result }
@@ -227,7 +227,7 @@ pub fn skip(at: Cursor<'_>, class: Class) -> Cursor<'_>
     end
 }
 
-/// The place after the character at the place, if it is of the class.
+/// The cursor after the character at the cursor, if it is of the class.
 #[inline]
 pub fn one(at: Cursor<'_>, class: Class) -> Option<Cursor<'_>>
     ensures { Reads (One (is_in class)) at.entry result }
@@ -236,7 +236,7 @@ pub fn one(at: Cursor<'_>, class: Class) -> Option<Cursor<'_>>
     if holds(class, c) { Some(after) } else { None }
 }
 
-/// Whether a character of the class stands at the place.
+/// Whether a character of the class stands at the cursor.
 #[inline]
 pub fn is_next(at: Cursor<'_>, class: Class) -> bool
     ensures { result ≡ first_passes (is_in class) (chars at.entry.rest.now) }

@@ -2,13 +2,13 @@
 
 ghost use Rattle.std.specs.Prelude.{◌≡◌};
 ghost use Rattle.lexical.specs.Class.{is_white as white, is_ident_start, is_ident_continue};
-ghost use Rattle.lexical.specs.PieceFinder.{start};
+ghost use Rattle.lexical.specs.PieceFinder.{piece_start};
 
 use crate::bytes::{Class, holds};
 
 /// What the first character of a text says of the piece that may stand there.
 #[derive(Drop)]
-pub enum Start {
+pub enum PieceStart {
     /// A white character.
     White,
     /// A character that may begin an identifier.
@@ -65,26 +65,26 @@ pub fn continues_identifier(c: char) -> bool
 /// What the first character of a text says of the piece that may stand there.
 #[tactic(auto, using(crate::proofs::ClassLemmas::start_letter))]
 #[inline(always)]
-pub fn start_of(c: char) -> Start
-    ensures { result ≡ start c }
+pub fn piece_start_of(c: char) -> PieceStart
+    ensures { result ≡ piece_start c }
 {
     if holds(Class::IdentifierStart, c) {
-        return Start::Letter;
+        return PieceStart::Letter;
     }
     if holds(Class::White, c) {
-        return Start::White;
+        return PieceStart::White;
     }
     if holds(Class::Digit, c) {
-        return Start::Digit;
+        return PieceStart::Digit;
     }
     match c {
-        '(' | '[' | '{' => Start::Opener,
-        ')' | ']' | '}' => Start::Closer,
-        '/' => Start::Slash,
-        '\'' => Start::Quote,
-        '"' => Start::DoubleQuote,
-        '\u{FEFF}' => Start::FrontMark,
-        _ if holds(Class::Mark, c) => Start::Mark,
-        _ => Start::Other,
+        '(' | '[' | '{' => PieceStart::Opener,
+        ')' | ']' | '}' => PieceStart::Closer,
+        '/' => PieceStart::Slash,
+        '\'' => PieceStart::Quote,
+        '"' => PieceStart::DoubleQuote,
+        '\u{FEFF}' => PieceStart::FrontMark,
+        _ if holds(Class::Mark, c) => PieceStart::Mark,
+        _ => PieceStart::Other,
     }
 }

@@ -5,7 +5,7 @@ ghost use Rattle.std.specs.Prelude.{◌≡◌, ◌<◌, ◌≤◌, [], IfSome, M
 ghost use Rattle.std.specs.Str.{chars};
 ghost use Rattle.lexical.specs.Comment as rule;
 ghost use Rattle.lexical.specs.PieceFinder.{comment_found};
-ghost use Rattle.lexical.specs.Reading.{Answers};
+ghost use Rattle.lexical.specs.PieceStep.{Answers};
 ghost use Rattle.lexical.specs.Rule.{Ends, find};
 ghost use Rattle.lexical.specs.Step.{Leads, Reads};
 
@@ -15,7 +15,7 @@ use crate::piece::PieceKind;
 use crate::search::{skip_to, skip_to_either};
 use crate::text::before;
 
-/// The place after the line comment that stands at the place, by the rule `line-comment`.
+/// The cursor after the line comment that stands at the cursor, by the rule `line-comment`.
 fn skip_line(at: Cursor<'_>) -> Option<Cursor<'_>>
     ensures { Reads rule.line_comment at.entry result }
 {
@@ -23,8 +23,8 @@ fn skip_line(at: Cursor<'_>) -> Option<Cursor<'_>>
     Some(skip_to(after, b'\n'))
 }
 
-/// The place after the sign or the character at the place, and how many block comments are open
-/// there. `depth` are open at the place.
+/// The cursor after the sign or the character at the cursor, and how many block comments are open
+/// there. `depth` are open at the cursor.
 fn step(at: Cursor<'_>, depth: usize) -> Option<(Cursor<'_>, usize)>
     requires inside { 0 < depth }
     requires fits { depth ≤ at.chars_before }
@@ -43,7 +43,7 @@ fn step(at: Cursor<'_>, depth: usize) -> Option<(Cursor<'_>, usize)>
     Some((after, depth))
 }
 
-/// The place after the block comment that stands at the place, by the rule `block-comment`.
+/// The cursor after the block comment that stands at the cursor, by the rule `block-comment`.
 fn skip_block(at: Cursor<'_>) -> Option<Cursor<'_>>
     ensures { Reads rule.block_comment at.entry result }
 {
@@ -58,7 +58,7 @@ fn skip_block(at: Cursor<'_>) -> Option<Cursor<'_>>
     Some(end)
 }
 
-/// The place after the comment that stands at the place.
+/// The cursor after the comment that stands at the cursor.
 fn skip_comment(at: Cursor<'_>) -> Option<Cursor<'_>>
     ensures { Reads rule.comment at.entry result }
 {
@@ -68,7 +68,7 @@ fn skip_comment(at: Cursor<'_>) -> Option<Cursor<'_>>
     }
 }
 
-/// The comment that stands at the place, a gap or a doc comment: its kind, and the place after it.
+/// The comment that stands at the cursor, a gap or a doc comment: its kind, and the cursor after it.
 /// None stands where a doc comment has a CR that no LF follows in its text.
 #[inline(never)]
 pub fn comment(at: Cursor<'_>) -> Option<(PieceKind<'_>, Cursor<'_>)>

@@ -5,14 +5,14 @@
 ghost use Rattle.std.specs.Prelude.{◌≡◌, length};
 ghost use Rattle.std.specs.Char.{is_ascii};
 ghost use Rattle.lexical.specs.Finder.{while_front};
-ghost use Rattle.lexical.specs.RawString.{is_raw};
+ghost use Rattle.lexical.specs.RawString.{may_stand_raw};
 
 use crate::quoted::StringKind;
 use memchr::memchr;
 
 /// Whether a string of the kind may have the character, be it raw or not.
 pub fn may_stand(c: char, kind: StringKind) -> bool
-    ensures { result ≡ is_raw kind c }
+    ensures { result ≡ may_stand_raw kind c }
 {
     match kind {
         StringKind::Plain => true,
@@ -40,7 +40,7 @@ fn count_ascii(bytes: &[u8]) -> usize
 
 /// How many bytes of the stretch come before the first that a string of the kind forbids.
 pub fn count_allowed(stretch: &[u8], kind: StringKind) -> usize
-    ensures { result ≡ length (while_front (is_raw kind) stretch.now) }
+    ensures { result ≡ length (while_front (may_stand_raw kind) stretch.now) }
 {
     match kind {
         StringKind::Plain => stretch.len(),

@@ -1,14 +1,14 @@
-//! Places in a text.
+//! Cursors into a text.
 
 ghost use Rattle.std.specs.Prelude.{◌≡◌, ◌+◌, ◌<◌, ◌^◌, length};
 ghost use Rattle.std.specs.Str.{IsUtf8, chars};
 
 use crate::text::{char_count, split_first, strip};
 
-/// A place in a text.
+/// What is left of a text, and how many characters stand before that.
 #[derive(Clone, Copy)]
 pub struct Cursor<'a> {
-    /// What follows the place.
+    /// What follows the cursor.
     pub rest: &'a str,
     /// How many characters of the text stand before it.
     pub chars_before: usize,
@@ -38,7 +38,7 @@ impl<'a> Cursor<'a> {
         }
     }
 
-    /// The character after the place, and the place after that character.
+    /// The character after the cursor, and the cursor after that character.
     #[inline(always)]
     pub fn advance(self) -> Option<(char, Self)>
         ensures { MatchOption result (chars self.entry.rest.now ≡ []) (λ x.
@@ -53,7 +53,7 @@ impl<'a> Cursor<'a> {
         Some((first, after))
     }
 
-    /// The place after the ASCII text `front`, where that stands at the place.
+    /// The cursor after the ASCII text `front`, where that stands at the cursor.
     #[inline(always)]
     pub fn past(self, front: &str) -> Option<Self>
         requires { IsTrue (all_ascii front.now) }
@@ -67,7 +67,7 @@ impl<'a> Cursor<'a> {
         Some(after)
     }
 
-    /// The place after the next `size` bytes, which are whole characters.
+    /// The cursor after the next `size` bytes, which are whole characters.
     pub fn after_bytes(self, size: usize) -> Self
         requires { IsCharBoundary self.rest.now size }
         ensures rest { result.rest.now ≡ drop size self.entry.rest.now }
@@ -79,7 +79,7 @@ impl<'a> Cursor<'a> {
         }
     }
 
-    /// How many bytes of the text stand before the place, which lies in it.
+    /// How many bytes of the text stand before the cursor, which lies in it.
     #[inline(always)]
     pub fn bytes_in(self, text: &str) -> usize
         requires { (front : List ℕ) × (chars text.now ≡ front ++ chars self.rest.now) }

@@ -5,7 +5,7 @@ ghost use Rattle.std.specs.Str.{chars};
 ghost use Rattle.lexical.specs.Comment.{Comment, has_bare_return as bare, is_doc as documents, is_inner as inward};
 ghost use Rattle.lexical.specs.CommentKind.{comment_kind as kind_of_comment, doc_text as text_of_doc};
 ghost use Rattle.lexical.specs.Form.{Where};
-ghost use Rattle.lexical.specs.Reading.{Tells};
+ghost use Rattle.lexical.specs.PieceStep.{Tells};
 
 use crate::cursor::Cursor;
 use crate::piece::PieceKind;

@@ -7,7 +7,7 @@ ghost use Rattle.lexical.specs.Class.{is_ident_start};
 ghost use Rattle.lexical.specs.Identifier as rule;
 ghost use Rattle.lexical.specs.Identifier.{is_reserved as reserved, literal_prefixes};
 ghost use Rattle.lexical.specs.PieceFinder.{found_identifier};
-ghost use Rattle.lexical.specs.Reading.{Answers};
+ghost use Rattle.lexical.specs.PieceStep.{Answers};
 ghost use Rattle.lexical.specs.Step.{Reads};
 ghost use Rattle.lexical.specs.Text.{begins_any, begins_with};
 
@@ -16,7 +16,7 @@ use crate::cursor::Cursor;
 use crate::piece::PieceKind;
 use crate::text::{before, begins, is_text};
 
-/// The place after the name that stands at the place, by the rule `name`.
+/// The cursor after the name that stands at the cursor, by the rule `name`.
 pub fn name(at: Cursor<'_>) -> Option<Cursor<'_>>
     ensures { Reads rule.name at.entry result }
 {
@@ -54,7 +54,7 @@ pub fn is_reserved(name: &str) -> bool
         || is_text(name, "crate")
 }
 
-/// The place after the name of a raw identifier that stands at the place, after `r#`.
+/// The cursor after the name of a raw identifier that stands at the cursor, after `r#`.
 #[inline(never)]
 pub fn raw_name(at: Cursor<'_>) -> Option<Cursor<'_>>
     ensures { Reads rule.raw_name at.entry result }
@@ -66,7 +66,7 @@ pub fn raw_name(at: Cursor<'_>) -> Option<Cursor<'_>>
     Some(end)
 }
 
-/// The place after the identifier that stands at the place, whatever literal begins there, where
+/// The cursor after the identifier that stands at the cursor, whatever literal begins there, where
 /// `raw` says whether `r#` does.
 pub fn written(at: Cursor<'_>, raw: bool) -> Option<Cursor<'_>>
     requires { begins_with (codes "r#") (chars at.rest.now) ≡ raw }
@@ -79,8 +79,8 @@ pub fn written(at: Cursor<'_>, raw: bool) -> Option<Cursor<'_>>
     }
 }
 
-/// The identifier that stands at the place, by the rule `identifier`: its kind, and the place after
-/// it. `first` is the character at the place, and `after` the place after that.
+/// The identifier that stands at the cursor, by the rule `identifier`: its kind, and the cursor after
+/// it. `first` is the character at the cursor, and `after` the cursor after that.
 #[inline(always)]
 pub fn identifier<'a>(
     at: Cursor<'a>,

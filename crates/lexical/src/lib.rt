@@ -1,4 +1,4 @@
-//! The lexer: which piece of the grammar stands at a place of a text.
+//! The lexer: which piece of the grammar stands at a byte offset of a text.
 //!
 //! [`piece_at`] answers the one piece that stands at the front of what is left of a source, or
 //! that none stands there. The rules are in docs/GRAMMAR.md and, exactly, in `specs/`: a form is a

@@ -5,7 +5,7 @@ ghost use Rattle.std.specs.Prelude.{◌&&◌, IsTrue, codes};
 ghost use Rattle.lexical.specs.Ascii.{all_ascii};
 ghost use Rattle.lexical.specs.Literal as rule;
 ghost use Rattle.lexical.specs.Quoted.{body, unit};
-ghost use Rattle.lexical.specs.RawString.{is_raw, raw};
+ghost use Rattle.lexical.specs.RawString.{may_stand_raw, raw};
 ghost use Rattle.lexical.specs.Rule.{Either, Exactly, Then};
 ghost use Rattle.lexical.specs.Step.{Reads};
 
@@ -15,7 +15,7 @@ use crate::quoted::{StringKind, string};
 use crate::raw_strings::raw_string;
 use crate::single_quotes::single;
 
-/// The place after the literal between quotes that stands at the place, by the rule
+/// The cursor after the literal between quotes that stands at the cursor, by the rule
 /// `quoted-literal`.
 #[inline(never)]
 pub fn quoted(at: Cursor<'_>) -> Option<Cursor<'_>>
@@ -36,7 +36,7 @@ pub fn quoted(at: Cursor<'_>) -> Option<Cursor<'_>>
     }
 }
 
-/// The place after the string that stands at the place: with escapes, which the text `front` opens,
+/// The cursor after the string that stands at the cursor: with escapes, which the text `front` opens,
 /// or raw, which `raw_front` opens.
 fn any_string<'a>(
     at: Cursor<'a>,
@@ -46,7 +46,7 @@ fn any_string<'a>(
 ) -> Option<Cursor<'a>>
     requires ascii { IsTrue (all_ascii front.now && all_ascii raw_front.now) }
     ensures { Reads
-        (Either (Then (Exactly front.now) (body (unit kind) (codes "\""))) (raw raw_front.now (is_raw kind)))
+        (Either (Then (Exactly front.now) (body (unit kind) (codes "\""))) (raw raw_front.now (may_stand_raw kind)))
         at.entry result }
 {
     match string(at, front, kind) {
@@ -55,7 +55,7 @@ fn any_string<'a>(
     }
 }
 
-/// The place after the literal that stands at the place, by the rule `literal`.
+/// The cursor after the literal that stands at the cursor, by the rule `literal`.
 pub fn literal(at: Cursor<'_>) -> Option<Cursor<'_>>
     ensures { Reads rule.literal at.entry result }
 {

@@ -16,7 +16,7 @@ use crate::cursor::Cursor;
 use crate::quoted::suffix;
 use crate::text::begins;
 
-/// The place after the digits that stand at the place, by the rule `digits`.
+/// The cursor after the digits that stand at the cursor, by the rule `digits`.
 fn digits(at: Cursor<'_>) -> Option<Cursor<'_>>
     ensures { Reads rule.digits at.entry result }
 {
@@ -24,7 +24,7 @@ fn digits(at: Cursor<'_>) -> Option<Cursor<'_>>
     Some(skip(after, Class::DigitOrUnderscore))
 }
 
-/// The place after the suffix of a number, by the rule `number-end`.
+/// The cursor after the suffix of a number, by the rule `number-end`.
 fn end(at: Cursor<'_>) -> Option<Cursor<'_>>
     ensures { Reads rule.end at.entry result }
 {
@@ -36,7 +36,7 @@ fn end(at: Cursor<'_>) -> Option<Cursor<'_>>
     }
 }
 
-/// The place after the dot of a number, by the rule `dot`.
+/// The cursor after the dot of a number, by the rule `dot`.
 fn dot(at: Cursor<'_>) -> Option<Cursor<'_>>
     ensures { Reads rule.dot at.entry result }
 {
@@ -48,7 +48,7 @@ fn dot(at: Cursor<'_>) -> Option<Cursor<'_>>
     }
 }
 
-/// The place after the exponent that stands at the place, by the rule `exponent`.
+/// The cursor after the exponent that stands at the cursor, by the rule `exponent`.
 fn exponent(at: Cursor<'_>) -> Option<Cursor<'_>>
     ensures { Reads rule.exponent at.entry result }
 {
@@ -61,7 +61,7 @@ fn exponent(at: Cursor<'_>) -> Option<Cursor<'_>>
     digits(skip(after, Class::Underscore))
 }
 
-/// The place after a dot and what follows it in a number.
+/// The cursor after a dot and what follows it in a number.
 fn fraction(at: Cursor<'_>) -> Option<Cursor<'_>>
     ensures { Reads rule.fraction at.entry result }
 {
@@ -72,7 +72,7 @@ fn fraction(at: Cursor<'_>) -> Option<Cursor<'_>>
     }
 }
 
-/// The place after what makes a float of the digits before it.
+/// The cursor after what makes a float of the digits before it.
 fn float_tail(at: Cursor<'_>) -> Option<Cursor<'_>>
     ensures { Reads rule.float_tail at.entry result }
 {
@@ -82,7 +82,7 @@ fn float_tail(at: Cursor<'_>) -> Option<Cursor<'_>>
     }
 }
 
-/// The place after the number that stands at the place and begins with no prefix of a base.
+/// The cursor after the number that stands at the cursor and begins with no prefix of a base.
 fn decimal(at: Cursor<'_>) -> Option<Cursor<'_>>
     ensures { Reads (Then rule.digits rule.tail) at.entry result }
 {
@@ -93,7 +93,7 @@ fn decimal(at: Cursor<'_>) -> Option<Cursor<'_>>
     }
 }
 
-/// The place after the digits of the base, where none follows that is too large, by the rule
+/// The cursor after the digits of the base, where none follows that is too large, by the rule
 /// `base-digits`.
 fn digits_in(at: Cursor<'_>, base: Base) -> Option<Cursor<'_>>
     ensures { Reads (rule.digits_in (radix base)) at.entry result }
@@ -107,7 +107,7 @@ fn digits_in(at: Cursor<'_>, base: Base) -> Option<Cursor<'_>>
     }
 }
 
-/// The place after the prefix of a base and its digits.
+/// The cursor after the prefix of a base and its digits.
 fn prefixed<'a>(at: Cursor<'a>, prefix: &str, base: Base) -> Option<Cursor<'a>>
     requires ascii { IsTrue (all_ascii prefix.now) }
     ensures { Reads (Then (Exactly prefix.now) (rule.digits_in (radix base))) at.entry result }
@@ -115,7 +115,7 @@ fn prefixed<'a>(at: Cursor<'a>, prefix: &str, base: Base) -> Option<Cursor<'a>>
     digits_in(at.past(prefix)?, base)
 }
 
-/// The place after the digits of base 16, 8 or 2 with its prefix, by the rule `based`.
+/// The cursor after the digits of base 16, 8 or 2 with its prefix, by the rule `based`.
 fn based(at: Cursor<'_>) -> Option<Cursor<'_>>
     ensures { Reads rule.based at.entry result }
 {
@@ -136,7 +136,7 @@ fn begins_based(text: &str) -> bool
     begins(text, "0x") || begins(text, "0o") || begins(text, "0b")
 }
 
-/// The place after the number that stands at the place, by the rule `number`.
+/// The cursor after the number that stands at the cursor, by the rule `number`.
 #[tactic(auto, using(crate::proofs::NumberFinderLemmas::read_numbers, crate::proofs::RuleSteps::steps))]
 #[inline(never)]
 pub fn number(at: Cursor<'_>) -> Option<Cursor<'_>>

@@ -6,7 +6,7 @@ ghost use Rattle.std.specs.Str.{chars};
 ghost use Rattle.lexical.specs.Ascii.{all_ascii};
 ghost use Rattle.lexical.specs.Character.{double_quote};
 ghost use Rattle.lexical.specs.RawString as rule;
-ghost use Rattle.lexical.specs.RawString.{is_raw};
+ghost use Rattle.lexical.specs.RawString.{may_stand_raw};
 ghost use Rattle.lexical.specs.Rule.{Run};
 ghost use Rattle.lexical.specs.Step.{Passes, Reads, ReadsText};
 
@@ -20,7 +20,7 @@ use memchr::memchr2;
 /// How many hash signs a raw string may have at most.
 const MOST_HASHES: usize = 255;
 
-/// The hash signs that stand at the place, 255 at most, and the place after them, by the rule
+/// The hash signs that stand at the cursor, 255 at most, and the cursor after them, by the rule
 /// `raw-hashes`.
 fn hashes(at: Cursor<'_>) -> Option<(&str, Cursor<'_>)>
     ensures { ReadsText rule.hashes at.entry result }
@@ -33,7 +33,7 @@ fn hashes(at: Cursor<'_>) -> Option<(&str, Cursor<'_>)>
     Some((hashes, end))
 }
 
-/// The place after all the characters that may stand in a raw string, up to a quote or a CR.
+/// The cursor after all the characters that may stand in a raw string, up to a quote or a CR.
 fn skip_plain(at: Cursor<'_>, kind: StringKind) -> Cursor<'_>
     ensures { Passes (Run (rule.is_raw_plain kind)) at.entry result }
 {
@@ -42,11 +42,11 @@ fn skip_plain(at: Cursor<'_>, kind: StringKind) -> Cursor<'_>
     at.after_bytes(count_allowed(&bytes[..size], kind))
 }
 
-/// The place after a unit of a raw string with these hash signs, by the rule `raw-unit`.
+/// The cursor after a unit of a raw string with these hash signs, by the rule `raw-unit`.
 #[tactic(auto, unfolding(crate::specs::Rule::find))]
 fn raw_unit<'a>(at: Cursor<'a>, kind: StringKind, hashes: &str) -> Option<Cursor<'a>>
     requires { IsTrue (all_ascii hashes.now) }
-    ensures { Reads (rule.raw_unit (is_raw kind) (double_quote ∷ hashes.now)) at.entry result }
+    ensures { Reads (rule.raw_unit (may_stand_raw kind) (double_quote ∷ hashes.now)) at.entry result }
 {
     let (c, after) = at.advance()?;
     if c == '"' && begins(after.rest, hashes) {
@@ -62,11 +62,11 @@ fn raw_unit<'a>(at: Cursor<'a>, kind: StringKind, hashes: &str) -> Option<Cursor
     }
 }
 
-/// The place after the raw string that stands at the place, which the text `front` opens, by the
+/// The cursor after the raw string that stands at the cursor, which the text `front` opens, by the
 /// rules `raw-string`, `raw-byte-string` and `raw-c-string`.
 pub fn raw_string<'a>(at: Cursor<'a>, front: &str, kind: StringKind) -> Option<Cursor<'a>>
     requires ascii { IsTrue (all_ascii front.now) }
-    ensures { Reads (rule.raw front.now (is_raw kind)) at.entry result }
+    ensures { Reads (rule.raw front.now (may_stand_raw kind)) at.entry result }
 {
     let (hashes, quote) = hashes(at.past(front)?)?;
     let mut end = quote.past("\"")?;

@@ -9,7 +9,7 @@ ghost use Rattle.lexical.specs.Step.{Passes};
 use crate::cursor::Cursor;
 use memchr::{memchr, memchr2};
 
-/// The place before the first `stop`, an ASCII character, or at the end of the text where none stands.
+/// The cursor before the first `stop`, an ASCII character, or at the end of the text where none stands.
 pub fn skip_to(at: Cursor<'_>, stop: u8) -> Cursor<'_>
     requires { stop < 128 }
     ensures { Passes (Run (λ c. not (c == stop))) at.entry result }
@@ -19,7 +19,7 @@ pub fn skip_to(at: Cursor<'_>, stop: u8) -> Cursor<'_>
     at.after_bytes(size)
 }
 
-/// The place before the first of the two ASCII characters, or at the end of the text where none stands.
+/// The cursor before the first of the two ASCII characters, or at the end of the text where none stands.
 pub fn skip_to_either(at: Cursor<'_>, a: u8, b: u8) -> Cursor<'_>
     requires ascii_a { a < 128 }
     requires ascii_b { b < 128 }

@@ -24,14 +24,14 @@ fn stands_bare(c: char, kind: StringKind) -> bool
     }
 }
 
-/// The place after one character that may stand bare.
+/// The cursor after one character that may stand bare.
 fn bare(at: Cursor<'_>, kind: StringKind) -> Option<Cursor<'_>>
     ensures { Reads (One (is_plain kind)) at.entry result }
 {
     one(at, |c| stands_bare(c, kind))
 }
 
-/// The place after one character that may stand bare, or a backslash and an escape.
+/// The cursor after one character that may stand bare, or a backslash and an escape.
 fn unit(at: Cursor<'_>, kind: StringKind) -> Option<Cursor<'_>>
     ensures { Reads (rule.unit (is_plain kind) (escape kind)) at.entry result }
 {
@@ -41,7 +41,7 @@ fn unit(at: Cursor<'_>, kind: StringKind) -> Option<Cursor<'_>>
     }
 }
 
-/// The place after the literal between single quotes that stands at the place, which the text
+/// The cursor after the literal between single quotes that stands at the cursor, which the text
 /// `front` opens, by the rules `character` and `byte`.
 pub fn single<'a>(at: Cursor<'a>, front: &str, kind: StringKind) -> Option<Cursor<'a>>
     requires ascii { IsTrue (all_ascii front.now) }

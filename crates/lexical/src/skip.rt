@@ -7,7 +7,7 @@ ghost use Rattle.lexical.specs.Step.{Passes, Reads};
 
 use crate::cursor::Cursor;
 
-/// The place after the character at the place, if it passes.
+/// The cursor after the character at the cursor, if it passes.
 pub fn one<F: Fn(char) -> bool>(at: Cursor<'_>, passes: F) -> Option<Cursor<'_>>
     requires { F.IsAlwaysCallable passes }
     ensures { (test : ℕ → Bool) → ((c : ℕ) (b : Bool) → F.post passes c b → b ≡ test c)

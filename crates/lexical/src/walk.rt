@@ -6,7 +6,7 @@ ghost use Rattle.std.specs.Str.{IsUtf8, chars};
 use crate::lexer::piece_at;
 use crate::piece::Piece;
 
-/// A piece of a text, with its place.
+/// A piece of a text, with its byte offset.
 #[derive(Clone, Copy, Debug, PartialEq, Eq)]
 pub struct PlacedPiece<'a> {
     /// What kind of piece it is, and how many bytes and characters it has.
@@ -14,7 +14,7 @@ pub struct PlacedPiece<'a> {
     /// Its text, cut from the source.
     pub text: &'a str,
     /// How many bytes of the source stand before it.
-    pub place: usize,
+    pub byte_offset: usize,
 }
 
 /// The pieces of a text that are left. [`pieces`] makes it.
@@ -22,11 +22,11 @@ pub struct PlacedPiece<'a> {
 pub struct PieceWalk<'a> {
     rest: &'a str,
     // How many bytes of the text stand before the rest, and whether it is the whole text.
-    place: usize,
+    byte_offset: usize,
     at_front: bool,
     // The rest is a text, and the count of bytes cannot wrap.
     ghost text: { ∥ IsUtf8 rest.now ∥₁ },
-    ghost room: { place + length rest.now < 2 ^ 64 },
+    ghost room: { byte_offset + length rest.now < 2 ^ 64 },
 }
 
 /// All pieces of a source text in order, gaps and comments too, for [`PieceWalk::next_piece`] to give
@@ -35,14 +35,14 @@ pub struct PieceWalk<'a> {
 /// Of `a /**/+` they are `a` at byte 0, a gap at 1, the gap `/**/` at 2 and the mark `+` at 6.
 pub fn pieces(text: &str) -> PieceWalk<'_>
     ensures rest { result.rest.now ≡ text.now }
-    ensures place { result.place ≡ 0 }
+    ensures byte_offset { result.byte_offset ≡ 0 }
     ensures front { result.at_front ≡ true }
 {
     // Its contract bounds how many bytes a text has.
     let _bytes = text.as_bytes().iter();
     PieceWalk {
         rest: text,
-        place: 0,
+        byte_offset: 0,
         at_front: true,
     }
 }
@@ -67,11 +67,11 @@ impl<'a> PieceWalk<'a> {
         let next = PlacedPiece {
             piece,
             text: &self.rest[..piece.bytes],
-            place: self.place,
+            byte_offset: self.byte_offset,
         };
         *self = PieceWalk {
             rest: &self.rest[piece.bytes..],
-            place: self.place + piece.bytes,
+            byte_offset: self.byte_offset + piece.bytes,
             at_front: false,
         };
         Some(next)

@@ -4,7 +4,8 @@ use crate::tally::Tally;
 use lexical::{literal_at, name_at, piece_at, pieces};
 use lexical_tests::slow;
 
-/// Compares the two lexers at each place of the text, and in each of its beginnings at the front and along the pieces.
+/// Compares the two lexers at each character of the text, and in each of its beginnings at the front and along the
+/// pieces.
 pub fn compare(text: &str, tally: &mut Tally) {
     compare_front(text, tally);
     compare_pieces(text, tally);
@@ -18,7 +19,7 @@ pub fn compare(text: &str, tally: &mut Tally) {
     }
 }
 
-/// Compares the answers at the front of the text, at place 0 of a source and elsewhere.
+/// Compares the answers at the front of the text, at byte offset 0 of a source and elsewhere.
 fn compare_front(text: &str, tally: &mut Tally) {
     let same = piece_at(text, true) == slow::piece_at(text, true)
         && piece_at(text, false) == slow::piece_at(text, false)

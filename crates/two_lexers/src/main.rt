@@ -1,7 +1,7 @@
 //! Compares the lexer with the plain one of its tests, `slow`, on the texts of standard input.
 //!
 //! Each line has a text, written as the content of a string literal. Lines on which the two differ are named, and then
-//! the numbers of texts, of compared places and of those that differ are written. The status is 0 exactly where none
+//! the numbers of texts, of comparisons and of those that differ are written. The status is 0 exactly where none
 //! differs. A line that is no content counts as one that does.
 #![tactic(auto)]
 
@@ -33,8 +33,8 @@ fn run<W: Write>(alloc: Global, lines: &str, writer: &mut W) -> io::Result<ExitC
     let tally = compare_lines(alloc, lines, writer)?;
     writeln!(
         writer,
-        "{} texts, {} places: {} differ",
-        tally.texts, tally.places, tally.differ
+        "{} texts, {} comparisons: {} differ",
+        tally.texts, tally.comparisons, tally.differ
     )?;
     writer.flush()?;
     Ok(if tally.differ == 0 {

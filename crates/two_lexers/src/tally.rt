@@ -8,21 +8,21 @@ ghost use Rattle.std.specs.Prelude.{◌≡◌, ◌+◌, if◌then◌else◌};
 pub struct Tally {
     /// The texts.
     pub texts: u64,
-    /// The places of texts and of their beginnings.
-    pub places: u64,
-    /// The places at which the two lexers differ.
+    /// The comparisons, at each character of each text and of its beginnings.
+    pub comparisons: u64,
+    /// The comparisons in which the two lexers differ.
     pub differ: u64,
 }
 
 impl Tally {
-    /// Counts a place at which the two lexers answer the same or not.
+    /// Counts a comparison, in which the two lexers answer the same or not.
     pub fn count(&mut self, same: bool)
         ensures texts { self.new.texts ≡ self.old.texts }
-        ensures places { self.new.places ≡ u64_saturate (self.old.places + 1) }
+        ensures comparisons { self.new.comparisons ≡ u64_saturate (self.old.comparisons + 1) }
         ensures differ { self.new.differ
             ≡ (if same then self.old.differ else u64_saturate (self.old.differ + 1)) }
     {
-        self.places = self.places.saturating_add(1);
+        self.comparisons = self.comparisons.saturating_add(1);
         if !same {
             self.differ = self.differ.saturating_add(1);
         }

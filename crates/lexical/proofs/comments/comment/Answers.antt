@@ -36,11 +36,11 @@ pub returns : goal.returns
 returns c =
     let h = c.in_ok-end.ensures in
     let same = c.before-2.ensures h.front (passed rule.comment clear_comment _ _ h).0 in
-    let told = c.in_ok-kind.ensures in
+    let kind = c.in_ok-kind.ensures in
     record {
       front = chars c.before-2.result.now;
-      found = found_so _ _ h _ _ same told.0;
+      found = found_so _ _ h _ _ same kind.0;
       count =
           rw same h.count;
-      lends = told.1;
+      lends = kind.1;
     }

@@ -9,7 +9,7 @@ use Rattle.lexical.specs.Number.{number}
 use Rattle.lexical.specs.PieceFinder.{front_mark_kind, gap_kind, opener_kind, closer_kind, quote_kind, find_lone_quote}
 use Rattle.lexical.specs.PieceFinder.{tagged}
 use Rattle.lexical.specs.Rule.{One, Exactly, find}
-use Rattle.lexical.specs.declared.class.Start.TheVariants as starts
+use Rattle.lexical.specs.declared.class.PieceStart.TheVariants as starts
 use Rattle.lexical.proofs.ClassLemmas.{of_start, mark_not_quote, mark_plain}
 use Rattle.lexical.proofs.RuleSteps.{text_found, lacks_text, past_text, not_at_stops}
 use Rattle.lexical.proofs.PieceLemmas.{found_end}

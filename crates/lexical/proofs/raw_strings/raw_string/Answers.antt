@@ -1,6 +1,6 @@
 use Rattle.std.proofs.Common.{ℕ, List, ◌∷◌, None, codes, ◌∙◌, arith}
 use Rattle.lexical.specs.Quoted.{body, close, suffix}
-use Rattle.lexical.specs.RawString.{hashes, is_raw, is_raw_plain, raw, raw_quotes, raw_unit}
+use Rattle.lexical.specs.RawString.{hashes, may_stand_raw, is_raw_plain, raw, raw_quotes, raw_unit}
 use Rattle.lexical.specs.Rule.{Exactly, Next}
 use Rattle.lexical.proofs.QuotedFinderLemmas.{clear_raw_body}
 use Rattle.lexical.proofs.RuleSteps.{run_goes_on, then_passes, then_lacks, then_reads, passes_same}
@@ -10,50 +10,51 @@ use Rattle.lexical.proofs.raw_strings.raw_string.Goals as goal
 
 pub returns-in_err-hashes : goal.returns-in_err-hashes
 returns-in_err-hashes c =
-    let quotes = raw_quotes (is_raw c.args.kind) in
+    let quotes = raw_quotes (may_stand_raw c.args.kind) in
     let one = leads_then (Exactly c.args.front.now) (Next hashes quotes) _ _ c.in_ok-past.ensures in
     leads_fails _ _ _ _ _ c.from_residual-in_err-hashes.ensures one (next_lacks hashes quotes _ c.in_err-hashes.ensures)
 
 pub returns-in_err-end : goal.returns-in_err-end
 returns-in_err-end c =
-    let quotes = raw_quotes (is_raw c.args.kind) in
+    let quotes = raw_quotes (may_stand_raw c.args.kind) in
     let text : List ℕ = 34 ∷ c.in_ok-hashes.hashes.now in
     let one = leads_then (Exactly c.args.front.now) (Next hashes quotes) _ _ c.in_ok-past.ensures in
-    let two = leads_next (raw c.args.front.now (is_raw c.args.kind)) hashes quotes _ _
+    let two = leads_next (raw c.args.front.now (may_stand_raw c.args.kind)) hashes quotes _ _
     (c.in_ok-hashes.hashes, c.in_ok-hashes.quote) one c.in_ok-hashes.ensures in
     leads_fails _ _ _ _ _ c.from_residual-in_err-end.ensures two
-    (then_lacks (Exactly (codes "\"")) (body (raw_unit (is_raw c.args.kind) text) text) _ c.in_err-end.ensures)
+    (then_lacks (Exactly (codes "\"")) (body (raw_unit (may_stand_raw c.args.kind) text) text) _ c.in_err-end.ensures)
 
 pub loop-after-init : goal.loop-after-init
 loop-after-init c =
-    let quotes = raw_quotes (is_raw c.args.kind) in
-    let rule = raw c.args.front.now (is_raw c.args.kind) in
+    let quotes = raw_quotes (may_stand_raw c.args.kind) in
+    let rule = raw c.args.front.now (may_stand_raw c.args.kind) in
     let text : List ℕ = 34 ∷ c.in_ok-hashes.hashes.now in
     let one = leads_then (Exactly c.args.front.now) (Next hashes quotes) _ _ c.in_ok-past.ensures in
     let two = leads_next rule hashes quotes _ _
     (c.in_ok-hashes.hashes, c.in_ok-hashes.quote) one c.in_ok-hashes.ensures in
-    leads_on rule (Exactly (codes "\"")) (body (raw_unit (is_raw c.args.kind) text) text) _ _ _ two c.in_ok-end.ensures
+    leads_on rule (Exactly (codes "\"")) (body (raw_unit (may_stand_raw c.args.kind) text) text) _ _ _ two
+    c.in_ok-end.ensures
 
 pub loop-after-smaller : goal.loop-after-smaller
 loop-after-smaller c =
     let text : List ℕ = 34 ∷ c.in_ok-hashes.hashes.now in
-    let shorter = unit_shortens (raw_unit (is_raw c.args.kind) text) (close text)
+    let shorter = unit_shortens (raw_unit (may_stand_raw c.args.kind) text) (close text)
     (clear_raw_body c.args.kind text) _ _ c.in-Some.ensures in
     omega (arith, shorter, run_goes_on _ _ _ c.skip_plain-end.ensures)
 
 pub loop-after-preserved : goal.loop-after-preserved
 loop-after-preserved c =
     let text : List ℕ = 34 ∷ c.in_ok-hashes.hashes.now in
-    let lead = leads_unit (raw_unit (is_raw c.args.kind) text) (close text) (clear_raw_body c.args.kind text)
+    let lead = leads_unit (raw_unit (may_stand_raw c.args.kind) text) (close text) (clear_raw_body c.args.kind text)
     _ _ _ _ c.loop-after.invariant c.in-Some.ensures in
-    leads_run (raw_unit (is_raw c.args.kind) text) (close text) (clear_raw_body c.args.kind text)
+    leads_run (raw_unit (may_stand_raw c.args.kind) text) (close text) (clear_raw_body c.args.kind text)
     (is_raw_plain c.args.kind)
     (raw_plain_unit c.args.kind c.in_ok-hashes.hashes.now) _ _ _ _ lead c.skip_plain-end.ensures
 
 pub returns-in_err-past-2 : goal.returns-in_err-past-2
 returns-in_err-past-2 c =
     let text : List ℕ = 34 ∷ c.in_ok-hashes.hashes.now in
-    let last = leads_last (raw_unit (is_raw c.args.kind) text) (close text)
+    let last = leads_last (raw_unit (may_stand_raw c.args.kind) text) (close text)
     (clear_raw_body c.args.kind text) _ _ _ c.loop-after.invariant c.in_default.ensures in
     leads_fails _ _ _ _ _ c.from_residual-in_err-past-2.ensures last
     (then_lacks (Exactly text) suffix _
@@ -63,7 +64,7 @@ returns-in_err-past-2 c =
 pub returns-in_err-past-3 : goal.returns-in_err-past-3
 returns-in_err-past-3 c =
     let text : List ℕ = 34 ∷ c.in_ok-hashes.hashes.now in
-    let last = leads_last (raw_unit (is_raw c.args.kind) text) (close text)
+    let last = leads_last (raw_unit (may_stand_raw c.args.kind) text) (close text)
     (clear_raw_body c.args.kind text) _ _ _ c.loop-after.invariant c.in_default.ensures in
     leads_fails _ _ _ _ _ c.from_residual-in_err-past-3.ensures last
     (then_lacks (Exactly text) suffix _
@@ -74,7 +75,7 @@ returns-in_err-past-3 c =
 pub returns : goal.returns
 returns c =
     let text : List ℕ = 34 ∷ c.in_ok-hashes.hashes.now in
-    let last = leads_last (raw_unit (is_raw c.args.kind) text) (close text)
+    let last = leads_last (raw_unit (may_stand_raw c.args.kind) text) (close text)
     (clear_raw_body c.args.kind text) _ _ _ c.loop-after.invariant c.in_default.ensures in
     leads_passes _ _ _ _ _ last
     (then_passes (Exactly text) suffix _ _ _

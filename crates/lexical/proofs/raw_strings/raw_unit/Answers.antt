@@ -1,5 +1,5 @@
 use Rattle.std.proofs.Common.{[], ◌∷◌, arith, sym, ◌∙◌}
-use Rattle.lexical.specs.RawString.{is_raw}
+use Rattle.lexical.specs.RawString.{may_stand_raw}
 use Rattle.lexical.proofs.HashLemmas.{raw_one}
 use Rattle.lexical.proofs.raw_strings.raw_unit.Goals as goal
 use Rattle.lexical.proofs.raw_strings.raw_unit.Goals.{else-c-eq34-via-then-c-eq34+else-begins}
@@ -8,7 +8,7 @@ use Rattle.lexical.proofs.raw_strings.raw_unit.Goals.{else-c-eq34-via-else-c-eq3
 pub returns-then-may_stand : goal.returns-then-may_stand
 returns-then-may_stand c = record {
   front = c.in_ok-c.c ∷ [];
-  found = raw_one (is_raw c.args.kind) c.args.hashes.now _ _ c.in_ok-c.c c.in_ok-c.ensures.0
+  found = raw_one (may_stand_raw c.args.kind) c.args.hashes.now _ _ c.in_ok-c.c c.in_ok-c.ensures.0
       (elim c.else-c-eq34.branch [
         | else-c-eq34-via-then-c-eq34+else-begins w ↦ λ is. sym w.begins.ensures ∙ w.if-begins.false
         | else-c-eq34-via-else-c-eq34 w ↦ λ is. absurd (omega (arith, is, w.if-c-eq34.false))

@@ -11,7 +11,7 @@ use Rattle.lexical.specs.declared.piece.PieceKind.{PieceKind}
 abbrev pub Tells : Option Kind → List ℕ → Option PieceKind → Type 0
 Tells answer p result = MatchOption result (answer ≡ None) (λ kind. (answer ≡ Some (kind_of kind p)) × LendsText kind)
 
--- from the place to the other stands the piece that was found, and this is its kind
+-- from the cursor to the other stands the piece that was found, and this is its kind
 pub record IsFound (answer : Found) (at : Cursor) (x : PieceKind × Cursor) : Type 0 where
   pub front : List ℕ
   pub found : answer ≡ Some (kind_of x.0 front, front, chars x.1.rest.now)
