@@ -32,7 +32,7 @@ same_class {given} {class} kinds is h byte low =
 pub ascii_past : (class : Class) (c : ℕ) → 128 ≤ c → ascii_in class c ≡ false
 ascii_past class c high = and_left _ _ (le-ltb c 128 high)
 
-all_low : (class : Class) (cs : List ℕ) → list_all (ascii_in class) cs ≡ true → all_ascii cs ≡ true
+pub all_low : (class : Class) (cs : List ℕ) → list_all (ascii_in class) cs ≡ true → all_ascii cs ≡ true
 all_low class = all_pass _ _ (λ c is. (and_parts _ _ is).0)
 
 -- so many bytes are of the run

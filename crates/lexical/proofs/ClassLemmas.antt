@@ -1,12 +1,13 @@
 -- Classes of characters: on ASCII, and which are apart.
 use Rattle.std.proofs.Common.{◌≡◌, ℕ, ◌<◌, ◌⊎◌, Bool, true, false, not, cond, ◌||◌, ◌==◌, List, [], ◌∷◌, codes, refl}
 use Rattle.std.proofs.Common.{sym, ap, arith, ◌∙◌, subst, inl, inr, eqb-true}
-use Rattle.std.specs.Prelude.{if◌then◌else◌}
-use Rattle.std.specs.List.{list_all, list_any, AllByRecursion}
+use Rattle.std.specs.Prelude.{if◌then◌else◌, get_or, map}
+use Rattle.std.specs.List.{list_all, list_any, range_with_len, AllByRecursion}
 use Rattle.std.specs.Char.{is_ascii_alphabetic, is_ascii_alphanumeric, is_ascii_digit}
 use Rattle.std.proofs.lemmas.Bool.{both_ways, cases_Bool, and_parts, or_cases, or_parts, or_from, and_left}
 use Rattle.std.proofs.lemmas.Bool.{false_from_ne_true, not-true, agree_below, agree_below_at, cond-true, cond-false}
-use Rattle.std.proofs.lemmas.Bool.{cond_both}
+use Rattle.std.proofs.lemmas.Bool.{cases_lt, cond_both, le-ltb, lt-ltb}
+use Rattle.std.proofs.lemmas.List.FromFn.{get_or-map-range_with_len}
 use Rattle.unicode_ident.proofs.Computing.{unicode_ident}
 use Rattle.unicode_ident.proofs.IdentLemmas.{is_xid_continue-ascii}
 use Rattle.lexical.specs.Class.{is_white, is_ident_start, is_ident_continue}
@@ -14,6 +15,8 @@ use Rattle.lexical.specs.Text.{begins_any}
 use Rattle.lexical.specs.Mark.{is_mark, marks, comment_fronts}
 use Rattle.lexical.specs.Delimiter.{is_opener, is_closer}
 use Rattle.lexical.specs.PieceFinder.{piece_start}
+use Rattle.lexical.specs.Quick.{byte_starts}
+use Rattle.lexical.specs.declared.class.TheConstants.{STARTS}
 use Rattle.lexical.specs.declared.class.PieceStart.{PieceStart}
 use Rattle.lexical.specs.declared.class.PieceStart.TheVariants as starts
 
@@ -162,3 +165,21 @@ pub mark_plain : (c : ℕ) (text rest : List ℕ) → text ≡ c ∷ rest → st
 mark_plain c text rest e h =
     let slash : (47 == c) ≡ false = other_start starts.Slash starts.Mark 47 c (sym start_slash) h (λ e. cc) in
     ap (begins_any comment_fronts) e ∙ or_from _ _ (and_left _ _ slash) (or_from _ _ (and_left _ _ slash) refl)
+
+-- ---- the table
+
+-- what each byte begins, by computing
+table_is : STARTS ≡ map byte_starts (range_with_len 0 256)
+unfolding unicode_ident
+table_is = refl
+
+pub byte_start_is : (byte : ℕ) → byte < 256 → get_or STARTS byte starts.White ≡ byte_starts byte
+byte_start_is byte low = ap (λ xs. get_or xs byte starts.White) table_is
+    ∙ get_or-map-range_with_len byte_starts 0 256 byte byte starts.White low (omega arith)
+
+-- a byte that tells something is ASCII, and tells of itself as a character
+pub told_low : (s : PieceStart) (b : ℕ) → s ≡ byte_starts b → (s ≡ starts.Other → ⊥) → (b < 128) × (s ≡ piece_start b)
+told_low s b h tells = elim (cases_lt b 128) [
+  | inl low ↦ (low, h ∙ cond-true _ _ _ (lt-ltb b 128 low))
+  | inr high ↦ absurd (tells (h ∙ cond-false _ _ _ (le-ltb b 128 high)))
+]

@@ -26,5 +26,6 @@ pub mod LiteralFinderLemmas
 pub mod PieceLemmas
 pub mod AnswerLemmas
 pub mod PieceFacts
+pub mod QuickLemmas
 pub mod WalkLemmas
 mod Examples

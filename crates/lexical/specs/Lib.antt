@@ -29,3 +29,4 @@ pub mod PieceFinder
 pub mod PieceStep
 pub mod Step
 pub mod Walk
+pub mod Quick

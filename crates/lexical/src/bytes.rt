@@ -190,7 +190,7 @@ pub fn holds(class: Class, c: char) -> bool
 
 /// How many bytes at the front are ASCII characters of the class.
 #[inline(always)]
-fn count_ascii(bytes: &[u8], class: Class) -> usize
+pub fn count_ascii(bytes: &[u8], class: Class) -> usize
     ensures { result ≡ length (while_front (ascii_in class) bytes.now) }
 {
     let mut count = 0;

@@ -3,11 +3,12 @@
 ghost use Rattle.std.specs.Prelude.{◌≡◌};
 ghost use Rattle.lexical.specs.Class.{is_white as white, is_ident_start, is_ident_continue};
 ghost use Rattle.lexical.specs.PieceFinder.{piece_start};
+ghost use Rattle.lexical.specs.Quick.{byte_starts};
 
 use crate::bytes::{Class, holds};
 
 /// What the first character of a text says of the piece that may stand there.
-#[derive(Drop)]
+#[derive(Clone, Copy)]
 pub enum PieceStart {
     /// A white character.
     White,
@@ -60,6 +61,55 @@ pub fn continues_identifier(c: char) -> bool
         return c.is_ascii_alphanumeric() | (c == '_');
     }
     unicode_ident::is_xid_continue(c)
+}
+
+// What each byte begins, in words that make the table below a square.
+const WHITE: PieceStart = PieceStart::White;
+const LETTER: PieceStart = PieceStart::Letter;
+const DIGIT: PieceStart = PieceStart::Digit;
+const OPENER: PieceStart = PieceStart::Opener;
+const CLOSER: PieceStart = PieceStart::Closer;
+const SLASH: PieceStart = PieceStart::Slash;
+const QUOTE: PieceStart = PieceStart::Quote;
+const DOUBLE_QUOTE: PieceStart = PieceStart::DoubleQuote;
+const MARK: PieceStart = PieceStart::Mark;
+const OTHER: PieceStart = PieceStart::Other;
+
+/// What each byte begins. Those past ASCII tell nothing.
+#[rattlefmt::skip]
+static STARTS: [PieceStart; 256] = [
+    OTHER, OTHER, OTHER, OTHER, OTHER, OTHER, OTHER, OTHER,
+    OTHER, WHITE, WHITE, WHITE, WHITE, WHITE, OTHER, OTHER,
+    OTHER, OTHER, OTHER, OTHER, OTHER, OTHER, OTHER, OTHER,
+    OTHER, OTHER, OTHER, OTHER, OTHER, OTHER, OTHER, OTHER,
+    WHITE, MARK, DOUBLE_QUOTE, MARK, MARK, MARK, MARK, QUOTE,
+    OPENER, CLOSER, MARK, MARK, MARK, MARK, MARK, SLASH,
+    DIGIT, DIGIT, DIGIT, DIGIT, DIGIT, DIGIT, DIGIT, DIGIT,
+    DIGIT, DIGIT, MARK, MARK, MARK, MARK, MARK, MARK,
+    MARK, LETTER, LETTER, LETTER, LETTER, LETTER, LETTER, LETTER,
+    LETTER, LETTER, LETTER, LETTER, LETTER, LETTER, LETTER, LETTER,
+    LETTER, LETTER, LETTER, LETTER, LETTER, LETTER, LETTER, LETTER,
+    LETTER, LETTER, LETTER, OPENER, OTHER, CLOSER, MARK, LETTER,
+    OTHER, LETTER, LETTER, LETTER, LETTER, LETTER, LETTER, LETTER,
+    LETTER, LETTER, LETTER, LETTER, LETTER, LETTER, LETTER, LETTER,
+    LETTER, LETTER, LETTER, LETTER, LETTER, LETTER, LETTER, LETTER,
+    LETTER, LETTER, LETTER, OPENER, MARK, CLOSER, MARK, OTHER,
+    OTHER, OTHER, OTHER, OTHER, OTHER, OTHER, OTHER, OTHER, OTHER, OTHER, OTHER, OTHER, OTHER, OTHER, OTHER, OTHER,
+    OTHER, OTHER, OTHER, OTHER, OTHER, OTHER, OTHER, OTHER, OTHER, OTHER, OTHER, OTHER, OTHER, OTHER, OTHER, OTHER,
+    OTHER, OTHER, OTHER, OTHER, OTHER, OTHER, OTHER, OTHER, OTHER, OTHER, OTHER, OTHER, OTHER, OTHER, OTHER, OTHER,
+    OTHER, OTHER, OTHER, OTHER, OTHER, OTHER, OTHER, OTHER, OTHER, OTHER, OTHER, OTHER, OTHER, OTHER, OTHER, OTHER,
+    OTHER, OTHER, OTHER, OTHER, OTHER, OTHER, OTHER, OTHER, OTHER, OTHER, OTHER, OTHER, OTHER, OTHER, OTHER, OTHER,
+    OTHER, OTHER, OTHER, OTHER, OTHER, OTHER, OTHER, OTHER, OTHER, OTHER, OTHER, OTHER, OTHER, OTHER, OTHER, OTHER,
+    OTHER, OTHER, OTHER, OTHER, OTHER, OTHER, OTHER, OTHER, OTHER, OTHER, OTHER, OTHER, OTHER, OTHER, OTHER, OTHER,
+    OTHER, OTHER, OTHER, OTHER, OTHER, OTHER, OTHER, OTHER, OTHER, OTHER, OTHER, OTHER, OTHER, OTHER, OTHER, OTHER,
+];
+
+/// What the first byte of a text says of the piece that may stand there: nothing, where it is past ASCII.
+#[inline(always)]
+pub fn byte_start(byte: u8) -> PieceStart
+    ensures { result ≡ byte_starts byte }
+{
+    STARTS[byte as usize]
 }
 
 /// What the first character of a text says of the piece that may stand there.

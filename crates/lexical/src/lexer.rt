@@ -21,6 +21,7 @@ use crate::literals::{literal, quoted};
 use crate::marks::{begins_comment, follows_quote, mark};
 use crate::numbers::number;
 use crate::piece::{Piece, PieceKind};
+use crate::quick::quick;
 
 /// A literal that was read, if one was, as a piece: its kind, and the cursor after it.
 #[inline(always)]
@@ -88,6 +89,18 @@ fn read_piece(at: Cursor<'_>, at_front: bool) -> Option<(PieceKind<'_>, Cursor<'
 /// comment is open at the end.
 #[inline(always)]
 pub fn piece_at(text: &str, first: bool) -> Option<Piece<'_>>
+    ensures found { IfSome result (λ piece. IsPieceAt first (chars text.now) piece) }
+    ensures none { IfNone result (HasNoPiece first (chars text.now)) }
+{
+    match quick(text) {
+        Some(piece) => Some(piece),
+        None => piece_by_characters(text, first),
+    }
+}
+
+/// The same, read by its characters, whatever piece it is.
+#[inline(never)]
+fn piece_by_characters(text: &str, first: bool) -> Option<Piece<'_>>
     ensures found { IfSome result (λ piece. IsPieceAt first (chars text.now) piece) }
     ensures none { IfNone result (HasNoPiece first (chars text.now)) }
 {

@@ -25,6 +25,7 @@ mod literals;
 mod marks;
 mod numbers;
 pub mod piece;
+mod quick;
 mod quoted;
 mod raw_strings;
 mod search;

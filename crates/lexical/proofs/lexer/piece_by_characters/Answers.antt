@@ -3,7 +3,7 @@ use Rattle.std.specs.Str.{chars}
 use Rattle.lexical.specs.PieceFinder.{found}
 use Rattle.lexical.proofs.PieceLemmas.{none_from_found}
 use Rattle.lexical.proofs.AnswerLemmas.{read_stands, piece_is_at}
-use Rattle.lexical.proofs.lexer.piece_at.Goals as goal
+use Rattle.lexical.proofs.lexer.piece_by_characters.Goals as goal
 
 pub returns-in_err-kind-clause-none : goal.returns-in_err-kind-clause-none
 returns-in_err-kind-clause-none c =

@@ -1,0 +1,25 @@
+-- What a few bytes tell.
+use Rattle.std.specs.Prelude.{ℕ, ◌≤◌, List, IsTrue, IsFalse, cond, false, length, nat_lt, take, drop}
+use Rattle.std.specs.Str.{chars}
+use Rattle.lexical.specs.Ascii.{all_ascii}
+use Rattle.lexical.specs.Form.{Form}
+use Rattle.lexical.specs.Identifier.{Identifier}
+use Rattle.lexical.specs.Mark.{bars_quote}
+use Rattle.lexical.specs.PieceFinder.{piece_start}
+use Rattle.lexical.specs.Text.{first_passes}
+use Rattle.lexical.specs.declared.class.PieceStart.{PieceStart}
+use Rattle.lexical.specs.declared.class.PieceStart.TheVariants as starts
+
+-- what the first byte of a text says of the piece that may stand there: nothing, where it is past ASCII
+abbrev pub byte_starts : ℕ → PieceStart
+byte_starts byte = cond (nat_lt byte 128) (piece_start byte) starts.Other
+
+-- so many bytes at the front of the text are ASCII, and a piece of the form
+pub record IsAsciiAt (A : Form) (text : List ℕ) (size : ℕ) : Type 0 where
+  pub within : size ≤ length text
+  pub ascii : IsTrue (all_ascii (take size text))
+  pub stands : A (take size text) (chars (drop size text))
+
+-- a plain identifier that bars no `'` before it
+abbrev pub UnbarredName : Form
+UnbarredName p r = Identifier false p r × IsFalse (first_passes (bars_quote false) r)
