@@ -65,14 +65,23 @@ pub fn continues_identifier(c: char) -> bool
 
 // What each byte begins, in words that make the table below a square.
 const WHITE: PieceStart = PieceStart::White;
+
 const LETTER: PieceStart = PieceStart::Letter;
+
 const DIGIT: PieceStart = PieceStart::Digit;
+
 const OPENER: PieceStart = PieceStart::Opener;
+
 const CLOSER: PieceStart = PieceStart::Closer;
+
 const SLASH: PieceStart = PieceStart::Slash;
+
 const QUOTE: PieceStart = PieceStart::Quote;
+
 const DOUBLE_QUOTE: PieceStart = PieceStart::DoubleQuote;
+
 const MARK: PieceStart = PieceStart::Mark;
+
 const OTHER: PieceStart = PieceStart::Other;
 
 /// What each byte begins. Those past ASCII tell nothing.

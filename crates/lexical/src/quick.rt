@@ -140,6 +140,7 @@ pub fn quick(text: &str) -> Option<Piece<'_>>
             };
             Some(ascii(quote, 1))
         }
-        PieceStart::DoubleQuote | PieceStart::Slash | PieceStart::FrontMark | PieceStart::Other => None,
+        PieceStart::DoubleQuote | PieceStart::Slash | PieceStart::FrontMark | PieceStart::Other =>
+            None,
     }
 }
