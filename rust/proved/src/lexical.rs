@@ -1,5 +1,5 @@
 // Made from crates/lexical/src/lib.rt by rust/erase: change that file, not this one.
-//! The lexer: which piece of the grammar stands at a place of a text.
+//! The lexer: which piece of the grammar stands at a byte offset of a text.
 //!
 //! [`piece_at`] answers the one piece that stands at the front of what is left of a source, or
 //! that none stands there. The rules are in docs/GRAMMAR.md and, exactly, in `specs/`: a form is a
@@ -25,6 +25,7 @@ mod literals;
 mod marks;
 mod numbers;
 pub mod piece;
+mod quick;
 mod quoted;
 mod raw_strings;
 mod search;

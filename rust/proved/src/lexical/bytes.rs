@@ -1,5 +1,5 @@
 // Made from crates/lexical/src/bytes.rt by rust/erase: change that file, not this one.
-//! Classes of characters, and what stands at a place by its class.
+//! Classes of characters, and what stands at a byte offset by its class.
 //!
 //! ASCII is read byte by byte, each by one look at a table. A character past ASCII is read whole.
 
@@ -179,7 +179,7 @@ pub fn holds(class: Class, c: char) -> bool
 
 /// How many bytes at the front are ASCII characters of the class.
 #[inline(always)]
-fn count_ascii(bytes: &[u8], class: Class) -> usize
+pub fn count_ascii(bytes: &[u8], class: Class) -> usize
 {
     let mut count = 0;
     while count < bytes.len() {
@@ -191,7 +191,7 @@ fn count_ascii(bytes: &[u8], class: Class) -> usize
     count
 }
 
-/// The place after the ASCII characters of the class, up to one that isn't.
+/// The cursor after the ASCII characters of the class, up to one that isn't.
 #[inline(always)]
 fn skip_ascii(at: Cursor<'_>, class: Class) -> Cursor<'_>
 {
@@ -202,7 +202,7 @@ fn skip_ascii(at: Cursor<'_>, class: Class) -> Cursor<'_>
     }
 }
 
-/// The place after all the characters of the class, up to one that isn't.
+/// The cursor after all the characters of the class, up to one that isn't.
 #[inline]
 pub fn skip(at: Cursor<'_>, class: Class) -> Cursor<'_>
 {
@@ -213,7 +213,7 @@ pub fn skip(at: Cursor<'_>, class: Class) -> Cursor<'_>
     end
 }
 
-/// The place after the character at the place, if it is of the class.
+/// The cursor after the character at the cursor, if it is of the class.
 #[inline]
 pub fn one(at: Cursor<'_>, class: Class) -> Option<Cursor<'_>>
 {
@@ -221,7 +221,7 @@ pub fn one(at: Cursor<'_>, class: Class) -> Option<Cursor<'_>>
     if holds(class, c) { Some(after) } else { None }
 }
 
-/// Whether a character of the class stands at the place.
+/// Whether a character of the class stands at the cursor.
 #[inline]
 pub fn is_next(at: Cursor<'_>, class: Class) -> bool
 {

@@ -4,7 +4,8 @@
 use crate::lexical::bytes::{Class, holds};
 
 /// What the first character of a text says of the piece that may stand there.
-pub enum Start {
+#[derive(Clone, Copy)]
+pub enum PieceStart {
     /// A white character.
     White,
     /// A character that may begin an identifier.
@@ -53,27 +54,84 @@ pub fn continues_identifier(c: char) -> bool
     crate::shim::unicode_ident::is_xid_continue(c)
 }
 
+// What each byte begins, in words that make the table below a square.
+const WHITE: PieceStart = PieceStart::White;
+
+const LETTER: PieceStart = PieceStart::Letter;
+
+const DIGIT: PieceStart = PieceStart::Digit;
+
+const OPENER: PieceStart = PieceStart::Opener;
+
+const CLOSER: PieceStart = PieceStart::Closer;
+
+const SLASH: PieceStart = PieceStart::Slash;
+
+const QUOTE: PieceStart = PieceStart::Quote;
+
+const DOUBLE_QUOTE: PieceStart = PieceStart::DoubleQuote;
+
+const MARK: PieceStart = PieceStart::Mark;
+
+const OTHER: PieceStart = PieceStart::Other;
+
+/// What each byte begins. Those past ASCII tell nothing.
+#[rustfmt::skip]
+static STARTS: [PieceStart; 256] = [
+    OTHER, OTHER, OTHER, OTHER, OTHER, OTHER, OTHER, OTHER,
+    OTHER, WHITE, WHITE, WHITE, WHITE, WHITE, OTHER, OTHER,
+    OTHER, OTHER, OTHER, OTHER, OTHER, OTHER, OTHER, OTHER,
+    OTHER, OTHER, OTHER, OTHER, OTHER, OTHER, OTHER, OTHER,
+    WHITE, MARK, DOUBLE_QUOTE, MARK, MARK, MARK, MARK, QUOTE,
+    OPENER, CLOSER, MARK, MARK, MARK, MARK, MARK, SLASH,
+    DIGIT, DIGIT, DIGIT, DIGIT, DIGIT, DIGIT, DIGIT, DIGIT,
+    DIGIT, DIGIT, MARK, MARK, MARK, MARK, MARK, MARK,
+    MARK, LETTER, LETTER, LETTER, LETTER, LETTER, LETTER, LETTER,
+    LETTER, LETTER, LETTER, LETTER, LETTER, LETTER, LETTER, LETTER,
+    LETTER, LETTER, LETTER, LETTER, LETTER, LETTER, LETTER, LETTER,
+    LETTER, LETTER, LETTER, OPENER, OTHER, CLOSER, MARK, LETTER,
+    OTHER, LETTER, LETTER, LETTER, LETTER, LETTER, LETTER, LETTER,
+    LETTER, LETTER, LETTER, LETTER, LETTER, LETTER, LETTER, LETTER,
+    LETTER, LETTER, LETTER, LETTER, LETTER, LETTER, LETTER, LETTER,
+    LETTER, LETTER, LETTER, OPENER, MARK, CLOSER, MARK, OTHER,
+    OTHER, OTHER, OTHER, OTHER, OTHER, OTHER, OTHER, OTHER, OTHER, OTHER, OTHER, OTHER, OTHER, OTHER, OTHER, OTHER,
+    OTHER, OTHER, OTHER, OTHER, OTHER, OTHER, OTHER, OTHER, OTHER, OTHER, OTHER, OTHER, OTHER, OTHER, OTHER, OTHER,
+    OTHER, OTHER, OTHER, OTHER, OTHER, OTHER, OTHER, OTHER, OTHER, OTHER, OTHER, OTHER, OTHER, OTHER, OTHER, OTHER,
+    OTHER, OTHER, OTHER, OTHER, OTHER, OTHER, OTHER, OTHER, OTHER, OTHER, OTHER, OTHER, OTHER, OTHER, OTHER, OTHER,
+    OTHER, OTHER, OTHER, OTHER, OTHER, OTHER, OTHER, OTHER, OTHER, OTHER, OTHER, OTHER, OTHER, OTHER, OTHER, OTHER,
+    OTHER, OTHER, OTHER, OTHER, OTHER, OTHER, OTHER, OTHER, OTHER, OTHER, OTHER, OTHER, OTHER, OTHER, OTHER, OTHER,
+    OTHER, OTHER, OTHER, OTHER, OTHER, OTHER, OTHER, OTHER, OTHER, OTHER, OTHER, OTHER, OTHER, OTHER, OTHER, OTHER,
+    OTHER, OTHER, OTHER, OTHER, OTHER, OTHER, OTHER, OTHER, OTHER, OTHER, OTHER, OTHER, OTHER, OTHER, OTHER, OTHER,
+];
+
+/// What the first byte of a text says of the piece that may stand there: nothing, where it is past ASCII.
+#[inline(always)]
+pub fn byte_start(byte: u8) -> PieceStart
+{
+    STARTS[byte as usize]
+}
+
 /// What the first character of a text says of the piece that may stand there.
 #[inline(always)]
-pub fn start_of(c: char) -> Start
+pub fn piece_start_of(c: char) -> PieceStart
 {
     if holds(Class::IdentifierStart, c) {
-        return Start::Letter;
+        return PieceStart::Letter;
     }
     if holds(Class::White, c) {
-        return Start::White;
+        return PieceStart::White;
     }
     if holds(Class::Digit, c) {
-        return Start::Digit;
+        return PieceStart::Digit;
     }
     match c {
-        '(' | '[' | '{' => Start::Opener,
-        ')' | ']' | '}' => Start::Closer,
-        '/' => Start::Slash,
-        '\'' => Start::Quote,
-        '"' => Start::DoubleQuote,
-        '\u{FEFF}' => Start::FrontMark,
-        _ if holds(Class::Mark, c) => Start::Mark,
-        _ => Start::Other,
+        '(' | '[' | '{' => PieceStart::Opener,
+        ')' | ']' | '}' => PieceStart::Closer,
+        '/' => PieceStart::Slash,
+        '\'' => PieceStart::Quote,
+        '"' => PieceStart::DoubleQuote,
+        '\u{FEFF}' => PieceStart::FrontMark,
+        _ if holds(Class::Mark, c) => PieceStart::Mark,
+        _ => PieceStart::Other,
     }
 }

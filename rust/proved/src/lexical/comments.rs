@@ -7,15 +7,15 @@ use crate::lexical::piece::PieceKind;
 use crate::lexical::search::{skip_to, skip_to_either};
 use crate::lexical::text::before;
 
-/// The place after the line comment that stands at the place, by the rule `line-comment`.
+/// The cursor after the line comment that stands at the cursor, by the rule `line-comment`.
 fn skip_line(at: Cursor<'_>) -> Option<Cursor<'_>>
 {
     let after = at.past("//")?;
     Some(skip_to(after, b'\n'))
 }
 
-/// The place after the sign or the character at the place, and how many block comments are open
-/// there. `depth` are open at the place.
+/// The cursor after the sign or the character at the cursor, and how many block comments are open
+/// there. `depth` are open at the cursor.
 fn step(at: Cursor<'_>, depth: usize) -> Option<(Cursor<'_>, usize)>
 {
     let (_, after) = at.advance()?;
@@ -28,7 +28,7 @@ fn step(at: Cursor<'_>, depth: usize) -> Option<(Cursor<'_>, usize)>
     Some((after, depth))
 }
 
-/// The place after the block comment that stands at the place, by the rule `block-comment`.
+/// The cursor after the block comment that stands at the cursor, by the rule `block-comment`.
 fn skip_block(at: Cursor<'_>) -> Option<Cursor<'_>>
 {
     let mut end = at.past("/*")?;
@@ -42,7 +42,7 @@ fn skip_block(at: Cursor<'_>) -> Option<Cursor<'_>>
     Some(end)
 }
 
-/// The place after the comment that stands at the place.
+/// The cursor after the comment that stands at the cursor.
 fn skip_comment(at: Cursor<'_>) -> Option<Cursor<'_>>
 {
     match skip_line(at) {
@@ -51,7 +51,7 @@ fn skip_comment(at: Cursor<'_>) -> Option<Cursor<'_>>
     }
 }
 
-/// The comment that stands at the place, a gap or a doc comment: its kind, and the place after it.
+/// The comment that stands at the cursor, a gap or a doc comment: its kind, and the cursor after it.
 /// None stands where a doc comment has a CR that no LF follows in its text.
 #[inline(never)]
 pub fn comment(at: Cursor<'_>) -> Option<(PieceKind<'_>, Cursor<'_>)>

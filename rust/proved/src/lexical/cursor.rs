@@ -1,12 +1,12 @@
 // Made from crates/lexical/src/cursor.rt by rust/erase: change that file, not this one.
-//! Places in a text.
+//! Cursors into a text.
 
 use crate::lexical::text::{char_count, split_first, strip};
 
-/// A place in a text.
+/// What is left of a text, and how many characters stand before that.
 #[derive(Clone, Copy)]
 pub struct Cursor<'a> {
-    /// What follows the place.
+    /// What follows the cursor.
     pub rest: &'a str,
     /// How many characters of the text stand before it.
     pub chars_before: usize,
@@ -26,7 +26,7 @@ impl<'a> Cursor<'a> {
         }
     }
 
-    /// The character after the place, and the place after that character.
+    /// The character after the cursor, and the cursor after that character.
     #[inline(always)]
     pub fn advance(self) -> Option<(char, Self)>
     {
@@ -38,7 +38,7 @@ impl<'a> Cursor<'a> {
         Some((first, after))
     }
 
-    /// The place after the ASCII text `front`, where that stands at the place.
+    /// The cursor after the ASCII text `front`, where that stands at the cursor.
     #[inline(always)]
     pub fn past(self, front: &str) -> Option<Self>
     {
@@ -50,7 +50,7 @@ impl<'a> Cursor<'a> {
         Some(after)
     }
 
-    /// The place after the next `size` bytes, which are whole characters.
+    /// The cursor after the next `size` bytes, which are whole characters.
     pub fn after_bytes(self, size: usize) -> Self
     {
         Cursor {
@@ -59,7 +59,7 @@ impl<'a> Cursor<'a> {
         }
     }
 
-    /// How many bytes of the text stand before the place, which lies in it.
+    /// How many bytes of the text stand before the cursor, which lies in it.
     #[inline(always)]
     pub fn bytes_in(self, text: &str) -> usize
     {

@@ -17,19 +17,19 @@ fn is_letter(c: char, kind: StringKind) -> bool
     }
 }
 
-/// The place after the letter of a simple escape.
+/// The cursor after the letter of a simple escape.
 fn simple(at: Cursor<'_>, kind: StringKind) -> Option<Cursor<'_>>
 {
     one_that(at, |c| is_letter(c, kind))
 }
 
-/// The place after two hex digits.
+/// The cursor after two hex digits.
 fn hex_pair(at: Cursor<'_>) -> Option<Cursor<'_>>
 {
     one(one(at, Class::HexDigit)?, Class::HexDigit)
 }
 
-/// The place after two hex digits that may stand after `x`.
+/// The cursor after two hex digits that may stand after `x`.
 fn pair(at: Cursor<'_>, kind: StringKind) -> Option<Cursor<'_>>
 {
     match kind {
@@ -44,7 +44,7 @@ fn pair(at: Cursor<'_>, kind: StringKind) -> Option<Cursor<'_>>
     }
 }
 
-/// The place after `x` and its two digits, by the rule `hex-escape`.
+/// The cursor after `x` and its two digits, by the rule `hex-escape`.
 fn hex(at: Cursor<'_>, kind: StringKind) -> Option<Cursor<'_>>
 {
     pair(at.past("x")?, kind)
@@ -82,7 +82,7 @@ fn writes_character(text: &str, kind: StringKind) -> bool
     char::from_u32(value).is_some() && allows(kind, value)
 }
 
-/// The place after the code of a character: a hex digit and all the hex digits and `_` that follow it.
+/// The cursor after the code of a character: a hex digit and all the hex digits and `_` that follow it.
 fn code(at: Cursor<'_>, kind: StringKind) -> Option<Cursor<'_>>
 {
     let first = one(at, Class::HexDigit)?;
@@ -93,13 +93,13 @@ fn code(at: Cursor<'_>, kind: StringKind) -> Option<Cursor<'_>>
     Some(end)
 }
 
-/// The place after `u{`, a character's code and `}`, by the rule `unicode-escape`.
+/// The cursor after `u{`, a character's code and `}`, by the rule `unicode-escape`.
 fn unicode(at: Cursor<'_>, kind: StringKind) -> Option<Cursor<'_>>
 {
     code(at.past("u{")?, kind)?.past("}")
 }
 
-/// The place after an escape: a letter, `x` and two digits, or the code of a character.
+/// The cursor after an escape: a letter, `x` and two digits, or the code of a character.
 pub fn escape(at: Cursor<'_>, kind: StringKind) -> Option<Cursor<'_>>
 {
     if let Some(end) = simple(at, kind) {

@@ -3,6 +3,17 @@
 
 use crate::lexical::bytes::{Class, holds_ascii};
 
+/// How many spaces stand at the front, as many as go by fours.
+#[inline(always)]
+fn spaces(bytes: &[u8]) -> usize
+{
+    let mut count = 0;
+    while bytes[count..].starts_with(b"    ") {
+        count += 4;
+    }
+    count
+}
+
 /// What follows the white characters of ASCII at the front of the text, each a piece by the rule
 /// `gap`, and how many characters they are.
 ///
@@ -11,12 +22,15 @@ use crate::lexical::bytes::{Class, holds_ascii};
 #[inline(always)]
 pub fn past_white(text: &str) -> (&str, usize)
 {
+    let bytes = text.as_bytes();
     let mut white = 0;
-    for byte in text.as_bytes() {
-        if !holds_ascii(Class::White, *byte) {
+    while white < bytes.len() {
+        if !holds_ascii(Class::White, bytes[white]) {
             break;
         }
         white += 1;
+        // A line often begins with many spaces.
+        white += spaces(&bytes[white..]);
     }
     (&text[white..], white)
 }

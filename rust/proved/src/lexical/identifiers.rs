@@ -6,7 +6,7 @@ use crate::lexical::cursor::Cursor;
 use crate::lexical::piece::PieceKind;
 use crate::lexical::text::{before, begins, is_text};
 
-/// The place after the name that stands at the place, by the rule `name`.
+/// The cursor after the name that stands at the cursor, by the rule `name`.
 pub fn name(at: Cursor<'_>) -> Option<Cursor<'_>>
 {
     let after = one(at, Class::IdentifierStart)?;
@@ -40,7 +40,7 @@ pub fn is_reserved(name: &str) -> bool
         || is_text(name, "crate")
 }
 
-/// The place after the name of a raw identifier that stands at the place, after `r#`.
+/// The cursor after the name of a raw identifier that stands at the cursor, after `r#`.
 #[inline(never)]
 pub fn raw_name(at: Cursor<'_>) -> Option<Cursor<'_>>
 {
@@ -51,7 +51,7 @@ pub fn raw_name(at: Cursor<'_>) -> Option<Cursor<'_>>
     Some(end)
 }
 
-/// The place after the identifier that stands at the place, whatever literal begins there, where
+/// The cursor after the identifier that stands at the cursor, whatever literal begins there, where
 /// `raw` says whether `r#` does.
 pub fn written(at: Cursor<'_>, raw: bool) -> Option<Cursor<'_>>
 {
@@ -62,8 +62,8 @@ pub fn written(at: Cursor<'_>, raw: bool) -> Option<Cursor<'_>>
     }
 }
 
-/// The identifier that stands at the place, by the rule `identifier`: its kind, and the place after
-/// it. `first` is the character at the place, and `after` the place after that.
+/// The identifier that stands at the cursor, by the rule `identifier`: its kind, and the cursor after
+/// it. `first` is the character at the cursor, and `after` the cursor after that.
 #[inline(always)]
 pub fn identifier<'a>(
     at: Cursor<'a>,

@@ -1,7 +1,7 @@
 // Made from crates/lexical/src/lexer.rt by rust/erase: change that file, not this one.
 //! Which piece stands at the front of a text.
 
-use crate::lexical::class::{Start, start_of};
+use crate::lexical::class::{PieceStart, piece_start_of};
 use crate::lexical::comments::comment;
 use crate::lexical::cursor::Cursor;
 use crate::lexical::identifiers::{identifier, name};
@@ -9,39 +9,40 @@ use crate::lexical::literals::{literal, quoted};
 use crate::lexical::marks::{begins_comment, follows_quote, mark};
 use crate::lexical::numbers::number;
 use crate::lexical::piece::{Piece, PieceKind};
+use crate::lexical::quick::quick;
 
-/// A literal that was read, if one was, as a piece: its kind, and the place after it.
+/// A literal that was read, if one was, as a piece: its kind, and the cursor after it.
 #[inline(always)]
 fn as_literal(end: Option<Cursor<'_>>) -> Option<(PieceKind<'_>, Cursor<'_>)>
 {
     Some((PieceKind::Literal, end?))
 }
 
-/// The piece that stands at the place, by its first character: its kind, and the place after it.
-/// `at_front` says whether that is place 0 of a source.
+/// The piece that stands at the cursor, by its first character: its kind, and the cursor after it.
+/// `at_front` says whether that is byte offset 0 of a source.
 #[inline(always)]
 fn read_piece(at: Cursor<'_>, at_front: bool) -> Option<(PieceKind<'_>, Cursor<'_>)>
 {
     let (first, after) = at.advance()?;
-    match start_of(first) {
-        Start::White => Some((PieceKind::Gap, after)),
-        Start::Letter => match identifier(at, first, after) {
+    match piece_start_of(first) {
+        PieceStart::White => Some((PieceKind::Gap, after)),
+        PieceStart::Letter => match identifier(at, first, after) {
             Some(name) => Some(name),
             None => as_literal(quoted(at)),
         },
-        Start::Digit => as_literal(number(at)),
-        Start::Opener => match at.past("(/*ERROR*/)") {
+        PieceStart::Digit => as_literal(number(at)),
+        PieceStart::Opener => match at.past("(/*ERROR*/)") {
             Some(end) => Some((PieceKind::Literal, end)),
             None => Some((PieceKind::Opener(first), after)),
         },
-        Start::Closer => Some((PieceKind::Closer(first), after)),
-        Start::Slash => {
+        PieceStart::Closer => Some((PieceKind::Closer(first), after)),
+        PieceStart::Slash => {
             if begins_comment(at.rest) {
                 return comment(at);
             }
             Some((mark(first, after.rest), after))
         }
-        Start::Quote => {
+        PieceStart::Quote => {
             if !follows_quote(after) {
                 return as_literal(quoted(at));
             }
@@ -51,28 +52,38 @@ fn read_piece(at: Cursor<'_>, at_front: bool) -> Option<(PieceKind<'_>, Cursor<'
             };
             Some((kind, after))
         }
-        Start::DoubleQuote => as_literal(quoted(at)),
-        Start::FrontMark => {
+        PieceStart::DoubleQuote => as_literal(quoted(at)),
+        PieceStart::FrontMark => {
             if !at_front {
                 return None;
             }
             Some((PieceKind::FrontMark, after))
         }
-        Start::Mark => Some((mark(first, after.rest), after)),
-        Start::Other => None,
+        PieceStart::Mark => Some((mark(first, after.rest), after)),
+        PieceStart::Other => None,
     }
 }
 
 /// The piece of the grammar that stands at the front of `text`, which is all that follows some
-/// place of a source. `first` says whether that is place 0.
+/// byte offset of a source. `first` says whether that is byte offset 0.
 ///
 /// It answers `None` where no piece stands: at the end of the source, and where what follows begins
 /// no piece, as at an unclosed string. A closer that matches nothing is a piece. At most one piece
-/// stands at a place, as [`one_piece`](crate::lexical::laws::one_piece) says.
+/// stands at a byte offset, as [`one_piece`](crate::lexical::laws::one_piece) says.
 /// At `+=` the mark `+` stands, Joint, of 1 byte and 1 character. At `/* /* */` none stands, as one
 /// comment is open at the end.
 #[inline(always)]
 pub fn piece_at(text: &str, first: bool) -> Option<Piece<'_>>
+{
+    match quick(text) {
+        Some(piece) => Some(piece),
+        None => piece_by_characters(text, first),
+    }
+}
+
+/// The same, read by its characters, whatever piece it is.
+#[inline(never)]
+fn piece_by_characters(text: &str, first: bool) -> Option<Piece<'_>>
 {
     let (kind, end) = read_piece(Cursor::new(text), first)?;
     let piece = Piece {

@@ -7,7 +7,7 @@ use crate::lexical::quoted::{StringKind, string};
 use crate::lexical::raw_strings::raw_string;
 use crate::lexical::single_quotes::single;
 
-/// The place after the literal between quotes that stands at the place, by the rule
+/// The cursor after the literal between quotes that stands at the cursor, by the rule
 /// `quoted-literal`.
 #[inline(never)]
 pub fn quoted(at: Cursor<'_>) -> Option<Cursor<'_>>
@@ -27,7 +27,7 @@ pub fn quoted(at: Cursor<'_>) -> Option<Cursor<'_>>
     }
 }
 
-/// The place after the string that stands at the place: with escapes, which the text `front` opens,
+/// The cursor after the string that stands at the cursor: with escapes, which the text `front` opens,
 /// or raw, which `raw_front` opens.
 fn any_string<'a>(
     at: Cursor<'a>,
@@ -42,7 +42,7 @@ fn any_string<'a>(
     }
 }
 
-/// The place after the literal that stands at the place, by the rule `literal`.
+/// The cursor after the literal that stands at the cursor, by the rule `literal`.
 pub fn literal(at: Cursor<'_>) -> Option<Cursor<'_>>
 {
     match quoted(at) {

@@ -32,7 +32,7 @@ pub fn mark<'a>(mark: char, rest: &str) -> PieceKind<'a>
     PieceKind::Mark { joint, mark }
 }
 
-/// Whether no character follows the place that bars a `'` before the identifier that ends there.
+/// Whether no character follows the cursor that bars a `'` before the identifier that ends there.
 fn is_unbarred(end: Cursor<'_>, raw: bool) -> bool
 {
     match end.advance() {
@@ -41,7 +41,7 @@ fn is_unbarred(end: Cursor<'_>, raw: bool) -> bool
     }
 }
 
-/// Whether a lone quote may stand before the place, by the rule `lone-quote`.
+/// Whether a lone quote may stand before the cursor, by the rule `lone-quote`.
 #[inline(never)]
 pub fn follows_quote(at: Cursor<'_>) -> bool
 {

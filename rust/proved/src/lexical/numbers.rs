@@ -6,14 +6,14 @@ use crate::lexical::cursor::Cursor;
 use crate::lexical::quoted::suffix;
 use crate::lexical::text::begins;
 
-/// The place after the digits that stand at the place, by the rule `digits`.
+/// The cursor after the digits that stand at the cursor, by the rule `digits`.
 fn digits(at: Cursor<'_>) -> Option<Cursor<'_>>
 {
     let after = one(at, Class::Digit)?;
     Some(skip(after, Class::DigitOrUnderscore))
 }
 
-/// The place after the suffix of a number, by the rule `number-end`.
+/// The cursor after the suffix of a number, by the rule `number-end`.
 fn end(at: Cursor<'_>) -> Option<Cursor<'_>>
 {
     let end = suffix(at);
@@ -24,7 +24,7 @@ fn end(at: Cursor<'_>) -> Option<Cursor<'_>>
     }
 }
 
-/// The place after the dot of a number, by the rule `dot`.
+/// The cursor after the dot of a number, by the rule `dot`.
 fn dot(at: Cursor<'_>) -> Option<Cursor<'_>>
 {
     let end = at.past(".")?;
@@ -35,7 +35,7 @@ fn dot(at: Cursor<'_>) -> Option<Cursor<'_>>
     }
 }
 
-/// The place after the exponent that stands at the place, by the rule `exponent`.
+/// The cursor after the exponent that stands at the cursor, by the rule `exponent`.
 fn exponent(at: Cursor<'_>) -> Option<Cursor<'_>>
 {
     let letter = one(at, Class::ExponentLetter)?;
@@ -47,7 +47,7 @@ fn exponent(at: Cursor<'_>) -> Option<Cursor<'_>>
     digits(skip(after, Class::Underscore))
 }
 
-/// The place after a dot and what follows it in a number.
+/// The cursor after a dot and what follows it in a number.
 fn fraction(at: Cursor<'_>) -> Option<Cursor<'_>>
 {
     let after = skip(dot(at)?, Class::DigitOrUnderscore);
@@ -57,7 +57,7 @@ fn fraction(at: Cursor<'_>) -> Option<Cursor<'_>>
     }
 }
 
-/// The place after what makes a float of the digits before it.
+/// The cursor after what makes a float of the digits before it.
 fn float_tail(at: Cursor<'_>) -> Option<Cursor<'_>>
 {
     match fraction(at) {
@@ -66,7 +66,7 @@ fn float_tail(at: Cursor<'_>) -> Option<Cursor<'_>>
     }
 }
 
-/// The place after the number that stands at the place and begins with no prefix of a base.
+/// The cursor after the number that stands at the cursor and begins with no prefix of a base.
 fn decimal(at: Cursor<'_>) -> Option<Cursor<'_>>
 {
     let after = digits(at)?;
@@ -76,7 +76,7 @@ fn decimal(at: Cursor<'_>) -> Option<Cursor<'_>>
     }
 }
 
-/// The place after the digits of the base, where none follows that is too large, by the rule
+/// The cursor after the digits of the base, where none follows that is too large, by the rule
 /// `base-digits`.
 fn digits_in(at: Cursor<'_>, base: Base) -> Option<Cursor<'_>>
 {
@@ -89,13 +89,13 @@ fn digits_in(at: Cursor<'_>, base: Base) -> Option<Cursor<'_>>
     }
 }
 
-/// The place after the prefix of a base and its digits.
+/// The cursor after the prefix of a base and its digits.
 fn prefixed<'a>(at: Cursor<'a>, prefix: &str, base: Base) -> Option<Cursor<'a>>
 {
     digits_in(at.past(prefix)?, base)
 }
 
-/// The place after the digits of base 16, 8 or 2 with its prefix, by the rule `based`.
+/// The cursor after the digits of base 16, 8 or 2 with its prefix, by the rule `based`.
 fn based(at: Cursor<'_>) -> Option<Cursor<'_>>
 {
     if let Some(end) = prefixed(at, "0x", Base::Hexadecimal) {
@@ -113,7 +113,7 @@ fn begins_based(text: &str) -> bool
     begins(text, "0x") || begins(text, "0o") || begins(text, "0b")
 }
 
-/// The place after the number that stands at the place, by the rule `number`.
+/// The cursor after the number that stands at the cursor, by the rule `number`.
 #[inline(never)]
 pub fn number(at: Cursor<'_>) -> Option<Cursor<'_>>
 {

@@ -19,7 +19,7 @@ pub enum StringKind {
     C,
 }
 
-/// The place after the suffix of a literal, by the rule `suffix`.
+/// The cursor after the suffix of a literal, by the rule `suffix`.
 pub fn suffix(at: Cursor<'_>) -> Cursor<'_>
 {
     match name(at) {
@@ -37,13 +37,13 @@ fn stands_for_itself(c: char, kind: StringKind) -> bool
     }
 }
 
-/// The place after a character that stands for itself.
+/// The cursor after a character that stands for itself.
 fn plain(at: Cursor<'_>, kind: StringKind) -> Option<Cursor<'_>>
 {
     one(at, |c| stands_for_itself(c, kind))
 }
 
-/// The place after all the characters that stand for themselves, up to a quote, a backslash or a CR.
+/// The cursor after all the characters that stand for themselves, up to a quote, a backslash or a CR.
 fn skip_plain(at: Cursor<'_>, kind: StringKind) -> Cursor<'_>
 {
     let bytes = at.rest.as_bytes();
@@ -51,7 +51,7 @@ fn skip_plain(at: Cursor<'_>, kind: StringKind) -> Cursor<'_>
     at.after_bytes(count_allowed(&bytes[..size], kind))
 }
 
-/// The place after what may stand after a backslash in a string.
+/// The cursor after what may stand after a backslash in a string.
 fn escaped(at: Cursor<'_>, kind: StringKind) -> Option<Cursor<'_>>
 {
     if let Some(end) = at.past("\n") {
@@ -63,7 +63,7 @@ fn escaped(at: Cursor<'_>, kind: StringKind) -> Option<Cursor<'_>>
     }
 }
 
-/// The place after a unit of a string, by the rules `string-unit`, `byte-string-unit` and
+/// The cursor after a unit of a string, by the rules `string-unit`, `byte-string-unit` and
 /// `c-string-unit`.
 fn unit(at: Cursor<'_>, kind: StringKind) -> Option<Cursor<'_>>
 {
@@ -76,7 +76,7 @@ fn unit(at: Cursor<'_>, kind: StringKind) -> Option<Cursor<'_>>
     }
 }
 
-/// The place after the string with escapes that stands at the place, which the text `front` opens,
+/// The cursor after the string with escapes that stands at the cursor, which the text `front` opens,
 /// by the rules `string`, `byte-string` and `c-string`.
 pub fn string<'a>(at: Cursor<'a>, front: &str, kind: StringKind) -> Option<Cursor<'a>>
 {

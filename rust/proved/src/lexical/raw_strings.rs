@@ -11,7 +11,7 @@ use crate::shim::memchr::memchr2;
 /// How many hash signs a raw string may have at most.
 const MOST_HASHES: usize = 255;
 
-/// The hash signs that stand at the place, 255 at most, and the place after them, by the rule
+/// The hash signs that stand at the cursor, 255 at most, and the cursor after them, by the rule
 /// `raw-hashes`.
 fn hashes(at: Cursor<'_>) -> Option<(&str, Cursor<'_>)>
 {
@@ -23,7 +23,7 @@ fn hashes(at: Cursor<'_>) -> Option<(&str, Cursor<'_>)>
     Some((hashes, end))
 }
 
-/// The place after all the characters that may stand in a raw string, up to a quote or a CR.
+/// The cursor after all the characters that may stand in a raw string, up to a quote or a CR.
 fn skip_plain(at: Cursor<'_>, kind: StringKind) -> Cursor<'_>
 {
     let bytes = at.rest.as_bytes();
@@ -31,7 +31,7 @@ fn skip_plain(at: Cursor<'_>, kind: StringKind) -> Cursor<'_>
     at.after_bytes(count_allowed(&bytes[..size], kind))
 }
 
-/// The place after a unit of a raw string with these hash signs, by the rule `raw-unit`.
+/// The cursor after a unit of a raw string with these hash signs, by the rule `raw-unit`.
 fn raw_unit<'a>(at: Cursor<'a>, kind: StringKind, hashes: &str) -> Option<Cursor<'a>>
 {
     let (c, after) = at.advance()?;
@@ -48,7 +48,7 @@ fn raw_unit<'a>(at: Cursor<'a>, kind: StringKind, hashes: &str) -> Option<Cursor
     }
 }
 
-/// The place after the raw string that stands at the place, which the text `front` opens, by the
+/// The cursor after the raw string that stands at the cursor, which the text `front` opens, by the
 /// rules `raw-string`, `raw-byte-string` and `raw-c-string`.
 pub fn raw_string<'a>(at: Cursor<'a>, front: &str, kind: StringKind) -> Option<Cursor<'a>>
 {

@@ -6,7 +6,7 @@
 use crate::lexical::cursor::Cursor;
 use crate::shim::memchr::{memchr, memchr2};
 
-/// The place before the first `stop`, an ASCII character, or at the end of the text where none stands.
+/// The cursor before the first `stop`, an ASCII character, or at the end of the text where none stands.
 pub fn skip_to(at: Cursor<'_>, stop: u8) -> Cursor<'_>
 {
     let bytes = at.rest.as_bytes();
@@ -14,7 +14,7 @@ pub fn skip_to(at: Cursor<'_>, stop: u8) -> Cursor<'_>
     at.after_bytes(size)
 }
 
-/// The place before the first of the two ASCII characters, or at the end of the text where none stands.
+/// The cursor before the first of the two ASCII characters, or at the end of the text where none stands.
 pub fn skip_to_either(at: Cursor<'_>, a: u8, b: u8) -> Cursor<'_>
 {
     let bytes = at.rest.as_bytes();

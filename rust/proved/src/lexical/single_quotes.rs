@@ -15,13 +15,13 @@ fn stands_bare(c: char, kind: StringKind) -> bool
     }
 }
 
-/// The place after one character that may stand bare.
+/// The cursor after one character that may stand bare.
 fn bare(at: Cursor<'_>, kind: StringKind) -> Option<Cursor<'_>>
 {
     one(at, |c| stands_bare(c, kind))
 }
 
-/// The place after one character that may stand bare, or a backslash and an escape.
+/// The cursor after one character that may stand bare, or a backslash and an escape.
 fn unit(at: Cursor<'_>, kind: StringKind) -> Option<Cursor<'_>>
 {
     match bare(at, kind) {
@@ -30,7 +30,7 @@ fn unit(at: Cursor<'_>, kind: StringKind) -> Option<Cursor<'_>>
     }
 }
 
-/// The place after the literal between single quotes that stands at the place, which the text
+/// The cursor after the literal between single quotes that stands at the cursor, which the text
 /// `front` opens, by the rules `character` and `byte`.
 pub fn single<'a>(at: Cursor<'a>, front: &str, kind: StringKind) -> Option<Cursor<'a>>
 {

@@ -3,7 +3,7 @@
 
 use crate::lexical::cursor::Cursor;
 
-/// The place after the character at the place, if it passes.
+/// The cursor after the character at the cursor, if it passes.
 pub fn one<F: Fn(char) -> bool>(at: Cursor<'_>, passes: F) -> Option<Cursor<'_>>
 {
     let (c, after) = at.advance()?;

@@ -4,7 +4,7 @@
 use crate::lexical::lexer::piece_at;
 use crate::lexical::piece::Piece;
 
-/// A piece of a text, with its place.
+/// A piece of a text, with its byte offset.
 #[derive(Clone, Copy, Debug, PartialEq, Eq)]
 pub struct PlacedPiece<'a> {
     /// What kind of piece it is, and how many bytes and characters it has.
@@ -12,14 +12,14 @@ pub struct PlacedPiece<'a> {
     /// Its text, cut from the source.
     pub text: &'a str,
     /// How many bytes of the source stand before it.
-    pub place: usize,
+    pub byte_offset: usize,
 }
 
 /// The pieces of a text that are left. [`pieces`] makes it.
 pub struct PieceWalk<'a> {
     rest: &'a str,
     // How many bytes of the text stand before the rest, and whether it is the whole text.
-    place: usize,
+    byte_offset: usize,
     at_front: bool,
     // The rest is a text, and the count of bytes cannot wrap.
 }
@@ -34,7 +34,7 @@ pub fn pieces(text: &str) -> PieceWalk<'_>
     let _bytes = text.as_bytes().iter();
     PieceWalk {
         rest: text,
-        place: 0,
+        byte_offset: 0,
         at_front: true,
     }
 }
@@ -52,11 +52,11 @@ impl<'a> PieceWalk<'a> {
         let next = PlacedPiece {
             piece,
             text: &self.rest[..piece.bytes],
-            place: self.place,
+            byte_offset: self.byte_offset,
         };
         *self = PieceWalk {
             rest: &self.rest[piece.bytes..],
-            place: self.place + piece.bytes,
+            byte_offset: self.byte_offset + piece.bytes,
             at_front: false,
         };
         Some(next)

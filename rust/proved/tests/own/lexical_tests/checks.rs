@@ -14,8 +14,8 @@ pub fn check_same<T: PartialEq + Debug>(rt: &impl Abort, row: &str, answer: &T, 
     assert_eq!(answer, want, "at {row:?}");
 }
 
-/// Asserts which piece the text begins with, where it stands at no place 0, and that the slow lexer answers the same as
-/// the lexer at each place of the text and at each of its beginnings.
+/// Asserts which piece the text begins with, at another byte offset than 0, and that the slow lexer answers the same as
+/// the lexer at each character of the text and at each of its beginnings.
 pub fn check_piece(rt: &impl Abort, text: &str, want: Option<Piece<'_>>) {
     check_same(rt, text, &piece_at(text, false), &want);
     check_slow(rt, text);
@@ -68,11 +68,11 @@ pub fn are_told_apart<T: PartialEq + Debug>(rt: &impl Abort, values: &[T]) {
     }
 }
 
-/// Asserts that the value is equal to the one at this place of the table, and to no other.
+/// Asserts that the value is equal to the one at this index of the table, and to no other.
 fn is_told_apart<T: PartialEq + Debug>(rt: &impl Abort, values: &[T], at: usize, value: &T) {
-    for (place, other) in values.iter().enumerate() {
+    for (index, other) in values.iter().enumerate() {
         let answers = (value == other, value != other);
-        let want = (at == place, at != place);
+        let want = (at == index, at != index);
         assert_eq!(answers, want, "of {value:?} and {other:?}");
     }
 }

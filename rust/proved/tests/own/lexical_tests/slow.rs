@@ -9,7 +9,7 @@
 use proved::lexical::{Piece, PieceKind};
 
 /// The piece at the front of the text, with its length in bytes and in characters, or `None` where none stands.
-/// `at_front` says whether the text begins at place 0 of a source.
+/// `at_front` says whether the text begins at byte offset 0 of a source.
 ///
 /// At `+=` the mark `+` stands, Joint, of 1 byte and 1 character. At `/* /* */` none stands.
 pub fn piece_at(text: &str, at_front: bool) -> Option<Piece<'_>> {

@@ -9,13 +9,13 @@ use crate::shim::process::Abort;
 /// Asserts that the next pieces are of these kinds and texts, one right after the other, the first
 /// at byte 0.
 fn check_walk(rt: &impl Abort, walk: &mut PieceWalk<'_>, rows: &[(PieceKind<'_>, &str)]) {
-    let mut place: usize = 0;
+    let mut byte_offset: usize = 0;
     for &(kind, text) in rows {
         let answer = walk
             .next_piece()
-            .map(|next| (next.place, next.piece.kind, next.text));
-        check_same(rt, text, &answer, &Some((place, kind, text)));
-        place = place.wrapping_add(text.len());
+            .map(|next| (next.byte_offset, next.piece.kind, next.text));
+        check_same(rt, text, &answer, &Some((byte_offset, kind, text)));
+        byte_offset = byte_offset.wrapping_add(text.len());
     }
 }
 
