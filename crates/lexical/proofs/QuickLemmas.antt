@@ -1,11 +1,12 @@
 -- What a few bytes tell of the piece at the front of a text.
-use Rattle.std.proofs.Common.{◌≡◌, ◌⊎◌, ℕ, ◌<◌, ◌≤◌, Bool, true, false, not, ◌&&◌, ◌||◌, ◌==◌, inl, inr, List, [], ◌∷◌}
-use Rattle.std.proofs.Common.{◌++◌, None, Bor, codes, length, get_or, take, drop, nat_lt, refl, sym, ap, ap₂, ◌∙◌}
+use Rattle.std.proofs.Common.{◌≡◌, ℕ, ◌<◌, ◌≤◌, Bool, true, false, not, ◌&&◌, ◌||◌, ◌==◌, inl, inr, List, [], ◌∷◌}
+use Rattle.std.proofs.Common.{◌++◌, None, Bor, codes, length, get_or, take, drop, nat_lt, refl, sym, ap, ◌∙◌}
 use Rattle.std.proofs.Common.{subst, arith, append-nil, eqb-true, eq-eqb, ne_eqb, length-append, ltb-true}
 use Rattle.std.specs.Char.{is_ascii_digit}
 use Rattle.std.specs.List.{list_all}
 use Rattle.std.specs.Str.{chars, IsUtf8, IsCharBoundary, encode_utf8_all}
-use Rattle.std.proofs.lemmas.Bool.{both_ways, cases_lt, and_parts, and_from, and_left, and_right, or_cases, or_left, or_parts, or_from}
+use Rattle.std.proofs.lemmas.Bool.{both_ways, cases_lt, and_parts, and_from, and_left, and_right, or_cases}
+use Rattle.std.proofs.lemmas.Bool.{or_left, or_parts, or_from}
 use Rattle.std.proofs.lemmas.Bool.{false_from_ne_true, not-true, not_from_false, cond-true, cond-false, le-ltb, lt-ltb}
 use Rattle.std.proofs.lemmas.List.{length-take-le, take-append-drop, get_or-drop, take_at, drop_at}
 use Rattle.std.proofs.lemmas.Str.{encode_ascii, encodes-chars, IsUtf8-from_ascii, IsUtf8-drop, IsCharBoundary-from_take}
@@ -14,7 +15,6 @@ use Rattle.unicode_ident.proofs.Computing.{unicode_ident}
 use Rattle.lexical.specs.Ascii.{all_ascii}
 use Rattle.lexical.specs.Bytes.{ascii_in, is_in}
 use Rattle.lexical.specs.Class.{is_ident_start, is_ident_continue}
-use Rattle.lexical.specs.Delimiter.{is_opener, is_closer, error_literal}
 use Rattle.lexical.specs.Finder.{while_front, while_rest}
 use Rattle.lexical.specs.Form.{Form}
 use Rattle.lexical.specs.Found.{kind_of, LendsText, IsPieceAt}
@@ -24,13 +24,11 @@ use Rattle.lexical.specs.Mark.{FollowsQuote, is_mark, marks, bars_quote, comment
 use Rattle.lexical.specs.Number.{Number, is_digit_or_underscore, number, digits, base_prefixes, float, float_tail}
 use Rattle.lexical.specs.Number.{fraction, dot, exponent, is_exponent_letter, end}
 use Rattle.lexical.specs.Piece.{IsPiece}
-use Rattle.lexical.specs.PieceFinder.{piece_start}
 use Rattle.lexical.specs.Quick.{byte_starts, IsAsciiAt, UnbarredName}
 use Rattle.lexical.specs.Rule.{One, Then, find, Stands}
 use Rattle.lexical.specs.Text.{begins_with, begins_any, first_passes}
 use Rattle.lexical.specs.declared.bytes.Class.{Class}
 use Rattle.lexical.specs.declared.bytes.Class.TheVariants as classes
-use Rattle.lexical.specs.declared.class.PieceStart.{PieceStart}
 use Rattle.lexical.specs.declared.class.PieceStart.TheVariants as starts
 use Rattle.lexical.specs.declared.piece.Piece.{Piece}
 use Rattle.lexical.specs.declared.piece.PieceKind.{PieceKind}
@@ -79,7 +77,8 @@ ascii_piece first text kind piece n at lends same bytes count =
       front = take n text;
       rest = chars (drop n text);
       whole = ascii_split text n at.ascii;
-      stands = subst (λ k. IsPiece first (kind_of k (take n text)) (take n text) (chars (drop n text))) (sym same) at.stands;
+      stands = subst (λ k. IsPiece first (kind_of k (take n text)) (take n text) (chars (drop n text))) (sym same)
+          at.stands;
       bytes = bytes ∙ (size ∙ sym (ascii_bytes (take n text) at.ascii));
       chars = count ∙ size;
       lends = subst LendsText (sym same) lends;
@@ -140,9 +139,11 @@ next_fails test text n low fails =
 
 -- ---- one byte
 
-pub some_byte : (bytes text : List ℕ) → bytes ≡ text → false ≡ (length bytes == 0) → 0 < length text
-some_byte [] text same h = absurd (both_ways (length text == 0) (ap (λ t. length t == 0) (sym same) ∙ sym h) (ap (λ t. length t == 0) (sym same)))
-some_byte (b ∷ bytes) text same h = omega (arith, ap length same)
+-- a text that isn't empty has a first byte
+pub front_byte : (bytes text : List ℕ) → bytes ≡ text → false ≡ (length bytes == 0)
+    → (0 < length text) × (get_or text 0 0 ≡ get_or bytes 0 0)
+front_byte [] text same h = absurd (both_ways true (sym h) refl)
+front_byte (b ∷ bytes) text same h = (omega (arith, ap length same), ap (λ x. get_or x 0 0) (sym same))
 
 not_slash : (c : ℕ) → 128 ≤ c → (c == 47) ≡ false
 not_slash c high = ne_eqb c 47 (λ e. omega (arith, high, e))
@@ -192,7 +193,8 @@ module _ (first : Bool) (text : List ℕ) (c : ℕ) (utf8 : IsUtf8 text) (some :
   rest_utf8 : c < 128 → IsUtf8 (drop 1 text)
   rest_utf8 low = one_rest text utf8 some (omega (arith, low, is))
 
-  pub closer_at : starts.Closer ≡ byte_starts c → IsAsciiAt (λ p r. IsPiece first (kind_of (kinds.Closer c) p) p r) text 1
+  pub closer_at : starts.Closer ≡ byte_starts c
+      → IsAsciiAt (λ p r. IsPiece first (kind_of (kinds.Closer c) p) p r) text 1
   closer_at h =
       let at = told_low starts.Closer c h (λ e. cc) in
       one_ascii _ text c some is at.0 (c, refl, and_from _ _ (of_start starts.Closer c at.1) (eq-eqb c c refl))
@@ -277,7 +279,8 @@ run_stops : (class : Class) (text : List ℕ) (n : ℕ) → n ≡ length (while_
 run_stops class text n size space low =
     ap (is_in class) (sym (get_after text n))
     ∙ get_fails class (drop n text) space
-    (ap (first_passes (ascii_in class)) (run_is class text n size).1 ∙ ((finds_run (ascii_in class)).sound text).1.stops)
+    (ap (first_passes (ascii_in class)) (run_is class text n size).1
+    ∙ ((finds_run (ascii_in class)).sound text).1.stops)
     (omega (arith, low, get_after text n))
 
 -- a run that begins with a character of the class
@@ -430,7 +433,8 @@ number_at text n starts size ends =
     let none : find float (p ++ r) ≡ None =
     rw (find_then, finds_digits.complete p r word, tail) refl in
     let plain = any_cut is_ident_continue base_prefixes p [] r refl (fails is_ident_continue ended)
-    (ap (begins_any base_prefixes) (append-nil p) ∙ none_begins is_digit_or_underscore base_prefixes p refl digit_all) in
+    (ap (begins_any base_prefixes) (append-nil p)
+    ∙ none_begins is_digit_or_underscore base_prefixes p refl digit_all) in
     record {
       within = (run_is classes.DigitOrUnderscore text n size).2;
       ascii = all_low classes.DigitOrUnderscore p all;

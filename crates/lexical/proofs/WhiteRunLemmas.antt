@@ -40,13 +40,15 @@ pub white_next : (bytes : List ℕ) (n : ℕ) → ascii_white (get_or bytes n 0)
     → list_all ascii_white (take n bytes) ≡ true → list_all ascii_white (take (n + 1) bytes) ≡ true
 white_next bytes n white within first =
     ap (list_all ascii_white) (take_more bytes n 0 within)
-    ∙ (list_all-append ascii_white (take n bytes) (get_or bytes n 0 ∷ []) ∙ and_from _ _ first (and_from _ _ white refl))
+    ∙ (list_all-append ascii_white (take n bytes) (get_or bytes n 0 ∷ [])
+    ∙ and_from _ _ first (and_from _ _ white refl))
 
 -- four spaces
 pub four_spaces : (bytes : List ℕ) (n : ℕ) → starts_with eqb (drop n bytes) (codes "    ") ≡ true
     → list_all ascii_white (take n bytes) ≡ true → list_all ascii_white (take (n + 4) bytes) ≡ true
 four_spaces bytes n starts first =
-    let split = begins_splits (codes "    ") (drop n bytes) (sym (starts_with_is (drop n bytes) (codes "    ")) ∙ starts) in
+    let split = begins_splits (codes "    ") (drop n bytes)
+    (sym (starts_with_is (drop n bytes) (codes "    ")) ∙ starts) in
     white_more bytes n 4 first (ap (λ xs. list_all ascii_white (take 4 xs)) split.1)
 
 -- the text may be cut after its first n bytes, which are white

@@ -15,6 +15,7 @@ loop-count-preserved c =
         c.loop-count.invariant.0,
       ),
       four_spaces c.args.bytes.now c.loop-count.count
-          (ap (λ xs. starts_with eqb xs (codes "    ")) (sym rest) ∙ (sym c.starts_with.ensures.value ∙ c.loop-count-test.true))
+          (ap (λ xs. starts_with eqb xs (codes "    ")) (sym rest)
+          ∙ (sym c.starts_with.ensures.value ∙ c.loop-count-test.true))
           c.loop-count.invariant.1,
     )
