@@ -20,7 +20,8 @@ text_between-requires-clause-from c =
     let found = found_some lo c.in_ok-file.was c.file_of.ensures.found in
     let ordered = c.bounds-lo.ensures.ordered in
     let within = (holds_at c.args.self found ordered).1 c.requires.held in
-    let bytes = c.requires.bytes c.in_ok-file.file.now.text c.in_ok-file.file.now.lo found.is_file found.begins within in
+    let bytes = c.requires.bytes c.in_ok-file.file.now.text c.in_ok-file.file.now.lo found.is_file found.begins within
+    in
     record {
       within = omega (arith, within, ordered, lo, c.lo.ensures);
       value = ap (λ range. range.start) bytes
@@ -34,7 +35,8 @@ text_between-requires-clause-to c =
     let found = found_some lo c.in_ok-file.was c.file_of.ensures.found in
     let ordered = c.bounds-lo.ensures.ordered in
     let within = (holds_at c.args.self found ordered).1 c.requires.held in
-    let bytes = c.requires.bytes c.in_ok-file.file.now.text c.in_ok-file.file.now.lo found.is_file found.begins within in
+    let bytes = c.requires.bytes c.in_ok-file.file.now.text c.in_ok-file.file.now.lo found.is_file found.begins within
+    in
     record {
       within = omega (arith, within, hi, c.lo-2.ensures);
       value = ap (λ range. range.end) bytes
