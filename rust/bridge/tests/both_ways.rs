@@ -164,7 +164,7 @@ fn changed_tokens_come_back_changed() -> Result<(), Box<dyn Error>> {
 /// Neither way takes more stack for deeper groups.
 #[test]
 fn groups_nest_as_deep_as_a_text_is_long() -> Result<(), Box<dyn Error>> {
-    const DEPTH: usize = 100_000;
+    const DEPTH: usize = 50_000;
     let stream: TokenStream = format!("{}x{}", "(a ".repeat(DEPTH), " b)".repeat(DEPTH)).parse()?;
     let mut spans = Spans::new();
     let own = to_proved(&stream, &mut spans)?;

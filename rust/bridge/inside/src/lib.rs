@@ -1,5 +1,5 @@
 //! Macros for the tests of `proved-bridge`: they run inside the compiler, and so on the compiler's tokens.
-use proc_macro2::{Literal, TokenStream, TokenTree};
+use proc_macro2::{Delimiter, Group, Span, TokenStream, TokenTree};
 use proved_bridge::proved::pm_stream::{Group as OwnGroup, TokenStream as OwnStream, TokenTree as OwnTree};
 use proved_bridge::proved::pm_token::Delimiter as OwnDelimiter;
 use proved_bridge::proved::shim::alloc::Global;
@@ -60,21 +60,32 @@ fn with_more(stream: &OwnStream, constant: &OwnStream) -> OwnStream {
     out
 }
 
-/// The lines and columns of its tokens, as the compiler's spans of them tell.
+/// The line and the column of each token and delimiter, as the compiler tells them of code with its span.
 #[proc_macro]
 pub fn lines_and_columns(input: proc_macro::TokenStream) -> proc_macro::TokenStream {
     let mut spans = Spans::new();
     let own = to_proved(&input.into(), &mut spans).expect("the compiler's tokens are of the grammar");
-    let mut told = String::new();
+    let mut told = TokenStream::new();
     for tree in own.trees() {
         let ends = match tree {
             OwnTree::Group(group) => vec![group.span_open(), group.span_close()],
             token => vec![token.span()],
         };
         for end in ends {
-            let span = spans.span(end).unwrap();
-            told += &format!("{}:{} ", span.line(), span.column());
+            let code = "(line!(), column!()),".parse().expect("it is a text");
+            told.extend(with_span(code, spans.span(end)));
         }
     }
-    TokenStream::from(TokenTree::Literal(Literal::string(&told))).into()
+    TokenStream::from(TokenTree::Group(Group::new(Delimiter::Bracket, told))).into()
+}
+
+fn with_span(stream: TokenStream, span: Span) -> TokenStream {
+    let trees = stream.into_iter().map(|mut tree| {
+        if let TokenTree::Group(group) = &tree {
+            tree = Group::new(group.delimiter(), with_span(group.stream(), span)).into();
+        }
+        tree.set_span(span);
+        tree
+    });
+    trees.collect()
 }
