@@ -3,8 +3,9 @@
 #
 #   rust/archive.sh
 #
-# It is `rt lib`, which takes what earlier checks kept. Where there are only the libraries that `rt ci` left, without the
-# stamp that `rt lib` asks for, it is the build with which `rt lib` ends, over those: so pm_c alone is proved once more.
+# It is `rt lib`, which takes what earlier checks kept. Where there are only the libraries that `rt ci` left, without
+# the stamp that `rt lib` asks for, it is the build with which `rt lib` ends, over those: so pm_c alone is proved once
+# more.
 set -eu
 crates=$(cd "$(dirname "$0")/../crates" && pwd)
 archive=$crates/pm_c/out/libpm_c.a

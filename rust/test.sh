@@ -97,7 +97,7 @@ programs() {
 if [ "${minor:-0}" -ge 82 ]; then
     proved() { (cd proved && cargo "$@"); }
     documented() { RUSTDOCFLAGS="-D warnings" proved doc --offline --quiet --no-deps --all-features; }
-    [ -x "${TOKENS:-../crates/tokens/out/tokens}" ] || skip "every source printed as by the tokens that Rattle builds: not built"
+    [ -x "${TOKENS:-../crates/tokens/out/tokens}" ] || skip "every source printed as by Rattle's build: no tokens there"
     tested() { proved test --offline --quiet --all-features; }
     try "rust/proved, with overflow checks: recorded answers, sources, the shim" tested
     try "rust/proved without its features" proved build --offline --quiet
