@@ -8,19 +8,19 @@ use Rattle.proc_macro2.specs.Leaf.{Text}
 use Rattle.proc_macro2.specs.Parsing.{ParsesTo}
 use Rattle.proc_macro2.specs.declared.LineColumn.{LineColumn}
 use Rattle.proc_macro2.specs.declared.TokenTree.{TokenTree}
-use Rattle.messages.specs.Parsed.{first, place_of}
+use Rattle.messages.specs.Parsed.{first, line_column_of}
 use Rattle.list_docs.specs.Doc.{doc_of}
 use Rattle.list_docs.specs.Item.{State, Nothing, after, line_of_item}
 
--- a place, as `1:0`, and what follows it
-abbrev pub at_place : LineColumn → List ℕ → List ℕ
-at_place place more = decimal place.line ++ (codes ":" ++ (decimal place.column ++ more))
+-- a line and a column, as `1:0`, and what follows them
+abbrev pub at_line_column : LineColumn → List ℕ → List ℕ
+at_line_column start more = decimal start.line ++ (codes ":" ++ (decimal start.column ++ more))
 
 -- the line of a doc comment's literal, if there is one
 abbrev pub line_of_literal : List ℕ → Option Text → List ℕ
 line_of_literal text None = []
 line_of_literal text (Some literal) =
-    at_place (place_of text literal.span.lo) (codes " " ++ (encode_utf8_all literal.text ++ codes "\n"))
+    at_line_column (line_column_of text literal.span.lo) (codes " " ++ (encode_utf8_all literal.text ++ codes "\n"))
 
 -- the lines of a tree, where this was read before it: that of its doc comment, or that of the item whose name it is
 abbrev pub lines_of : List ℕ → State → TokenTree → List ℕ

@@ -14,8 +14,8 @@ use std::io::Write;
 /// Writes a line for each doc comment of the text and each item that has one, those inside groups too, in reading
 /// order.
 ///
-/// Fails with `Fault`, which has the place, and `MapFull` before anything is written, and with `Memory` and `Write`;
-/// then a beginning of the lines stands. Of `/// x` the line is `1:0 " x"`, and of `fn add` after it `fn add`.
+/// Fails with `Fault`, which has line and column, and `MapFull` before anything is written, and with `Memory` and
+/// `Write`; then a beginning of the lines stands. Of `/// x` the line is `1:0 " x"`, and of `fn add` after it `fn add`.
 pub fn print_text<W: Write>(alloc: Global, text: &str, writer: &mut W) -> Result<(), Failure>
     ensures ok { OnOk result (Writes (chars text.now) (W.contents writer.old) (W.contents writer.new)) }
     ensures err { IfErr result (MayFail (chars text.now) (W.contents writer.old) (W.contents writer.new)) }
@@ -27,8 +27,8 @@ pub fn print_text<W: Write>(alloc: Global, text: &str, writer: &mut W) -> Result
             let mut walk = stream.walk();
             while let Some(tree) = walk.next()? {
                 if let Some(doc) = doc_text(tree) {
-                    let place = doc.span().start(&map);
-                    writeln!(writer, "{}:{} {doc}", place.line, place.column)?;
+                    let start = doc.span().start(&map);
+                    writeln!(writer, "{}:{} {doc}", start.line, start.column)?;
                 }
                 print_item(state, tree, writer)?;
                 state = state.after(tree);

@@ -1,4 +1,4 @@
-//! Prints the doc comments of a source text, each by the place where it begins and the literal of its text, and after
+//! Prints the doc comments of a source text, each by its line and column and the literal of its text, and after
 //! them the keyword and the name of their item.
 //!
 //! `list_docs FILE` reads the file, `list_docs` standard input. Lines count from 1, columns count characters from 0.

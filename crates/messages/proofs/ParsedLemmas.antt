@@ -38,11 +38,11 @@ pub unparsed_may_fail : (T : Type 0) (text : List ℕ) (known : Option (List ℕ
     → map ≡ (if was_read {T = T} (Err error) then with_file new_map text else new_map)
     → IfLex error (λ fault. (fault.lo ≡ fault.hi) × FaultAt (next_lo new_map) text fault.lo)
     → (error ≡ MapFull → Fits new_map (length text) → ⊥)
-    → IfLex error (λ fault. (place : LineColumn) × (failure ≡ Fault place) × StartsAt map fault place)
+    → IfLex error (λ fault. (start : LineColumn) × (failure ≡ Fault start) × StartsAt map fault start)
     → (error ≡ MapFull → failure ≡ TooLong) → ((refused : AllocError) → error ≡ Memory refused → failure ≡ NoMemory)
     → MayFail text known known failure
-unparsed_may_fail T text known map (Lex fault) failure kept stands full (place, is, starts) too_long no_memory =
-    rw is (fault.lo, stands.1, fault_starts new_map map text fault place kept stands starts, Keeps-same known)
+unparsed_may_fail T text known map (Lex fault) failure kept stands full (start, is, starts) too_long no_memory =
+    rw is (fault.lo, stands.1, fault_starts new_map map text fault start kept stands starts, Keeps-same known)
 unparsed_may_fail T text known map MapFull failure kept stands full said too_long no_memory =
     rw (too_long refl) (full refl, Keeps-same known)
 unparsed_may_fail T text known map (Memory refused) failure kept stands full said too_long no_memory =

@@ -27,7 +27,7 @@ writing_failed error = if is_memory (error_kind error) then Memory else Write er
 -- 1 after a fault of the text, and 2 after any other failure
 abbrev pub failure_status : Failure → ℕ
 failure_status (Usage words) = 2
-failure_status (Fault place) = 1
+failure_status (Fault start) = 1
 failure_status (NotUtf8 byte) = 2
 failure_status MapFull = 2
 failure_status Memory = 2

@@ -11,7 +11,7 @@ use Rattle.messages.specs.declared.errors.Failure.TheVariants.{Usage, Fault, Not
 abbrev pub IsTextOf : List ℕ → Result (String Global) Failure → Type 0
 IsTextOf bytes (Ok text) = string_bytes text ≡ bytes
 IsTextOf bytes (Err (Usage words)) = ⊥
-IsTextOf bytes (Err (Fault place)) = ⊥
+IsTextOf bytes (Err (Fault start)) = ⊥
 IsTextOf bytes (Err (NotUtf8 byte)) = (IsUtf8 bytes → ⊥) × (byte ≡ utf8_valid_len bytes)
 IsTextOf bytes (Err MapFull) = ⊥
 IsTextOf bytes (Err Memory) = Unit {0}

@@ -7,10 +7,10 @@ use Rattle.messages.specs.declared.errors.Failure.{Failure}
 use Rattle.messages.specs.declared.errors.Failure.TheVariants.{Usage, Fault, NotUtf8, MapFull, Memory, Read, Write}
 
 -- `FILE:L:C: error: what`, the line and the column from 1
-abbrev pub at_place : List ℕ → LineColumn → List ℕ → List ℕ
-at_place path place what =
+abbrev pub at_line_column : List ℕ → LineColumn → List ℕ → List ℕ
+at_line_column path start what =
     path ++ (
-    codes ":" ++ (decimal place.line ++ (codes ":" ++ (decimal (place.column + 1) ++ (codes ": error: " ++ what))))
+    codes ":" ++ (decimal start.line ++ (codes ":" ++ (decimal (start.column + 1) ++ (codes ": error: " ++ what))))
     )
 
 -- `FILE: error: what`
@@ -21,7 +21,8 @@ of_file path what = path ++ (codes ": error: " ++ what)
 -- nobody reads any more nothing is said
 abbrev pub message : List ℕ → List ℕ → Failure → List ℕ
 message path reason (Usage words) = codes "usage: " ++ (words.now ++ codes "\n")
-message path reason (Fault place) = at_place path place (codes "no token stands here, or a delimiter has no match\n")
+message path reason (Fault start) =
+    at_line_column path start (codes "no token stands here, or a delimiter has no match\n")
 message path reason (NotUtf8 byte) = of_file path (codes "not UTF-8 at byte " ++ (decimal byte ++ codes "\n"))
 message path reason MapFull = of_file path (codes "the text is too long\n")
 message path reason Memory = of_file path (codes "out of memory\n")

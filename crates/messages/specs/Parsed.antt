@@ -12,15 +12,15 @@ use Rattle.messages.specs.declared.errors.Failure.TheVariants.{Usage, Fault, Not
 abbrev pub first : ℕ
 first = next_lo new_map
 
--- the place in the text where a position stands
-abbrev pub place_of : List ℕ → ℕ → LineColumn
-place_of text position = line_column text (position - first)
+-- line and column in the text of a position
+abbrev pub line_column_of : List ℕ → ℕ → LineColumn
+line_column_of text position = line_column text (position - first)
 
 -- at the text's fault, or since the text is too long, and nothing is written; or since memory ran out or a write failed
 abbrev pub MayFail : List ℕ → Option (List ℕ) → Option (List ℕ) → Failure → Type 0
 MayFail text old new (Usage words) = ⊥
-MayFail text old new (Fault place) =
-    (position : ℕ) × FaultAt first text position × (place ≡ place_of text position) × Keeps old new
+MayFail text old new (Fault start) =
+    (position : ℕ) × FaultAt first text position × (start ≡ line_column_of text position) × Keeps old new
 MayFail text old new (NotUtf8 byte) = ⊥
 MayFail text old new MapFull = (Fits new_map (length text) → ⊥) × Keeps old new
 MayFail text old new Memory = Unit {0}

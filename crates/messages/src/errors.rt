@@ -30,12 +30,12 @@ pub enum Failure {
 }
 
 impl Failure {
-    /// That the text of the error was not parsed into the map: its fault's place, that it is too long, or that
-    /// memory ran out.
+    /// That the text of the error was not parsed into the map: line and column of its fault, that it is too
+    /// long, or that memory ran out.
     pub fn unparsed(error: ParseError, map: &SourceMap) -> Failure
         requires { IfLex error (Holds map.now) }
-        ensures fault { IfLex error (λ fault. (place : LineColumn)
-            × (result ≡ Failure.Fault place) × StartsAt map.now fault place) }
+        ensures fault { IfLex error (λ fault. (start : LineColumn)
+            × (result ≡ Failure.Fault start) × StartsAt map.now fault start) }
         ensures map_full { error ≡ ParseError.MapFull → result ≡ Failure.MapFull }
         ensures memory { (refused : AllocError) → error ≡ ParseError.Memory refused → result ≡ Failure.Memory }
     {

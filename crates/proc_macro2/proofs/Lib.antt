@@ -4,7 +4,7 @@ pub use Rattle.pm_stream.proofs.SpanLemmas
 pub use Rattle.pm_stream.proofs.LineColumnLemmas
 pub use Rattle.lexical.proofs.TextLemmas
 pub use Rattle.pm_token.proofs.SpellingLemmas
-pub mod Places
+pub mod EventSpans
 pub mod RunLemmas
 pub mod GiveLemmas
 pub mod PieceStarts

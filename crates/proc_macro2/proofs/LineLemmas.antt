@@ -12,7 +12,7 @@ use Rattle.pm_stream.proofs.CoverLemmas.{onto-append}
 use Rattle.pm_stream.proofs.LawLemmas.{one_cover}
 use Rattle.pm_stream.proofs.TreeLemmas.{flattening-joined}
 use Rattle.proc_macro2.specs.Laws.{Gives}
-use Rattle.proc_macro2.proofs.Places.{bare, bare-append, said, said-append, said_parsed, same_from_said}
+use Rattle.proc_macro2.proofs.EventSpans.{bare, bare-append, said, said-append, said_parsed, same_from_said}
 use Rattle.proc_macro2.proofs.CutLemmas.{MayBreak, stand_cut}
 
 stand-append : (b : Bool) (us vs : List Piece) (r : List ℕ) → StandBefore b us (onto vs r)
@@ -32,7 +32,7 @@ stand_back b [] vs r e h = absurd (both_ways false refl e)
 stand_back b (x ∷ []) vs r e h = h.1
 stand_back b (x ∷ (y ∷ us)) vs r e h = stand_back false (y ∷ us) vs r e h.1
 
--- pieces that begin with no front mark stand at any place
+-- pieces that begin with no front mark stand at any position
 stand_later : (ps : List Piece) (r : List ℕ) → begins_with (0xFEFF ∷ []) (onto ps r) ≡ false → StandBefore true ps r
     → StandBefore false ps r
 stand_later [] r e h = tt

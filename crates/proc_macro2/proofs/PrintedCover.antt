@@ -20,7 +20,7 @@ use Rattle.pm_stream.specs.Shown.{is_shown}
 use Rattle.pm_stream.specs.WellSpaced.{follows_quote, follows_joint, fits, next_token, well_spaced}
 use Rattle.proc_macro2.proofs.PieceStarts.{tick_comment, no_comment, name_stands, alone_stands, joint_stands}
 use Rattle.proc_macro2.proofs.PieceStarts.{literal_stands, no_error}
-use Rattle.proc_macro2.proofs.Places.{bare, said}
+use Rattle.proc_macro2.proofs.EventSpans.{bare, said}
 
 -- ---- the pieces of a printed text
 

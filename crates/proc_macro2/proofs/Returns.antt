@@ -22,7 +22,7 @@ use Rattle.pm_stream.specs.Shown.{is_shown}
 use Rattle.pm_stream.specs.WellSpaced.{follows_quote, follows_joint, fits, next_token, well_spaced, IsWellSpaced}
 use Rattle.pm_stream.proofs.LawLemmas.{one_parse}
 use Rattle.proc_macro2.specs.Laws.{Gives}
-use Rattle.proc_macro2.proofs.Places.{bare, bare-expansion, said, said_onto, same_from_said}
+use Rattle.proc_macro2.proofs.EventSpans.{bare, bare-expansion, said, said_onto, same_from_said}
 use Rattle.proc_macro2.proofs.PieceStarts.{joins, quotes, joint_by, quoted_by}
 use Rattle.proc_macro2.proofs.PrintedCover.{pieces_onto, onto_printed, stand_printed, said_printed}
 

@@ -48,7 +48,7 @@ pub record IsRunOfDoc (run : List Piece) (tree : TokenTree) : Type 0 where
   pub gives : flattening trees ≡ doc_onto (extent_of tree).lo (extent_of tree).hi inner text []
   pub among : Contains (in_order trees) tree
 
--- the tree has a run of the pieces, which begin at base, and its span goes from the run's first place to its last
+-- the tree has a run of the pieces, which begin at base, and its span goes from the run's first position to its last
 pub record StandsOn (base : ℕ) (pieces : List Piece) (tree : TokenTree) : Type 0 where
   pub before : List Piece
   pub run : List Piece

@@ -28,14 +28,14 @@ OneStream = (base : ℕ) (source : List ℕ) (s t : Forest) → ParsesTo base so
 -- it parses or has a fault
 abbrev pub ParsesOrFails : Type 0
 ParsesOrFails = (base : ℕ) (source : List ℕ)
-    → ((stream : Forest) × ParsesTo base source stream) ⊎ ((place : ℕ) × FaultAt base source place)
+    → ((stream : Forest) × ParsesTo base source stream) ⊎ ((position : ℕ) × FaultAt base source position)
 
 -- and never both
 abbrev pub NeverBoth : Type 0
-NeverBoth = (base : ℕ) (source : List ℕ) (stream : Forest) (place : ℕ)
-    → ParsesTo base source stream → FaultAt base source place → ⊥
+NeverBoth = (base : ℕ) (source : List ℕ) (stream : Forest) (position : ℕ)
+    → ParsesTo base source stream → FaultAt base source position → ⊥
 
--- its fault has one place
+-- its fault has one position
 abbrev pub OneFault : Type 0
 OneFault = (base : ℕ) (source : List ℕ) (j k : ℕ) → FaultAt base source j → FaultAt base source k → j ≡ k
 

@@ -39,7 +39,7 @@ pub use pm_token::laws::{
 };
 
 /// A source has at most one cover by pieces, and parses to at most one stream. It parses or has a fault,
-/// never both and never neither, and its fault has one place.
+/// never both and never neither, and its fault has one position.
 pub fn one_cover()
     ensures cover { OneCover }
     ensures stream { OneStream }
@@ -87,7 +87,7 @@ pub fn broken_line()
 
 /// Each tree of a parsed stream stands on a run of the pieces that cover the source: a token on its
 /// piece, a group on the pieces from its opener through its closer, and each tree that a doc comment
-/// gives on the comment. Its span goes from the first place of the run to the last, and the text of
+/// gives on the comment. Its span goes from the first position of the run to the last, and the text of
 /// the span is that of the run (`gives-back`), in every map that extends the one after the parse.
 ///
 /// In `a (b) // c` the text of the group's span is `(b)`.

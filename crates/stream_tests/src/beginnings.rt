@@ -1,5 +1,5 @@
 //! The laws of parsed and printed streams, asked of many texts, of each beginning of each, and of the two parts into
-//! which each of its places cuts it.
+//! which each of its byte offsets cuts it.
 
 use pm_span::parts::bounds;
 use proc_macro2::{ParseError, SourceMap, TokenStream};
@@ -210,7 +210,7 @@ fn comes_back(alloc: Global, stream: &TokenStream) -> Result<bool, ParseError> {
 }
 
 /// Asserts that the text parses to a stream that comes back from its printed text, or else has a fault at one of its
-/// places; and whether it parses, where that is known.
+/// byte offsets; and whether it parses, where that is known.
 fn check_text(rt: &(impl Abort + AllocGlobal), text: &str, parses: Option<bool>) {
     let stream = parsed(rt.alloc(), text);
     if let Some(parses) = parses {
@@ -254,7 +254,7 @@ fn joined(alloc: Global, first: &str, second: &str) -> Result<String, AllocError
     format!(in alloc; "{first}\n{second}")
 }
 
-/// Asserts the laws of the text, of each of its beginnings, and of the two parts at each of its places.
+/// Asserts the laws of the text, of each of its beginnings, and of the two parts at each of its byte offsets.
 fn check_beginnings(rt: &(impl Abort + AllocGlobal), text: &str, parses: bool) {
     check_text(rt, text, Some(parses));
     check_joined(rt, text, "");

@@ -56,12 +56,12 @@ fn joined_texts_are_read_one_after_the_other(rt: HostRuntime) {
 fn a_front_mark_in_the_second_text_is_a_fault(rt: HostRuntime) {
     let mut map = SourceMap::new(rt.alloc());
     let parsed = TokenStream::from_str("a\n\u{FEFF}b", &mut map);
-    let place = match &parsed {
+    let start = match &parsed {
         Err(ParseError::Lex(fault)) => Some(fault.span().start(&map)),
         _ => None,
     };
-    let place = place.map(|place| (place.line, place.column));
-    assert_eq!(rt; place, Some((2, 0)));
+    let start = start.map(|start| (start.line, start.column));
+    assert_eq!(rt; start, Some((2, 0)));
 }
 
 #[test]

@@ -21,7 +21,7 @@ fn raw_name(alloc: Global, name: &str) -> Result<TokenStream, Fail> {
 }
 
 #[test]
-fn a_group_without_a_place_shows_no_span(rt: HostRuntime) -> Result<(), Fail> {
+fn a_group_at_0_to_0_shows_no_span(rt: HostRuntime) -> Result<(), Fail> {
     let alloc = rt.alloc();
     let nothing = empty_group(alloc, Delimiter::None);
     shows(

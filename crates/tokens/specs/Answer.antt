@@ -9,7 +9,7 @@ is_io (Ok x) = false
 is_io (Err Io) = true
 is_io (Err NotUtf8) = false
 is_io (Err MapFull) = false
-is_io (Err (Lex place)) = false
+is_io (Err (Lex start)) = false
 is_io (Err (Memory error)) = false
 
 -- whether it is about the whole input
@@ -18,7 +18,7 @@ is_on_input (Ok x) = true
 is_on_input (Err Io) = false
 is_on_input (Err NotUtf8) = true
 is_on_input (Err MapFull) = true
-is_on_input (Err (Lex place)) = true
+is_on_input (Err (Lex start)) = true
 is_on_input (Err (Memory error)) = false
 
 -- it is one that a read to the end may give
@@ -27,5 +27,5 @@ IsReadAnswer (Ok x) = Unit {0}
 IsReadAnswer (Err Io) = Unit {0}
 IsReadAnswer (Err NotUtf8) = ⊥
 IsReadAnswer (Err MapFull) = ⊥
-IsReadAnswer (Err (Lex place)) = ⊥
+IsReadAnswer (Err (Lex start)) = ⊥
 IsReadAnswer (Err (Memory error)) = Unit {0}

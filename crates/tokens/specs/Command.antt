@@ -26,7 +26,7 @@ usage = codes "usage: tokens print|spans\n"
 
 -- what is said of a fault
 abbrev pub fault_line : LineColumn → List ℕ
-fault_line place = codes "fault " ++ (decimal place.line ++ (codes ":" ++ (decimal place.column ++ codes "\n")))
+fault_line start = codes "fault " ++ (decimal start.line ++ (codes ":" ++ (decimal start.column ++ codes "\n")))
 
 -- what is said of a run
 abbrev pub message : Result Unit RunError → List ℕ
@@ -34,7 +34,7 @@ message (Ok x) = []
 message (Err Io) = codes "input or output failed\n"
 message (Err NotUtf8) = codes "not utf-8\n"
 message (Err MapFull) = codes "map full\n"
-message (Err (Lex place)) = fault_line place
+message (Err (Lex start)) = fault_line start
 message (Err (Memory error)) = codes "no memory\n"
 
 -- the status that a run ends with
@@ -43,5 +43,5 @@ status (Ok x) = 0
 status (Err Io) = 2
 status (Err NotUtf8) = 2
 status (Err MapFull) = 2
-status (Err (Lex place)) = 1
+status (Err (Lex start)) = 1
 status (Err (Memory error)) = 2

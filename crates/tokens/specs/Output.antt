@@ -36,8 +36,8 @@ pub record IsReadable (input : List ℕ) : Type 0 where
   pub fits : Fits new_map (length (chars input))
 
 -- the input's fault stands here, after so many of its characters
-pub record HasFaultAt (input : List ℕ) (place : LineColumn) : Type 0 where
+pub record HasFaultAt (input : List ℕ) (start : LineColumn) : Type 0 where
   pub text : IsUtf8 input
   pub before : ℕ
   pub fault : FaultAt (next_lo new_map) (chars input) (next_lo new_map + before)
-  pub at : place ≡ line_column (chars input) before
+  pub at : start ≡ line_column (chars input) before

@@ -61,7 +61,7 @@ pub record Runs (mode : OutputMode) (old : Seen) (answer : Result Unit RunError)
   pub io : IsTrue (is_io answer) → FailsToRead old new ⊎ FailsToWrite mode old new
   pub not_utf8 : answer ≡ Err NotUtf8 → IfSome old.left (λ input. ¬ IsUtf8 input)
   pub map_full : answer ≡ Err MapFull → IfSome old.left IsTooLong
-  pub lex : (place : LineColumn) → answer ≡ Err (Lex place) → IfSome old.left (λ input. HasFaultAt input place)
+  pub lex : (start : LineColumn) → answer ≡ Err (Lex start) → IfSome old.left (λ input. HasFaultAt input start)
   pub read : IsTrue (is_on_input answer) → IsReadOut old.left new.left
   pub unwritten : OnErr answer (IsFalse (is_io answer) → Keeps old.held new.held)
   pub flags : IsFalse (is_io answer) → (new.read_failed ≡ old.read_failed) × (new.write_failed ≡ old.write_failed)

@@ -19,23 +19,23 @@ kind (Ident i) = codes "ident"
 kind (Punct p) = codes "punct"
 kind (Literal l) = codes "literal"
 
--- a place, as `1:0`
-abbrev pub place_text : LineColumn → List ℕ
-place_text place = decimal place.line ++ (codes ":" ++ decimal place.column)
+-- a line and a column, as `1:0`
+abbrev pub line_column_text : LineColumn → List ℕ
+line_column_text at = decimal at.line ++ (codes ":" ++ decimal at.column)
 
--- the line between two places that ends with a word
+-- the line between two lines and columns that ends with a word
 abbrev pub line_text : LineColumn → LineColumn → List ℕ → List ℕ
 line_text start end word =
-    place_text start ++ (codes "-" ++ (place_text end ++ (codes " " ++ (word ++ codes "\n"))))
+    line_column_text start ++ (codes "-" ++ (line_column_text end ++ (codes " " ++ (word ++ codes "\n"))))
 
--- the place in the source where a position of a new map stands
-abbrev pub place_of : List ℕ → ℕ → LineColumn
-place_of source position = line_column source (position - next_lo new_map)
+-- line and column in the source of a position of a new map
+abbrev pub line_column_of : List ℕ → ℕ → LineColumn
+line_column_of source position = line_column source (position - next_lo new_map)
 
 -- the line of a tree of the source
 abbrev pub span_line : List ℕ → TokenTree → List ℕ
 span_line source tree =
-    line_text (place_of source (extent_of tree).lo) (place_of source (extent_of tree).hi) (kind tree)
+    line_text (line_column_of source (extent_of tree).lo) (line_column_of source (extent_of tree).hi) (kind tree)
 
 -- the source alone was read into a new map, and parses to the stream
 pub record HasRead (map : Files) (source : List ℕ) (stream : Forest) : Type 0 where
@@ -62,7 +62,8 @@ line_of tree = record { span = extent_of tree; kind = kind_of tree }
 
 -- the text of a line about the source
 abbrev pub line_in : List ℕ → Line → List ℕ
-line_in source line = line_text (place_of source line.span.lo) (place_of source line.span.hi) (kind_word line.kind)
+line_in source line =
+    line_text (line_column_of source line.span.lo) (line_column_of source line.span.hi) (kind_word line.kind)
 
 -- the span of a line stands in the source, which is the first file of a map
 pub record IsInSource (source : List ℕ) (line : Line) : Type 0 where

@@ -29,7 +29,7 @@ use std::alloc::{AllocError, Global};
 /// The whole output stands before its first byte is written. `Io` is answered where a read failed,
 /// and nothing is written then, or where a write failed or took nothing, and a beginning of the
 /// output is. Each other refusal writes nothing: `NotUtf8`, `MapFull` and `Lex`, which has the
-/// place of the fault, are about the whole input, and `Memory` comes where a growth was refused.
+/// line and column of the fault, are about the whole input, and `Memory` comes where a growth was refused.
 ///
 /// For `Print`, `a+b` gives `a + b` and a line feed, for `Spans` the lines `1:0-1:1 ident`,
 /// `1:1-1:2 punct` and `1:2-1:3 ident`; `(]` is refused with `Lex` at line 1, column 1.
@@ -53,8 +53,8 @@ fn output_of(alloc: Global, mode: OutputMode, input: Vec<u8>) -> Result<Vec<Stri
     ensures io { IsFalse (is_io result) }
     ensures not_utf8 { (result ≡ Err RunError.NotUtf8) ↔ (¬ IsUtf8 input.items) }
     ensures map_full { (result ≡ Err RunError.MapFull) ↔ IsTooLong input.items }
-    ensures lex { (place : LineColumn) → result ≡ Err (RunError.Lex place)
-        → HasFaultAt input.items place }
+    ensures lex { (start : LineColumn) → result ≡ Err (RunError.Lex start)
+        → HasFaultAt input.items start }
 
     // That a growth was refused can't be stated, only which inputs may come so far.
     ensures memory { result ≡ Err (RunError.Memory alloc_error) → IsReadable input.items }
@@ -63,7 +63,7 @@ fn output_of(alloc: Global, mode: OutputMode, input: Vec<u8>) -> Result<Vec<Stri
         return Err(RunError::NotUtf8);
     };
     match mode {
-        // What is printed has no positions, so trees and a map are wanted only where the place of a fault is told.
+        // What is printed has no positions, so trees and a map are wanted only for line and column of a fault.
         OutputMode::Print => match reprint(alloc, text.as_str()) {
             Ok(printed) => Ok(ended(alloc, printed)?),
             Err(ParseError::Lex(_)) => Err(refusal_of(alloc, text.as_str())),
@@ -84,7 +84,7 @@ fn output_of(alloc: Global, mode: OutputMode, input: Vec<u8>) -> Result<Vec<Stri
 // where the text doesn't fit the map, or memory runs out.
 fn refusal_of(alloc: Global, text: &str) -> RunError
     requires { (stream : Forest) → ParsesTo (next_lo new_map) (chars text.now) stream → ⊥ }
-    ensures lex { (place : LineColumn) → result ≡ RunError.Lex place → HasFaultAt text.now place }
+    ensures lex { (start : LineColumn) → result ≡ RunError.Lex start → HasFaultAt text.now start }
     ensures map_full { (result ≡ RunError.MapFull) ↔ (Fits new_map (length (chars text.now)) → ⊥) }
     ensures others { (result ≢ RunError.Io) × (result ≢ RunError.NotUtf8) }
 {
@@ -98,8 +98,8 @@ fn refusal_of(alloc: Global, text: &str) -> RunError
 // Why a run is refused whose text wasn't parsed into the map.
 fn refusal(error: ParseError, map: &SourceMap) -> RunError
     requires { IfLex error (Holds map.now) }
-    ensures lex { IfLex error (λ fault. (place : LineColumn)
-        × (result ≡ RunError.Lex place) × StartsAt map.now fault place) }
+    ensures lex { IfLex error (λ fault. (start : LineColumn)
+        × (result ≡ RunError.Lex start) × StartsAt map.now fault start) }
     ensures map_full { (result ≡ RunError.MapFull) ↔ (error ≡ ParseError.MapFull) }
     ensures memory { (result ≡ RunError.Memory alloc_error)
         ↔ (error ≡ ParseError.Memory alloc_error) }

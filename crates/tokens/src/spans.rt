@@ -3,7 +3,8 @@ ghost use Rattle.std.specs.Prelude.{◌≡◌, ◌++◌, ℕ, List, All, IfOk, O
 ghost use Rattle.proc_macro2.specs.Files.{Holds, new_map, with_file};
 ghost use Rattle.proc_macro2.specs.HeldSpans.{HoldsAll};
 ghost use Rattle.proc_macro2.specs.InOrder.{in_order};
-ghost use Rattle.tokens.specs.Spans.{HasRead, IsInSource, kind_of, kind_word, line_in, line_of, line_text, place_text};
+ghost use Rattle.tokens.specs.Spans.{HasRead, IsInSource, kind_of, kind_word, line_column_text, line_in, line_of};
+ghost use Rattle.tokens.specs.Spans.{line_text};
 ghost use Rattle.tokens.specs.Spans.{span_line};
 
 use itoa::Buffer;
@@ -37,7 +38,7 @@ enum TreeKind {
 
 /// A line for each tree of the stream, each group before those inside it.
 ///
-/// A line has the places where the tree begins and ends, as lines from 1 on and columns in characters
+/// A line has line and column where the tree begins and ends, lines from 1 on and columns in characters
 /// from 0 on, and its kind. Of `a (b)` they are `1:0-1:1 ident`, `1:2-1:5 group` and
 /// `1:3-1:4 ident`. By the number of `bytes` of the source it guesses how many they are. They come
 /// in blocks of whole lines, and the stream's memory is given back before the first is made.
@@ -119,7 +120,7 @@ fn kind_of(tree: &TokenTree) -> TreeKind
     }
 }
 
-// Adds the line of a tree of this kind between two places.
+// Adds the line of a tree of this kind between two lines and columns.
 fn push_line(
     text: &mut String,
     start: LineColumn,
@@ -129,21 +130,21 @@ fn push_line(
     ensures { OnOk result (string_bytes text.new
         ≡ string_bytes text.old ++ line_text start end (kind_word kind)) }
 {
-    push_place(text, start)?;
+    push_line_column(text, start)?;
     text.push_str("-")?;
-    push_place(text, end)?;
+    push_line_column(text, end)?;
     text.push_str(line_end(kind))
 }
 
-// Adds a place, as `1:0`.
-fn push_place(text: &mut String, place: LineColumn) -> Result<(), AllocError>
+// Adds a line and a column, as `1:0`.
+fn push_line_column(text: &mut String, at: LineColumn) -> Result<(), AllocError>
     ensures { OnOk result (string_bytes text.new
-        ≡ string_bytes text.old ++ place_text place) }
+        ≡ string_bytes text.old ++ line_column_text at) }
 {
     let mut digits = Buffer::new();
-    text.push_str(digits.format(place.line))?;
+    text.push_str(digits.format(at.line))?;
     text.push_str(":")?;
-    text.push_str(digits.format(place.column))
+    text.push_str(digits.format(at.column))
 }
 
 // A space, the word for a kind, and the line's end.

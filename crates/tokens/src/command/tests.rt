@@ -81,7 +81,7 @@ fn each_input_has_its_output_message_and_status(rt: HostRuntime) {
 }
 
 #[test]
-fn each_tree_of_a_row_has_its_places(rt: HostRuntime) {
+fn each_tree_of_a_row_has_its_extent(rt: HostRuntime) {
     check_input(&rt, "spans", ROW, LINES, b"", 0);
 }
 
@@ -260,13 +260,13 @@ fn check_refusal(rt: &(impl Abort + AllocGlobal), error: RunError, said: &[u8], 
 
 #[test]
 fn each_refusal_has_its_message_and_status(rt: HostRuntime) {
-    let place = LineColumn {
+    let start = LineColumn {
         line: 12,
         column: 0,
     };
     check_refusal(&rt, RunError::Io, FAILED, 2);
     check_refusal(&rt, RunError::NotUtf8, b"not utf-8\n", 2);
     check_refusal(&rt, RunError::MapFull, b"map full\n", 2);
-    check_refusal(&rt, RunError::Lex(place), b"fault 12:0\n", 1);
+    check_refusal(&rt, RunError::Lex(start), b"fault 12:0\n", 1);
     check_refusal(&rt, RunError::Memory(AllocError), b"no memory\n", 2);
 }

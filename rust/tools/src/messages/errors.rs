@@ -25,8 +25,8 @@ pub enum Failure {
 }
 
 impl Failure {
-    /// That the text of the error was not parsed into the map: its fault's place, that it is too long, or that
-    /// memory ran out.
+    /// That the text of the error was not parsed into the map: line and column of its fault, that it is too
+    /// long, or that memory ran out.
     pub fn unparsed(error: ParseError, map: &SourceMap) -> Failure
     {
         match error {

@@ -45,7 +45,7 @@ pub fn say<E: Write>(alloc: Global, path: &str, failure: &Failure, errors: &mut 
 {
     match failure {
         Failure::Usage(usage) => writeln!(errors, "usage: {usage}"),
-        Failure::Fault(place) => say_at(path, *place, FAULT, errors),
+        Failure::Fault(start) => say_at(path, *start, FAULT, errors),
         Failure::NotUtf8(byte) => writeln!(errors, "{path}: error: not UTF-8 at byte {byte}"),
         Failure::MapFull => writeln!(errors, "{path}: error: the text is too long"),
         Failure::Memory => writeln!(errors, "{path}: error: out of memory"),
@@ -66,18 +66,18 @@ pub fn say<E: Write>(alloc: Global, path: &str, failure: &Failure, errors: &mut 
 // What is said of a text's fault.
 const FAULT: &str = "no token stands here, or a delimiter has no match";
 
-/// Says on `errors` what is wrong at this place of the file at this path: `FILE:L:C: error: what`, line and column from
-/// 1, the column in characters.
+/// Says on `errors` what is wrong at this line and column of the file at this path: `FILE:L:C: error: what`, line and
+/// column from 1, the column in characters.
 pub fn say_at<D: Display, E: Write>(
     path: &str,
-    place: LineColumn,
+    start: LineColumn,
     what: D,
     errors: &mut E,
 ) -> io::Result<()>
 {
-    let line = place.line;
+    let line = start.line;
     // As wide as the sum needs.
-    let column = place.column as u128 + 1;
+    let column = start.column as u128 + 1;
     writeln!(errors, "{path}:{line}:{column}: error: {what}")
 }
 

@@ -18,7 +18,7 @@ use proved::shim::alloc::{AllocError, Global};
 /// The whole output stands before its first byte is written. `Io` is answered where a read failed,
 /// and nothing is written then, or where a write failed or took nothing, and a beginning of the
 /// output is. Each other refusal writes nothing: `NotUtf8`, `MapFull` and `Lex`, which has the
-/// place of the fault, are about the whole input, and `Memory` comes where a growth was refused.
+/// line and column of the fault, are about the whole input, and `Memory` comes where a growth was refused.
 ///
 /// For `Print`, `a+b` gives `a + b` and a line feed, for `Spans` the lines `1:0-1:1 ident`,
 /// `1:1-1:2 punct` and `1:2-1:3 ident`; `(]` is refused with `Lex` at line 1, column 1.
@@ -43,7 +43,7 @@ fn output_of(alloc: Global, mode: OutputMode, input: Vec<u8>) -> Result<Vec<Stri
         return Err(RunError::NotUtf8);
     };
     match mode {
-        // What is printed has no positions, so trees and a map are wanted only where the place of a fault is told.
+        // What is printed has no positions, so trees and a map are wanted only for line and column of a fault.
         OutputMode::Print => match reprint(alloc, text.as_str()) {
             Ok(printed) => Ok(ended(alloc, printed)?),
             Err(ParseError::Lex(_)) => Err(refusal_of(alloc, text.as_str())),

@@ -23,18 +23,18 @@ pub fn say<E: ByteSink>(errors: &mut E, answer: &Result<(), RunError>)
         Err(RunError::Io) => write_all(errors, b"input or output failed\n"),
         Err(RunError::NotUtf8) => write_all(errors, b"not utf-8\n"),
         Err(RunError::MapFull) => write_all(errors, b"map full\n"),
-        Err(RunError::Lex(place)) => say_fault(errors, *place),
+        Err(RunError::Lex(start)) => say_fault(errors, *start),
         Err(RunError::Memory(_)) => write_all(errors, b"no memory\n"),
     };
 }
 
 // Says where a fault stands.
-fn say_fault<E: ByteSink>(errors: &mut E, place: LineColumn) -> Result<(), RunError>
+fn say_fault<E: ByteSink>(errors: &mut E, start: LineColumn) -> Result<(), RunError>
 {
     write_all(errors, b"fault ")?;
-    say_number(errors, place.line)?;
+    say_number(errors, start.line)?;
     write_all(errors, b":")?;
-    say_number(errors, place.column)?;
+    say_number(errors, start.column)?;
     write_all(errors, b"\n")
 }
 

@@ -14,8 +14,8 @@ pub loop-walk-init : goal.loop-walk-init
 loop-walk-init g c =
     rw c.walk-walk.ensures (inside_line_columns _ _ (rw c.new-map.ensures at c.in-Ok.ensures.ok), λ new h. h)
 
-pub start-place-requires : goal.start-place-requires
-start-place-requires g c =
+pub start-start-requires : goal.start-start-requires
+start-start-requires g c =
     let left = rw (rw c.in-Some.is at c.in_ok-tree-in-Ok.ensures.ok) at c.loop-walk.invariant.0 in
     let literal = (rw c.in-Some-doc_text.ensures.trees.2 at left.0).1.1.0 in
     rw (c.in-Ok.ensures.kept, c.new-map.ensures, c.span.ensures.value) literal.0
@@ -30,9 +30,9 @@ loop-walk-preserved g c =
     (line_of_literal (chars c.args.text.now) (doc_of c.in-Some.tree.now)) =
     elim c.match-doc_text.branch [
       | in-Some-doc_text+in_ok-writeln-in-Ok w ↦
-          let starts = rw (c.in-Ok.ensures.kept, c.new-map.ensures, w.span.ensures.value) at w.start-place.ensures in
-          let place = (rw w.in-Some-doc_text.ensures.trees.2 at left.0).1.1.0.1 _ starts in
-          rw (w.writer-is, ← w.in-Some-doc_text.ensures.value) (rw place at w.in_ok-writeln-in-Ok.ensures.bytes)
+          let starts = rw (c.in-Ok.ensures.kept, c.new-map.ensures, w.span.ensures.value) at w.start-start.ensures in
+          let start = (rw w.in-Some-doc_text.ensures.trees.2 at left.0).1.1.0.1 _ starts in
+          rw (w.writer-is, ← w.in-Some-doc_text.ensures.value) (rw start at w.in_ok-writeln-in-Ok.ensures.bytes)
       | in_default-doc_text w ↦
           rw (w.writer-is, ← (rw w.in_default-doc_text.is at c.doc_text.ensures.value)) (Appends-nil _)
     ] in

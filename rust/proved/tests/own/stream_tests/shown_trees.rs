@@ -26,7 +26,7 @@ fn raw_name(alloc: Global, name: &str) -> Result<TokenStream, Fail> {
 }
 
 #[test]
-fn a_group_without_a_place_shows_no_span() -> Result<(), Fail> {
+fn a_group_at_0_to_0_shows_no_span() -> Result<(), Fail> {
     let rt = HostRuntime;
     let alloc = rt.alloc();
     let nothing = empty_group(alloc, Delimiter::None);

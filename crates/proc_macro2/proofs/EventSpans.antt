@@ -1,4 +1,4 @@
--- Events without their places, and streams with the places of other events.
+-- Events without their spans, and streams with the spans of other events.
 use Rattle.std.proofs.Common.{◌≡◌, ℕ, ◌+◌, true, false, List, [], ◌∷◌, ◌++◌, length, refl, sym, ap, ap₂, ◌∙◌}
 use Rattle.lexical.specs.Token.{Token}
 use Rattle.lexical.specs.Piece.{Kind, Piece, FrontMark, Gap, Doc, Open, Close, Leaf}
@@ -9,7 +9,7 @@ use Rattle.pm_stream.specs.Forest.{Forest, nil, leaf, group, flat_onto, flatteni
 use Rattle.pm_stream.specs.Parsing.{ParsesTo}
 use Rattle.pm_stream.specs.Same.{erased, Same}
 
--- ---- events without places
+-- ---- events without spans
 
 abbrev pub bare : List Event → List Event
 bare [] = []
@@ -17,7 +17,7 @@ bare (One token lo hi ∷ es) = One token 0 0 ∷ bare es
 bare (Opens d lo ∷ es) = Opens d 0 ∷ bare es
 bare (Closes d hi ∷ es) = Closes d 0 ∷ bare es
 
--- what the pieces say, without places
+-- what the pieces say, without spans
 abbrev pub said_onto : Kind → List Event → List Event
 said_onto FrontMark es = es
 said_onto Gap es = es
@@ -63,7 +63,7 @@ pub said-append : (us vs : List Piece) → said (us ++ vs) ≡ said us ++ said v
 said-append [] vs = refl
 said-append (x ∷ us) vs = ap (said_onto x.0) (said-append us vs) ∙ said_onto-append x.0 (said us) (said vs)
 
--- ---- a stream with the places of other events
+-- ---- a stream with the spans of other events
 
 one_like : (es : List Event) (t : Token) (fs : List Event) → bare es ≡ One t 0 0 ∷ fs
     → (lo hi : ℕ) × (more : List Event) × (es ≡ One t lo hi ∷ more) × (bare more ≡ fs)
