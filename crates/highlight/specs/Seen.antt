@@ -30,14 +30,14 @@ unescaped name =
     else (if pointwise nat_eq name (codes "quot") then codes "\"" else [])))
 
 -- where a reader stands: in text, in a tag, or in an escape of which these bytes are read
-pub data Place : Type 0 where
-  InText : Place
-  InTag : Place
-  InEscape : List ℕ → Place
+pub data ReaderState : Type 0 where
+  InText : ReaderState
+  InTag : ReaderState
+  InEscape : List ℕ → ReaderState
 
 -- what is seen from there: tags are left out, and an escape, which `;` (59) ends, is what it stands for
-abbrev pub seen : Format → Place → List ℕ → List ℕ
-seen format place [] = []
+abbrev pub seen : Format → ReaderState → List ℕ → List ℕ
+seen format state [] = []
 seen format InText (c ∷ rest) =
     if opens_tag format c then seen format InTag rest
     else (if opens_escape format c then seen format (InEscape []) rest else c ∷ seen format InText rest)

@@ -11,7 +11,7 @@ use crate::style::Style;
 use proc_macro2::PieceKind;
 use std::alloc::{AllocError, Global};
 
-/// The delimiters before a place of a text, with the style of each so far.
+/// The delimiters before a byte offset of a text, with the style of each so far.
 #[derive(Drop)]
 pub struct Nesting {
     // An opener counts as never closed until a closer matches it.

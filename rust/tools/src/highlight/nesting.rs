@@ -7,7 +7,7 @@ use crate::highlight::style::Style;
 use proved::proc_macro2::PieceKind;
 use proved::shim::alloc::{AllocError, Global};
 
-/// The delimiters before a place of a text, with the style of each so far.
+/// The delimiters before a byte offset of a text, with the style of each so far.
 pub struct Nesting {
     // An opener counts as never closed until a closer matches it.
     styles: Vec<Style>,
