@@ -144,6 +144,8 @@ try "the Cargo package without the compiler's tokens" package test --offline --q
 try "the Cargo package with span locations" package test --offline --quiet --features span-locations
 try "the Cargo package with what is exempt from semantic versioning" exempt test --offline --quiet
 try "the documents of the Cargo package" documented_package
+is_small() { [ "$(cat proc-macro2/src/*.rs | grep -vcE '^\s*(//.*)?$')" -le 1200 ]; }
+try "the Cargo package has at most 1,200 lines, beside blank ones and comments" is_small
 if cargo clippy --version > /dev/null 2>&1; then
     try "clippy on the Cargo package" package clippy --offline --quiet --all-targets -- -D warnings
     try "clippy on it with span locations" \

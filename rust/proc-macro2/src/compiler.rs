@@ -3,6 +3,7 @@
 use crate::LineColumn;
 use crate::{LexError, TokenTree};
 use proved::pm_span::Span as Place;
+use std::fmt::{self, Debug};
 use std::panic;
 use std::str::FromStr;
 use std::sync::atomic::{AtomicU8, Ordering};
@@ -33,6 +34,12 @@ fn look() -> bool {
     let inside = proc_macro::is_available();
     WHERE.store(if inside { INSIDE } else { OUTSIDE }, Ordering::Relaxed);
     inside
+}
+
+/// Does what is done inside macros alone, out of the way of all other code.
+#[cold]
+pub(crate) fn inside_alone<T>(act: impl FnOnce() -> T) -> T {
+    act()
 }
 
 /// Has all new tokens be the wrapper's own.
@@ -90,6 +97,12 @@ impl Stream {
     pub(crate) fn finish(mut self) -> proc_macro::TokenStream {
         self.settle();
         self.stream
+    }
+}
+
+impl Debug for Stream {
+    fn fmt(&self, f: &mut fmt::Formatter) -> fmt::Result {
+        self.clone().finish().fmt(f)
     }
 }
 

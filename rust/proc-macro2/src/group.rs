@@ -1,11 +1,9 @@
 //! Groups of trees.
-use crate::compiler;
 use crate::extra::DelimSpan;
 use crate::map::sure;
-use crate::print;
-use crate::repr::{token, Repr};
+use crate::repr::{debug, token, Repr};
 use crate::span::Repr as SpanRepr;
-use crate::{Delimiter, Span, TokenStream};
+use crate::{compiler, print, Delimiter, Span, TokenStream};
 use proc_macro::Delimiter as CompilerDelimiter;
 use proved::pm_stream::Group as Own;
 use std::fmt::{self, Debug, Display};
@@ -89,11 +87,4 @@ impl Display for Group {
     }
 }
 
-impl Debug for Group {
-    fn fmt(&self, f: &mut fmt::Formatter) -> fmt::Result {
-        match &self.repr {
-            Repr::Compiler(group) => Debug::fmt(group, f),
-            Repr::Own(group) => print::show_group(group, f),
-        }
-    }
-}
+debug!(Group, group, f => print::show_group(group, f));

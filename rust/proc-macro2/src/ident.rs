@@ -1,9 +1,8 @@
 //! Identifiers.
-use crate::compiler;
-use crate::print;
+use crate::compiler::inside_alone;
 use crate::repr::{token, Repr};
 use crate::span::Repr as SpanRepr;
-use crate::Span;
+use crate::{compiler, print, Span};
 use proved::pm_span::Span as Place;
 use proved::pm_token::{Ident as Own, IdentError};
 use proved::shim::alloc::Global;
@@ -97,7 +96,7 @@ impl PartialEq for Ident {
     fn eq(&self, other: &Ident) -> bool {
         match (&self.repr, &other.repr) {
             (Repr::Own(ident), Repr::Own(other)) => ident == other,
-            _ => is_same(self, other),
+            _ => inside_alone(|| self.cmp(other) == Ordering::Equal),
         }
     }
 }
@@ -108,19 +107,9 @@ impl<T: ?Sized + AsRef<str>> PartialEq<T> for Ident {
     fn eq(&self, other: &T) -> bool {
         match &self.repr {
             Repr::Own(ident) => ident.eq_str(other.as_ref()),
-            Repr::Compiler(ident) => is_text(ident, other.as_ref()),
+            Repr::Compiler(ident) => inside_alone(|| ident.to_string() == other.as_ref()),
         }
     }
-}
-
-#[cold]
-fn is_same(one: &Ident, other: &Ident) -> bool {
-    one.cmp(other) == Ordering::Equal
-}
-
-#[cold]
-fn is_text(ident: &proc_macro::Ident, text: &str) -> bool {
-    ident.to_string() == text
 }
 
 impl Eq for Ident {}

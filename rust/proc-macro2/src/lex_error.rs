@@ -1,5 +1,5 @@
 //! Why a text is refused.
-use crate::repr::Repr;
+use crate::repr::{debug, Repr};
 use crate::Span;
 use proved::pm_span::Span as Place;
 use std::error::Error;
@@ -31,14 +31,7 @@ impl LexError {
     }
 }
 
-impl Debug for LexError {
-    fn fmt(&self, f: &mut fmt::Formatter) -> fmt::Result {
-        match &self.repr {
-            Repr::Compiler(error) => Debug::fmt(error, f),
-            Repr::Own(place) => f.debug_struct("LexError").field("span", &Span::own(*place)).finish(),
-        }
-    }
-}
+debug!(LexError, place, f => f.debug_struct("LexError").field("span", &Span::own(*place)).finish());
 
 impl Display for LexError {
     fn fmt(&self, f: &mut fmt::Formatter) -> fmt::Result {

@@ -1,18 +1,13 @@
 //! Literals.
-use crate::compiler;
-use crate::lex_error::LexError;
 use crate::map::{self, sure};
-use crate::print;
-use crate::repr::{token, Repr};
+use crate::repr::{debug, token, Repr};
 use crate::span::Repr as SpanRepr;
-use crate::Span;
-#[cfg(procmacro2_semver_exempt)]
-use proved::literal_escaper::EscapeError;
-#[cfg(procmacro2_semver_exempt)]
-use proved::pm_token::ConversionErrorKind as OwnErrorKind;
+use crate::{compiler, print, LexError, Span};
 use proved::pm_span::Span as Place;
 use proved::pm_token::Literal as Own;
 use proved::shim::alloc::Global;
+#[cfg(procmacro2_semver_exempt)]
+use proved::{literal_escaper::EscapeError, pm_token::ConversionErrorKind as OwnErrorKind};
 use std::ffi::CStr;
 use std::fmt::{self, Debug, Display};
 use std::ops::RangeBounds;
@@ -26,19 +21,13 @@ pub struct Literal {
 
 token!(Literal, Own);
 
-/// A literal of the compiler's.
-#[cold]
-fn inside(make: impl FnOnce() -> proc_macro::Literal) -> Literal {
-    Literal::compiler(make())
-}
-
 macro_rules! literals {
     ($($(#[$doc:meta])* $name:ident($value:ident: $type:ty) => $given:expr;)*) => {$(
         $(#[$doc])*
         #[inline]
         pub fn $name($value: $type) -> Literal {
             if compiler::inside() {
-                inside(|| proc_macro::Literal::$name($value))
+                compiler::inside_alone(|| Literal::compiler(proc_macro::Literal::$name($value)))
             } else {
                 Literal::own(sure(Own::$name(Global, $given)))
             }
@@ -230,11 +219,4 @@ impl Display for Literal {
     }
 }
 
-impl Debug for Literal {
-    fn fmt(&self, f: &mut fmt::Formatter) -> fmt::Result {
-        match &self.repr {
-            Repr::Compiler(literal) => Debug::fmt(literal, f),
-            Repr::Own(literal) => print::show_literal(literal, f),
-        }
-    }
-}
+debug!(Literal, literal, f => print::show_literal(literal, f));

@@ -39,11 +39,8 @@ impl Write for Chunks<'_, '_> {
 
 /// Prints a value in chunks.
 pub(crate) fn in_chunks(value: &impl shim::fmt::Display, f: &mut Formatter) -> Result {
-    let mut chunks = Chunks {
-        out: f,
-        bytes: [0; CHUNK],
-        used: 0,
-    };
+    let (out, bytes, used) = (f, [0; CHUNK], 0);
+    let mut chunks = Chunks { out, bytes, used };
     shim::fmt::print(value, &mut chunks)?;
     chunks.flush()
 }

@@ -1,8 +1,7 @@
 //! Punctuation marks.
-use crate::compiler;
 use crate::repr::{token, Repr};
 use crate::span::Repr as SpanRepr;
-use crate::{Spacing, Span};
+use crate::{compiler, Spacing, Span};
 use proved::pm_token::Punct as Own;
 use std::fmt::{self, Debug, Display};
 
@@ -25,10 +24,8 @@ impl Punct {
     pub fn new(ch: char, spacing: Spacing) -> Punct {
         assert!(Own::is_punct_char(ch), "unsupported proc macro punctuation character {ch:?}");
         if compiler::inside() {
-            let spacing = match spacing {
-                Spacing::Alone => proc_macro::Spacing::Alone,
-                Spacing::Joint => proc_macro::Spacing::Joint,
-            };
+            let is_joint = spacing == Spacing::Joint;
+            let spacing = if is_joint { proc_macro::Spacing::Joint } else { proc_macro::Spacing::Alone };
             return Punct::compiler(proc_macro::Punct::new(ch, spacing));
         }
         Punct::own(Own::new(ch, spacing))
@@ -46,10 +43,8 @@ impl Punct {
     pub fn spacing(&self) -> Spacing {
         match &self.repr {
             Repr::Own(punct) => punct.spacing(),
-            Repr::Compiler(punct) => match punct.spacing() {
-                proc_macro::Spacing::Alone => Spacing::Alone,
-                proc_macro::Spacing::Joint => Spacing::Joint,
-            },
+            Repr::Compiler(punct) if punct.spacing() == proc_macro::Spacing::Joint => Spacing::Joint,
+            Repr::Compiler(_) => Spacing::Alone,
         }
     }
 }

@@ -1,12 +1,10 @@
 //! Streams of token trees.
-use crate::compiler;
-use crate::lex_error::LexError;
+use crate::compiler::{self, inside_alone};
 use crate::map::{self, sure};
 use crate::print::{self, ShownStream};
-use crate::repr::Repr;
-use crate::{Group, Ident, Literal, Punct, TokenTree};
-use proved::pm_stream::token_stream::IntoIter as OwnIter;
-use proved::pm_stream::{TokenStream as Own, TokenTree as OwnTree};
+use crate::repr::{debug, Repr};
+use crate::{Group, Ident, LexError, Literal, Punct, TokenTree};
+use proved::pm_stream::{token_stream::IntoIter as OwnIter, TokenStream as Own, TokenTree as OwnTree};
 use proved::shim::alloc::Global;
 use std::fmt::{self, Debug, Display};
 use std::str::FromStr;
@@ -22,15 +20,10 @@ impl TokenStream {
     #[inline]
     pub fn new() -> TokenStream {
         if compiler::inside() {
-            TokenStream::new_inside()
+            inside_alone(|| TokenStream::compiler(proc_macro::TokenStream::new()))
         } else {
             TokenStream::own(Own::new(Global))
         }
-    }
-
-    #[cold]
-    fn new_inside() -> TokenStream {
-        TokenStream::compiler(proc_macro::TokenStream::new())
     }
 
     pub(crate) fn compiler(stream: proc_macro::TokenStream) -> TokenStream {
@@ -122,7 +115,7 @@ impl Extend<TokenTree> for TokenStream {
     fn extend<I: IntoIterator<Item = TokenTree>>(&mut self, trees: I) {
         let trees = trees.into_iter();
         match &mut self.repr {
-            Repr::Compiler(stream) => push_all(stream, trees),
+            Repr::Compiler(stream) => inside_alone(|| trees.for_each(|tree| stream.push(tree))),
             Repr::Own(own) => sure(own.extend_trees(trees.map(into_own))),
         }
     }
@@ -162,14 +155,7 @@ impl Display for TokenStream {
     }
 }
 
-impl Debug for TokenStream {
-    fn fmt(&self, f: &mut fmt::Formatter) -> fmt::Result {
-        match &self.repr {
-            Repr::Compiler(stream) => Debug::fmt(&stream.clone().finish(), f),
-            Repr::Own(stream) => Debug::fmt(&ShownStream(stream), f),
-        }
-    }
-}
+debug!(TokenStream, stream, f => Debug::fmt(&ShownStream(stream), f));
 
 /// The trees of a stream that are left, in order. A group comes whole.
 #[derive(Clone)]
@@ -208,11 +194,6 @@ impl Iterator for IntoIter {
             Repr::Compiler(trees) => trees.size_hint(),
         }
     }
-}
-
-#[cold]
-fn push_all(stream: &mut compiler::Stream, trees: impl Iterator<Item = TokenTree>) {
-    trees.for_each(|tree| stream.push(tree));
 }
 
 /// A tree of the compiler's.
