@@ -4,9 +4,10 @@
 Usage: rust/fuzz.py --twin TWIN, and the words of bench/fuzz.py
 
 The sides are `tokens` and `conformance` as cargo builds them of rust/tools and rust/proved, the same programs as Rattle
-built them, in crates/tokens/out and crates/conformance/out or where `--tokens` and `--conformance` say, and TWIN, over
-the Rust crate. bench/fuzz.py makes the texts and compares cargo's builds with the twin: all that it says goes for this
-too. Besides, each answer of cargo's builds that isn't Rattle's, byte for byte, is told as `builds differ`.
+built them, in crates/tokens/out and, if it is there, crates/conformance/out, or where `--tokens` and `--conformance`
+say, and TWIN, over the Rust crate. bench/fuzz.py makes the texts and compares cargo's builds with the twin: all that it
+says goes for this too. Besides, each answer of cargo's builds that isn't Rattle's, byte for byte, is told as `builds
+differ`.
 """
 import os
 import pathlib
@@ -37,8 +38,9 @@ class Builds(sides.Sides):
 
     def compare_lines(self, lines: list[str], failed: list) -> tuple[list, list]:
         answers, differing = super().compare_lines(lines, failed)
-        ran = [sides.run_on(program, [], answers) for program in (self.conformance, self.built.conformance)]
-        self.compare(*ran, f"{len(answers)} lines, of which the first is {answers[:1]}")
+        if self.built.has_lines():
+            ran = [sides.run_on(program, [], answers) for program in (self.conformance, self.built.conformance)]
+            self.compare(*ran, f"{len(answers)} lines, of which the first is {answers[:1]}")
         return answers, differing
 
     def compare(self, here: sides.Ran, there: sides.Ran, what: str) -> None:
