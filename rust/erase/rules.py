@@ -296,6 +296,8 @@ def memory_rows(file):
             while tokens[end].text != ',' or depth:
                 depth += (tokens[end].text in ('(', '[')) - (tokens[end].text in (')', ']'))
                 end += 1
+                if depth < 0:
+                    raise Rejected(token.line, 'a last row of the error of memory, with no comma')
             goes |= set(range(following(tokens, lists[-1]), following(tokens, end)))
             file.count('memory-rows')
     file.tokens = [token for at, token in enumerate(tokens) if at not in goes]
