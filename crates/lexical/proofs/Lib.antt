@@ -27,5 +27,7 @@ pub mod PieceLemmas
 pub mod AnswerLemmas
 pub mod PieceFacts
 pub mod QuickLemmas
+pub mod QuickLiteralLemmas
+pub mod QuickCommentLemmas
 pub mod WalkLemmas
 mod Examples

@@ -39,7 +39,7 @@ use Rattle.lexical.proofs.FinderLemmas.{finds_run, none_is}
 use Rattle.lexical.proofs.NumberFinderLemmas.{finds_digits}
 use Rattle.lexical.proofs.PieceFacts.{none_begins, start_continues}
 use Rattle.lexical.proofs.QuotedLemmas.{no_name}
-use Rattle.lexical.proofs.RuleLemmas.{exact}
+use Rattle.lexical.proofs.RuleLemmas.{Clear, exact}
 use Rattle.lexical.proofs.RuleSteps.{find_then, find_either, find_not_before, text_lacks, then_lacks}
 use Rattle.lexical.proofs.TextLemmas.{all_pass, any_cut, ascii_bytes, first_byte, is_ascii}
 
@@ -123,13 +123,13 @@ first_get test [] fails = refl
 first_get test (b ∷ text) fails = fails
 
 -- where the first byte is ASCII and fails
-low_fails : (test : ℕ → Bool) (text : List ℕ) → get_or text 0 32 < 128 → test (get_or text 0 32) ≡ false
+pub low_fails : (test : ℕ → Bool) (text : List ℕ) → get_or text 0 32 < 128 → test (get_or text 0 32) ≡ false
     → first_passes test (chars text) ≡ false
 low_fails test [] low fails = ap (first_passes test) chars-nil
 low_fails test (b ∷ text) low fails =
     ap (first_passes test) (ascii_split (b ∷ text) 1 (and_from _ _ (lt-ltb b 128 low) refl)) ∙ fails
 
-get_after : (text : List ℕ) (n : ℕ) → get_or (drop n text) 0 32 ≡ get_or text n 32
+pub get_after : (text : List ℕ) (n : ℕ) → get_or (drop n text) 0 32 ≡ get_or text n 32
 get_after text n = get_or-drop n text 0 32 ∙ ap (λ i. get_or text i 32) (omega arith)
 
 next_fails : (test : ℕ → Bool) (text : List ℕ) (n : ℕ) → get_or text n 32 < 128 → test (get_or text n 32) ≡ false
@@ -154,7 +154,7 @@ no_slash text n utf8 fails =
     first_of_bytes (λ d. d == 47) false not_slash (drop n text) utf8
     ∙ first_get (λ d. d == 47) (drop n text) (ne_eqb _ 47 (λ e. fails (sym (get_after text n) ∙ e)))
 
-front_fails : (c : ℕ) (front text : List ℕ) → first_passes (λ d. d == c) text ≡ false
+pub front_fails : (c : ℕ) (front text : List ℕ) → first_passes (λ d. d == c) text ≡ false
     → begins_with (c ∷ front) text ≡ false
 front_fails c front [] fails = refl
 front_fails c front (d ∷ text) fails =
@@ -251,11 +251,10 @@ quote_cut text c utf8 some is h =
 
 -- ---- runs of a class
 
-run_is : (class : Class) (text : List ℕ) (n : ℕ) → n ≡ length (while_front (ascii_in class) text)
-    → (take n text ≡ while_front (ascii_in class) text) × (drop n text ≡ while_rest (ascii_in class) text)
-    × (n ≤ length text)
-run_is class text n size =
-    let test = ascii_in class in
+-- how many bytes a run has cuts it off
+pub front_of_run : (test : ℕ → Bool) (text : List ℕ) (n : ℕ) → n ≡ length (while_front test text)
+    → (take n text ≡ while_front test text) × (drop n text ≡ while_rest test text) × (n ≤ length text)
+front_of_run test text n size =
     let split = ((finds_run test).sound text).0 in (
       ap (take n) split ∙ take_at (while_front test text) (while_rest test text) n (sym size),
       ap (drop n) split ∙ drop_at (while_front test text) (while_rest test text) n (sym size),
@@ -266,7 +265,8 @@ run_is class text n size =
 run_passes : (class : Class) (text : List ℕ) (n : ℕ) → n ≡ length (while_front (ascii_in class) text)
     → list_all (ascii_in class) (take n text) ≡ true
 run_passes class text n size =
-    ap (list_all (ascii_in class)) (run_is class text n size).0 ∙ ((finds_run (ascii_in class)).sound text).1.each
+    ap (list_all (ascii_in class)) (front_of_run (ascii_in class) text n size).0
+    ∙ ((finds_run (ascii_in class)).sound text).1.each
 
 -- and what follows it
 get_fails : (class : Class) (text : List ℕ) → is_in class 32 ≡ false → first_passes (ascii_in class) text ≡ false
@@ -279,7 +279,7 @@ run_stops : (class : Class) (text : List ℕ) (n : ℕ) → n ≡ length (while_
 run_stops class text n size space low =
     ap (is_in class) (sym (get_after text n))
     ∙ get_fails class (drop n text) space
-    (ap (first_passes (ascii_in class)) (run_is class text n size).1
+    (ap (first_passes (ascii_in class)) (front_of_run (ascii_in class) text n size).1
     ∙ ((finds_run (ascii_in class)).sound text).1.stops)
     (omega (arith, low, get_after text n))
 
@@ -289,7 +289,7 @@ run_cons : (class : Class) (text : List ℕ) (n : ℕ) → n ≡ length (while_f
     → (more : List ℕ) × (take n text ≡ get_or text 0 32 ∷ more)
 run_cons class [] n size on space = absurd (both_ways _ space on)
 run_cons class (b ∷ text) n size on space =
-    (while_front (ascii_in class) text, (run_is class (b ∷ text) n size).0 ∙ cond-true _ _ _ on)
+    (while_front (ascii_in class) text, (front_of_run (ascii_in class) (b ∷ text) n size).0 ∙ cond-true _ _ _ on)
 
 -- ---- names
 
@@ -338,7 +338,7 @@ name_at text n starts size ends =
       };
     } in
     record {
-      within = (run_is classes.IdentifierContinue text n size).2;
+      within = (front_of_run (ascii_in classes.IdentifierContinue) text n size).2;
       ascii = all_low classes.IdentifierContinue (take n text) all;
       stands = (
         (
@@ -396,6 +396,9 @@ no_tail r dot_fails letter_fails =
     then_lacks exponent end r (then_lacks (One is_exponent_letter) _ r (one_none is_exponent_letter r letter_fails)) in
     rw (find_either, none_of_dot) none_of_letter
 
+clear_float : Clear float
+clear_float = assumption
+
 number_at : (text : List ℕ) (n : ℕ) → ascii_in classes.Digit (get_or text 0 32) ≡ true
     → n ≡ length (while_front (ascii_in classes.DigitOrUnderscore) text)
     → (nat_lt (get_or text n 32) 128 && not ((get_or text n 32 == 46) || is_ident_continue (get_or text n 32))) ≡ true
@@ -436,10 +439,10 @@ number_at text n starts size ends =
     (ap (begins_any base_prefixes) (append-nil p)
     ∙ none_begins is_digit_or_underscore base_prefixes p refl digit_all) in
     record {
-      within = (run_is classes.DigitOrUnderscore text n size).2;
+      within = (front_of_run (ascii_in classes.DigitOrUnderscore) text n size).2;
       ascii = all_low classes.DigitOrUnderscore p all;
       stands = inr (
-        none_is (find float) (Stands float) (exact float (assumption)) (p ++ r) none,
+        none_is (find float) (Stands float) (exact float clear_float) (p ++ r) none,
         record {
           front = p;
           back = [];

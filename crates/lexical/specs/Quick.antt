@@ -1,7 +1,10 @@
 -- What a few bytes tell.
-use Rattle.std.specs.Prelude.{ℕ, ◌≤◌, List, IsTrue, IsFalse, cond, false, length, nat_lt, take, drop}
+use Rattle.std.specs.Prelude.{ℕ, ◌≤◌, Bool, false, not, ◌||◌, ◌==◌, cond, List, IsTrue, IsFalse, length, nat_lt}
+use Rattle.std.specs.Prelude.{take, drop}
+use Rattle.std.specs.List.{list_all}
 use Rattle.std.specs.Str.{chars}
 use Rattle.lexical.specs.Ascii.{all_ascii}
+use Rattle.lexical.specs.Character.{carriage_return, line_feed}
 use Rattle.lexical.specs.Form.{Form}
 use Rattle.lexical.specs.Identifier.{Identifier}
 use Rattle.lexical.specs.Mark.{bars_quote}
@@ -23,3 +26,11 @@ pub record IsAsciiAt (A : Form) (text : List ℕ) (size : ℕ) : Type 0 where
 -- a plain identifier that bars no `'` before it
 abbrev pub UnbarredName : Form
 UnbarredName p r = Identifier false p r × IsFalse (first_passes (bars_quote false) r)
+
+-- a character of a line, but CR
+abbrev pub is_line_plain : ℕ → Bool
+is_line_plain c = not ((c == line_feed) || (c == carriage_return))
+
+-- the rest of a line, without the LF that ends it, where no CR stands in it
+abbrev pub Line : Form
+Line p r = IsTrue (list_all is_line_plain p) × IsFalse (first_passes (λ c. not (c == line_feed)) r)

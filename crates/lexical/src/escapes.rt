@@ -16,7 +16,7 @@ use crate::skip::one as one_that;
 use crate::text::{before, begins, split_first};
 
 /// Whether the letter is a simple escape, by the rule `simple-escape`.
-fn is_letter(c: char, kind: StringKind) -> bool
+pub fn is_letter(c: char, kind: StringKind) -> bool
     ensures { result ≡ is_one_of (rule.letters kind) c }
 {
     match c {

@@ -15,7 +15,7 @@ use crate::quoted::{StringKind, suffix};
 use crate::skip::one;
 
 /// Whether the character stands for itself between single quotes.
-fn stands_bare(c: char, kind: StringKind) -> bool
+pub fn stands_bare(c: char, kind: StringKind) -> bool
     ensures { result ≡ is_plain kind c }
 {
     match c {

@@ -8,7 +8,7 @@ use crate::lexical::skip::one as one_that;
 use crate::lexical::text::{before, begins, split_first};
 
 /// Whether the letter is a simple escape, by the rule `simple-escape`.
-fn is_letter(c: char, kind: StringKind) -> bool
+pub fn is_letter(c: char, kind: StringKind) -> bool
 {
     match c {
         'n' | 'r' | 't' | '\\' | '\'' | '"' => true,

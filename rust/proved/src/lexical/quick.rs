@@ -6,7 +6,11 @@
 
 use crate::lexical::bytes::{Class, count_ascii, holds_ascii};
 use crate::lexical::class::{PieceStart, byte_start};
+use crate::lexical::escapes::is_letter;
 use crate::lexical::piece::{Piece, PieceKind};
+use crate::lexical::quoted::StringKind;
+use crate::lexical::single_quotes::stands_bare;
+use crate::shim::memchr::{memchr2, memchr3};
 
 /// The byte at the index, or a space where there is none.
 #[inline(always)]
@@ -65,6 +69,101 @@ fn number_size(text: &str) -> Option<usize>
     }
 }
 
+/// Whether a literal between quotes that the byte follows ends there, with no suffix.
+#[inline(always)]
+fn ends_literal(byte: u8) -> bool
+{
+    byte.is_ascii() && !holds_ascii(Class::IdentifierStart, byte)
+}
+
+/// How many bytes the character has that stands at the front, between its quotes one of ASCII, or a backslash and a
+/// letter.
+#[inline(always)]
+fn character_size(text: &str) -> Option<usize>
+{
+    let bytes = text.as_bytes();
+    if byte_at(bytes, 0) != b'\'' {
+        return None;
+    }
+    let byte = byte_at(bytes, 1);
+    if byte == b'\\' {
+        let letter = byte_at(bytes, 2);
+        if letter.is_ascii()
+            && is_letter(letter as char, StringKind::Plain)
+            && byte_at(bytes, 3) == b'\''
+            && ends_literal(byte_at(bytes, 4))
+        {
+            return Some(4);
+        }
+        return None;
+    }
+    if byte.is_ascii()
+        && byte_at(bytes, 2) == b'\''
+        && stands_bare(byte as char, StringKind::Plain)
+        && ends_literal(byte_at(bytes, 3))
+    {
+        return Some(3);
+    }
+    None
+}
+
+/// How many bytes the string has that stands at the front, of ASCII with neither a backslash nor a CR.
+#[inline(always)]
+fn string_size(text: &str) -> Option<usize>
+{
+    let bytes = text.as_bytes();
+    if byte_at(bytes, 0) != b'"' {
+        return None;
+    }
+    let inside = &bytes[1..];
+    let size = memchr3(b'"', b'\\', b'\r', inside)?;
+    if inside[size] == b'"'
+        && inside[..size].is_ascii()
+        && ends_literal(byte_at(inside, size + 1))
+    {
+        return Some(size + 2);
+    }
+    None
+}
+
+/// How many bytes the rest of the line has, of ASCII with no CR.
+#[inline(always)]
+fn line_size(text: &str) -> Option<usize>
+{
+    let bytes = text.as_bytes();
+    let size = memchr2(b'\n', b'\r', bytes).unwrap_or(bytes.len());
+    if byte_at(bytes, size) != b'\r' && bytes[..size].is_ascii() {
+        Some(size)
+    } else {
+        None
+    }
+}
+
+/// The line comment at the front, which is no inner doc comment.
+#[inline(never)]
+fn line_comment(text: &str) -> Option<Piece<'_>>
+{
+    let bytes = text.as_bytes();
+    let third = byte_at(bytes, 2);
+    if byte_at(bytes, 0) != b'/' || byte_at(bytes, 1) != b'/' || third == b'!' {
+        return None;
+    }
+    if third != b'/' {
+        let size = line_size(&text[2..])?;
+        return Some(ascii(PieceKind::Gap, size + 2));
+    }
+    if byte_at(bytes, 3) == b'/' {
+        return None;
+    }
+    let said = &text[3..];
+    let doc_size = line_size(said)?;
+    let doc = PieceKind::Doc {
+        inner: false,
+        text: &said[..doc_size],
+    };
+    Some(ascii(doc, doc_size + 3))
+}
+
 /// A piece of so many ASCII characters.
 #[inline(always)]
 fn ascii(kind: PieceKind<'_>, size: usize) -> Piece<'_>
@@ -115,7 +214,11 @@ pub fn quick(text: &str) -> Option<Piece<'_>>
         PieceStart::Closer => Some(ascii(PieceKind::Closer(byte as char), 1)),
         PieceStart::White => Some(ascii(PieceKind::Gap, 1)),
         PieceStart::Digit => Some(ascii(PieceKind::Literal, number_size(text)?)),
+        PieceStart::DoubleQuote => Some(ascii(PieceKind::Literal, string_size(text)?)),
         PieceStart::Quote => {
+            if let Some(size) = character_size(text) {
+                return Some(ascii(PieceKind::Literal, size));
+            }
             name_size(&text[1..])?;
             let quote = PieceKind::Mark {
                 joint: true,
@@ -123,7 +226,7 @@ pub fn quick(text: &str) -> Option<Piece<'_>>
             };
             Some(ascii(quote, 1))
         }
-        PieceStart::DoubleQuote | PieceStart::Slash | PieceStart::FrontMark | PieceStart::Other =>
-            None,
+        PieceStart::Slash => line_comment(text),
+        PieceStart::FrontMark | PieceStart::Other => None,
     }
 }

@@ -7,7 +7,7 @@ use crate::lexical::quoted::{StringKind, suffix};
 use crate::lexical::skip::one;
 
 /// Whether the character stands for itself between single quotes.
-fn stands_bare(c: char, kind: StringKind) -> bool
+pub fn stands_bare(c: char, kind: StringKind) -> bool
 {
     match c {
         '\'' | '\\' | '\n' | '\r' | '\t' => false,

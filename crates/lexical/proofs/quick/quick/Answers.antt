@@ -5,6 +5,7 @@ use Rattle.lexical.specs.declared.bytes.Class.TheVariants as classes
 use Rattle.lexical.proofs.CountLemmas.{front_range}
 use Rattle.lexical.proofs.QuickLemmas.{ascii_piece, closer_at, literal_at, mark_at, name_piece_at, opener_at, quick_cut}
 use Rattle.lexical.proofs.QuickLemmas.{quote_at, quote_cut, front_byte, white_at}
+use Rattle.lexical.proofs.QuickLiteralLemmas.{character_piece, string_piece}
 use Rattle.lexical.proofs.quick.quick.Goals as goal
 
 pub range-requires-clause-end_boundary : goal.range-requires-clause-end_boundary
@@ -79,3 +80,13 @@ returns-in_ok-name_size-in-Quote c first =
     c.in-Quote.ensures _ name in
     ascii_piece first _ _ _ 1 quote tt c.ascii-in-Quote.ensures.kind c.ascii-in-Quote.ensures.bytes
     c.ascii-in-Quote.ensures.chars
+
+pub returns-in_ok-string_size-in-DoubleQuote : goal.returns-in_ok-string_size-in-DoubleQuote
+returns-in_ok-string_size-in-DoubleQuote c first =
+    ascii_piece first _ _ _ _ (string_piece first _ _ c.in_ok-string_size-in-DoubleQuote.ensures) tt
+    c.ascii-in-DoubleQuote.ensures.kind c.ascii-in-DoubleQuote.ensures.bytes c.ascii-in-DoubleQuote.ensures.chars
+
+pub returns-in-Some : goal.returns-in-Some
+returns-in-Some c first =
+    ascii_piece first _ _ _ _ (character_piece first _ _ c.in-Some.ensures) tt c.ascii-in-Some.ensures.kind
+    c.ascii-in-Some.ensures.bytes c.ascii-in-Some.ensures.chars

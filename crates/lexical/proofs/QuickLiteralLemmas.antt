@@ -1,0 +1,198 @@
+-- What a few bytes tell of a literal between quotes.
+use Rattle.std.proofs.Common.{◌≡◌, ℕ, ◌+◌, ◌<◌, Bool, true, not, ◌&&◌, inl, inr, List, [], ◌∷◌, ◌++◌, Some}
+use Rattle.std.proofs.Common.{length, get_or, take, drop, nat_lt, refl, sym, ap, ap₂, ◌∙◌, subst, arith, append_assoc}
+use Rattle.std.proofs.Common.{drop-cons, length-append, ltb-true, suc}
+use Rattle.std.specs.Prelude.{map}
+use Rattle.std.specs.List.{list_all, concat}
+use Rattle.std.specs.Str.{chars, IsAscii}
+use Rattle.std.proofs.lemmas.Bool.{and_parts, and_from, lt-ltb, not-true}
+use Rattle.std.proofs.lemmas.List.{get_or-drop, take_at, drop_at, take-append-drop}
+use Rattle.std.proofs.lemmas.List.Folds.{list_all-append}
+use Rattle.memchr.specs.Find.{IsFirstByte, is_byte3}
+use Rattle.lexical.specs.Ascii.{all_ascii}
+use Rattle.lexical.specs.Class.{is_ident_start}
+use Rattle.lexical.specs.Finder.{while_front}
+use Rattle.lexical.specs.Form.{Each, Form}
+use Rattle.lexical.specs.Found.{kind_of}
+use Rattle.lexical.specs.Literal.{Literal}
+use Rattle.lexical.specs.Piece.{IsPiece}
+use Rattle.lexical.specs.Quick.{IsAsciiAt}
+use Rattle.lexical.specs.Quoted.{Str, StringUnit, close, is_one_of, is_string_plain, letters}
+use Rattle.lexical.specs.Rule.{Stands}
+use Rattle.lexical.specs.SingleQuoted.{Character, is_char_plain}
+use Rattle.lexical.specs.declared.piece.PieceKind.TheVariants as kinds
+use Rattle.lexical.specs.declared.quoted.StringKind.TheVariants as strings
+use Rattle.lexical.proofs.FinderLemmas.{finds_run}
+use Rattle.lexical.proofs.QuickLemmas.{at_other, front_of_run, low_fails}
+use Rattle.lexical.proofs.QuotedLemmas.{no_name}
+use Rattle.lexical.proofs.SearchLemmas.{found_end, plain_allowed}
+
+-- ASCII before a rest
+ascii_at : (A : Form) (text p rest : List ℕ) (n : ℕ) → text ≡ p ++ rest → n ≡ length p → all_ascii p ≡ true
+    → A p (chars rest) → IsAsciiAt A text n
+ascii_at A text p rest n whole size ascii stands =
+    let front : take n text ≡ p = ap (take n) whole ∙ take_at p rest n (sym size) in
+    let back : drop n text ≡ rest = ap (drop n) whole ∙ drop_at p rest n (sym size) in
+    record {
+      within = omega (arith, size, ap length whole, length-append p rest);
+      ascii = ap all_ascii front ∙ ascii;
+      stands = subst (λ q. A q (chars (drop n text))) (sym front) (subst (λ r. A p (chars r)) (sym back) stands);
+    }
+
+-- whether a literal ends before the byte, with no suffix
+abbrev pub ends : ℕ → Bool
+ends c = nat_lt c 128 && not (is_ident_start c)
+
+-- a quote that closes, with no suffix
+closes : (quote : ℕ) (rest : List ℕ) → ends (get_or rest 0 32) ≡ true → Stands (close (quote ∷ [])) (quote ∷ []) (chars rest)
+closes quote rest ended =
+    let parts = and_parts _ _ ended in
+    let none = low_fails is_ident_start rest (ltb-true (get_or rest 0 32) 128 parts.0) (not-true _ parts.1) in
+    record { front = quote ∷ []; back = []; whole = refl; first = refl; second = inr (no_name (chars rest) none, refl) }
+
+-- ---- characters
+
+character_plain : (b : ℕ) (rest : List ℕ) → b < 128 → is_char_plain b ≡ true → ends (get_or rest 0 32) ≡ true
+    → IsAsciiAt Character (39 ∷ (b ∷ (39 ∷ rest))) 3
+character_plain b rest low plain ended =
+    ascii_at Character _ (39 ∷ (b ∷ (39 ∷ []))) rest 3 refl refl (and_from _ _ refl (and_from _ _ (lt-ltb b 128 low) refl))
+    (record {
+      front = 39 ∷ [];
+      back = b ∷ (39 ∷ []);
+      whole = refl;
+      first = refl;
+      second = record {
+        front = b ∷ [];
+        back = 39 ∷ [];
+        whole = refl;
+        first = inl (b, refl, plain);
+        second = closes 39 rest ended;
+      };
+    })
+
+character_escaped : (b : ℕ) (rest : List ℕ) → b < 128 → is_one_of (letters strings.Plain) b ≡ true
+    → ends (get_or rest 0 32) ≡ true → IsAsciiAt Character (39 ∷ (92 ∷ (b ∷ (39 ∷ rest)))) 4
+character_escaped b rest low letter ended =
+    ascii_at Character _ (39 ∷ (92 ∷ (b ∷ (39 ∷ [])))) rest 4 refl refl
+    (and_from _ _ refl (and_from _ _ refl (and_from _ _ (lt-ltb b 128 low) refl)))
+    (record {
+      front = 39 ∷ [];
+      back = 92 ∷ (b ∷ (39 ∷ []));
+      whole = refl;
+      first = refl;
+      second = record {
+        front = 92 ∷ (b ∷ []);
+        back = 39 ∷ [];
+        whole = refl;
+        first = inr (record { front = 92 ∷ []; back = b ∷ []; whole = refl; first = refl; second = inl (b, refl, letter) });
+        second = closes 39 rest ended;
+      };
+    })
+
+-- by the bytes of the text
+pub plain_read : (text : List ℕ) → get_or text 0 32 ≡ 39 → get_or text 2 32 ≡ 39 → get_or text 1 32 < 128
+    → is_char_plain (get_or text 1 32) ≡ true → ends (get_or text 3 32) ≡ true → IsAsciiAt Character text 3
+plain_read [] front back low plain ended = absurd (omega (arith, front))
+plain_read (a ∷ []) front back low plain ended = absurd (omega (arith, back))
+plain_read (a ∷ (b ∷ [])) front back low plain ended = absurd (omega (arith, back))
+plain_read (a ∷ (b ∷ (c ∷ rest))) front back low plain ended =
+    subst (λ t. IsAsciiAt Character t 3) (ap₂ (λ x y. x ∷ (b ∷ (y ∷ rest))) (sym front) (sym back))
+    (character_plain b rest low plain ended)
+
+pub escaped_read : (text : List ℕ) → get_or text 0 32 ≡ 39 → get_or text 1 32 ≡ 92 → get_or text 3 32 ≡ 39
+    → get_or text 2 32 < 128 → is_one_of (letters strings.Plain) (get_or text 2 32) ≡ true
+    → ends (get_or text 4 32) ≡ true → IsAsciiAt Character text 4
+escaped_read [] front slash back low letter ended = absurd (omega (arith, front))
+escaped_read (a ∷ []) front slash back low letter ended = absurd (omega (arith, slash))
+escaped_read (a ∷ (b ∷ [])) front slash back low letter ended = absurd (omega (arith, back))
+escaped_read (a ∷ (b ∷ (c ∷ []))) front slash back low letter ended = absurd (omega (arith, back))
+escaped_read (a ∷ (b ∷ (c ∷ (d ∷ rest)))) front slash back low letter ended =
+    subst (λ t. IsAsciiAt Character t 4)
+    (ap₂ (λ x y. x ∷ (b ∷ (c ∷ (y ∷ rest)))) (sym front) (sym back)
+    ∙ ap (λ x. a ∷ (x ∷ (c ∷ (d ∷ rest)))) refl)
+    (subst (λ x. IsAsciiAt Character (39 ∷ (x ∷ (c ∷ (39 ∷ rest)))) 4) (sym slash)
+    (character_escaped c rest low letter ended))
+
+-- ---- strings
+
+-- characters that are each a unit
+abbrev singles : List ℕ → List (List ℕ)
+singles = map (λ c. c ∷ [])
+
+concat_singles : (cs : List ℕ) → concat (singles cs) ≡ cs
+concat_singles [] = refl
+concat_singles (c ∷ cs) = ap (λ xs. c ∷ xs) (concat_singles cs)
+
+each_single : (cs r : List ℕ) → list_all is_string_plain cs ≡ true → Each StringUnit (singles cs) r
+each_single [] r all = tt
+each_single (c ∷ cs) r all = let parts = and_parts _ _ all in (inl (c, refl, parts.0), each_single cs r parts.1)
+
+string_at : (inside rest : List ℕ) → all_ascii inside ≡ true → list_all is_string_plain inside ≡ true
+    → ends (get_or rest 0 32) ≡ true → (text : List ℕ) → text ≡ 34 ∷ (inside ++ (34 ∷ rest))
+    → IsAsciiAt Str text (length inside + 2)
+unfolding Str
+string_at inside rest ascii plain ended text whole =
+    let p = 34 ∷ (inside ++ (34 ∷ [])) in
+    ascii_at Str text p rest (length inside + 2)
+    (whole ∙ ap (λ xs. 34 ∷ xs) (sym (append_assoc inside (34 ∷ []) rest)))
+    (omega (arith, length-append inside (34 ∷ [])))
+    (and_from _ _ refl (list_all-append _ inside (34 ∷ []) ∙ and_from _ _ ascii refl))
+    (record {
+      front = 34 ∷ [];
+      back = inside ++ (34 ∷ []);
+      whole = refl;
+      first = refl;
+      second = record {
+        front = inside;
+        back = 34 ∷ [];
+        whole = refl;
+        first = record {
+          units = singles inside;
+          whole = sym (concat_singles inside);
+          each = each_single inside _ plain;
+        };
+        second = closes 34 rest ended;
+      };
+    })
+
+pub ascii_all : (bs : List ℕ) → IsAscii bs → all_ascii bs ≡ true
+ascii_all [] low = refl
+ascii_all (b ∷ bs) low = and_from _ _ (lt-ltb b 128 (low 0)) (ascii_all bs (λ i. low (suc i)))
+
+pub all_same : (test other : ℕ → Bool) → ((c : ℕ) → test c ≡ other c) → (cs : List ℕ) → list_all test cs ≡ list_all other cs
+all_same test other same [] = refl
+all_same test other same (c ∷ cs) = ap₂ (λ x y. x && y) (same c) (all_same test other same cs)
+
+-- by the bytes of the text: `inside` follows its first byte
+pub string_read : (text inside : List ℕ) (k : ℕ) → get_or text 0 32 ≡ 34 → inside ≡ drop 1 text
+    → IsFirstByte (is_byte3 34 92 13) inside (Some k) → get_or inside k 0 ≡ 34 → IsAscii (take k inside)
+    → ends (get_or inside (k + 1) 32) ≡ true → IsAsciiAt Str text (k + 2)
+string_read [] inside k front is found hit ascii ended = absurd (omega (arith, front))
+string_read (a ∷ text) inside k front is found hit ascii ended =
+    let test : ℕ → Bool = λ b. not (is_byte3 34 92 13 b) in
+    let size : length (while_front test inside) ≡ k = found_end (is_byte3 34 92 13) inside (Some k) found in
+    let run = front_of_run test inside k (sym size) in
+    let all : list_all is_string_plain (take k inside) ≡ true =
+    all_same is_string_plain test (plain_allowed strings.Plain) (take k inside)
+    ∙ (ap (list_all test) run.0 ∙ ((finds_run test).sound inside).1.each) in
+    let next : suc k ≡ k + 1 = omega arith in
+    let split : inside ≡ take k inside ++ (34 ∷ drop (k + 1) inside) =
+    sym (take-append-drop k inside)
+    ∙ ap (λ xs. take k inside ++ xs) (drop-cons inside k 0 found.0.high ∙ ap₂ (λ c m. c ∷ drop m inside) hit next) in
+    let count : length (take k inside) ≡ k = ap length run.0 ∙ size in
+    subst (λ n. IsAsciiAt Str (a ∷ text) n) (ap (λ n. n + 2) count)
+    (string_at (take k inside) (drop (k + 1) inside) (ascii_all (take k inside) ascii) all
+    (ap ends (get_or-drop (k + 1) inside 0 32 ∙ ap (λ i. get_or inside i 32) (omega arith)) ∙ ended)
+    (a ∷ text) (ap₂ (λ x xs. x ∷ xs) front (sym is ∙ split)))
+
+-- ---- as pieces
+
+pub string_piece : (first : Bool) (text : List ℕ) (n : ℕ) → IsAsciiAt Str text n
+    → IsAsciiAt (λ p r. IsPiece first (kind_of kinds.Literal p) p r) text n
+unfolding Literal
+string_piece first text n at = at_other _ _ text n (λ p r h. (refl, inl (inl (inl (inl h))))) at
+
+pub character_piece : (first : Bool) (text : List ℕ) (n : ℕ) → IsAsciiAt Character text n
+    → IsAsciiAt (λ p r. IsPiece first (kind_of kinds.Literal p) p r) text n
+unfolding Literal
+character_piece first text n at = at_other _ _ text n (λ p r h. (refl, inl (inl (inr (inl h))))) at
