@@ -1,10 +1,10 @@
 -- What a few bytes tell of a literal between quotes.
-use Rattle.std.proofs.Common.{◌≡◌, ℕ, ◌+◌, ◌<◌, Bool, true, not, ◌&&◌, inl, inr, List, [], ◌∷◌, ◌++◌, Some}
+use Rattle.std.proofs.Common.{◌-◌, ◌≤◌, ◌≡◌, ℕ, ◌+◌, ◌<◌, Bool, true, not, ◌&&◌, inl, inr, List, [], ◌∷◌, ◌++◌, Some}
 use Rattle.std.proofs.Common.{length, get_or, take, drop, nat_lt, refl, sym, ap, ap₂, ◌∙◌, subst, arith, append_assoc}
 use Rattle.std.proofs.Common.{drop-cons, length-append, ltb-true, suc}
 use Rattle.std.specs.Prelude.{map}
 use Rattle.std.specs.List.{list_all, concat}
-use Rattle.std.specs.Str.{chars, IsAscii}
+use Rattle.std.specs.Str.{chars, IsAscii, IsUtf8}
 use Rattle.std.proofs.lemmas.Bool.{and_parts, and_from, lt-ltb, not-true}
 use Rattle.std.proofs.lemmas.List.{get_or-drop, take_at, drop_at, take-append-drop}
 use Rattle.std.proofs.lemmas.List.Folds.{list_all-append}
@@ -13,19 +13,21 @@ use Rattle.lexical.specs.Ascii.{all_ascii}
 use Rattle.lexical.specs.Class.{is_ident_start}
 use Rattle.lexical.specs.Finder.{while_front}
 use Rattle.lexical.specs.Form.{Each, Form}
-use Rattle.lexical.specs.Found.{kind_of}
+use Rattle.lexical.specs.Found.{IsPieceAt, LendsText, kind_of}
 use Rattle.lexical.specs.Literal.{Literal}
 use Rattle.lexical.specs.Piece.{IsPiece}
 use Rattle.lexical.specs.Quick.{IsAsciiAt}
 use Rattle.lexical.specs.Quoted.{Str, StringUnit, close, is_one_of, is_string_plain, letters}
 use Rattle.lexical.specs.Rule.{Stands}
 use Rattle.lexical.specs.SingleQuoted.{Character, is_char_plain}
+use Rattle.lexical.specs.declared.piece.Piece.{Piece}
 use Rattle.lexical.specs.declared.piece.PieceKind.TheVariants as kinds
 use Rattle.lexical.specs.declared.quoted.StringKind.TheVariants as strings
 use Rattle.lexical.proofs.FinderLemmas.{finds_run}
 use Rattle.lexical.proofs.QuickLemmas.{at_other, front_of_run, low_fails}
 use Rattle.lexical.proofs.QuotedLemmas.{no_name}
 use Rattle.lexical.proofs.SearchLemmas.{found_end, plain_allowed}
+use Rattle.lexical.proofs.TextLemmas.{front_len}
 
 -- ASCII before a rest
 ascii_at : (A : Form) (text p rest : List ℕ) (n : ℕ) → text ≡ p ++ rest → n ≡ length p → all_ascii p ≡ true
@@ -52,23 +54,27 @@ closes quote rest ended =
 
 -- ---- characters
 
+character_stands : (c : ℕ) (rest : List ℕ) → is_char_plain c ≡ true → ends (get_or rest 0 32) ≡ true
+    → Character (39 ∷ (c ∷ (39 ∷ []))) (chars rest)
+character_stands c rest plain ended = record {
+  front = 39 ∷ [];
+  back = c ∷ (39 ∷ []);
+  whole = refl;
+  first = refl;
+  second = record {
+    front = c ∷ [];
+    back = 39 ∷ [];
+    whole = refl;
+    first = inl (c, refl, plain);
+    second = closes 39 rest ended;
+  };
+}
+
 character_plain : (b : ℕ) (rest : List ℕ) → b < 128 → is_char_plain b ≡ true → ends (get_or rest 0 32) ≡ true
     → IsAsciiAt Character (39 ∷ (b ∷ (39 ∷ rest))) 3
 character_plain b rest low plain ended =
     ascii_at Character _ (39 ∷ (b ∷ (39 ∷ []))) rest 3 refl refl (and_from _ _ refl (and_from _ _ (lt-ltb b 128 low) refl))
-    (record {
-      front = 39 ∷ [];
-      back = b ∷ (39 ∷ []);
-      whole = refl;
-      first = refl;
-      second = record {
-        front = b ∷ [];
-        back = 39 ∷ [];
-        whole = refl;
-        first = inl (b, refl, plain);
-        second = closes 39 rest ended;
-      };
-    })
+    (character_stands b rest plain ended)
 
 character_escaped : (b : ℕ) (rest : List ℕ) → b < 128 → is_one_of (letters strings.Plain) b ≡ true
     → ends (get_or rest 0 32) ≡ true → IsAsciiAt Character (39 ∷ (92 ∷ (b ∷ (39 ∷ rest)))) 4
@@ -196,3 +202,42 @@ pub character_piece : (first : Bool) (text : List ℕ) (n : ℕ) → IsAsciiAt C
     → IsAsciiAt (λ p r. IsPiece first (kind_of kinds.Literal p) p r) text n
 unfolding Literal
 character_piece first text n at = at_other _ _ text n (λ p r h. (refl, inl (inl (inr (inl h))))) at
+
+-- ---- a character past ASCII
+
+wide_whole : (text inside after rest : List ℕ) (quote c : ℕ) → chars text ≡ quote ∷ chars inside → quote ≡ 39
+    → chars inside ≡ c ∷ chars after → chars after ≡ 39 ∷ chars rest
+    → chars text ≡ (39 ∷ (c ∷ (39 ∷ []))) ++ chars rest
+wide_whole text inside after rest quote c front is back close =
+    front ∙ (ap (λ q. q ∷ chars inside) is ∙ ap (λ x. 39 ∷ x) (back ∙ ap (λ x. c ∷ x) close))
+
+pub wide_fits : (text inside after rest : List ℕ) (quote c : ℕ) → IsUtf8 text → IsUtf8 rest
+    → chars text ≡ quote ∷ chars inside → quote ≡ 39 → chars inside ≡ c ∷ chars after → chars after ≡ 39 ∷ chars rest
+    → length rest ≤ length text
+wide_fits text inside after rest quote c utf8 also front is back close =
+    omega (
+      arith,
+      front_len text rest (39 ∷ (c ∷ (39 ∷ []))) utf8 also
+          (wide_whole text inside after rest quote c front is back close),
+    )
+
+pub wide_read : (first : Bool) (text inside after rest : List ℕ) (quote c : ℕ) (piece : Piece) → IsUtf8 text
+    → IsUtf8 rest → chars text ≡ quote ∷ chars inside → quote ≡ 39 → chars inside ≡ c ∷ chars after
+    → chars after ≡ 39 ∷ chars rest → is_char_plain c ≡ true → ends (get_or rest 0 32) ≡ true
+    → piece.kind ≡ kinds.Literal → piece.bytes ≡ length text - length rest → piece.chars ≡ 3
+    → IsPieceAt first (chars text) piece
+unfolding Literal
+wide_read first text inside after rest quote c piece utf8 also front is back close plain ended kind bytes count =
+    let p : List ℕ = 39 ∷ (c ∷ (39 ∷ [])) in
+    let whole = wide_whole text inside after rest quote c front is back close in
+    let stands : IsPiece first (kind_of kinds.Literal p) p (chars rest) =
+    (refl, inl (inl (inr (inl (character_stands c rest plain ended))))) in
+    record {
+      front = p;
+      rest = chars rest;
+      whole = whole;
+      stands = subst (λ k. IsPiece first (kind_of k p) p (chars rest)) (sym kind) stands;
+      bytes = bytes ∙ omega (arith, front_len text rest p utf8 also whole);
+      chars = count;
+      lends = subst LendsText (sym kind) tt;
+    }

@@ -20,6 +20,7 @@ use crate::escapes::is_letter;
 use crate::piece::{Piece, PieceKind};
 use crate::quoted::StringKind;
 use crate::single_quotes::stands_bare;
+use crate::text::{split_first, strip};
 use memchr::{memchr2, memchr3};
 
 /// The byte at the index, or a space where there is none.
@@ -122,6 +123,28 @@ fn character_size(text: &str) -> Option<usize>
         return Some(3);
     }
     None
+}
+
+/// The character that stands at the front, between its quotes one that stands for itself, past ASCII too.
+#[inline(never)]
+fn wide_character(text: &str) -> Option<Piece<'_>>
+    ensures { (first : Bool) → IfSome result (λ piece. IsPieceAt first (chars text.now) piece) }
+{
+    let (quote, inside) = split_first(text)?;
+    let (c, after) = split_first(inside)?;
+    let rest = strip(after, "'")?;
+    if quote != '\''
+        || !stands_bare(c, StringKind::Plain)
+        || !ends_literal(byte_at(rest.as_bytes(), 0))
+    {
+        return None;
+    }
+    let size = text.len() - rest.len();
+    Some(Piece {
+        kind: PieceKind::Literal,
+        bytes: size,
+        chars: 3,
+    })
 }
 
 /// How many bytes the string has that stands at the front, of ASCII with neither a backslash nor a CR.
@@ -242,6 +265,9 @@ pub fn quick(text: &str) -> Option<Piece<'_>>
         PieceStart::Quote => {
             if let Some(size) = character_size(text) {
                 return Some(ascii(PieceKind::Literal, size));
+            }
+            if !byte_at(bytes, 1).is_ascii() {
+                return wide_character(text);
             }
             name_size(&text[1..])?;
             let quote = PieceKind::Mark {
