@@ -1,6 +1,7 @@
 -- What a few bytes tell of a line comment.
 use Rattle.std.proofs.Common.{◌≡◌, ℕ, ◌+◌, ◌<◌, Bool, true, false, not, ◌==◌, inl, inr, List, [], ◌∷◌, ◌++◌}
-use Rattle.std.proofs.Common.{Bor, Option, unwrap_or, codes, length, get_or, take, drop, refl, sym, ap, ◌∙◌, subst, arith}
+use Rattle.std.proofs.Common.{Bor, Option, unwrap_or, codes, length, get_or, take, drop, refl, sym, ap, ◌∙◌, subst}
+use Rattle.std.proofs.Common.{arith}
 use Rattle.std.proofs.Common.{append-nil, ap₂, eqb-true, ne_eqb, zero, suc, ◌≤◌}
 use Rattle.std.specs.List.{list_all}
 use Rattle.std.specs.Str.{chars, IsAscii, IsCharBoundary, IsUtf8}
@@ -109,7 +110,8 @@ gap_line : (first : Bool) (p r : List ℕ) → first_passes (λ d. d == 47) p �
     → Line p r → IsPiece first Gap (47 ∷ (47 ∷ p)) r
 gap_line first p r slash mark line =
     let other : is_doc (47 ∷ (47 ∷ p)) ≡ false =
-    or_from _ _ (or_from _ _ (front_fails 33 [] p mark) refl) (and_left _ _ (or_from _ _ (front_fails 47 [] p slash) refl)) in
+    or_from _ _ (or_from _ _ (front_fails 33 [] p mark) refl)
+    (and_left _ _ (or_from _ _ (front_fails 47 [] p slash) refl)) in
     inr (line_comment_at p r line.0 line.1, not_from_false _ other)
 
 -- and one that is
@@ -160,7 +162,8 @@ doc_read first inner said text n c low plain inward doc is line =
     let kind = Doc inner (chars said.now) in
     let size : suc (suc (suc n)) ≡ n + 3 = omega arith in
     subst (λ m. IsAsciiAt (IsPiece first kind) (47 ∷ (47 ∷ (c ∷ text))) m) size
-    (cons_at (λ p r. IsPiece first kind (47 ∷ p) r) (IsPiece first kind) 47 (47 ∷ (c ∷ text)) (suc (suc n)) (omega arith)
+    (cons_at (λ p r. IsPiece first kind (47 ∷ p) r) (IsPiece first kind) 47 (47 ∷ (c ∷ text)) (suc (suc n))
+    (omega arith)
     (λ p r h. h)
     (cons_at (λ p r. IsPiece first kind (47 ∷ (47 ∷ p)) r) (λ p r. IsPiece first kind (47 ∷ p) r) 47 (c ∷ text) (suc n)
     (omega arith) (λ p r h. h)

@@ -46,7 +46,8 @@ abbrev pub ends : ℕ → Bool
 ends c = nat_lt c 128 && not (is_ident_start c)
 
 -- a quote that closes, with no suffix
-closes : (quote : ℕ) (rest : List ℕ) → ends (get_or rest 0 32) ≡ true → Stands (close (quote ∷ [])) (quote ∷ []) (chars rest)
+closes : (quote : ℕ) (rest : List ℕ) → ends (get_or rest 0 32) ≡ true
+    → Stands (close (quote ∷ [])) (quote ∷ []) (chars rest)
 closes quote rest ended =
     let parts = and_parts _ _ ended in
     let none = low_fails is_ident_start rest (ltb-true (get_or rest 0 32) 128 parts.0) (not-true _ parts.1) in
@@ -73,7 +74,8 @@ character_stands c rest plain ended = record {
 character_plain : (b : ℕ) (rest : List ℕ) → b < 128 → is_char_plain b ≡ true → ends (get_or rest 0 32) ≡ true
     → IsAsciiAt Character (39 ∷ (b ∷ (39 ∷ rest))) 3
 character_plain b rest low plain ended =
-    ascii_at Character _ (39 ∷ (b ∷ (39 ∷ []))) rest 3 refl refl (and_from _ _ refl (and_from _ _ (lt-ltb b 128 low) refl))
+    ascii_at Character _ (39 ∷ (b ∷ (39 ∷ []))) rest 3 refl refl
+    (and_from _ _ refl (and_from _ _ (lt-ltb b 128 low) refl))
     (character_stands b rest plain ended)
 
 character_escaped : (b : ℕ) (rest : List ℕ) → b < 128 → is_one_of (letters strings.Plain) b ≡ true
@@ -90,7 +92,13 @@ character_escaped b rest low letter ended =
         front = 92 ∷ (b ∷ []);
         back = 39 ∷ [];
         whole = refl;
-        first = inr (record { front = 92 ∷ []; back = b ∷ []; whole = refl; first = refl; second = inl (b, refl, letter) });
+        first = inr (record {
+          front = 92 ∷ [];
+          back = b ∷ [];
+          whole = refl;
+          first = refl;
+          second = inl (b, refl, letter);
+        });
         second = closes 39 rest ended;
       };
     })
@@ -165,7 +173,8 @@ pub ascii_all : (bs : List ℕ) → IsAscii bs → all_ascii bs ≡ true
 ascii_all [] low = refl
 ascii_all (b ∷ bs) low = and_from _ _ (lt-ltb b 128 (low 0)) (ascii_all bs (λ i. low (suc i)))
 
-pub all_same : (test other : ℕ → Bool) → ((c : ℕ) → test c ≡ other c) → (cs : List ℕ) → list_all test cs ≡ list_all other cs
+pub all_same : (test other : ℕ → Bool) → ((c : ℕ) → test c ≡ other c) → (cs : List ℕ)
+    → list_all test cs ≡ list_all other cs
 all_same test other same [] = refl
 all_same test other same (c ∷ cs) = ap₂ (λ x y. x && y) (same c) (all_same test other same cs)
 

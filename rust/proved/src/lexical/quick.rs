@@ -10,6 +10,7 @@ use crate::lexical::escapes::is_letter;
 use crate::lexical::piece::{Piece, PieceKind};
 use crate::lexical::quoted::StringKind;
 use crate::lexical::single_quotes::stands_bare;
+use crate::lexical::text::{split_first, strip};
 use crate::shim::memchr::{memchr2, memchr3};
 
 /// The byte at the index, or a space where there is none.
@@ -105,6 +106,27 @@ fn character_size(text: &str) -> Option<usize>
         return Some(3);
     }
     None
+}
+
+/// The character that stands at the front, between its quotes one that stands for itself, past ASCII too.
+#[inline(never)]
+fn wide_character(text: &str) -> Option<Piece<'_>>
+{
+    let (quote, inside) = split_first(text)?;
+    let (c, after) = split_first(inside)?;
+    let rest = strip(after, "'")?;
+    if quote != '\''
+        || !stands_bare(c, StringKind::Plain)
+        || !ends_literal(byte_at(rest.as_bytes(), 0))
+    {
+        return None;
+    }
+    let size = text.len() - rest.len();
+    Some(Piece {
+        kind: PieceKind::Literal,
+        bytes: size,
+        chars: 3,
+    })
 }
 
 /// How many bytes the string has that stands at the front, of ASCII with neither a backslash nor a CR.
@@ -218,6 +240,9 @@ pub fn quick(text: &str) -> Option<Piece<'_>>
         PieceStart::Quote => {
             if let Some(size) = character_size(text) {
                 return Some(ascii(PieceKind::Literal, size));
+            }
+            if !byte_at(bytes, 1).is_ascii() {
+                return wide_character(text);
             }
             name_size(&text[1..])?;
             let quote = PieceKind::Mark {
