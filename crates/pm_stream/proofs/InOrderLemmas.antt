@@ -12,7 +12,7 @@ use Rattle.pm_stream.specs.InOrder.{spacing_of, token_tree, in_order_onto, in_or
 use Rattle.pm_stream.specs.declared.stream.TokenTree.{TokenTree}
 use Rattle.pm_stream.specs.declared.stream.TokenTree.TheVariants.{Group, Ident, Punct, Literal}
 
-spacing_back : (s : Spacing) → spacing_of (is_joint s) ≡ s
+pub spacing_back : (s : Spacing) → spacing_of (is_joint s) ≡ s
 spacing_back Alone = refl
 spacing_back Joint = refl
 

@@ -4,7 +4,7 @@ pub mod PieceLemmas
 pub mod TreeLemmas
 pub mod BuildingLemmas
 pub mod InOrderLemmas
-pub mod WalkLemmas
+pub mod StepLemmas
 pub mod PrintLemmas
 pub mod SpacedLemmas
 pub mod SameLemmas

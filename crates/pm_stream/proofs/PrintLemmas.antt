@@ -1,135 +1,80 @@
 -- What is left to print while groups are open.
-use Rattle.std.proofs.Common.{◌≡◌, ℕ, ◌+◌, ◌*◌, ◌<◌, length, Result, Ok, Err, is_ok, if◌then◌else◌, Bool, true}
-use Rattle.std.proofs.Common.{false, List, [], ◌∷◌, ◌++◌, refl, sym, ap, ◌∙◌, append_assoc, arith}
+use Rattle.std.proofs.Common.{◌≡◌, ℕ, Bool, true, false, List, [], ◌∷◌, ◌++◌, refl, sym, ap, ◌∙◌, append_assoc}
 use Rattle.std.proofs.Output.{has_written_append, has_written_of_eq}
 use Rattle.std.proofs.lemmas.List.{append-nil}
 use Rattle.std.proofs.lemmas.Str.{encodes-append}
 use Rattle.std.specs.Fmt.{HasWritten}
 use Rattle.std.specs.declared.fmt.Formatter.{Formatter}
 use Rattle.std.specs.Str.{encode_utf8_all}
+use Rattle.lexical.specs.Token as tokens
+use Rattle.lexical.specs.Token.{Token, Name, Mark, token_text}
 use Rattle.pm_token.specs.declared.delimiters.Delimiter.{Delimiter}
 use Rattle.pm_stream.specs.Delimited.{opening, is_brace}
+use Rattle.pm_stream.specs.Forest.{Forest, nil, leaf, group}
+use Rattle.pm_stream.specs.InOrder.{token_tree}
+use Rattle.pm_stream.specs.Printed.{parts, printed_after, printed, space}
+use Rattle.pm_stream.specs.PrintedEvents.{gap_end}
+use Rattle.pm_stream.specs.PrintedTree.{ending, front_text, gap_after_step, gap_within, step_text}
+use Rattle.pm_stream.specs.Steps.{Step, Enter, Leave, step_of, steps, steps_onto}
 use Rattle.pm_stream.specs.Trees.{forest, alone}
-use Rattle.pm_stream.specs.Printed.{printed_after, printed, space}
-use Rattle.pm_stream.specs.PrintedTree.{front_text, gap_within, ending}
-use Rattle.pm_stream.specs.Size.{count}
-use Rattle.pm_stream.specs.declared.display.Level.{Level}
+use Rattle.pm_stream.specs.declared.steps.Step.{Step as Given}
 use Rattle.pm_stream.specs.declared.stream.Group.{Group as Grouped}
 use Rattle.pm_stream.specs.declared.stream.TokenTree.{TokenTree}
-use Rattle.pm_stream.specs.declared.stream.TokenTree.TheVariants.{Group, Ident, Punct, Literal}
+use Rattle.pm_stream.specs.declared.stream.TokenTree.TheVariants.{Group}
+use Rattle.pm_stream.proofs.StepLemmas.{PassesOver}
 
--- what is printed of one open group from its end on
-abbrev pub level_text : Level → List ℕ
-level_text level = ending level.delimiter ++ printed_after true (forest level.after.now)
+-- what is printed in the steps that are left
+abbrev pub steps_text : Bool → List Step → List ℕ
+steps_text gap [] = []
+steps_text gap (step ∷ steps) = step_text gap step ++ steps_text (gap_after_step step) steps
 
--- what is printed from the end of the innermost of these open groups on, the outermost first
-abbrev pub outer_text : List Level → List ℕ
-outer_text [] = []
-outer_text (level ∷ inner) = outer_text inner ++ level_text level
+-- after one step
+pub text_step : (gap now : Bool) (old new : List Step) (step given : Given) → old ≡ step_of step ∷ new → given ≡ step
+    → now ≡ gap_after_step (step_of given)
+    → step_text gap (step_of given) ++ steps_text now new ≡ steps_text gap old
+text_step gap now old new step given first same is = rw (is, same, first) refl
 
--- how many trees and ends of groups there are
-abbrev pub outer_count : List Level → ℕ
-outer_count [] = 0
-outer_count (level ∷ inner) = 1 + 2 * count (forest level.after.now) + outer_count inner
+token_front : (token : Token) (lo hi : ℕ) → front_text (token_tree token lo hi) ≡ token_text token
+token_front (Name raw name) lo hi = refl
+token_front (Mark c true) lo hi = refl
+token_front (Mark c false) lo hi = refl
+token_front (tokens.Literal text) lo hi = refl
 
-pub outer_text-push : (levels : List Level) (level : Level)
-    → outer_text (levels ++ level ∷ []) ≡ level_text level ++ outer_text levels
-outer_text-push [] level = sym (append-nil (level_text level))
-outer_text-push (x ∷ levels) level =
-    ap (λ l. l ++ level_text x) (outer_text-push levels level)
-    ∙ append_assoc (level_text level) (outer_text levels) (level_text x)
+token_gap : (token : Token) (lo hi : ℕ) → gap_within (token_tree token lo hi) ≡ parts token
+token_gap (Name raw name) lo hi = refl
+token_gap (Mark c true) lo hi = refl
+token_gap (Mark c false) lo hi = refl
+token_gap (tokens.Literal text) lo hi = refl
 
-pub outer_count-push : (levels : List Level) (level : Level)
-    → outer_count (levels ++ level ∷ []) ≡ 1 + 2 * count (forest level.after.now) + outer_count levels
-outer_count-push [] level = refl
-outer_count-push (x ∷ levels) level = omega (arith, outer_count-push levels level)
+steps_text-onto : (gap : Bool) (f : Forest) (more : List Step)
+    → steps_text gap (steps_onto f more) ≡ printed_after gap f ++ steps_text (gap_end gap f) more
+steps_text-onto gap nil more = refl
+steps_text-onto gap (leaf token lo hi rest) more =
+    rw (token_front token lo hi, token_gap token lo hi)
+    (ap (λ x. (space gap ++ token_text token) ++ x) (steps_text-onto (parts token) rest more)
+    ∙ simp append_assoc refl)
+steps_text-onto gap (group d lo hi inside rest) more =
+    let whole : Grouped = record { delimiter = d; stream = inside; span = record { lo = lo; hi = hi } } in
+    ap (λ x. (space gap ++ opening d) ++ x)
+    (steps_text-onto (is_brace d) inside (Leave whole rest ∷ steps_onto rest more)
+    ∙ ap (λ x. printed_after (is_brace d) inside ++ (ending d ++ x)) (steps_text-onto true rest more))
+    ∙ simp append_assoc refl
 
--- what is left to print of these trees, and of the groups that they stand in
-abbrev pub left_text : Bool → List TokenTree → List Level → List ℕ
-left_text gap trees outer = printed_after gap (forest trees) ++ outer_text outer
+-- all steps are left
+pub steps_text-steps : (gap : Bool) (f : Forest) → steps_text gap (steps f) ≡ printed_after gap f
+steps_text-steps gap f = steps_text-onto gap f [] ∙ append-nil (printed_after gap f)
 
--- how much there is
-abbrev pub left_count : List TokenTree → List Level → ℕ
-left_count trees outer = 2 * count (forest trees) + outer_count outer
-
-leaf_text : (gap : Bool) (t : TokenTree) (after : List TokenTree) (outer : List Level)
-    → ((g : Grouped) → t ≡ Group g → ⊥)
-    → left_text gap (t ∷ after) outer ≡ (space gap ++ front_text t) ++ left_text (gap_within t) after outer
-leaf_text gap (Group g) after outer other = absurd (other g refl)
-leaf_text gap (Ident i) after outer other = simp append_assoc refl
-leaf_text gap (Punct p) after outer other = simp append_assoc refl
-leaf_text gap (Literal l) after outer other = simp append_assoc refl
-
-group_text : (gap : Bool) (g : Grouped) (level : Level) (outer : List Level) → level.delimiter ≡ g.delimiter
-    → left_text gap (Group g ∷ level.after.now) outer
-    ≡ (space gap ++ front_text (Group g))
-    ++ (printed_after (gap_within (Group g)) g.stream ++ outer_text (outer ++ level ∷ []))
-group_text gap g level outer e = rw (outer_text-push outer level, e) (simp append_assoc refl)
-
-group_count : (g : Grouped) (level : Level) (outer : List Level)
-    → 2 * count g.stream + outer_count (outer ++ level ∷ []) < left_count (Group g ∷ level.after.now) outer
-group_count g level outer = omega (arith, outer_count-push outer level)
-
-end_text : (gap : Bool) (level : Level) (outer : List Level)
-    → left_text gap [] (outer ++ level ∷ []) ≡ ending level.delimiter ++ left_text true level.after.now outer
-end_text gap level outer = rw (outer_text-push outer level) (simp append_assoc refl)
-
--- a push that fails
-pub not_pushed : {E X : Type 0} (r : Result (Unit {0}) E) (b : Bool) (new xs ys : List X) → b ≡ is_ok r → b ≡ false
-    → new ≡ (if is_ok r then xs else ys) → new ≡ ys
-not_pushed (Ok u) b new xs ys e f p = cc
-not_pushed (Err x) b new xs ys e f p = p
-
--- after a token
-pub leaf_more : (gap now : Bool) (t : TokenTree) (left after : List TokenTree) (outer : List Level) → left ≡ t ∷ after
-    → ((g : Grouped) → t ≡ Group g → ⊥) → now ≡ gap_within t
-    → (space gap ++ front_text t) ++ left_text now after outer ≡ left_text gap left outer
-leaf_more gap now t left after outer whole other e = rw (e, whole) (sym (leaf_text gap t after outer other))
-
-pub leaf_less : (t : TokenTree) (left after : List TokenTree) (outer : List Level) → left ≡ t ∷ after
-    → ((g : Grouped) → t ≡ Group g → ⊥) → left_count after outer < left_count left outer
-leaf_less (Group g) left after outer whole other = absurd (other g refl)
-leaf_less (Ident i) left after outer whole other = rw whole (omega arith)
-leaf_less (Punct p) left after outer whole other = rw whole (omega arith)
-leaf_less (Literal l) left after outer whole other = rw whole (omega arith)
-
--- after a group's opener
-pub group_more : (gap now : Bool) (t : TokenTree) (g : Grouped) (left inside : List TokenTree) (level : Level)
-    (outer new : List Level)
-    → left ≡ t ∷ level.after.now → t ≡ Group g → now ≡ gap_within t → level.delimiter ≡ g.delimiter
-    → forest inside ≡ g.stream → new ≡ outer ++ level ∷ []
-    → (space gap ++ front_text t) ++ left_text now inside new ≡ left_text gap left outer
-group_more gap now t g left inside level outer new whole is e d into p =
-    rw (whole, e, is, into, p) (sym (group_text gap g level outer d))
-
-pub group_less : (t : TokenTree) (g : Grouped) (left inside : List TokenTree) (level : Level) (outer new : List Level)
-    → left ≡ t ∷ level.after.now → t ≡ Group g → forest inside ≡ g.stream → new ≡ outer ++ level ∷ []
-    → left_count inside new < left_count left outer
-group_less t g left inside level outer new whole is into p = rw (whole, is, into, p) (group_count g level outer)
-
--- after a group that is printed by itself, where the list found no memory
-pub group_around : (gap now : Bool) (t : TokenTree) (g : Grouped) (left inside after : List TokenTree) (d : Delimiter)
-    (outer new : List Level)
-    → left ≡ t ∷ after → t ≡ Group g → now ≡ gap_within t → d ≡ g.delimiter → forest inside ≡ g.stream → new ≡ outer
-    → (space gap ++ (front_text t ++ (printed_after now (forest inside) ++ ending d))) ++ left_text true after new
-    ≡ left_text gap left outer
-group_around gap now t g left inside after d outer new whole is e same into kept =
-    rw (whole, e, is, into, same, kept) (simp append_assoc refl)
-
-pub around_less : (t : TokenTree) (g : Grouped) (left after : List TokenTree) (outer new : List Level)
-    → left ≡ t ∷ after → t ≡ Group g → new ≡ outer → left_count after new < left_count left outer
-around_less t g left after outer new whole is kept = rw (whole, is, kept) (omega arith)
-
--- after a group's closer
-pub end_more : (gap : Bool) (left : List TokenTree) (level : Level) (outer new : List Level) → length left ≡ 0
-    → outer ≡ new ++ level ∷ []
-    → ending level.delimiter ++ left_text true level.after.now new ≡ left_text gap left outer
-end_more gap [] level outer new z p = rw p (sym (end_text gap level new))
-end_more gap (t ∷ ts) level outer new z p = absurd (omega (arith, z))
-
-pub end_less : (left : List TokenTree) (level : Level) (outer new : List Level) → outer ≡ new ++ level ∷ []
-    → left_count level.after.now new < left_count left outer
-end_less left level outer new p = rw p (omega (arith, outer_count-push new level))
+-- a group that is printed by itself, where a step found no memory
+pub text_over : (gap now : Bool) (was old new : List Step) (g : Grouped) (after : Forest) (d : Delimiter)
+    (inside : List TokenTree)
+    → old ≡ was → PassesOver old g after new → d ≡ g.delimiter → now ≡ is_brace d → forest inside ≡ g.stream
+    → (space gap ++ (opening d ++ (printed_after now (forest inside) ++ ending d))) ++ steps_text true new
+    ≡ steps_text gap was
+text_over gap now was old new g after d inside same_steps over same is into =
+    rw (is, same, into, ← same_steps, over)
+    (simp append_assoc refl
+    ∙ ap (λ x. (space gap ++ opening g.delimiter) ++ x)
+    (sym (steps_text-onto (is_brace g.delimiter) g.stream (Leave g after ∷ new))))
 
 -- some texts are written, and the next
 pub written_more : {W : Type 0} (took : W → List ℕ → W → Type 0) (f g h : Formatter W) (done next left all : List ℕ)
@@ -148,6 +93,14 @@ pub written_two : {W : Type 0} (took : W → List ℕ → W → Type 0) (f g h :
     → HasWritten took f (encode_utf8_all (a ++ b)) h
 written_two took f g h a b p q =
     has_written_of_eq _ _ _ _ _ (sym (encodes-append a b)) (has_written_append _ _ _ _ _ _ p q)
+
+-- what one step prints is written, a space and what comes after it
+pub spaced_written : {W : Type 0} (took : W → List ℕ → W → Type 0) (f g h : Formatter W) (gap : Bool)
+    (front text : List ℕ)
+    → HasWritten took f (encode_utf8_all (space gap)) g → HasWritten took g (encode_utf8_all front) h
+    → text ≡ space gap ++ front → HasWritten took f (encode_utf8_all text) h
+spaced_written took f g h gap front text p q is =
+    has_written_of_eq _ _ _ _ _ (ap encode_utf8_all (sym is)) (written_two _ _ _ _ _ _ p q)
 
 -- a group is written
 pub group_written : {W : Type 0} (took : W → List ℕ → W → Type 0) (f f1 f2 f3 : Formatter W) (g : Grouped)

@@ -1,6 +1,6 @@
 -- What is left to compare while groups are open, in a test whether streams are the same.
 use Rattle.std.proofs.Common.{rules, ◌≡◌, ◌↔◌, ℕ, ◌+◌, ◌*◌, ◌<◌, Bool, true, false, IsTrue, List, [], ◌∷◌, ◌++◌, length}
-use Rattle.std.proofs.Common.{nat_eq, refl, sym, ap, ◌∙◌, arith}
+use Rattle.std.proofs.Common.{nat_eq, refl, sym, ap, ◌∙◌, arith, Result, Ok, Err, is_ok, if◌then◌else◌}
 use Rattle.std.specs.Cmp.Lexicographic.{pointwise}
 use Rattle.std.specs.Str.{chars, IsUtf8, encode_utf8_all}
 use Rattle.std.proofs.lemmas.Slice.Eq.{bytes_eq-Decides}
@@ -18,7 +18,18 @@ use Rattle.pm_stream.specs.Size.{count}
 use Rattle.pm_stream.specs.declared.same.Lists.{Lists}
 use Rattle.pm_stream.specs.declared.stream.TokenTree.{TokenTree}
 use Rattle.pm_stream.specs.declared.stream.TokenTree.TheVariants.{Group, Ident, Punct, Literal}
-use Rattle.pm_stream.proofs.SpacedLemmas.{count-before}
+
+count-before : (t : TokenTree) (rest : Forest) → count (before t rest) ≡ 1 + count (inside t) + count rest
+count-before (Group g) rest = refl
+count-before (Ident i) rest = refl
+count-before (Punct p) rest = refl
+count-before (Literal l) rest = refl
+
+-- a push that succeeds
+pub pushed_ok : {E X : Type 0} (r : Result (Unit {0}) E) (b : Bool) (new xs ys : List X) → b ≡ is_ok r → b ≡ true
+    → new ≡ (if is_ok r then xs else ys) → new ≡ xs
+pushed_ok (Ok u) b new xs ys e t p = p
+pushed_ok (Err x) b new xs ys e t p = cc
 
 -- the trees after each open group are the same
 abbrev pub RestsSame : List Lists → Type 0

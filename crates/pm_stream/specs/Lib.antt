@@ -25,7 +25,8 @@ pub mod ParserState
 pub mod PrinterState
 pub mod InOrder
 pub mod DocGroup
-pub mod Walk
+pub mod Steps
+pub mod StepsLeft
 pub mod Given
 pub mod HeldSpans
 pub mod Building

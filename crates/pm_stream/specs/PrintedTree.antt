@@ -1,11 +1,12 @@
 -- What is printed of one tree.
-use Rattle.std.specs.Prelude.{ℕ, Bool, List, ◌++◌}
+use Rattle.std.specs.Prelude.{ℕ, Bool, true, List, ◌++◌}
 use Rattle.lexical.specs.Token.{token_text}
 use Rattle.pm_token.specs.declared.delimiters.Delimiter.{Delimiter}
 use Rattle.pm_token.specs.Leaf.{name_token, mark_token, text_token}
 use Rattle.pm_stream.specs.Delimited.{opening, closing, is_brace}
 use Rattle.pm_stream.specs.Trees.{alone}
 use Rattle.pm_stream.specs.Printed.{parts, space, printed}
+use Rattle.pm_stream.specs.Steps.{Step, Enter, Leave, Token}
 use Rattle.pm_stream.specs.declared.stream.Group.{Group as Grouped}
 use Rattle.pm_stream.specs.declared.stream.TokenTree.{TokenTree}
 use Rattle.pm_stream.specs.declared.stream.TokenTree.TheVariants.{Group, Ident, Punct, Literal}
@@ -31,3 +32,15 @@ gap_within (Literal l) = parts (text_token l)
 -- what a group ends with, and in a Brace the space before it
 abbrev pub ending : Delimiter → List ℕ
 ending d = space (is_brace d) ++ closing d
+
+-- what is printed of one step, with a space before it if gap
+abbrev pub step_text : Bool → Step → List ℕ
+step_text gap (Enter g after) = space gap ++ opening g.delimiter
+step_text gap (Leave g after) = ending g.delimiter
+step_text gap (Token tree after) = space gap ++ front_text tree
+
+-- a space goes before what is printed after the step
+abbrev pub gap_after_step : Step → Bool
+gap_after_step (Enter g after) = is_brace g.delimiter
+gap_after_step (Leave g after) = true
+gap_after_step (Token tree after) = gap_within tree

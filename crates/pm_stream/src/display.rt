@@ -1,28 +1,21 @@
 //! How streams are printed.
 //!
-//! Groups may nest as deep as a text is long, so what is left to print after a group stands in a
-//! list and not on the stack. If memory for the list is refused, the function calls itself for the
-//! group, so that it prints all the same.
+//! Where a step into a group is refused memory, the function calls itself for the group, so that it prints all the same.
 ghost use Rattle.std.specs.Prelude.{◌≡◌};
 ghost use Rattle.std.specs.Fmt.{WritesOnOk};
 ghost use Rattle.std.specs.Str.{encode_utf8_all};
 ghost use Rattle.pm_stream.specs.Delimited.{opening, is_brace};
 ghost use Rattle.pm_stream.specs.Trees.{forest};
 ghost use Rattle.pm_stream.specs.Printed.{printed_after, space};
-ghost use Rattle.pm_stream.specs.PrintedTree.{front_text, ending, gap_within};
+ghost use Rattle.pm_stream.specs.PrintedTree.{ending, front_text, gap_after_step, gap_within, step_text};
+ghost use Rattle.pm_stream.specs.Steps.{step_of};
 
+use crate::steps::{Step, Steps};
 use crate::stream::{Group, TokenStream, TokenTree};
 use pm_token::{Delimiter, Spacing};
 use std::alloc::Global;
 use std::fmt;
 use std::fmt::Display;
-
-// A group that is being printed, and the trees that follow it.
-#[derive(Drop)]
-struct Level<'a> {
-    delimiter: Delimiter,
-    after: &'a [TokenTree],
-}
 
 fn print_trees<W: fmt::Write>(
     alloc: Global,
@@ -33,34 +26,59 @@ fn print_trees<W: fmt::Write>(
     ensures { WritesOnOk W.write_str_gives f.old result
         (encode_utf8_all (printed_after within (forest trees.now))) f.new }
 {
-    let mut outer = Vec::new(alloc);
+    let mut steps = Steps::new(alloc, trees);
     let mut gap = within;
-    let mut left = trees;
     loop {
-        if let Some((tree, after)) = left.split_first() {
-            print_space(gap, f)?;
-            print_front(tree, f)?;
-            gap = gap_within(tree);
-            left = after;
-            if let TokenTree::Group(group) = tree {
-                let delimiter = group.delimiter();
-                let inside = group.stream_ref().trees();
-                if outer.push(Level { delimiter, after }).is_ok() {
-                    left = inside;
-                } else {
-                    print_trees(alloc, inside, gap, f)?;
-                    print_ending(delimiter, f)?;
-                    gap = true;
-                }
+        match steps.next() {
+            Ok(None) => return Ok(()),
+            Ok(Some(step)) => {
+                print_step(step, gap, f)?;
+                gap = gap_after_step(step);
             }
-        } else {
-            let Some(level) = outer.pop() else {
-                return Ok(());
-            };
-            print_ending(level.delimiter, f)?;
-            gap = true;
-            left = level.after;
+            Err(_) => {
+                let Some((group, _)) = steps.pass_over() else {
+                    unreachable!();
+                };
+                let around = group.delimiter();
+                print_space(gap, f)?;
+                print_opening(around, f)?;
+                let inside = group.stream_ref().trees();
+                print_trees(alloc, inside, is_brace(around), f)?;
+                print_ending(around, f)?;
+                gap = true;
+            }
         }
+    }
+}
+
+// What is printed of one step.
+#[inline(always)]
+fn print_step<W: fmt::Write>(step: Step<'_>, gap: bool, f: &mut fmt::Formatter<W>) -> fmt::Result
+    ensures { WritesOnOk W.write_str_gives f.old result
+        (encode_utf8_all (step_text gap (step_of step.entry))) f.new }
+{
+    match step {
+        Step::Enter(group, _) => {
+            print_space(gap, f)?;
+            print_opening(group.delimiter(), f)
+        }
+        Step::Leave(group, _) => print_ending(group.delimiter(), f),
+        Step::Token(tree, _) => {
+            print_space(gap, f)?;
+            print_front(tree, f)
+        }
+    }
+}
+
+// Whether a space goes before what is printed after the step.
+#[inline(always)]
+fn gap_after_step(step: Step<'_>) -> bool
+    ensures { result ≡ gap_after_step (step_of step.entry) }
+{
+    match step {
+        Step::Enter(group, _) => is_brace(group.delimiter()),
+        Step::Leave(..) => true,
+        Step::Token(tree, _) => gap_within(tree),
     }
 }
 

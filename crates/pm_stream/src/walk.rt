@@ -1,21 +1,18 @@
 //! All trees of a stream, one at a time.
-ghost use Rattle.std.specs.Prelude.{◌≡◌, [], ◌∷◌, IfOk, MatchOption, OnErr};
-ghost use Rattle.pm_stream.specs.InOrder.{in_order, BeginsWithGroup};
+ghost use Rattle.std.specs.Prelude.{◌≡◌, List, [], ◌∷◌, IfOk, IfSome, MatchOption, OnErr};
+ghost use Rattle.pm_stream.specs.InOrder.{in_order, in_order_onto, BeginsWithGroup};
+ghost use Rattle.pm_stream.specs.Trees.{inside};
+ghost use Rattle.pm_stream.specs.declared.stream.TokenTree.{TokenTree as TreeValue};
 
-use crate::stream::{TokenStream, TokenTree};
+use crate::steps::Steps;
+use crate::stream::{Group, TokenStream, TokenTree};
 use std::alloc::AllocError;
 use std::marker::Model;
 
 /// The trees of a stream that are left to read, each group before those inside it.
-///
-/// Groups may nest as deep as a text is long, so what is left after a group stands in a list and
-/// not on the stack.
 #[derive(Drop)]
 pub struct Walk<'a> {
-    // For each group that is open, the outermost first, the trees after it.
-    outer: Vec<&'a [TokenTree]>,
-    // The trees that are left of the innermost.
-    left: &'a [TokenTree],
+    steps: Steps<'a>,
 }
 
 impl<'a> Model for Walk<'a> {
@@ -29,9 +26,9 @@ impl<'a> Model for Walk<'a> {
 
     ghost coded = { Prim.hlevel (codes, tree.the_row.coded) };
 
-    ghost use Rattle.pm_stream.specs.Walk.{left_to_read};
+    ghost use Rattle.pm_stream.specs.Steps.{trees_given};
 
-    ghost view = { λ walk. left_to_read walk.outer.items walk.left.now };
+    ghost view = { λ walk. trees_given walk.steps };
 }
 
 impl TokenStream {
@@ -43,8 +40,7 @@ impl TokenStream {
         ensures { result ≡ in_order self.now }
     {
         Walk {
-            outer: Vec::new(self.alloc()),
-            left: self.trees(),
+            steps: self.steps(),
         }
     }
 }
@@ -57,23 +53,25 @@ impl<'a> Walk<'a> {
     pub fn next(&mut self) -> Result<Option<&'a TokenTree>, AllocError>
         ensures ok { IfOk result (λ next. MatchOption next ((self.old ≡ []) × (self.new ≡ []))
             (λ tree. self.old ≡ tree.now ∷ self.new)) }
+        ensures inside { IfOk result (λ next. IfSome next (λ tree.
+            (rest : List TreeValue) × (self.new ≡ in_order_onto (inside tree.now) rest))) }
         ensures memory { OnErr result (BeginsWithGroup self.old) }
         ensures err { OnErr result (self.new ≡ self.old) }
     {
         loop {
-            if let Some((tree, after)) = self.left.split_first() {
-                if let TokenTree::Group(group) = tree {
-                    self.outer.push(after)?;
-                    self.left = group.stream_ref().trees();
-                } else {
-                    self.left = after;
-                }
-                return Ok(Some(tree));
+            let tree = self.steps.front();
+            let step = self.steps.next()?;
+            if tree.is_some() || step.is_none() {
+                return Ok(tree);
             }
-            let Some(after) = self.outer.pop() else {
-                return Ok(None);
-            };
-            self.left = after;
         }
+    }
+    /// Passes over the trees in this group, where [`next`](Walk::next) gave it last. It takes no memory.
+    ///
+    /// In `a (b) c`, after `(b)` was given and passed over, `c` is next.
+    pub fn pass_over(&mut self, group: &Group)
+        ensures { (rest : List TreeValue) → self.old ≡ in_order_onto group.now.stream rest → self.new ≡ rest }
+    {
+        self.steps.pass_trees(group.stream_ref().trees().len());
     }
 }

@@ -1,20 +1,22 @@
 //! Whether a stream comes back from its printed text.
 //!
-//! Groups may nest as deep as a text is long, so what is left after a group stands in a list and
-//! not on the stack. If memory for the list is refused, the function calls itself for the group,
-//! so that it answers all the same.
-ghost use Rattle.std.specs.Prelude.{◌≡◌, ◌↔◌, ◌==◌, IsTrue};
+//! Where a step into a group is refused memory, the function calls itself for the group, so that it answers all the same.
+ghost use Rattle.std.specs.Prelude.{◌≡◌, ◌↔◌, ◌==◌, IsTrue, true};
 ghost use Rattle.std.specs.Str.{chars};
 ghost use Rattle.lexical.specs.Ascii.{all_ascii};
 ghost use Rattle.lexical.specs.Character.{single_quote};
 ghost use Rattle.lexical.specs.Mark.{quotable_fronts};
+ghost use Rattle.lexical.specs.Token.{Mark};
 ghost use Rattle.lexical.specs.Text.{begins_any, begins_with, first_passes};
 ghost use Rattle.pm_token.specs.Leaf.{mark_token};
 ghost use Rattle.pm_stream.specs.Forest.{IsBuilt};
 ghost use Rattle.pm_stream.specs.Trees.{forest};
-ghost use Rattle.pm_stream.specs.SpacedTree.{tree_fits};
+ghost use Rattle.pm_stream.specs.Shown.{is_shown};
+ghost use Rattle.pm_stream.specs.SpacedTree.{step_fits, tree_fits};
+ghost use Rattle.pm_stream.specs.Steps.{step_of};
 ghost use Rattle.pm_stream.specs.WellSpaced.{fits, follows_joint, follows_quote, next_token, well_spaced, IsWellSpaced};
 
+use crate::steps::{Step, Steps};
 use crate::stream::{TokenStream, TokenTree};
 use pm_token::{Delimiter, Punct, Spacing};
 use std::alloc::Global;
@@ -40,30 +42,46 @@ impl TokenStream {
 fn are_well_spaced(alloc: Global, trees: &[TokenTree]) -> bool
     ensures { result ≡ well_spaced (forest trees.now) }
 {
-    let mut outer = Vec::new(alloc);
-    let mut left = trees;
+    let mut steps = Steps::new(alloc, trees);
     loop {
-        let Some((tree, after)) = left.split_first() else {
-            let Some(after) = outer.pop() else {
-                return true;
-            };
-            left = after;
-            continue;
-        };
-        if !fits(tree, after) {
-            return false;
-        }
-        let inside = tree.inside();
-        left = after;
-        if inside.is_empty() {
-            continue;
-        }
-        if outer.push(after).is_ok() {
-            left = inside;
-        } else if !are_well_spaced(alloc, inside) {
-            return false;
+        match steps.next() {
+            Ok(None) => return true,
+            Ok(Some(step)) => {
+                if !step_fits(step) {
+                    return false;
+                }
+            }
+            Err(_) => {
+                let Some((group, _)) = steps.pass_over() else {
+                    unreachable!();
+                };
+                if !is_shown(group.delimiter()) {
+                    return false;
+                }
+                if !are_well_spaced(alloc, group.stream_ref().trees()) {
+                    return false;
+                }
+            }
         }
     }
+}
+
+// Whether the group that the step goes into is shown, or its token may stand there.
+fn step_fits(step: Step<'_>) -> bool
+    ensures { result ≡ step_fits (step_of step.entry) }
+{
+    match step {
+        Step::Enter(group, _) => is_shown(group.delimiter()),
+        Step::Leave(..) => true,
+        Step::Token(tree, after) => fits(tree, after),
+    }
+}
+
+// Whether a group with the delimiter shows where it begins and ends.
+fn is_shown(delimiter: Delimiter) -> bool
+    ensures { result ≡ is_shown delimiter }
+{
+    delimiter != Delimiter::None
 }
 
 // Whether the tree may stand before these, whatever is inside it.
@@ -71,22 +89,37 @@ fn fits(tree: &TokenTree, after: &[TokenTree]) -> bool
     ensures { result ≡ tree_fits tree.now (forest after.now) }
 {
     match tree {
-        TokenTree::Group(group) => group.delimiter() != Delimiter::None,
+        TokenTree::Group(group) => is_shown(group.delimiter()),
         TokenTree::Punct(punct) => mark_fits(punct, after),
         TokenTree::Ident(_) | TokenTree::Literal(_) => true,
     }
 }
 
-// Whether the mark may stand before these trees. `'` is always Joint.
+// Whether the mark may stand before these trees.
 fn mark_fits(punct: &Punct, after: &[TokenTree]) -> bool
     ensures { result ≡ fits (mark_token punct.now) (next_token (forest after.now)) }
 {
     let mark = punct.as_char();
-    let joint = punct.spacing() == Spacing::Joint;
+    match punct.spacing() {
+        Spacing::Joint => may_be_joint(mark, after),
+        Spacing::Alone => mark != '\'',
+    }
+}
+
+/// Whether this mark may stand before these trees with the spacing Joint, so that the stream is `well-spaced`.
+///
+/// `'` may where an identifier is next, or a literal that begins as `b"` or `r"` do. Any other mark may where a mark is
+/// next with which it begins no comment, or a literal that begins with `'`. Alone each mark may stand anywhere, but `'`
+/// nowhere.
+///
+/// `+` may before `=`, and may not before `a` or at the end.
+pub fn may_be_joint(mark: char, after: &[TokenTree]) -> bool
+    ensures { result ≡ fits (Mark mark true) (next_token (forest after.now)) }
+{
     if mark == '\'' {
-        joint && follows_quote(after)
+        follows_quote(after)
     } else {
-        !joint || follows_joint(mark, after)
+        follows_joint(mark, after)
     }
 }
 

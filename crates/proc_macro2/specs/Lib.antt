@@ -71,5 +71,6 @@ pub use Rattle.pm_stream.specs.Same
 pub use Rattle.pm_stream.specs.Shown
 pub use Rattle.pm_stream.specs.Size
 pub use Rattle.pm_stream.specs.SpacedTree
+pub use Rattle.pm_stream.specs.Steps
 pub use Rattle.pm_stream.specs.TreeSpan
 pub use Rattle.pm_stream.specs.WellSpaced

@@ -1,6 +1,5 @@
 use Rattle.std.proofs.Common.{arith}
-use Rattle.pm_stream.proofs.SpacedLemmas.{pushed_ok}
-use Rattle.pm_stream.proofs.SameLemmas.{uneven, inside_same, inside_less, after_same, after_less}
+use Rattle.pm_stream.proofs.SameLemmas.{pushed_ok, uneven, inside_same, inside_less, after_same, after_less}
 use Rattle.pm_stream.proofs.same.+are_same.Goals as goal
 
 pub returns-then-not-is_empty : goal.returns-then-not-is_empty

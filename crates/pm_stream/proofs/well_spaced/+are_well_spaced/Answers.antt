@@ -1,32 +1,51 @@
-use Rattle.std.proofs.Common.{sym, ◌∙◌, arith}
-use Rattle.pm_stream.proofs.SpacedLemmas.{pushed_ok, inside_spaced, inside_less, after_spaced, after_less}
+use Rattle.std.proofs.Common.{rules, ◌<◌, ◌&&◌, length, sym, ap, ◌∙◌, arith}
+use Rattle.pm_stream.specs.Shown.{is_shown}
+use Rattle.pm_stream.specs.Steps.{steps}
+use Rattle.pm_stream.specs.Trees.{forest}
+use Rattle.pm_stream.proofs.SpacedLemmas.{left_spaced, left_spaced-steps, spaced_over}
+use Rattle.pm_stream.proofs.StepLemmas.{inside_less, over_less}
 use Rattle.pm_stream.proofs.well_spaced.+are_well_spaced.Goals as goal
 
-pub loop-tree-smaller-in_default : goal.loop-tree-smaller-in_default
-loop-tree-smaller-in_default t c = after_less _ _ _ _ c.in-Some-pop.ensures.items
-
-pub loop-tree-preserved-in_default : goal.loop-tree-preserved-in_default
-loop-tree-preserved-in_default t c =
-    let was = c.loop-tree.invariant in
+pub loop-steps-init : goal.loop-steps-init
+loop-steps-init t c =
     record {
-      spaced = sym (after_spaced _ _ _ _ c.in_default.ensures.cases c.in-Some-pop.ensures.items) ∙ was.spaced;
-      within = omega (arith, was.within, after_less c.loop-tree.left.now _ _ _ c.in-Some-pop.ensures.items);
+      spaced = ap left_spaced c.new-steps.ensures ∙ left_spaced-steps (forest c.args.trees.now);
+      within = omega (arith, ap length c.new-steps.ensures);
     }
 
-pub loop-tree-smaller-then-is_ok : goal.loop-tree-smaller-then-is_ok
-loop-tree-smaller-then-is_ok t c =
-    let more = pushed_ok _ _ _ _ _ c.is_ok.ensures.value c.if-is_ok.true c.push.ensures.items in
-    inside_less _ _ _ _ _ _ c.in-Some.ensures.cases.0 c.inside-inside.ensures more
+pub are_well_spaced-requires : goal.are_well_spaced-requires
+are_well_spaced-requires t c =
+    let below : length (steps (forest c.trees.result.now)) < t =
+    inside_less _ _ _ _ _ _ _ c.in-Err.ensures.err c.in-Some.ensures
+    (c.trees.ensures.value ∙ c.stream_ref.ensures.value)
+    (omega (arith, c.loop-steps.invariant.within, c.decreases)) in
+    search (rules, below)
 
-pub loop-tree-preserved-then-is_ok : goal.loop-tree-preserved-then-is_ok
-loop-tree-preserved-then-is_ok t c =
-    let was = c.loop-tree.invariant in
-    let more = pushed_ok _ _ _ _ _ c.is_ok.ensures.value c.if-is_ok.true c.push.ensures.items in
+pub loop-steps-smaller : goal.loop-steps-smaller
+loop-steps-smaller t c = over_less _ _ _ _ _ c.in-Err.ensures.err c.in-Some.ensures
+
+pub returns-then-not-are_well_spaced : goal.returns-then-not-are_well_spaced
+returns-then-not-are_well_spaced t c =
+    let looked =
+    spaced_over _ _ _ _ _ _ _ _ c.in-Err.ensures.err c.in-Some.ensures
+    (c.is_shown.ensures ∙ ap is_shown c.delimiter.ensures) c.if-not-is_shown.false
+    (c.trees.ensures.value ∙ c.stream_ref.ensures.value) c.are_well_spaced.ensures in
+    sym (sym c.loop-steps.invariant.spaced
+    ∙ (looked ∙ ap (λ b. b && left_spaced c.pass_over.new.self) c.if-not-are_well_spaced.true))
+
+pub loop-steps-preserved : goal.loop-steps-preserved
+loop-steps-preserved t c =
+    let looked =
+    spaced_over _ _ _ _ _ _ _ _ c.in-Err.ensures.err c.in-Some.ensures
+    (c.is_shown.ensures ∙ ap is_shown c.delimiter.ensures) c.if-not-is_shown.false
+    (c.trees.ensures.value ∙ c.stream_ref.ensures.value) c.are_well_spaced.ensures in
     record {
       spaced =
-          sym (inside_spaced _ _ _ _ _ _ c.in-Some.ensures.cases.0
-          (sym c.fits.ensures ∙ c.if-not-fits.false) c.inside-inside.ensures more)
-          ∙ was.spaced;
-      within =
-          omega (arith, was.within, inside_less _ _ _ _ _ _ c.in-Some.ensures.cases.0 c.inside-inside.ensures more);
+          sym (looked ∙ ap (λ b. b && left_spaced c.pass_over.new.self) c.if-not-are_well_spaced.false)
+          ∙ c.loop-steps.invariant.spaced;
+      within = omega (
+        arith,
+        c.loop-steps.invariant.within,
+        over_less _ _ _ _ _ c.in-Err.ensures.err c.in-Some.ensures,
+      );
     }

@@ -1,9 +1,9 @@
-use Rattle.std.proofs.Common.{◌≡◌, vec_len}
-use Rattle.pm_stream.specs.Walk.{left_to_read}
+use Rattle.std.proofs.Common.{◌≡◌, length}
+use Rattle.pm_stream.specs.Steps.{trees_given}
 use Rattle.pm_stream.proofs.walk.Walk.next.Given as goal
 
-abbrev pub invariant-loop-tree : goal.invariant-loop-tree
-invariant-loop-tree l = left_to_read l.self-inside.outer.items l.self-inside.left.now ≡ l.fn.self
+abbrev pub invariant-loop-step : goal.invariant-loop-step
+invariant-loop-step l = trees_given l.self-inside.steps ≡ l.fn.self
 
-abbrev pub decreases-loop-tree : goal.decreases-loop-tree
-decreases-loop-tree l = vec_len l.self-inside.outer
+abbrev pub decreases-loop-step : goal.decreases-loop-step
+decreases-loop-step l = length l.self-inside.steps

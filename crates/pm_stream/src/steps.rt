@@ -1,0 +1,146 @@
+//! One traversal of a stream's trees, step by step.
+//!
+//! Groups may nest as deep as a text is long, so the groups that are open stand in a list and not on the stack.
+ghost use Rattle.std.specs.Prelude.{◌≡◌, [], ◌∷◌, IfOk, IfSome, MatchOption, OnErr, option_copied};
+ghost use Rattle.pm_stream.specs.Steps.{Enter, EntersNext, FollowedBy, Leave, PassesTrees, front_tree, step_of, steps, steps_onto};
+ghost use Rattle.pm_stream.specs.Trees.{forest};
+
+use crate::stream::{Group, TokenStream, TokenTree};
+use std::alloc::{AllocError, Global};
+use std::marker::Model;
+
+/// A step of a traversal, each with the trees that follow in the same list.
+#[derive(Clone, Copy)]
+pub enum Step<'a> {
+    /// Into this group. The steps over its trees come next, and then its `Leave`.
+    Enter(&'a Group, &'a [TokenTree]),
+    /// Out of this group, all of whose trees were given.
+    Leave(&'a Group, &'a [TokenTree]),
+    /// Past this tree, which is no group.
+    Token(&'a TokenTree, &'a [TokenTree]),
+}
+
+/// The steps of a traversal that are left. [`TokenStream::steps`] makes it.
+#[derive(Drop)]
+pub struct Steps<'a> {
+    // The groups that are open, the outermost first.
+    outer: Vec<OpenGroup<'a>>,
+    // The trees that are left of the innermost.
+    left: &'a [TokenTree],
+}
+
+// A group that is open, and the trees after it.
+#[derive(Clone, Copy)]
+struct OpenGroup<'a> {
+    group: &'a Group,
+    after: &'a [TokenTree],
+}
+
+impl<'a> Model for Steps<'a> {
+    ghost use Rattle.std.specs.Prelude.{List};
+    ghost use Rattle.std.specs.Coded.{coded_list};
+    ghost use Rattle.pm_stream.specs.Steps.{Step, coded_step};
+
+    ghost Value = { List Step };
+
+    ghost coded = { coded_list coded_step };
+
+    ghost use Rattle.pm_stream.specs.StepsLeft.{steps_left};
+
+    ghost view = { λ a. steps_left a.outer.items a.left.now };
+}
+
+impl TokenStream {
+    /// A traversal of all its trees, which goes into each group and out of it again. It takes no memory.
+    ///
+    /// `a (b) c` has the steps past `a`, into `(b)`, past `b`, out of `(b)` and past `c`.
+    pub fn steps(&self) -> Steps<'_>
+        ensures { result ≡ steps self.now }
+    {
+        Steps::new(self.alloc(), self.trees())
+    }
+}
+
+impl<'a> Steps<'a> {
+    /// A traversal of these trees. It takes no memory.
+    pub fn new(alloc: Global, trees: &'a [TokenTree]) -> Steps<'a>
+        ensures { result ≡ steps (forest trees.now) }
+    {
+        Steps {
+            outer: Vec::new(alloc),
+            left: trees,
+        }
+    }
+
+    /// The next step, or `None` after the last.
+    ///
+    /// It takes memory only on the way into a group, for what comes after that. Where it is refused, all stays as it
+    /// was, and [`pass_over`](Steps::pass_over) gives the group.
+    #[inline(always)]
+    #[tactic(auto, using(crate::proofs::StepLemmas::token_inside))]
+    pub fn next(&mut self) -> Result<Option<Step<'a>>, AllocError>
+        ensures ok { IfOk result (λ next. MatchOption next ((self.old ≡ []) × (self.new ≡ []))
+            (λ step. self.old ≡ step_of step ∷ self.new)) }
+        ensures siblings { IfOk result (λ next. IfSome next (λ step. FollowedBy (step_of step) self.new)) }
+        ensures memory { OnErr result (EntersNext self.old) }
+        ensures err { OnErr result (self.new ≡ self.old) }
+    {
+        let Some((tree, after)) = self.left.split_first() else {
+            let Some(open) = self.outer.pop() else {
+                return Ok(None);
+            };
+            self.left = open.after;
+            return Ok(Some(Step::Leave(open.group, open.after)));
+        };
+        if let TokenTree::Group(group) = tree {
+            self.outer.push(OpenGroup { group, after })?;
+            self.left = group.stream_ref().trees();
+            return Ok(Some(Step::Enter(group, after)));
+        }
+        self.left = after;
+        Ok(Some(Step::Token(tree, after)))
+    }
+
+    /// Passes over the group that the next step goes into, and gives it with the trees that follow. `None` where the
+    /// next step is another, and then nothing is passed over. It takes no memory.
+    pub fn pass_over(&mut self) -> Option<(&'a Group, &'a [TokenTree])>
+        ensures { MatchOption result ((EntersNext self.old → ⊥) × (self.new ≡ self.old)) (λ next. self.old
+            ≡ Enter next.0.now (forest next.1.now) ∷ steps_onto next.0.now.stream
+            (Leave next.0.now (forest next.1.now) ∷ self.new)) }
+    {
+        let Some((tree, after)) = self.left.split_first() else {
+            return None;
+        };
+        let TokenTree::Group(group) = tree else {
+            return None;
+        };
+        self.left = after;
+        Some((group, after))
+    }
+
+    // Passes over so many trees, each with what is in it: those that are left of the innermost group, and then those
+    // after it, and so on.
+    pub(crate) fn pass_trees(&mut self, count: usize)
+        ensures { PassesTrees count self.old self.new }
+    {
+        let mut count = count;
+        while count > self.left.len() {
+            let Some(open) = self.outer.pop() else {
+                return;
+            };
+            count -= self.left.len();
+            self.left = open.after;
+        }
+        self.left = &self.left[count..];
+    }
+
+    // The tree that the next step comes to, if it comes to one.
+    pub(crate) fn front(&self) -> Option<&'a TokenTree>
+        ensures { option_copied result ≡ front_tree self.now }
+    {
+        let Some((tree, _)) = self.left.split_first() else {
+            return None;
+        };
+        Some(tree)
+    }
+}
