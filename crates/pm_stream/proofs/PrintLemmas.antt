@@ -15,7 +15,7 @@ use Rattle.pm_stream.specs.InOrder.{token_tree}
 use Rattle.pm_stream.specs.Printed.{parts, printed_after, printed, space}
 use Rattle.pm_stream.specs.PrintedEvents.{gap_end}
 use Rattle.pm_stream.specs.PrintedTree.{ending, front_text, gap_after_step, gap_within, step_text}
-use Rattle.pm_stream.specs.Steps.{Step, Enter, Leave, step_of, steps, steps_onto}
+use Rattle.pm_stream.specs.Steps.{Step, Leave, step_of, steps, steps_onto}
 use Rattle.pm_stream.specs.Trees.{forest, alone}
 use Rattle.pm_stream.specs.declared.steps.Step.{Step as Given}
 use Rattle.pm_stream.specs.declared.stream.Group.{Group as Grouped}

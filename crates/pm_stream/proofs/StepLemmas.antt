@@ -2,8 +2,6 @@
 use Rattle.std.proofs.Common.{◌≡◌, ℕ, ◌+◌, ◌-◌, ◌<◌, ◌≤◌, List, [], ◌∷◌, ◌++◌, Option, Some, None, length, refl, sym, ap, ◌∙◌}
 use Rattle.std.proofs.Common.{arith, drop, Bor, IfSome, MatchOption, option_copied}
 use Rattle.std.proofs.lemmas.List.{length-drop}
-use Rattle.pm_token.specs.declared.marks.Spacing.{Spacing}
-use Rattle.pm_token.specs.Leaf.{is_joint}
 use Rattle.pm_stream.specs.Forest.{Forest, nil, leaf, group}
 use Rattle.pm_stream.specs.InOrder.{in_order_onto, token_tree}
 use Rattle.pm_stream.specs.Steps.{Step, Enter, Leave, Token, EntersNext, FollowedBy, front_tree, step_of, steps, steps_onto}
@@ -241,8 +239,7 @@ pub passed_group : (count still : ℕ) (given : List TokenTree) (outer new : Lis
 passed_group count still given outer new left frame fewer pop so_far = λ passed rest size is.
     let was = so_far passed rest size is in
     let after : trees_given (ends_onto outer []) ≡ trees_given (steps_left new frame.after.now) =
-    rw pop (ap trees_given (ends_onto-push new frame [])) in
-    (
+    rw pop (ap trees_given (ends_onto-push new frame [])) in (
       drop (length left) was.0,
       length-drop (length left) was.0 ∙ ap (λ n. n - length left) was.1,
       sym after
