@@ -52,7 +52,8 @@ pub left_spaced-steps : (f : Forest) → left_spaced (steps f) ≡ well_spaced f
 left_spaced-steps f = left_spaced-onto f [] ∙ and_true (well_spaced f)
 
 -- a group that is looked at by itself, where a step found no memory
-pub spaced_over : (was old new : List Step) (g : Grouped) (after : Forest) (inside : List TokenTree) (shown inner : Bool)
+pub spaced_over : (was old new : List Step) (g : Grouped) (after : Forest) (inside : List TokenTree)
+    (shown inner : Bool)
     → old ≡ was → PassesOver old g after new → shown ≡ is_shown g.delimiter → shown ≡ true → forest inside ≡ g.stream
     → inner ≡ well_spaced (forest inside) → left_spaced was ≡ (inner && left_spaced new)
 spaced_over was old new g after inside shown inner same over is_group holds into is =

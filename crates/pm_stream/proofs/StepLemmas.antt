@@ -1,10 +1,12 @@
 -- Steps of a traversal of a stream's trees.
-use Rattle.std.proofs.Common.{◌≡◌, ℕ, ◌+◌, ◌-◌, ◌<◌, ◌≤◌, List, [], ◌∷◌, ◌++◌, Option, Some, None, length, refl, sym, ap, ◌∙◌}
+use Rattle.std.proofs.Common.{◌≡◌, ℕ, ◌+◌, ◌-◌, ◌<◌, ◌≤◌, List, [], ◌∷◌, ◌++◌, Option, Some, None, length}
+use Rattle.std.proofs.Common.{refl, sym, ap, ◌∙◌}
 use Rattle.std.proofs.Common.{arith, drop, Bor, IfSome, MatchOption, option_copied}
 use Rattle.std.proofs.lemmas.List.{length-drop}
 use Rattle.pm_stream.specs.Forest.{Forest, nil, leaf, group}
 use Rattle.pm_stream.specs.InOrder.{in_order_onto, token_tree}
-use Rattle.pm_stream.specs.Steps.{Step, Enter, Leave, Token, EntersNext, FollowedBy, front_tree, step_of, steps, steps_onto}
+use Rattle.pm_stream.specs.Steps.{Step, Enter, Leave, Token, EntersNext, FollowedBy, front_tree, step_of, steps}
+use Rattle.pm_stream.specs.Steps.{steps_onto}
 use Rattle.pm_stream.specs.Steps.{trees_given}
 use Rattle.pm_stream.specs.StepsLeft.{ends_onto, steps_left}
 use Rattle.pm_stream.specs.Trees.{before, forest, inside}

@@ -1,7 +1,8 @@
 //! How streams are printed.
 //!
-//! Where a step into a group is refused memory, the function calls itself for the group, so that it prints all the same.
-ghost use Rattle.std.specs.Prelude.{◌≡◌};
+//! Where a step into a group is refused memory, the function calls itself for the group, so that it
+//! prints all the same.
+ghost use Rattle.std.specs.Prelude.{◌≡◌, OnOk};
 ghost use Rattle.std.specs.Fmt.{WritesOnOk};
 ghost use Rattle.std.specs.Str.{encode_utf8_all};
 ghost use Rattle.pm_stream.specs.Delimited.{opening, is_brace};
@@ -32,8 +33,7 @@ fn print_trees<W: fmt::Write>(
         match steps.next() {
             Ok(None) => return Ok(()),
             Ok(Some(step)) => {
-                print_step(step, gap, f)?;
-                gap = gap_after_step(step);
+                print_step(step, &mut gap, f)?;
             }
             Err(_) => {
                 let Some((group, _)) = steps.pass_over() else {
@@ -51,34 +51,33 @@ fn print_trees<W: fmt::Write>(
     }
 }
 
-// What is printed of one step.
+// What is printed of one step, with a space before it if gap. Then gap is whether one goes before what comes after it.
 #[inline(always)]
-fn print_step<W: fmt::Write>(step: Step<'_>, gap: bool, f: &mut fmt::Formatter<W>) -> fmt::Result
-    ensures { WritesOnOk W.write_str_gives f.old result
-        (encode_utf8_all (step_text gap (step_of step.entry))) f.new }
+fn print_step<W: fmt::Write>(
+    step: Step<'_>,
+    gap: &mut bool,
+    f: &mut fmt::Formatter<W>,
+) -> fmt::Result
+    ensures writes { WritesOnOk W.write_str_gives f.old result
+        (encode_utf8_all (step_text gap.old (step_of step.entry))) f.new }
+    ensures gap { OnOk result (gap.new ≡ gap_after_step (step_of step.entry)) }
 {
     match step {
         Step::Enter(group, _) => {
-            print_space(gap, f)?;
-            print_opening(group.delimiter(), f)
+            let delimiter = group.delimiter();
+            print_space(*gap, f)?;
+            *gap = is_brace(delimiter);
+            print_opening(delimiter, f)
         }
-        Step::Leave(group, _) => print_ending(group.delimiter(), f),
+        Step::Leave(group, _) => {
+            *gap = true;
+            print_ending(group.delimiter(), f)
+        }
         Step::Token(tree, _) => {
-            print_space(gap, f)?;
+            print_space(*gap, f)?;
+            *gap = gap_within(tree);
             print_front(tree, f)
         }
-    }
-}
-
-// Whether a space goes before what is printed after the step.
-#[inline(always)]
-fn gap_after_step(step: Step<'_>) -> bool
-    ensures { result ≡ gap_after_step (step_of step.entry) }
-{
-    match step {
-        Step::Enter(group, _) => is_brace(group.delimiter()),
-        Step::Leave(..) => true,
-        Step::Token(tree, _) => gap_within(tree),
     }
 }
 

@@ -2,7 +2,8 @@
 //!
 //! Groups may nest as deep as a text is long, so the groups that are open stand in a list and not on the stack.
 ghost use Rattle.std.specs.Prelude.{◌≡◌, [], ◌∷◌, IfOk, IfSome, MatchOption, OnErr, option_copied};
-ghost use Rattle.pm_stream.specs.Steps.{Enter, EntersNext, FollowedBy, Leave, PassesTrees, front_tree, step_of, steps, steps_onto};
+ghost use Rattle.pm_stream.specs.Steps.{Enter, EntersNext, FollowedBy, Leave, PassesTrees};
+ghost use Rattle.pm_stream.specs.Steps.{front_tree, step_of, steps, steps_onto};
 ghost use Rattle.pm_stream.specs.Trees.{forest};
 
 use crate::stream::{Group, TokenStream, TokenTree};

@@ -1,6 +1,7 @@
 //! Whether a stream comes back from its printed text.
 //!
-//! Where a step into a group is refused memory, the function calls itself for the group, so that it answers all the same.
+//! Where a step into a group is refused memory, the function calls itself for the group, so that it
+//! answers all the same.
 ghost use Rattle.std.specs.Prelude.{◌≡◌, ◌↔◌, ◌==◌, IsTrue, true};
 ghost use Rattle.std.specs.Str.{chars};
 ghost use Rattle.lexical.specs.Ascii.{all_ascii};

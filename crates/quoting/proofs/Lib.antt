@@ -1,5 +1,6 @@
 mod ArrayLemmas
 mod SpacingLemmas
+mod SearchLemmas
 mod FaultLemmas
 mod PartLemmas
 mod DraftLemmas

@@ -6,10 +6,12 @@ use Rattle.proc_macro2.specs.Extent.{Extent}
 use Rattle.proc_macro2.specs.Forest.{Forest, nil, leaf, group, joined}
 use Rattle.proc_macro2.specs.declared.ParseError.{ParseError}
 use Rattle.proc_macro2.specs.Leaf.{Mark}
-use Rattle.proc_macro2.specs.Trees.{before, forest, inside}
+use Rattle.proc_macro2.specs.InOrder.{token_tree}
+use Rattle.proc_macro2.specs.Steps.{Step, Leave, steps, steps_onto}
+use Rattle.proc_macro2.specs.Token as tokens
+use Rattle.proc_macro2.specs.Token.{Token, Name}
+use Rattle.proc_macro2.specs.Trees.{forest}
 use Rattle.proc_macro2.specs.declared.Group.{Group as Grouped}
-use Rattle.proc_macro2.specs.declared.TokenTree.{TokenTree}
-use Rattle.proc_macro2.specs.declared.TokenTree.TheVariants.{Group, Ident, Punct, Literal}
 use Rattle.quoting.specs.Filled.{at_top, before_turn, filled_by, followed, in_turn, repeated_so, turns_from}
 use Rattle.quoting.specs.Filled.{unless_fault}
 use Rattle.quoting.specs.Given.{UnlessMemory, gives, named_all, repeats_of, separator_of, interpolation_of}
@@ -18,75 +20,48 @@ use Rattle.quoting.specs.Interpolation.{Interpolation, Names, Repeats, interpola
 use Rattle.quoting.specs.Turns.{Check, and_then, checked, interpolation_checked, name_checked, named_length}
 use Rattle.quoting.specs.Turns.{or_else, turns_of}
 use Rattle.quoting.specs.Turns.{turns_or}
+use Rattle.quoting.specs.Searched.{step_turns}
 use Rattle.quoting.specs.declared.errors.TemplateError.{TemplateError}
 use Rattle.quoting.specs.declared.errors.TemplateError.TheVariants.{NoHole, LoneList, NoList, UnequalLists, Nested}
 use Rattle.quoting.specs.declared.errors.TemplateError.TheVariants.{TooDeep, Parse, Memory}
 use Rattle.quoting.specs.declared.holes.Hole.{Hole}
 use Rattle.quoting.specs.declared.interpolation.Repetition.{Repetition}
-use Rattle.quoting.proofs.FaultLemmas.{Rests, after_found, end_found, inside_found, left_found, rests_found}
+use Rattle.quoting.proofs.SearchLemmas as search
+use Rattle.quoting.proofs.SearchLemmas.{found}
 use Rattle.quoting.proofs.PartLemmas.{joined_assoc, joined_nil}
 use Rattle.quoting.proofs.FillLemmas.{followed_more, followed_nil}
 
 -- ---- turns that are counted
 
--- how many turns there are by what is left: by these trees, or by those after the open groups
-abbrev pub left_turns : List Named → List TokenTree → Rests → Option ℕ
-left_turns holes left outer = left_found (turns_or holes) left outer
+-- how many turns there are by the steps that are left
+abbrev pub left_turns : List Named → List Step → Option ℕ
+left_turns holes = found (step_turns holes)
 
--- a list that is named first is the first
-turns_here : (holes : List Named) (t : TokenTree) (rest : Forest) (more : Option ℕ) (turns : ℕ)
-    → named_length holes (interpolation_of t rest) ≡ Some turns → turns_or holes (before t rest) more ≡ Some turns
-turns_here holes (Group g) rest more turns h = absurd (cc)
-turns_here holes (Ident i) rest more turns h = ap (λ n. or_else n (turns_or holes rest more)) h
-turns_here holes (Punct p) rest more turns h = ap (λ n. or_else n (turns_or holes rest more)) h
-turns_here holes (Literal l) rest more turns h = ap (λ n. or_else n (turns_or holes rest more)) h
+token_interpolation : (token : Token) (lo hi : ℕ) (rest : Forest)
+    → interpolation_of (token_tree token lo hi) rest ≡ interpolation token rest
+token_interpolation (Name raw name) lo hi rest = refl
+token_interpolation (tokens.Mark c true) lo hi rest = refl
+token_interpolation (tokens.Mark c false) lo hi rest = refl
+token_interpolation (tokens.Literal text) lo hi rest = refl
 
--- where none is named, the first comes from inside the tree or after it
-turns_later : (holes : List Named) (t : TokenTree) (rest : Forest) (more : Option ℕ)
-    → named_length holes (interpolation_of t rest) ≡ None
-    → turns_or holes (before t rest) more ≡ turns_or holes (inside t) (turns_or holes rest more)
-turns_later holes (Group g) rest more h = refl
-turns_later holes (Ident i) rest more h = ap (λ n. or_else n (turns_or holes rest more)) h
-turns_later holes (Punct p) rest more h = ap (λ n. or_else n (turns_or holes rest more)) h
-turns_later holes (Literal l) rest more h = ap (λ n. or_else n (turns_or holes rest more)) h
+same_else : (x y : Option ℕ) → search.or_else x y ≡ or_else x y
+same_else None y = refl
+same_else (Some n) y = refl
 
-pub counted_here : (holes : List Named) (left after : List TokenTree) (t : TokenTree) (outer : Rests) (turns : ℕ)
-    → left ≡ t ∷ after → Some turns ≡ named_length holes (interpolation_of t (forest after))
-    → left_turns holes left outer ≡ Some turns
-counted_here holes left after t outer turns whole is =
-    ap (λ ts. left_turns holes ts outer) whole
-    ∙ turns_here holes t (forest after) (rests_found (turns_or holes) outer None) turns (sym is)
+left_turns-onto : (holes : List Named) (f : Forest) (more : List Step)
+    → left_turns holes (steps_onto f more) ≡ turns_or holes f (left_turns holes more)
+left_turns-onto holes nil more = refl
+left_turns-onto holes (leaf token lo hi rest) more =
+    rw (token_interpolation token lo hi rest)
+    (same_else (named_length holes (interpolation token rest)) (left_turns holes (steps_onto rest more))
+    ∙ ap (or_else (named_length holes (interpolation token rest))) (left_turns-onto holes rest more))
+left_turns-onto holes (group d lo hi inside rest) more =
+    let whole : Grouped = record { delimiter = d; stream = inside; span = record { lo = lo; hi = hi } } in
+    left_turns-onto holes inside (Leave whole rest ∷ steps_onto rest more)
+    ∙ ap (turns_or holes inside) (left_turns-onto holes rest more)
 
-pub inside_turns : (holes : List Named) (left within : List TokenTree) (after : Bor (List TokenTree)) (t : TokenTree)
-    (g : Grouped) (outer new : Rests)
-    → left ≡ t ∷ after.now → t ≡ Group g → None ≡ named_length holes (interpolation_of t (forest after.now))
-    → forest within ≡ g.stream → new ≡ outer ++ after ∷ [] → left_turns holes within new ≡ left_turns holes left outer
-inside_turns holes left within after t g outer new whole is none into push =
-    inside_found (turns_or holes) left within after t g outer new whole is
-    (λ more. turns_later holes t (forest after.now) more (sym none)) into push
-
-pub token_turns : (holes : List Named) (left after : List TokenTree) (t : TokenTree) (outer : Rests) → left ≡ t ∷ after
-    → ((g : Grouped) → t ≡ Group g → ⊥) → None ≡ named_length holes (interpolation_of t (forest after))
-    → left_turns holes after outer ≡ left_turns holes left outer
-token_turns holes left after (Group g) outer whole other none = absurd (other g refl)
-token_turns holes left after (Ident i) outer whole other none =
-    sym (ap (λ ts. left_turns holes ts outer) whole
-    ∙ turns_later holes (Ident i) (forest after) (rests_found (turns_or holes) outer None) (sym none))
-token_turns holes left after (Punct p) outer whole other none =
-    sym (ap (λ ts. left_turns holes ts outer) whole
-    ∙ turns_later holes (Punct p) (forest after) (rests_found (turns_or holes) outer None) (sym none))
-token_turns holes left after (Literal l) outer whole other none =
-    sym (ap (λ ts. left_turns holes ts outer) whole
-    ∙ turns_later holes (Literal l) (forest after) (rests_found (turns_or holes) outer None) (sym none))
-
-pub after_turns : (holes : List Named) (left : List TokenTree) (after : Bor (List TokenTree)) (outer new : Rests)
-    → length left ≡ 0 → outer ≡ new ++ after ∷ [] → left_turns holes after.now new ≡ left_turns holes left outer
-after_turns holes left after outer new none pop =
-    after_found (turns_or holes) (λ more. refl) left after outer new none pop
-
-pub end_turns : (holes : List Named) (left : List TokenTree) (outer : Rests) → length left ≡ 0 → outer ≡ []
-    → left_turns holes left outer ≡ None
-end_turns holes left outer none end = end_found (turns_or holes) (λ more. refl) left outer none end
+pub left_turns-steps : (holes : List Named) (f : Forest) → left_turns holes (steps f) ≡ turns_of holes f
+left_turns-steps holes f = left_turns-onto holes f []
 
 -- ---- turns that are filled
 

@@ -10,3 +10,4 @@ pub mod Turns
 pub mod Filled
 pub mod Given
 pub mod TextFault
+pub mod Searched

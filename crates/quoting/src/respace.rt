@@ -10,7 +10,7 @@ ghost use Rattle.proc_macro2.specs.WellSpaced.{next_token};
 ghost use Rattle.quoting.specs.Part.{Adds, IsOpen, enclosed, others, respaced_alone};
 ghost use Rattle.quoting.specs.Respaced.{is_kept_joint, respaced};
 
-use crate::neighbours::follows_joint;
+use proc_macro2::token_stream::may_be_joint;
 use proc_macro2::{Group, Punct, Spacing, TokenStream, TokenTree, laws};
 use std::alloc::{AllocError, Global};
 use std::marker::Model;
@@ -202,7 +202,7 @@ fn kept_spacing(mark: &Punct, after: &[TokenTree]) -> Spacing
         ≡ is_kept_joint mark.now.mark (is_joint mark.now.spacing) (next_token (forest after.now)) }
 {
     let c = mark.as_char();
-    if c == '\'' || mark.spacing() == Spacing::Joint && follows_joint(c, after) {
+    if c == '\'' || mark.spacing() == Spacing::Joint && may_be_joint(c, after) {
         Spacing::Joint
     } else {
         Spacing::Alone

@@ -1,21 +1,21 @@
 //! How many turns a repetition has, and what is wrong inside of it.
 ghost use Rattle.std.specs.Prelude.{◌≡◌, IfOk};
+ghost use Rattle.proc_macro2.specs.Steps.{step_of};
 ghost use Rattle.proc_macro2.specs.Trees.{forest};
 ghost use Rattle.quoting.specs.Given.{named_all, span_of, interpolation_of, text_of};
 ghost use Rattle.quoting.specs.Holes.{filling_of};
+ghost use Rattle.quoting.specs.Searched.{step_turns};
 ghost use Rattle.quoting.specs.Turns.{checked, name_checked, named_length, turns_of};
 
 use crate::errors::TemplateError;
 use crate::holes::{Filling, Hole, HoleName};
 use crate::interpolation::{FoundInterpolation, interpolation_at};
 use proc_macro2::TokenTree;
+use proc_macro2::token_stream::{Step, Steps};
 use std::alloc::{AllocError, Global};
 
 /// How many turns a repetition of these trees has: as many as the first list that is named in them has streams. `None`
 /// where they name no list at any depth. Fails where memory runs out.
-///
-/// Groups may nest deeper here than a template may have them, so what is left after a group stands in a list and not on
-/// the stack.
 pub(crate) fn turns_of(
     alloc: Global,
     trees: &[TokenTree],
@@ -23,25 +23,22 @@ pub(crate) fn turns_of(
 ) -> Result<Option<usize>, AllocError>
     ensures { IfOk result (λ turns. turns ≡ turns_of (named_all holes.now) (forest trees.now)) }
 {
-    let mut outer = Vec::new(alloc);
-    let mut left = trees;
-    loop {
-        let Some((tree, after)) = left.split_first() else {
-            let Some(after) = outer.pop() else {
-                return Ok(None);
-            };
-            left = after;
-            continue;
-        };
-        if let Some(turns) = named_length(tree, after, holes) {
+    let mut steps = Steps::new(alloc, trees);
+    while let Some(step) = steps.next()? {
+        if let Some(turns) = step_turns(step, holes) {
             return Ok(Some(turns));
         }
-        if let TokenTree::Group(group) = tree {
-            outer.push(after)?;
-            left = group.stream_ref().trees();
-        } else {
-            left = after;
-        }
+    }
+    Ok(None)
+}
+
+// How many streams the list has that is named where the step comes to its `#`.
+fn step_turns(step: Step<'_>, holes: &[Hole<'_>]) -> Option<usize>
+    ensures { result ≡ step_turns (named_all holes.now) (step_of step.entry) }
+{
+    match step {
+        Step::Token(tree, after) => named_length(tree, after, holes),
+        Step::Enter(..) | Step::Leave(..) => None,
     }
 }
 

@@ -12,17 +12,17 @@ loop-steps-init g t c =
       written = λ plain. ([], search rules, rw c.new-steps.ensures (steps_text-steps c.args.within _));
     }
 
-pub loop-steps-preserved-in-Ok-Some : goal.loop-steps-preserved-in-Ok-Some
-loop-steps-preserved-in-Ok-Some g t c =
+pub loop-steps-preserved-in-Continue-1 : goal.loop-steps-preserved-in-Continue-1
+loop-steps-preserved-in-Continue-1 g t c =
     let first = taken _ _ _ _ c.in-Ok-Some.field-0-is c.in-Ok-Some.ensures.ok in
     record {
       within = omega (arith, c.loop-steps.invariant.within, ap length first);
       written = λ plain.
           let now = c.loop-steps.invariant.written plain in
-          let more = c.in_ok-print_step-in-Ok-Some.ensures now.1.plain (refl {a = true}) in
+          let more = c.in_ok-print_step-in-Ok-Some.ensures.writes now.1.plain (refl {a = true}) in
           written_more _ _ _ _ _ _ _ _ now.1 more
           (ap (λ l. now.0 ++ l) (text_step c.loop-steps.gap _ _ _ _ _ first
-          (search (rules, c.in-Ok-Some.step-is)) c.gap_after_step-gap.ensures) ∙ now.2);
+          (search (rules, c.in-Ok-Some.step-is)) c.in_ok-print_step-in-Ok-Some.ensures.gap) ∙ now.2);
     }
 
 pub print_trees-requires : goal.print_trees-requires

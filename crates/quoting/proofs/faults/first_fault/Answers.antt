@@ -1,22 +1,16 @@
-use Rattle.std.proofs.Common.{sym, ◌∙◌}
-use Rattle.quoting.proofs.FaultLemmas.{after_fault, after_less, inside_fault, inside_less}
+use Rattle.std.proofs.Common.{sym, ap, ◌∙◌}
+use Rattle.std.proofs.lemmas.Option.{MatchOption-at_some}
+use Rattle.proc_macro2.specs.Trees.{forest}
+use Rattle.quoting.specs.Searched.{step_fault}
+use Rattle.quoting.proofs.FaultLemmas.{left_fault, left_fault-steps}
+use Rattle.quoting.proofs.SearchLemmas.{found_later}
 use Rattle.quoting.proofs.faults.first_fault.Goals as goal
 
-pub loop-tree-smaller-in_default : goal.loop-tree-smaller-in_default
-loop-tree-smaller-in_default c = after_less _ _ _ _ c.in-Some-pop.ensures.items
+pub loop-steps-init : goal.loop-steps-init
+loop-steps-init c = ap left_fault c.new-steps.ensures ∙ left_fault-steps (forest c.args.trees.now)
 
-pub loop-tree-preserved-in_default : goal.loop-tree-preserved-in_default
-loop-tree-preserved-in_default c =
-    after_fault _ _ _ _ c.in_default.ensures.cases c.in-Some-pop.ensures.items ∙ c.loop-tree.invariant
-
-pub loop-tree-smaller-in-Group : goal.loop-tree-smaller-in-Group
-loop-tree-smaller-in-Group c =
-    inside_less _ _ _ _ _ _ _ c.in-Some.ensures.cases.0 c.in-Group.is
-    (c.trees-left.ensures.value ∙ c.stream_ref.ensures.value) c.in_ok-push.ensures.items
-
-pub loop-tree-preserved-in-Group : goal.loop-tree-preserved-in-Group
-loop-tree-preserved-in-Group c =
-    inside_fault _ _ _ _ _ _ _ c.in-Some.ensures.cases.0 c.in-Group.is
-    (sym c.in_default-tree_fault.is ∙ c.tree_fault.ensures) (c.trees-left.ensures.value ∙ c.stream_ref.ensures.value)
-    c.in_ok-push.ensures.items
-    ∙ c.loop-tree.invariant
+pub loop-steps-preserved : goal.loop-steps-preserved
+loop-steps-preserved c =
+    found_later step_fault _ _ _ (MatchOption-at_some _ _ _ c.in-Some.is c.in_ok-step.ensures.ok)
+    (sym (sym c.in_default-step_fault.is ∙ c.step_fault.ensures))
+    ∙ c.loop-steps.invariant

@@ -1,0 +1,22 @@
+-- A search through trees in reading order, by the steps of a traversal.
+use Rattle.std.proofs.Common.{◌≡◌, Option, Some, None, List, [], ◌∷◌, refl, sym, ap, ◌∙◌}
+use Rattle.proc_macro2.specs.Steps.{Step}
+
+-- what is found, or else what is found later
+abbrev pub or_else : {A : Type 0} → Option A → Option A → Option A
+or_else None later = later
+or_else (Some found) later = Some found
+
+-- what is found at the first of the steps at which something is found
+abbrev pub found : {A : Type 0} → (Step → Option A) → List Step → Option A
+found look [] = None
+found look (step ∷ steps) = or_else (look step) (found look steps)
+
+pub found_here : {A : Type 0} (look : Step → Option A) (old new : List Step) (step : Step) (x : A)
+    → old ≡ step ∷ new → look step ≡ Some x → found look old ≡ Some x
+found_here look old new step x first here = ap (found look) first ∙ ap (λ f. or_else f (found look new)) here
+
+pub found_later : {A : Type 0} (look : Step → Option A) (old new : List Step) (step : Step)
+    → old ≡ step ∷ new → look step ≡ None → found look new ≡ found look old
+found_later look old new step first here =
+    sym (ap (found look) first ∙ ap (λ f. or_else f (found look new)) here)
