@@ -33,6 +33,6 @@ pub mod rustc_literal_escaper {
 
 /// The stream of trees, with the iterator over its trees, the walk over all of them and the steps of a traversal.
 pub mod token_stream {
-    pub use pm_stream::{Step, Steps, Walk, may_be_joint};
     pub use pm_stream::token_stream::{IntoIter, TokenStream};
+    pub use pm_stream::{Step, Steps, Walk, may_be_joint};
 }

@@ -1,6 +1,6 @@
 -- The search for the first fault.
 use Rattle.std.proofs.Common.{◌≡◌, ℕ, Bool, true, false, Option, Some, None, List, [], ◌∷◌}
-use Rattle.std.proofs.Common.{if◌then◌else◌, refl, sym, ap, ◌∙◌}
+use Rattle.std.proofs.Common.{if◌then◌else◌, refl, ap, ◌∙◌}
 use Rattle.proc_macro2.specs.Forest.{Forest, nil, leaf, group}
 use Rattle.proc_macro2.specs.InOrder.{token_tree}
 use Rattle.proc_macro2.specs.Shown.{is_shown}

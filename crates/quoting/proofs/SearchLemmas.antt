@@ -1,5 +1,5 @@
 -- A search through trees in reading order, by the steps of a traversal.
-use Rattle.std.proofs.Common.{◌≡◌, Option, Some, None, List, [], ◌∷◌, refl, sym, ap, ◌∙◌}
+use Rattle.std.proofs.Common.{◌≡◌, Option, Some, None, List, [], ◌∷◌, sym, ap, ◌∙◌}
 use Rattle.proc_macro2.specs.Steps.{Step}
 
 -- what is found, or else what is found later

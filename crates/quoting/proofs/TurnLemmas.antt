@@ -1,6 +1,6 @@
 -- Turns that are counted, and of which the first are filled.
 use Rattle.std.proofs.Common.{◌≡◌, Bor, ℕ, zero, suc, ◌+◌, ◌-◌, ◌<◌, ◌==◌, Bool, true, false, if◌then◌else◌}
-use Rattle.std.proofs.Common.{Option, Some, None, is_some, Ok, Err, List, [], ◌∷◌, ◌++◌, length}
+use Rattle.std.proofs.Common.{Option, Some, None, is_some, Ok, Err, List, [], ◌∷◌, length}
 use Rattle.std.proofs.Common.{refl, sym, ap, ap₂, subst, ◌∙◌, arith}
 use Rattle.proc_macro2.specs.Extent.{Extent}
 use Rattle.proc_macro2.specs.Forest.{Forest, nil, leaf, group, joined}
@@ -10,7 +10,6 @@ use Rattle.proc_macro2.specs.InOrder.{token_tree}
 use Rattle.proc_macro2.specs.Steps.{Step, Leave, steps, steps_onto}
 use Rattle.proc_macro2.specs.Token as tokens
 use Rattle.proc_macro2.specs.Token.{Token, Name}
-use Rattle.proc_macro2.specs.Trees.{forest}
 use Rattle.proc_macro2.specs.declared.Group.{Group as Grouped}
 use Rattle.quoting.specs.Filled.{at_top, before_turn, filled_by, followed, in_turn, repeated_so, turns_from}
 use Rattle.quoting.specs.Filled.{unless_fault}

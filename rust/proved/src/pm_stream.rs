@@ -14,10 +14,13 @@ mod parse;
 pub mod parts;
 pub mod reprinting;
 mod same;
+mod steps;
 mod stream;
 pub mod token_stream;
 mod walk;
 mod well_spaced;
 
+pub use steps::{Step, Steps};
 pub use stream::{Group, TokenStream, TokenTree};
 pub use walk::Walk;
+pub use well_spaced::may_be_joint;

@@ -31,8 +31,8 @@ pub mod rustc_literal_escaper {
     };
 }
 
-/// The stream of trees, with the iterator over its trees and the walk over all of them.
+/// The stream of trees, with the iterator over its trees, the walk over all of them and the steps of a traversal.
 pub mod token_stream {
-    pub use crate::pm_stream::Walk;
     pub use crate::pm_stream::token_stream::{IntoIter, TokenStream};
+    pub use crate::pm_stream::{Step, Steps, Walk, may_be_joint};
 }

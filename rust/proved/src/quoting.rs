@@ -7,7 +7,6 @@ mod fill;
 mod holes;
 mod interpolation;
 pub mod laws;
-mod neighbours;
 mod quote;
 mod respace;
 mod template;

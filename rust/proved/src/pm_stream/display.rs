@@ -1,23 +1,15 @@
 // Made from crates/pm_stream/src/display.rt by rust/erase: change that file, not this one.
 //! How streams are printed.
 //!
-//! Groups may nest as deep as a text is long, so what is left to print after a group stands in a
-//! list and not on the stack. If memory for the list is refused, the function calls itself for the
-//! group, so that it prints all the same.
+//! Where a step into a group is refused memory, the function calls itself for the group, so that it
+//! prints all the same.
 
-use crate::shim::prelude::Vec;
-
+use crate::pm_stream::steps::{Step, Steps};
 use crate::pm_stream::stream::{Group, TokenStream, TokenTree};
 use crate::pm_token::{Delimiter, Spacing};
 use crate::shim::alloc::Global;
 use crate::shim::fmt;
 use crate::shim::fmt::Display;
-
-// A group that is being printed, and the trees that follow it.
-struct Level<'a> {
-    delimiter: Delimiter,
-    after: &'a [TokenTree],
-}
 
 fn print_trees<W: fmt::Write>(
     alloc: Global,
@@ -26,33 +18,53 @@ fn print_trees<W: fmt::Write>(
     f: &mut fmt::Formatter<W>,
 ) -> fmt::Result
 {
-    let mut outer = Vec::new(alloc);
+    let mut steps = Steps::new(alloc, trees);
     let mut gap = within;
-    let mut left = trees;
     loop {
-        if let Some((tree, after)) = left.split_first() {
-            print_space(gap, f)?;
-            print_front(tree, f)?;
-            gap = gap_within(tree);
-            left = after;
-            if let TokenTree::Group(group) = tree {
-                let delimiter = group.delimiter();
-                let inside = group.stream_ref().trees();
-                if outer.push(Level { delimiter, after }).is_ok() {
-                    left = inside;
-                } else {
-                    print_trees(alloc, inside, gap, f)?;
-                    print_ending(delimiter, f)?;
-                    gap = true;
-                }
+        match steps.next() {
+            Ok(None) => return Ok(()),
+            Ok(Some(step)) => {
+                print_step(step, &mut gap, f)?;
             }
-        } else {
-            let Some(level) = outer.pop() else {
-                return Ok(());
-            };
-            print_ending(level.delimiter, f)?;
-            gap = true;
-            left = level.after;
+            Err(_) => {
+                let Some((group, _)) = steps.pass_over() else {
+                    unreachable!();
+                };
+                let around = group.delimiter();
+                print_space(gap, f)?;
+                print_opening(around, f)?;
+                let inside = group.stream_ref().trees();
+                print_trees(alloc, inside, is_brace(around), f)?;
+                print_ending(around, f)?;
+                gap = true;
+            }
+        }
+    }
+}
+
+// What is printed of one step, with a space before it if gap. Then gap is whether one goes before what comes after it.
+#[inline(always)]
+fn print_step<W: fmt::Write>(
+    step: Step<'_>,
+    gap: &mut bool,
+    f: &mut fmt::Formatter<W>,
+) -> fmt::Result
+{
+    match step {
+        Step::Enter(group, _) => {
+            let delimiter = group.delimiter();
+            print_space(*gap, f)?;
+            *gap = is_brace(delimiter);
+            print_opening(delimiter, f)
+        }
+        Step::Leave(group, _) => {
+            *gap = true;
+            print_ending(group.delimiter(), f)
+        }
+        Step::Token(tree, _) => {
+            print_space(*gap, f)?;
+            *gap = gap_within(tree);
+            print_front(tree, f)
         }
     }
 }

@@ -1,20 +1,13 @@
 // Made from crates/pm_stream/src/walk.rt by rust/erase: change that file, not this one.
 //! All trees of a stream, one at a time.
 
-use crate::shim::prelude::Vec;
-
-use crate::pm_stream::stream::{TokenStream, TokenTree};
+use crate::pm_stream::steps::Steps;
+use crate::pm_stream::stream::{Group, TokenStream, TokenTree};
 use crate::shim::alloc::AllocError;
 
 /// The trees of a stream that are left to read, each group before those inside it.
-///
-/// Groups may nest as deep as a text is long, so what is left after a group stands in a list and
-/// not on the stack.
 pub struct Walk<'a> {
-    // For each group that is open, the outermost first, the trees after it.
-    outer: Vec<&'a [TokenTree]>,
-    // The trees that are left of the innermost.
-    left: &'a [TokenTree],
+    steps: Steps<'a>,
 }
 
 impl TokenStream {
@@ -25,8 +18,7 @@ impl TokenStream {
     pub fn walk(&self) -> Walk<'_>
     {
         Walk {
-            outer: Vec::new(self.alloc()),
-            left: self.trees(),
+            steps: self.steps(),
         }
     }
 }
@@ -39,19 +31,18 @@ impl<'a> Walk<'a> {
     pub fn next(&mut self) -> Result<Option<&'a TokenTree>, AllocError>
     {
         loop {
-            if let Some((tree, after)) = self.left.split_first() {
-                if let TokenTree::Group(group) = tree {
-                    self.outer.push(after)?;
-                    self.left = group.stream_ref().trees();
-                } else {
-                    self.left = after;
-                }
-                return Ok(Some(tree));
+            let tree = self.steps.front();
+            let step = self.steps.next()?;
+            if tree.is_some() || step.is_none() {
+                return Ok(tree);
             }
-            let Some(after) = self.outer.pop() else {
-                return Ok(None);
-            };
-            self.left = after;
         }
+    }
+    /// Passes over the trees in this group, where [`next`](Walk::next) gave it last. It takes no memory.
+    ///
+    /// In `a (b) c`, after `(b)` was given and passed over, `c` is next.
+    pub fn pass_over(&mut self, group: &Group)
+    {
+        self.steps.pass_trees(group.stream_ref().trees().len());
     }
 }

@@ -1,12 +1,10 @@
 // Made from crates/pm_stream/src/well_spaced.rt by rust/erase: change that file, not this one.
 //! Whether a stream comes back from its printed text.
 //!
-//! Groups may nest as deep as a text is long, so what is left after a group stands in a list and
-//! not on the stack. If memory for the list is refused, the function calls itself for the group,
-//! so that it answers all the same.
+//! Where a step into a group is refused memory, the function calls itself for the group, so that it
+//! answers all the same.
 
-use crate::shim::prelude::Vec;
-
+use crate::pm_stream::steps::{Step, Steps};
 use crate::pm_stream::stream::{TokenStream, TokenTree};
 use crate::pm_token::{Delimiter, Punct, Spacing};
 use crate::shim::alloc::Global;
@@ -29,51 +27,79 @@ impl TokenStream {
 // Whether these trees and all trees inside them are well spaced.
 fn are_well_spaced(alloc: Global, trees: &[TokenTree]) -> bool
 {
-    let mut outer = Vec::new(alloc);
-    let mut left = trees;
+    let mut steps = Steps::new(alloc, trees);
     loop {
-        let Some((tree, after)) = left.split_first() else {
-            let Some(after) = outer.pop() else {
-                return true;
-            };
-            left = after;
-            continue;
-        };
-        if !fits(tree, after) {
-            return false;
-        }
-        let inside = tree.inside();
-        left = after;
-        if inside.is_empty() {
-            continue;
-        }
-        if outer.push(after).is_ok() {
-            left = inside;
-        } else if !are_well_spaced(alloc, inside) {
-            return false;
+        match steps.next() {
+            Ok(None) => return true,
+            Ok(Some(step)) => {
+                if !step_fits(step) {
+                    return false;
+                }
+            }
+            Err(_) => {
+                let Some((group, _)) = steps.pass_over() else {
+                    unreachable!();
+                };
+                if !is_shown(group.delimiter()) {
+                    return false;
+                }
+                if !are_well_spaced(alloc, group.stream_ref().trees()) {
+                    return false;
+                }
+            }
         }
     }
+}
+
+// Whether the group that the step goes into is shown, or its token may stand there.
+fn step_fits(step: Step<'_>) -> bool
+{
+    match step {
+        Step::Enter(group, _) => is_shown(group.delimiter()),
+        Step::Leave(..) => true,
+        Step::Token(tree, after) => fits(tree, after),
+    }
+}
+
+// Whether a group with the delimiter shows where it begins and ends.
+fn is_shown(delimiter: Delimiter) -> bool
+{
+    delimiter != Delimiter::None
 }
 
 // Whether the tree may stand before these, whatever is inside it.
 fn fits(tree: &TokenTree, after: &[TokenTree]) -> bool
 {
     match tree {
-        TokenTree::Group(group) => group.delimiter() != Delimiter::None,
+        TokenTree::Group(group) => is_shown(group.delimiter()),
         TokenTree::Punct(punct) => mark_fits(punct, after),
         TokenTree::Ident(_) | TokenTree::Literal(_) => true,
     }
 }
 
-// Whether the mark may stand before these trees. `'` is always Joint.
+// Whether the mark may stand before these trees.
 fn mark_fits(punct: &Punct, after: &[TokenTree]) -> bool
 {
     let mark = punct.as_char();
-    let joint = punct.spacing() == Spacing::Joint;
+    match punct.spacing() {
+        Spacing::Joint => may_be_joint(mark, after),
+        Spacing::Alone => mark != '\'',
+    }
+}
+
+/// Whether this mark may stand before these trees with the spacing Joint, so that the stream is `well-spaced`.
+///
+/// `'` may where an identifier is next, or a literal that begins as `b"` or `r"` do. Any other mark may where a mark is
+/// next with which it begins no comment, or a literal that begins with `'`. Alone each mark may stand anywhere, but `'`
+/// nowhere.
+///
+/// `+` may before `=`, and may not before `a` or at the end.
+pub fn may_be_joint(mark: char, after: &[TokenTree]) -> bool
+{
     if mark == '\'' {
-        joint && follows_quote(after)
+        follows_quote(after)
     } else {
-        !joint || follows_joint(mark, after)
+        follows_joint(mark, after)
     }
 }
 

@@ -1,13 +1,9 @@
 // Made from crates/quoting/src/faults.rt by rust/erase: change that file, not this one.
 //! What no spacing of marks can mend.
-//!
-//! Groups may nest as deep as memory reaches, so what is left after a group stands in a list and not on the stack.
-
-use crate::shim::prelude::Vec;
 
 use crate::quoting::errors::QuoteError;
-use crate::quoting::neighbours::follows_quote;
-use crate::proc_macro2::{Delimiter, Punct, TokenTree};
+use crate::proc_macro2::token_stream::{Step, Steps, may_be_joint};
+use crate::proc_macro2::{Delimiter, Group, Punct, TokenTree};
 use crate::shim::alloc::{AllocError, Global};
 
 /// The first fault in reading order, a group coming before its contents, or `None` where some spacing of the marks
@@ -17,25 +13,31 @@ pub(crate) fn first_fault(
     trees: &[TokenTree],
 ) -> Result<Option<QuoteError>, AllocError>
 {
-    let mut outer = Vec::new(alloc);
-    let mut left = trees;
-    loop {
-        let Some((tree, after)) = left.split_first() else {
-            let Some(after) = outer.pop() else {
-                return Ok(None);
-            };
-            left = after;
-            continue;
-        };
-        if let Some(fault) = tree_fault(tree, after) {
+    let mut steps = Steps::new(alloc, trees);
+    while let Some(step) = steps.next()? {
+        if let Some(fault) = step_fault(step) {
             return Ok(Some(fault));
         }
-        if let TokenTree::Group(group) = tree {
-            outer.push(after)?;
-            left = group.stream_ref().trees();
-        } else {
-            left = after;
-        }
+    }
+    Ok(None)
+}
+
+// What is wrong with the tree that the step comes to, whatever is inside it.
+fn step_fault(step: Step<'_>) -> Option<QuoteError>
+{
+    match step {
+        Step::Enter(group, _) => group_fault(group),
+        Step::Leave(..) => None,
+        Step::Token(tree, after) => tree_fault(tree, after),
+    }
+}
+
+// What is wrong with the group, whatever is inside it.
+fn group_fault(group: &Group) -> Option<QuoteError>
+{
+    match group.delimiter() {
+        Delimiter::None => Some(QuoteError::NoneGroup),
+        Delimiter::Parenthesis | Delimiter::Brace | Delimiter::Bracket => None,
     }
 }
 
@@ -43,16 +45,14 @@ pub(crate) fn first_fault(
 fn tree_fault(tree: &TokenTree, after: &[TokenTree]) -> Option<QuoteError>
 {
     match tree {
-        TokenTree::Group(group) if group.delimiter() == Delimiter::None => Some(
-            QuoteError::NoneGroup,
-        ),
+        TokenTree::Group(group) => group_fault(group),
         TokenTree::Punct(mark) if !may_stand(mark, after) => Some(QuoteError::LoneQuote),
-        _ => None,
+        TokenTree::Ident(_) | TokenTree::Punct(_) | TokenTree::Literal(_) => None,
     }
 }
 
 // Whether the mark may come before these trees, whatever its spacing.
 fn may_stand(mark: &Punct, after: &[TokenTree]) -> bool
 {
-    mark.as_char() != '\'' || follows_quote(after)
+    mark.as_char() != '\'' || may_be_joint('\'', after)
 }

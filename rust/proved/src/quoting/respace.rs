@@ -6,7 +6,7 @@
 
 use crate::shim::prelude::{Clone, Vec};
 
-use crate::quoting::neighbours::follows_joint;
+use crate::proc_macro2::token_stream::may_be_joint;
 use crate::proc_macro2::{Group, Punct, Spacing, TokenStream, TokenTree, laws};
 use crate::shim::alloc::{AllocError, Global};
 
@@ -154,7 +154,7 @@ pub(crate) fn put(stream: &mut TokenStream, tree: TokenTree) -> Result<(), Alloc
 fn kept_spacing(mark: &Punct, after: &[TokenTree]) -> Spacing
 {
     let c = mark.as_char();
-    if c == '\'' || mark.spacing() == Spacing::Joint && follows_joint(c, after) {
+    if c == '\'' || mark.spacing() == Spacing::Joint && may_be_joint(c, after) {
         Spacing::Joint
     } else {
         Spacing::Alone

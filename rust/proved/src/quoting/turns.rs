@@ -1,44 +1,36 @@
 // Made from crates/quoting/src/turns.rt by rust/erase: change that file, not this one.
 //! How many turns a repetition has, and what is wrong inside of it.
 
-use crate::shim::prelude::Vec;
-
 use crate::quoting::errors::TemplateError;
 use crate::quoting::holes::{Filling, Hole, HoleName};
 use crate::quoting::interpolation::{FoundInterpolation, interpolation_at};
 use crate::proc_macro2::TokenTree;
+use crate::proc_macro2::token_stream::{Step, Steps};
 use crate::shim::alloc::{AllocError, Global};
 
 /// How many turns a repetition of these trees has: as many as the first list that is named in them has streams. `None`
 /// where they name no list at any depth. Fails where memory runs out.
-///
-/// Groups may nest deeper here than a template may have them, so what is left after a group stands in a list and not on
-/// the stack.
 pub(crate) fn turns_of(
     alloc: Global,
     trees: &[TokenTree],
     holes: &[Hole<'_>],
 ) -> Result<Option<usize>, AllocError>
 {
-    let mut outer = Vec::new(alloc);
-    let mut left = trees;
-    loop {
-        let Some((tree, after)) = left.split_first() else {
-            let Some(after) = outer.pop() else {
-                return Ok(None);
-            };
-            left = after;
-            continue;
-        };
-        if let Some(turns) = named_length(tree, after, holes) {
+    let mut steps = Steps::new(alloc, trees);
+    while let Some(step) = steps.next()? {
+        if let Some(turns) = step_turns(step, holes) {
             return Ok(Some(turns));
         }
-        if let TokenTree::Group(group) = tree {
-            outer.push(after)?;
-            left = group.stream_ref().trees();
-        } else {
-            left = after;
-        }
+    }
+    Ok(None)
+}
+
+// How many streams the list has that is named where the step comes to its `#`.
+fn step_turns(step: Step<'_>, holes: &[Hole<'_>]) -> Option<usize>
+{
+    match step {
+        Step::Token(tree, after) => named_length(tree, after, holes),
+        Step::Enter(..) | Step::Leave(..) => None,
     }
 }
 

@@ -1,0 +1,117 @@
+// Made from crates/pm_stream/src/steps.rt by rust/erase: change that file, not this one.
+//! One traversal of a stream's trees, step by step.
+//!
+//! Groups may nest as deep as a text is long, so the groups that are open stand in a list and not on the stack.
+
+use crate::shim::prelude::Vec;
+
+use crate::pm_stream::stream::{Group, TokenStream, TokenTree};
+use crate::shim::alloc::{AllocError, Global};
+
+/// A step of a traversal, each with the trees that follow in the same list.
+#[derive(Clone, Copy)]
+pub enum Step<'a> {
+    /// Into this group. The steps over its trees come next, and then its `Leave`.
+    Enter(&'a Group, &'a [TokenTree]),
+    /// Out of this group, all of whose trees were given.
+    Leave(&'a Group, &'a [TokenTree]),
+    /// Past this tree, which is no group.
+    Token(&'a TokenTree, &'a [TokenTree]),
+}
+
+/// The steps of a traversal that are left. [`TokenStream::steps`] makes it.
+pub struct Steps<'a> {
+    // The groups that are open, the outermost first.
+    outer: Vec<OpenGroup<'a>>,
+    // The trees that are left of the innermost.
+    left: &'a [TokenTree],
+}
+
+// A group that is open, and the trees after it.
+#[derive(Clone, Copy)]
+struct OpenGroup<'a> {
+    group: &'a Group,
+    after: &'a [TokenTree],
+}
+
+impl TokenStream {
+    /// A traversal of all its trees, which goes into each group and out of it again. It takes no memory.
+    ///
+    /// `a (b) c` has the steps past `a`, into `(b)`, past `b`, out of `(b)` and past `c`.
+    pub fn steps(&self) -> Steps<'_>
+    {
+        Steps::new(self.alloc(), self.trees())
+    }
+}
+
+impl<'a> Steps<'a> {
+    /// A traversal of these trees. It takes no memory.
+    pub fn new(alloc: Global, trees: &'a [TokenTree]) -> Steps<'a>
+    {
+        Steps {
+            outer: Vec::new(alloc),
+            left: trees,
+        }
+    }
+
+    /// The next step, or `None` after the last.
+    ///
+    /// It takes memory only on the way into a group, for what comes after that. Where it is refused, all stays as it
+    /// was, and [`pass_over`](Steps::pass_over) gives the group.
+    #[inline(always)]
+    pub fn next(&mut self) -> Result<Option<Step<'a>>, AllocError>
+    {
+        let Some((tree, after)) = self.left.split_first() else {
+            let Some(open) = self.outer.pop() else {
+                return Ok(None);
+            };
+            self.left = open.after;
+            return Ok(Some(Step::Leave(open.group, open.after)));
+        };
+        if let TokenTree::Group(group) = tree {
+            self.outer.push(OpenGroup { group, after })?;
+            self.left = group.stream_ref().trees();
+            return Ok(Some(Step::Enter(group, after)));
+        }
+        self.left = after;
+        Ok(Some(Step::Token(tree, after)))
+    }
+
+    /// Passes over the group that the next step goes into, and gives it with the trees that follow. `None` where the
+    /// next step is another, and then nothing is passed over. It takes no memory.
+    pub fn pass_over(&mut self) -> Option<(&'a Group, &'a [TokenTree])>
+    {
+        let Some((tree, after)) = self.left.split_first() else {
+            return None;
+        };
+        let TokenTree::Group(group) = tree else {
+            return None;
+        };
+        self.left = after;
+        Some((group, after))
+    }
+
+    // Passes over so many trees, each with what is in it: those that are left of the innermost group, and then those
+    // after it, and so on.
+    pub(crate) fn pass_trees(&mut self, count: usize)
+    {
+        let mut count = count;
+        while count > self.left.len() {
+            let Some(open) = self.outer.pop() else {
+                return;
+            };
+            count -= self.left.len();
+            self.left = open.after;
+        }
+        self.left = &self.left[count..];
+    }
+
+    // The tree that the next step comes to, if it comes to one.
+    pub(crate) fn front(&self) -> Option<&'a TokenTree>
+    {
+        let Some((tree, _)) = self.left.split_first() else {
+            return None;
+        };
+        Some(tree)
+    }
+}
