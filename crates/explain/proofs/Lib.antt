@@ -1,0 +1,2 @@
+pub mod TroubleLemmas
+pub mod NumberLemmas

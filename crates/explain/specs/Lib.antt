@@ -1,0 +1,3 @@
+pub mod Shapes
+pub mod Reason
+pub mod Trouble
