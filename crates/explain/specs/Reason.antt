@@ -18,7 +18,7 @@ use Rattle.explain.specs.declared.reason.Reason.TheVariants.{UnclosedRawString, 
 use Rattle.explain.specs.declared.reason.Reason.TheVariants.{ReservedRawName, UnclosedCharacter, Content}
 use Rattle.explain.specs.declared.reason.Reason.TheVariants.{DigitLifetime, HashAfterLifetime, NoDigits, BadDigit}
 use Rattle.explain.specs.declared.reason.Reason.TheVariants.{BadNumberEnd, MisplacedMark, NoToken, StrayCloser}
-use Rattle.explain.specs.declared.reason.Reason.TheVariants.{MismatchedCloser, UnclosedOpener}
+use Rattle.explain.specs.declared.reason.Reason.TheVariants.{MismatchedCloser, Unread, UnclosedOpener}
 
 -- a piece of the first rule, and then one of the second
 abbrev pub Follow : Rule → Rule → List ℕ → List ℕ → List ℕ → Type 0
@@ -56,6 +56,7 @@ Holds BadDigit f p r = (base : Base) × Follow (base_front base) (One is_ascii_d
 Holds BadNumberEnd f p r = Follow integer (One ends_badly) f p r
 Holds MisplacedMark f p r = Begins (Exactly (0xFEFF ∷ [])) f p r
 Holds NoToken f p r = Begins (One begins_nothing) f p r
+Holds Unread f p r = (f ≡ []) × (p ≡ [])
 Holds StrayCloser f p r = ⊥
 Holds MismatchedCloser f p r = ⊥
 Holds UnclosedOpener f p r = ⊥

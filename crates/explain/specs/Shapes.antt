@@ -41,9 +41,13 @@ closed_body = UpTo pair (Exactly (codes "\""))
 abbrev pub closed_string : StringKind → Rule
 closed_string kind = Then (Exactly (front kind)) closed_body
 
+-- a character at which what closes a raw string with these hash signs doesn't begin
+abbrev pub raw_unit : List ℕ → Rule
+raw_unit hashes = NotAt ((double_quote ∷ hashes) ∷ []) (One any)
+
 -- all up to the first `"` with these hash signs after it
 abbrev pub closed_raw_body : List ℕ → Rule
-closed_raw_body hashes = UpTo (NotAt ((double_quote ∷ hashes) ∷ []) (One any)) (Exactly (double_quote ∷ hashes))
+closed_raw_body hashes = UpTo (raw_unit hashes) (Exactly (double_quote ∷ hashes))
 
 -- a raw string that ends, whatever stands in it and however many hash signs it has
 abbrev pub closed_raw : StringKind → Rule

@@ -37,6 +37,8 @@ pub enum Reason {
     MisplacedMark,
     /// A character with which no token begins.
     NoToken,
+    /// Nothing of the grammar stands there, for a reason that isn't told apart.
+    Unread,
     /// A closer where no opener waits for one: the `)` of `a)`.
     StrayCloser,
     /// A closer where the innermost opener waits for another: the `]` of `(]`.
