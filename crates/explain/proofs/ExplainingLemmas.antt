@@ -1,6 +1,6 @@
 -- What was read, and how the reading ends.
 use Rattle.std.proofs.Common.{◌≡◌, ◌≢◌, ℕ, ◌+◌, Bool, true, false, List, [], ◌∷◌, ◌++◌, length, Option, Some, None, inl, inr}
-use Rattle.std.proofs.Common.{refl, sym, ap, ◌∙◌, subst, arith, append_assoc, append-nil, length-append}
+use Rattle.std.proofs.Common.{MatchOption, refl, sym, ap, ◌∙◌, subst, arith, append_assoc, length-append}
 use Rattle.lexical.specs.Cover.{onto, width}
 use Rattle.lexical.specs.Found.{IsPieceAt, kind_of}
 use Rattle.lexical.specs.Piece.{Piece, Close, IsPiece, HasNoPiece}
@@ -21,6 +21,7 @@ use Rattle.explain.specs.Explained.{IsExplained, IsLeftOpen, IsRefused, IsStretc
 use Rattle.explain.specs.Open.{LeavesOpen, Refuses, RefusesFor, RefusesPiece, Steps, Waiting, WaitsAs, openers_of, waiting}
 use Rattle.explain.specs.declared.explained.Explained.{Explained}
 use Rattle.explain.specs.declared.explained.Opener.{Opener}
+use Rattle.explain.specs.declared.nesting.Refusal.{Refusal}
 use Rattle.explain.specs.declared.reason.Reason.{Reason}
 use Rattle.explain.specs.declared.reason.Reason.TheVariants.{StrayCloser, MismatchedCloser}
 use Rattle.explain.proofs.OpenLemmas.{leaves_open}
@@ -135,10 +136,10 @@ module _ (base : ℕ) (source rest : List ℕ) (at : ℕ) (first : Bool) (opener
 
   -- a closer can't stand there
   pub refused_explained : (x : Explained) (piece : Found) → (found : IsPieceAt first rest piece)
-      → RefusesPiece piece.kind (x.reason, x.innermost) → WaitsAs (waiting openers) x.innermost x.outer.items
+      → RefusesPiece piece.kind (record { reason = x.reason; innermost = x.innermost }) → WaitsAs (waiting openers) x.innermost x.outer.items
       → IsStretch base read [] x.before → IsStretch base read found.front x.at → IsExplained base source x
   refused_explained x piece found refuses told before here =
-      let closer = closer_of piece.kind (x.reason, x.innermost) refuses in
+      let closer = closer_of piece.kind (record { reason = x.reason; innermost = x.innermost }) refuses in
       let stands = subst (λ k. IsPiece first (kind_of k found.front) found.front found.rest) closer.1 found.stands in
       record {
         pieces = h.reads.pieces;
@@ -166,7 +167,7 @@ module _ (base : ℕ) (source rest : List ℕ) (at : ℕ) (first : Bool) (opener
         }));
       }
     where
-      closer_of : (kind : PieceKind) (y : Reason × Option Opener) → RefusesPiece kind y
+      closer_of : (kind : PieceKind) (y : Refusal) → RefusesPiece kind y
           → (c : ℕ) × (kind ≡ kinds.Closer c) × Refuses (delimiter_of c) y
       closer_of kinds.FrontMark y r = absurd r
       closer_of kinds.Gap y r = absurd r
@@ -211,3 +212,20 @@ pub whole_past : (text mid rest front part : List ℕ) → text ≡ front ++ mid
     → text ≡ (front ++ part) ++ rest
 whole_past text mid rest front part whole more =
     whole ∙ (ap (λ t. front ++ t) more ∙ sym (append_assoc front part rest))
+
+-- the end of the text
+pub left_answer : (base : ℕ) (source rest : List ℕ) (at : ℕ) (first : Bool) (openers : List Opener)
+    → ReadsOpen base source rest at first openers → rest ≡ [] → (answer : Option Explained)
+    → MatchOption answer (waiting openers ≡ [])
+    (λ x. SaysLeftOpen x × WaitsAs (waiting openers) x.innermost x.outer.items)
+    → MatchOption answer (Parses base source) (IsExplained base source)
+left_answer base source rest at first openers h done None none = parsed base source rest at first openers h done none
+left_answer base source rest at first openers h done (Some x) told =
+    left_explained base source rest at first openers h x done told.0 told.1
+
+-- from another position
+pub answer_at : (base begin : ℕ) (source : List ℕ) (answer : Option Explained) → base ≡ begin
+    → MatchOption answer (Parses base source) (IsExplained base source)
+    → MatchOption answer (Parses begin source) (IsExplained begin source)
+answer_at base begin source answer e h =
+    subst (λ b. MatchOption answer (Parses b source) (IsExplained b source)) e h

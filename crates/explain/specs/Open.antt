@@ -8,6 +8,7 @@ use Rattle.pm_stream.specs.Events.{Event, Opens, Balanced}
 use Rattle.pm_stream.specs.Forest.{Forest}
 use Rattle.pm_stream.specs.Written.{Opened, written_onto}
 use Rattle.explain.specs.declared.explained.Opener.{Opener}
+use Rattle.explain.specs.declared.nesting.Refusal.{Refusal}
 use Rattle.explain.specs.declared.reason.Reason.{Reason}
 use Rattle.explain.specs.declared.reason.Reason.TheVariants.{StrayCloser, MismatchedCloser}
 
@@ -61,10 +62,10 @@ RefusesFor d MismatchedCloser None = ⊥
 RefusesFor d MismatchedCloser (Some opener) = opener.delimiter ≡ d → ⊥
 RefusesFor d _ innermost = ⊥
 
-abbrev pub Refuses : Delimiter → Reason × Option Opener → Type 0
-Refuses d x = RefusesFor d x.0 x.1
+abbrev pub Refuses : Delimiter → Refusal → Type 0
+Refuses d x = RefusesFor d x.reason x.innermost
 
 -- the piece is such a closer
-abbrev pub RefusesPiece : PieceKind → Reason × Option Opener → Type 0
+abbrev pub RefusesPiece : PieceKind → Refusal → Type 0
 RefusesPiece (kinds.Closer c) x = Refuses (delimiter_of c) x
 RefusesPiece _ x = ⊥

@@ -7,7 +7,7 @@ ghost use Rattle.explain.specs.Explained.{IsExplained, IsStretch, IsStuck, Parse
 ghost use Rattle.explain.specs.Open.{WaitsAs, waiting};
 
 use crate::explained::{ExplainError, Explained, Opener, Stretch};
-use crate::nesting::take;
+use crate::nesting::{Refusal, take};
 use crate::reason::Reason;
 use crate::stuck::reason_at;
 use lexical::parts::Cursor;
@@ -46,10 +46,10 @@ fn explain_at(alloc: Global, base: u32, text: &str) -> Result<Option<Explained>,
     while let Some(piece) = piece_at(rest, first) {
         let tail = &rest[piece.bytes..];
         let end = at + piece.chars as u32;
-        let here = stretch(text, rest, tail, at, end);
-        let refused = take(&mut open, piece.kind, here)?;
-        if let Some((reason, innermost)) = refused {
-            return Ok(Some(refusal(text, rest, at, here, reason, innermost, open)));
+        if let Some(refusal) = take(&mut open, piece.kind, stretch(text, rest, tail, at, end))? {
+            let before = stretch(text, rest, rest, at, at);
+            let here = stretch(text, rest, tail, at, end);
+            return Ok(Some(refused(refusal, before, here, open)));
         }
         // White characters are gaps, and are passed over all at once.
         let (after, white) = past_white(tail);
@@ -61,6 +61,26 @@ fn explain_at(alloc: Global, base: u32, text: &str) -> Result<Option<Explained>,
         return Ok(left_open(open));
     }
     Ok(Some(stuck(text, rest, at, first, open)))
+}
+
+/// That a closer can't stand there.
+fn refused(refusal: Refusal, before: Stretch, at: Stretch, outer: Vec<Opener>) -> Explained
+    ensures { result ≡ record {
+      reason = refusal.reason;
+      before = before;
+      at = at;
+      innermost = refusal.innermost;
+      outer = outer;
+    } }
+{
+    let Refusal { reason, innermost } = refusal;
+    Explained {
+        reason,
+        before,
+        at,
+        innermost,
+        outer,
+    }
 }
 
 /// The stretch of a text from one rest of it to another, which stand at these positions.
@@ -76,36 +96,6 @@ fn stretch(text: &str, from: &str, to: &str, lo: u32, hi: u32) -> Stretch
         start: text.len() - from.len(),
         end: text.len() - to.len(),
         span: span_of(lo, hi),
-    }
-}
-
-/// That a closer can't stand at this rest of a text, which is at this position, for the reason.
-fn refusal(
-    text: &str,
-    rest: &str,
-    at: u32,
-    here: Stretch,
-    reason: Reason,
-    innermost: Option<Opener>,
-    outer: Vec<Opener>,
-) -> Explained
-    requires { (behind : List ℕ) × (chars text.now ≡ behind ++ chars rest.now) }
-    ensures value { result ≡ record {
-      reason = reason;
-      before = result.before;
-      at = here;
-      innermost = innermost;
-      outer = outer;
-    } }
-    ensures before { (base : ℕ) (behind : List ℕ) → chars text.now ≡ behind ++ chars rest.now
-        → at ≡ base + length behind → IsStretch base behind [] result.before }
-{
-    Explained {
-        reason,
-        before: stretch(text, rest, rest, at, at),
-        at: here,
-        innermost,
-        outer,
     }
 }
 
