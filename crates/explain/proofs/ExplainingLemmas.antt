@@ -1,5 +1,6 @@
 -- What was read, and how the reading ends.
-use Rattle.std.proofs.Common.{◌≡◌, ◌≢◌, ℕ, ◌+◌, Bool, true, false, List, [], ◌∷◌, ◌++◌, length, Option, Some, None, inl, inr}
+use Rattle.std.proofs.Common.{◌≡◌, ◌≢◌, ℕ, ◌+◌, Bool, true, false, List, [], ◌∷◌, ◌++◌, length, Option, Some, None}
+use Rattle.std.proofs.Common.{inl, inr}
 use Rattle.std.proofs.Common.{MatchOption, refl, sym, ap, ◌∙◌, subst, arith, append_assoc, length-append}
 use Rattle.lexical.specs.Cover.{onto, width}
 use Rattle.lexical.specs.Found.{IsPieceAt, kind_of}
@@ -18,7 +19,8 @@ use Rattle.pm_stream.specs.Written.{Opened, FitsInnermost, written_onto}
 use Rattle.pm_stream.proofs.ParseLemmas.{reads_on}
 use Rattle.pm_stream.proofs.ReadSoFar.{Reads, reads_none, reads_all, reads_open, reads_stray, reads_stuck}
 use Rattle.explain.specs.Explained.{IsExplained, IsLeftOpen, IsRefused, IsStretch, IsStuck, Parses, SaysLeftOpen}
-use Rattle.explain.specs.Open.{LeavesOpen, Refuses, RefusesFor, RefusesPiece, Steps, Waiting, WaitsAs, openers_of, waiting}
+use Rattle.explain.specs.Open.{LeavesOpen, Refuses, RefusesFor, RefusesPiece, Steps, Waiting, WaitsAs, openers_of}
+use Rattle.explain.specs.Open.{waiting}
 use Rattle.explain.specs.declared.explained.Explained.{Explained}
 use Rattle.explain.specs.declared.explained.Opener.{Opener}
 use Rattle.explain.specs.declared.nesting.Refusal.{Refusal}
@@ -121,7 +123,8 @@ module _ (base : ℕ) (source rest : List ℕ) (at : ℕ) (first : Bool) (opener
     leaves = leaves;
     told = told;
     fault = subst (FaultAt base source) (sym (ap (λ s. s.span.lo) says.before))
-        (by_groups h.groups h.reads (sym h.around ∙ subst (λ o. WaitsAs (waiting openers) o x.outer.items) says.innermost told));
+        (by_groups h.groups h.reads (sym h.around ∙ subst (λ o. WaitsAs
+            (waiting openers) o x.outer.items) says.innermost told));
     because = inr (inr (record { done = done; says = says }));
   }
     where
@@ -136,7 +139,8 @@ module _ (base : ℕ) (source rest : List ℕ) (at : ℕ) (first : Bool) (opener
 
   -- a closer can't stand there
   pub refused_explained : (x : Explained) (piece : Found) → (found : IsPieceAt first rest piece)
-      → RefusesPiece piece.kind (record { reason = x.reason; innermost = x.innermost }) → WaitsAs (waiting openers) x.innermost x.outer.items
+      → RefusesPiece piece.kind (record { reason = x.reason; innermost = x.innermost })
+          → WaitsAs (waiting openers) x.innermost x.outer.items
       → IsStretch base read [] x.before → IsStretch base read found.front x.at → IsExplained base source x
   refused_explained x piece found refuses told before here =
       let closer = closer_of piece.kind (record { reason = x.reason; innermost = x.innermost }) refuses in
@@ -187,7 +191,8 @@ module _ (base : ℕ) (source rest : List ℕ) (at : ℕ) (first : Bool) (opener
           (outer : List Opener) → WaitsAs (openers_of groups) innermost outer → RefusesFor d reason innermost
           → FitsInnermost d groups → ⊥
       apart_of [] d reason innermost outer w r fits = fits
-      apart_of (g ∷ groups) d reason None outer w r fits = let clash : (g.delimiter, g.lo) ∷ openers_of groups ≡ [] = w.0 in cc
+      apart_of (g ∷ groups) d reason None outer w r fits = let clash :
+          (g.delimiter, g.lo) ∷ openers_of groups ≡ [] = w.0 in cc
       apart_of (g ∷ groups) d reason (Some opener) outer w r fits =
           let head : ◌≡◌ {A = Waiting} (g.delimiter, g.lo) (opener.delimiter, opener.at.span.lo) = cc in
           refuses_none d reason opener r (ap (λ z. z.0) (sym head) ∙ fits)

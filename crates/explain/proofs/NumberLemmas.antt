@@ -1,14 +1,18 @@
 -- Where no number stands.
-use Rattle.std.proofs.Common.{◌≡◌, ℕ, Bool, true, false, not, ◌||◌, ◌+◌, cond, List, [], ◌∷◌, ◌++◌, codes, Some, None, arith}
+use Rattle.std.proofs.Common.{◌≡◌, ℕ, Bool, true, false, not, ◌||◌, ◌+◌, cond, List, [], ◌∷◌, ◌++◌, codes, Some, None}
+use Rattle.std.proofs.Common.{arith}
 use Rattle.std.proofs.Common.{refl, sym, ap, ◌∙◌, subst}
 use Rattle.std.specs.Char.{is_ascii_digit, is_digit}
 use Rattle.std.specs.Str.{chars}
-use Rattle.std.proofs.lemmas.Bool.{cond-true, cond-false, and_from, or_from, false_from_ne_true, or_parts, true_from_ne_false}
+use Rattle.std.proofs.lemmas.Bool.{cond-true, cond-false, and_from, or_from, false_from_ne_true, or_parts}
+use Rattle.std.proofs.lemmas.Bool.{true_from_ne_false}
 use Rattle.lexical.specs.Class.{is_ident_start, is_ident_continue}
 use Rattle.lexical.specs.Bytes.{radix}
-use Rattle.lexical.specs.Finder.{Answer, Finder, and_find, behind, or_find, if_passes, find_run, while_front, while_rest}
+use Rattle.lexical.specs.Finder.{Answer, Finder, and_find, behind, or_find, if_passes, find_run, while_front}
+use Rattle.lexical.specs.Finder.{while_rest}
 use Rattle.lexical.specs.Identifier.{name}
-use Rattle.lexical.specs.Number.{digits, decimal, based, base_prefixes, base_digits, digits_in, end as number_end, float_tail, integer}
+use Rattle.lexical.specs.Number.{digits, decimal, based, base_prefixes, base_digits, digits_in, end as number_end}
+use Rattle.lexical.specs.Number.{float_tail, integer}
 use Rattle.lexical.specs.Number.{is_digit_or_underscore, is_digit_or_underscore_in, is_underscore, number, tail}
 use Rattle.lexical.specs.Rule.{Rule, One, Run, Exactly, Then, Either, NotAt, find, perhaps}
 use Rattle.lexical.specs.Step.{Passes}
@@ -18,7 +22,8 @@ use Rattle.lexical.specs.declared.bytes.Base.TheVariants.{Binary, Octal, Hexadec
 use Rattle.lexical.specs.declared.cursor.Cursor.{Cursor}
 use Rattle.lexical.proofs.NumberFinderLemmas.{number_based, number_decimal}
 use Rattle.lexical.proofs.RuleSteps.{find_then, find_other, passed, past_text, one_passes, then_passes, then_lacks}
-use Rattle.lexical.proofs.RuleSteps.{either_first, either_reads, else_first, perhaps_stays, before_passes, not_at_passes}
+use Rattle.lexical.proofs.RuleSteps.{either_first, either_reads, else_first, perhaps_stays, before_passes}
+use Rattle.lexical.proofs.RuleSteps.{not_at_passes}
 use Rattle.lexical.proofs.RuleSteps.{not_at_stops, text_lacks, lacks_text}
 use Rattle.explain.specs.Shapes.{base_prefix, bare_prefix, base_front, ends_badly, goes_on_base}
 use Rattle.explain.specs.Trouble.{IsTrouble}
@@ -90,9 +95,11 @@ pub none_in : (base : Base) (rest : List ℕ) → find number (base_prefix base 
     → find (Then (digits_in (radix base)) number_end) rest ≡ None
 unfolding find
 none_in Hexadecimal rest e =
-    and_none (find number_end) (codes "0x") (find (digits_in 16) rest) _ (sym (number_based (codes "0x" ++ rest) refl) ∙ e)
+    and_none (find number_end) (codes "0x") (find (digits_in 16) rest) _ (sym (number_based
+        (codes "0x" ++ rest) refl) ∙ e)
 none_in Octal rest e =
-    and_none (find number_end) (codes "0o") (find (digits_in 8) rest) _ (sym (number_based (codes "0o" ++ rest) refl) ∙ e)
+    and_none (find number_end) (codes "0o") (find (digits_in 8) rest) _ (sym (number_based
+        (codes "0o" ++ rest) refl) ∙ e)
 none_in Binary rest e =
     and_last (find number_end) (codes "0b") (find (digits_in 2) rest) (sym (number_based (codes "0b" ++ rest) refl) ∙ e)
 
@@ -175,7 +182,8 @@ module _ (base : Base) (at inside start : Cursor) (prefix : Passes (Exactly (bas
       trouble (base_front base) (One is_ascii_digit) (assumption) tt at start after BadDigit (front_bare none) j
       (λ front part whole is. (base, is))
 
-  pub no_digits : find (One digit) (chars start.rest.now) ≡ None → find (One is_ascii_digit) (chars start.rest.now) ≡ None
+  pub no_digits : find (One digit) (chars start.rest.now) ≡ None
+      → find (One is_ascii_digit) (chars start.rest.now) ≡ None
       → IsTrouble at (record { reason = NoDigits; at = at; after = start })
   no_digits none none' =
       trouble_here (bare_prefix base) (assumption) at start NoDigits
@@ -202,7 +210,8 @@ module _ (base : Base) (at inside start : Cursor) (prefix : Passes (Exactly (bas
     digits_pass : find (One is_ascii_digit) (chars end.rest.now) ≡ None → Passes (digits_in (radix base)) inside end
     digits_pass none =
         before_passes is_ascii_digit _ inside end
-        (then_passes _ _ inside start end run (then_passes _ _ start first end one more)) (one_none is_ascii_digit _ none)
+        (then_passes _ _ inside start end run (then_passes _ _ start first end one more))
+            (one_none is_ascii_digit _ none)
 
     pub end_none : find (One is_ascii_digit) (chars end.rest.now) ≡ None
         → find (Then (digits_in (radix base)) number_end) (chars inside.rest.now) ≡ None

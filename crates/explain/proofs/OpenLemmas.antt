@@ -1,5 +1,6 @@
 -- The openers that wait for a closer, with one piece more.
-use Rattle.std.proofs.Common.{◌≡◌, ℕ, Bool, true, false, List, [], ◌∷◌, ◌++◌, ◌+◌, codes, length, reverse, refl, sym, ap, ◌∙◌, subst}
+use Rattle.std.proofs.Common.{◌≡◌, ℕ, Bool, true, false, List, [], ◌∷◌, ◌++◌, ◌+◌, codes, length, reverse, refl, sym}
+use Rattle.std.proofs.Common.{ap, ◌∙◌, subst}
 use Rattle.std.specs.Str.{chars}
 use Rattle.std.proofs.lemmas.List.{reverse-append}
 use Rattle.lexical.specs.Found.{kind_of}
@@ -18,7 +19,8 @@ use Rattle.explain.specs.declared.explained.Opener.{Opener}
 use Rattle.explain.specs.Open.{Waiting, LeavesOpen, Grows, Steps, each_waiting, openers_of, waiting}
 
 -- the openers that are left open of what was written
-pub leaves_open : (groups : List Opened) (trees : Forest) → LeavesOpen (written_onto groups trees []) (openers_of groups)
+pub leaves_open : (groups : List Opened) (trees : Forest)
+    → LeavesOpen (written_onto groups trees []) (openers_of groups)
 leaves_open [] trees = flattening_balanced trees
 leaves_open (x ∷ groups) trees = (
   written_onto groups x.outer [],
@@ -51,8 +53,10 @@ pub steps_plain : (openers : List Opener) (kind : PieceKind) (lo : ℕ) (front :
     → Steps openers openers (events_onto lo (kind_of kind front) front [])
 steps_plain openers kinds.FrontMark lo front some none = steps_trees openers nil
 steps_plain openers kinds.Gap lo front some none = steps_trees openers nil
-steps_plain openers (kinds.Doc true text) lo front some none = steps_trees openers (doc_forest lo (lo + length front) true (chars text.now))
-steps_plain openers (kinds.Doc false text) lo front some none = steps_trees openers (doc_forest lo (lo + length front) false (chars text.now))
+steps_plain openers (kinds.Doc true text) lo front some none = steps_trees openers (doc_forest lo
+    (lo + length front) true (chars text.now))
+steps_plain openers (kinds.Doc false text) lo front some none = steps_trees openers (doc_forest lo
+    (lo + length front) false (chars text.now))
 steps_plain openers (kinds.Opener c) lo front some none = absurd (some c refl)
 steps_plain openers (kinds.Closer c) lo front some none = absurd (none c refl)
 steps_plain openers kinds.Literal lo front some none = steps_trees openers (leaf _ lo _ nil)
@@ -75,7 +79,8 @@ steps_open old new x e = λ groups trees h. record {
 
 -- and one less
 steps_close_of : (old new : List Opener) (x : Opener) (d : Delimiter) (hi : ℕ)
-    → waiting old ≡ (x.delimiter, x.at.span.lo) ∷ waiting new → x.delimiter ≡ d → (groups : List Opened) (trees : Forest)
+    → waiting old ≡ (x.delimiter, x.at.span.lo) ∷ waiting new → x.delimiter ≡ d
+        → (groups : List Opened) (trees : Forest)
     → waiting old ≡ openers_of groups → Grows new groups trees (Closes d hi ∷ [])
 steps_close_of old new x d hi was same [] trees h =
     let clash : (x.delimiter, x.at.span.lo) ∷ waiting new ≡ [] = sym was ∙ h in absurd (cc)

@@ -1,5 +1,6 @@
 -- Where nothing stands that quotes or names begin with.
-use Rattle.std.proofs.Common.{◌≡◌, ℕ, ◌<◌, ◌+◌, Bool, true, false, not, ◌==◌, ◌||◌, List, [], ◌∷◌, ◌++◌, codes, length, Option}
+use Rattle.std.proofs.Common.{◌≡◌, ℕ, ◌<◌, ◌+◌, Bool, true, false, not, ◌==◌, ◌||◌, List, [], ◌∷◌, ◌++◌, codes}
+use Rattle.std.proofs.Common.{length, Option}
 use Rattle.std.proofs.Common.{Some, None, refl, sym, ap, ◌∙◌, subst, arith, eqb-true}
 use Rattle.std.specs.Char.{is_ascii_digit}
 use Rattle.std.specs.Str.{chars, IsUtf8}
@@ -19,8 +20,10 @@ use Rattle.lexical.specs.declared.cursor.Cursor.{Cursor}
 use Rattle.lexical.specs.declared.quoted.StringKind.{StringKind}
 use Rattle.lexical.proofs.RuleLemmas.{Clear}
 use Rattle.lexical.proofs.RuleSteps.{passed, past_text, then_passes, then_reads, then_lacks, text_lacks, lacks_text}
-use Rattle.lexical.proofs.RuleSteps.{either_first, either_reads, before_passes, where_passes, find_not_before, IsBetween}
-use Rattle.explain.specs.Shapes.{bars_character, closed_body, closed_raw, closed_raw_body, closed_single, closed_single_body}
+use Rattle.lexical.proofs.RuleSteps.{either_first, either_reads, before_passes, where_passes, find_not_before}
+use Rattle.lexical.proofs.RuleSteps.{IsBetween}
+use Rattle.explain.specs.Shapes.{bars_character, closed_body, closed_raw, closed_raw_body, closed_single}
+use Rattle.explain.specs.Shapes.{closed_single_body}
 use Rattle.explain.specs.Shapes.{closed_string, digit_lifetime, hashed_front, is_hash, is_quote, lifetime, long_opening}
 use Rattle.explain.specs.Shapes.{no_double_quote, raw_lifetime_start, raw_name_start, raw_opening, reserved_raw}
 use Rattle.explain.specs.Shapes.{single_opening}
@@ -39,8 +42,12 @@ pub unclosed_string : (kind : StringKind) (at inside : Cursor) → Passes (Exact
     → IsTrouble at (record { reason = UnclosedString; at = at; after = inside })
 unclosed_string kind at inside h none =
     trouble_here (Exactly (string_front kind)) tt at inside UnclosedString h
-    (λ front part whole is. (kind, is, none_stands (closed_string kind) (assumption) _ front part _
-    (then_reads (Exactly (string_front kind)) closed_body at inside None h none) whole))
+    (λ front part whole is. (
+      kind,
+      is,
+      none_stands (closed_string kind) (assumption) _ front part _
+          (then_reads (Exactly (string_front kind)) closed_body at inside None h none) whole,
+    ))
 
 -- ---- raw strings
 
@@ -63,25 +70,32 @@ next_passes rule at mid to run j =
 
 module _ (kind : StringKind) (at inside quote body : Cursor) (letters : Passes (Exactly (raw_front kind)) at inside)
     (run : Passes (Run is_hash) inside quote) (opens : Passes (Exactly (codes "\"")) quote body) where
-  raw_none : find (closed_raw_body run.front) (chars body.rest.now) ≡ None → find (closed_raw kind) (chars at.rest.now) ≡ None
+  raw_none : find (closed_raw_body run.front) (chars body.rest.now) ≡ None
+      → find (closed_raw kind) (chars at.rest.now) ≡ None
   unfolding find
   raw_none none =
       then_reads (Exactly (raw_front kind)) (Next (Run is_hash) quotes) at inside None letters
       (ap (and_next (λ hashes. find (quotes hashes))) run.found
-      ∙ ap (behind run.front) (then_reads (Exactly (codes "\"")) (closed_raw_body run.front) quote body None opens none))
+      ∙ ap (behind run.front) (then_reads (Exactly (codes "\""))
+          (closed_raw_body run.front) quote body None opens none))
 
   raw_some : (end : Cursor) → Passes (closed_raw_body run.front) body end → Passes (closed_raw kind) at end
   raw_some end h =
       then_passes (Exactly (raw_front kind)) (Next (Run is_hash) quotes) at inside end letters
-      (next_passes quotes inside quote end run (then_passes (Exactly (codes "\"")) (closed_raw_body run.front) quote body end opens h))
+      (next_passes quotes inside quote end run (then_passes (Exactly (codes "\""))
+          (closed_raw_body run.front) quote body end opens h))
 
   pub unclosed_raw : (hashes : List ℕ) → hashes ≡ run.front → find (closed_raw_body hashes) (chars body.rest.now) ≡ None
       → IsTrouble at (record { reason = UnclosedRawString; at = at; after = body })
   unclosed_raw hashes same none =
       trouble_here (raw_opening kind) (assumption) at body UnclosedRawString
       (then_passes _ _ at inside body letters (then_passes _ _ inside quote body run opens))
-      (λ front part whole is. (kind, is, none_stands (closed_raw kind) (clear_closed kind) _ front part _
-      (raw_none (subst (λ h. find (closed_raw_body h) (chars body.rest.now) ≡ None) same none)) whole))
+      (λ front part whole is. (
+        kind,
+        is,
+        none_stands (closed_raw kind) (clear_closed kind) _ front part _
+            (raw_none (subst (λ h. find (closed_raw_body h) (chars body.rest.now) ≡ None) same none)) whole,
+      ))
 
   pub too_many : (hashes : List ℕ) (end : Cursor) → hashes ≡ run.front → 255 < length hashes
       → Passes (closed_raw_body hashes) body end
@@ -93,10 +107,14 @@ module _ (kind : StringKind) (at inside quote body : Cursor) (letters : Passes (
       (λ front e. append_cancel_right run.front front (chars quote.rest.now)
       (sym (passed (Run is_hash) tt inside quote run).0 ∙ e))
       (lt-ltb 255 (length run.front) (omega (arith, ap length same, many)))) opens))
-      (λ front part whole is. (kind, is, λ none.
-      let all = passed (closed_raw kind) (clear_closed kind) at end
-      (raw_some end (subst (λ h. Passes (closed_raw_body h) body end) same h)) in
-      none _ _ (sym whole ∙ all.0) all.1))
+      (λ front part whole is. (
+        kind,
+        is,
+        λ none.
+            let all = passed (closed_raw kind) (clear_closed kind) at end
+            (raw_some end (subst (λ h. Passes (closed_raw_body h) body end) same h)) in
+            none _ _ (sym whole ∙ all.0) all.1,
+      ))
 
 pub without_quote : (kind : StringKind) (at inside first end after : Cursor)
     → Passes (Exactly (raw_front kind)) at inside → Passes (One is_hash) inside first → Passes (Run is_hash) first end
@@ -179,7 +197,8 @@ pub opens_single : (at inside : Cursor) → Passes (Exactly (codes "'")) at insi
     → Passes single_opening at inside
 opens_single at inside h named digit =
     either_first _ _ at inside (before_passes bars_character (Exactly (codes "'")) at inside h
-    (both_none (chars inside.rest.now) (one_none is_ident_start _ (name_none _ named)) (one_none is_ascii_digit _ digit)))
+    (both_none (chars inside.rest.now) (one_none is_ident_start _ (name_none _ named))
+        (one_none is_ascii_digit _ digit)))
   where
     both_none : (text : List ℕ) → first_passes is_ident_start text ≡ false → first_passes is_ascii_digit text ≡ false
         → first_passes bars_character text ≡ false
@@ -202,5 +221,8 @@ pub unclosed_single : (at inside : Cursor) → Passes single_opening at inside
     → IsTrouble at (record { reason = UnclosedCharacter; at = at; after = inside })
 unclosed_single at inside h none =
     trouble_here single_opening (assumption) at inside UnclosedCharacter h
-    (λ front part whole is. (is, none_stands closed_single (assumption) _ front part _
-    (then_reads single_opening closed_single_body at inside None h none) whole))
+    (λ front part whole is. (
+      is,
+      none_stands closed_single (assumption) _ front part _
+          (then_reads single_opening closed_single_body at inside None h none) whole,
+    ))

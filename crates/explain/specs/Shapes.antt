@@ -52,7 +52,8 @@ closed_raw_body hashes = UpTo (raw_unit hashes) (Exactly (double_quote ∷ hashe
 -- a raw string that ends, whatever stands in it and however many hash signs it has
 abbrev pub closed_raw : StringKind → Rule
 closed_raw kind =
-    Then (Exactly (raw_front kind)) (Next (Run is_hash) (λ hashes. Then (Exactly (codes "\"")) (closed_raw_body hashes)))
+    Then (Exactly (raw_front kind)) (Next (Run is_hash) (λ hashes. Then (Exactly (codes "\""))
+        (closed_raw_body hashes)))
 
 -- what opens a raw string
 abbrev pub raw_opening : StringKind → Rule

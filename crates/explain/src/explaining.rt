@@ -1,5 +1,6 @@
 //! From a text to the reason why it doesn't parse.
-ghost use Rattle.std.specs.Prelude.{◌≡◌, ◌≢◌, ◌≤◌, ◌+◌, ◌<◌, ◌^◌, ◌↔◌, ◌++◌, Bool, Err, List, [], ℕ, IfOk, MatchOption, length};
+ghost use Rattle.std.specs.Prelude.{◌≡◌, ◌≢◌, ◌≤◌, ◌+◌, ◌<◌, ◌^◌, ◌↔◌, ◌++◌, Bool, Err, List, [], ℕ, IfOk};
+ghost use Rattle.std.specs.Prelude.{MatchOption, length};
 ghost use Rattle.std.specs.Str.{chars, encode_utf8_all};
 ghost use Rattle.lexical.specs.Piece.{HasNoPiece};
 ghost use Rattle.pm_span.specs.Files.{Fits, new_map, next_lo};

@@ -13,5 +13,5 @@ mod stuck;
 mod trouble;
 
 pub use crate::explained::{ExplainError, Explained, Opener, Stretch};
-pub use crate::reason::Reason;
 pub use crate::explaining::explain;
+pub use crate::reason::Reason;

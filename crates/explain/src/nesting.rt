@@ -1,5 +1,5 @@
 //! The openers that wait for a closer.
-ghost use Rattle.std.specs.Prelude.{◌≡◌, ◌∷◌,  [], ℕ, List, IfOk, MatchOption};
+ghost use Rattle.std.specs.Prelude.{◌≡◌, ◌∷◌, [], ℕ, List, IfOk, MatchOption};
 ghost use Rattle.lexical.specs.Found.{kind_of};
 ghost use Rattle.pm_stream.specs.Delimited.{delimiter_of};
 ghost use Rattle.pm_stream.specs.Events.{Closes, events_onto};
@@ -28,7 +28,8 @@ pub fn take(
     at: Stretch,
 ) -> Result<Option<Refusal>, AllocError>
     ensures { IfOk result (λ refused. MatchOption refused
-        ((front : List ℕ) → Steps open.old.items open.new.items (events_onto at.span.lo (kind_of kind.entry front) front []))
+        ((front : List ℕ) → Steps open.old.items open.new.items (events_onto at.span.lo
+            (kind_of kind.entry front) front []))
         (λ x. RefusesPiece kind.entry x × WaitsAs (waiting open.old.items) x.innermost open.new.items)) }
 {
     match kind {

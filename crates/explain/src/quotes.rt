@@ -108,7 +108,8 @@ fn reserved<'a>(at: Cursor<'a>, inner: Cursor<'a>, end: Cursor<'a>) -> Option<Tr
     }
 }
 
-/// Why no lifetime of this name stands at the cursor, before a `#`. `inside` is after the `'`, and `end` after the name.
+/// Why no lifetime of this name stands at the cursor, before a `#`. `inside` is after the `'`, and `end` after the
+/// name.
 fn lifetime<'a>(at: Cursor<'a>, inside: Cursor<'a>, end: Cursor<'a>) -> Option<Trouble<'a>>
     requires quote { Passes (Exactly (codes "'")) at inside }
     requires name { Passes name inside end }
@@ -123,7 +124,8 @@ fn lifetime<'a>(at: Cursor<'a>, inside: Cursor<'a>, end: Cursor<'a>) -> Option<T
     })
 }
 
-/// Why no lifetime stands at the cursor that begins with a digit. `inside` is after the `'`, and `first` after the digit.
+/// Why no lifetime stands at the cursor that begins with a digit. `inside` is after the `'`, and `first` after the
+/// digit.
 fn digit_lifetime<'a>(at: Cursor<'a>, inside: Cursor<'a>, first: Cursor<'a>) -> Option<Trouble<'a>>
     requires quote { Passes (Exactly (codes "'")) at inside }
     requires digit { Passes (One is_ascii_digit) inside first }

@@ -8,12 +8,15 @@ ghost use Rattle.lexical.specs.Quoted.{front, is_one_of};
 ghost use Rattle.lexical.specs.RawString.{raw_front};
 ghost use Rattle.lexical.specs.Rule.{Exactly, Run, find};
 ghost use Rattle.lexical.specs.Step.{Passes, Reads};
-ghost use Rattle.explain.specs.Shapes.{any, closed_body, closed_raw_body, no_double_quote, pair, raw_name_start, raw_unit};
+ghost use Rattle.explain.specs.Shapes.{any, closed_body, closed_raw_body, no_double_quote, pair, raw_name_start};
+ghost use Rattle.explain.specs.Shapes.{raw_unit};
 ghost use Rattle.explain.specs.Trouble.{IsTrouble};
 
 use crate::reason::Reason;
 use crate::trouble::Trouble;
-use lexical::parts::{Class, Cursor, StringKind, before, begins, one, one_that, skip, skip_to, skip_to_either};
+use lexical::parts::{
+    Class, Cursor, StringKind, before, begins, one, one_that, skip, skip_to, skip_to_either,
+};
 
 /// Whether a pair may be the character alone.
 fn stands_alone(c: char) -> bool

@@ -12,7 +12,7 @@ use crate::quotes::quote;
 use crate::reason::Reason;
 use crate::strings::string;
 use crate::trouble::Trouble;
-use lexical::parts::{Cursor, Start, StringKind, skip_comment, start_of};
+use lexical::parts::{Cursor, PieceStart, StringKind, piece_start_of, skip_comment};
 
 /// Why no comment stands at the cursor.
 fn comment(at: Cursor<'_>) -> Option<Trouble<'_>>
@@ -31,24 +31,25 @@ fn comment(at: Cursor<'_>) -> Option<Trouble<'_>>
     }
 }
 
-/// Why no piece stands at the cursor, as far as it is told apart. `first` says whether that is byte offset 0 of a source.
+/// Why no piece stands at the cursor, as far as it is told apart. `first` says whether that is byte offset 0 of a
+/// source.
 fn trouble_at(at: Cursor<'_>, first: bool) -> Option<Trouble<'_>>
     requires { found first (chars at.rest.now) ≡ None }
     ensures { IfSome result (IsTrouble at.entry) }
 {
     let (c, after) = at.advance()?;
-    match start_of(c) {
-        Start::Digit => Some(number(at)),
-        Start::Slash => comment(at),
-        Start::Quote => quote(at, after),
-        Start::DoubleQuote => string(at, after, StringKind::Plain),
-        Start::Letter => letter(at),
-        Start::FrontMark => Some(Trouble {
+    match piece_start_of(c) {
+        PieceStart::Digit => Some(number(at)),
+        PieceStart::Slash => comment(at),
+        PieceStart::Quote => quote(at, after),
+        PieceStart::DoubleQuote => string(at, after, StringKind::Plain),
+        PieceStart::Letter => letter(at),
+        PieceStart::FrontMark => Some(Trouble {
             reason: Reason::MisplacedMark,
             at,
             after,
         }),
-        Start::Other => Some(Trouble {
+        PieceStart::Other => Some(Trouble {
             reason: Reason::NoToken,
             at,
             after,

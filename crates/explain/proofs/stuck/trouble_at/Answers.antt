@@ -1,4 +1,4 @@
-use Rattle.lexical.specs.declared.class.Start.TheVariants as starts
+use Rattle.lexical.specs.declared.class.PieceStart.TheVariants as starts
 use Rattle.lexical.proofs.ClassLemmas.{of_start}
 use Rattle.explain.proofs.StuckLemmas.{digit_first, misplaced, no_number, no_token, past_one}
 use Rattle.explain.proofs.stuck.trouble_at.Goals as goal
@@ -12,7 +12,8 @@ number-requires-clause-none c =
 
 pub quote-requires : goal.quote-requires
 quote-requires c =
-    past_one 39 c.in_ok-c.c _ _ c.in_ok-c.ensures.0 c.in_ok-c.ensures.1 (of_start starts.Quote c.in_ok-c.c c.in-Quote.ensures)
+    past_one 39 c.in_ok-c.c _ _ c.in_ok-c.ensures.0 c.in_ok-c.ensures.1
+        (of_start starts.Quote c.in_ok-c.c c.in-Quote.ensures)
 
 pub string-requires : goal.string-requires
 string-requires c =
