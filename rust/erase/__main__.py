@@ -22,11 +22,12 @@ PACKAGE = TOP / 'rust/proved'
 TOOLS = TOP / 'rust/tools'
 
 # The library crates, lowest first, whose text becomes modules of the package.
-LIBRARIES = ['lexical', 'literal_escaper', 'pm_span', 'pm_token', 'pm_stream', 'proc_macro2', 'quoting']
+LIBRARIES = ['lexical', 'literal_escaper', 'pm_span', 'pm_token', 'pm_stream', 'proc_macro2', 'quoting', 'explain']
 # The crates that only a test of the package takes.
 TESTED = ['conformance']
 # The library's own tests, which another test of the package takes.
-OWN_TESTS = ['lexical_tests', 'token_tests', 'span_tests', 'building_tests', 'stream_tests', 'quoting_tests']
+OWN_TESTS = ['lexical_tests', 'token_tests', 'span_tests', 'building_tests', 'stream_tests', 'quoting_tests',
+             'explain_tests']
 # The programs, and the library that they share.
 PROGRAMS = ['messages', 'tokens', 'highlight']
 # What isn't erased: tests within the library, what is for them alone, tests of how many bytes a value takes in Rattle,

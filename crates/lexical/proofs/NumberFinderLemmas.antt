@@ -33,7 +33,8 @@ unfolding find
 no_float text h = begins_each (λ t. find float t ≡ None) base_prefixes text h
     (λ rest. refl, (λ rest. refl, (λ rest. refl, tt)))
 
-number_based : (text : List ℕ) → begins_any base_prefixes text ≡ true → find number text ≡ find (Then based end) text
+pub number_based : (text : List ℕ) → begins_any base_prefixes text ≡ true
+    → find number text ≡ find (Then based end) text
 unfolding number find
 number_based text h = ap₂ or_find (no_float text h)
     (ap (λ o. and_find (find end) (or_find o (find based text))) (cond-true _ _ _ h))

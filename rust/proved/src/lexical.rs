@@ -24,6 +24,7 @@ mod lexer;
 mod literals;
 mod marks;
 mod numbers;
+pub mod parts;
 pub mod piece;
 mod quick;
 mod quoted;

@@ -51,4 +51,7 @@ erased! {
     proc_macro2
     #[cfg(feature = "quoting")]
     quoting
+    #[cfg(feature = "explain")]
+    #[allow(unused_variables)]
+    explain
 }

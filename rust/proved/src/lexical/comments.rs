@@ -43,7 +43,7 @@ fn skip_block(at: Cursor<'_>) -> Option<Cursor<'_>>
 }
 
 /// The cursor after the comment that stands at the cursor.
-fn skip_comment(at: Cursor<'_>) -> Option<Cursor<'_>>
+pub fn skip_comment(at: Cursor<'_>) -> Option<Cursor<'_>>
 {
     match skip_line(at) {
         Some(end) => Some(end),

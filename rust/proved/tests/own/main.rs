@@ -2,6 +2,8 @@
 #![allow(clippy::all, dead_code, unreachable_code, unused_imports, unused_variables)]
 
 mod building_tests;
+#[cfg(feature = "explain")]
+mod explain_tests;
 mod lexical_tests;
 #[cfg(feature = "quoting")]
 mod quoting_tests;

@@ -1,0 +1,143 @@
+use Rattle.std.proofs.Common.{◌≡◌, ◌∙◌, ◌++◌, ◌+◌, [], ap, refl, sym, subst, arith, length, eqb-true}
+use Rattle.std.specs.Str.{chars}
+use Rattle.std.proofs.lemmas.Bool.{eqb-false}
+use Rattle.std.proofs.lemmas.List.{nil_from_length}
+use Rattle.std.proofs.lemmas.Str.{chars-nil}
+use Rattle.lexical.specs.Found.{kind_of}
+use Rattle.lexical.proofs.PieceFacts.{piece_boundary, piece_rest}
+use Rattle.lexical.proofs.TextLemmas.{bytes_from_no_chars}
+use Rattle.pm_stream.specs.Events.{events_onto}
+use Rattle.pm_stream.proofs.ParseLemmas.{left_shorter}
+use Rattle.explain.specs.Explained.{IsExplained}
+use Rattle.explain.specs.Open.{Steps}
+use Rattle.explain.proofs.ExplainingLemmas.{open_none, open_past, read, read_whole, read_at, refused_explained}
+use Rattle.explain.proofs.ExplainingLemmas.{left_answer, stuck_explained}
+use Rattle.explain.proofs.explaining.explain_at.Goals as goal
+
+pub loop-piece-init : goal.loop-piece-init
+loop-piece-init c = record {
+  utf8 = c.utf8.text;
+  left = refl;
+  reads = open_none c.args.base (chars c.args.text.now) _ c.new-open.ensures.items;
+}
+
+pub range_from-tail-requires : goal.range_from-tail-requires
+range_from-tail-requires c =
+    λ _. piece_boundary _ c.loop-piece.rest.now c.in-Some.piece c.loop-piece.invariant.utf8 c.in-Some.ensures.found
+
+pub loop-piece-smaller : goal.loop-piece-smaller
+loop-piece-smaller c =
+    (left_shorter _ c.loop-piece.rest.now _ _ _ c.in-Some.piece c.loop-piece.invariant.utf8 c.in-Some.ensures.found
+    c.range_from-tail.ensures.value c.past_white-white.ensures.passed).1
+
+pub stretch-requires-clause-from : goal.stretch-requires-clause-from
+stretch-requires-clause-from c =
+    let h = c.loop-piece.invariant.reads in
+    (read _ _ _ _ _ _ h, read_whole _ _ _ _ _ _ h)
+
+pub stretch-requires-clause-to : goal.stretch-requires-clause-to
+stretch-requires-clause-to c =
+    let found = c.in-Some.ensures.found in
+    let tail = ap chars c.range_from-tail.ensures.value
+    ∙ piece_rest _ c.loop-piece.rest.now c.in-Some.piece c.loop-piece.invariant.utf8 found in
+    (found.front, found.whole ∙ ap (λ t. found.front ++ t) (sym tail))
+
+pub stretch-before-requires-clause-from : goal.stretch-before-requires-clause-from
+stretch-before-requires-clause-from c =
+    let h = c.loop-piece.invariant.reads in
+    (read _ _ _ _ _ _ h, read_whole _ _ _ _ _ _ h)
+
+pub stretch-here-requires-clause-from : goal.stretch-here-requires-clause-from
+stretch-here-requires-clause-from c =
+    let h = c.loop-piece.invariant.reads in
+    (read _ _ _ _ _ _ h, read_whole _ _ _ _ _ _ h)
+
+pub stretch-here-requires-clause-to : goal.stretch-here-requires-clause-to
+stretch-here-requires-clause-to c =
+    let found = c.in-Some.ensures.found in
+    let tail = ap chars c.range_from-tail.ensures.value
+    ∙ piece_rest _ c.loop-piece.rest.now c.in-Some.piece c.loop-piece.invariant.utf8 found in
+    (found.front, found.whole ∙ ap (λ t. found.front ++ t) (sym tail))
+
+pub returns-in-Some-2 : goal.returns-in-Some-2
+returns-in-Some-2 c =
+    let base = c.args.base in
+    let source = chars c.args.text.now in
+    let rest = chars c.loop-piece.rest.now in
+    let h = c.loop-piece.invariant.reads in
+    let found = c.in-Some.ensures.found in
+    let refusal = c.in-Some-2.refusal in
+    let told = rw c.in-Some-2.is at c.in_ok-refusal.ensures in
+    let whole = read_whole _ _ _ _ _ _ h in
+    let place = read_at _ _ _ _ _ _ h in
+    let tail = ap chars c.range_from-tail.ensures.value
+    ∙ piece_rest _ c.loop-piece.rest.now c.in-Some.piece c.loop-piece.invariant.utf8 found in
+    subst (IsExplained base source) (sym c.refused.ensures)
+    (refused_explained base source rest c.loop-piece.at c.loop-piece.first c.loop-piece.open.items h
+    (record {
+      reason = refusal.reason;
+      before = c.stretch-before.result;
+      at = c.stretch-here.result;
+      innermost = refusal.innermost;
+      outer = c.take.new.open;
+    })
+    c.in-Some.piece found told.0 told.1
+    (c.stretch-before.ensures base (read _ _ _ _ _ _ h) [] whole refl place (omega arith))
+    (c.stretch-here.ensures base (read _ _ _ _ _ _ h) found.front whole
+    (found.whole ∙ ap (λ t. found.front ++ t) (sym tail)) place (ap (λ n. c.loop-piece.at + n) found.chars)))
+
+pub overflow_cast-at : goal.overflow_cast-at
+overflow_cast-at c =
+    let shorter =
+    left_shorter _ c.loop-piece.rest.now _ _ _ c.in-Some.piece c.loop-piece.invariant.utf8 c.in-Some.ensures.found
+    c.range_from-tail.ensures.value c.past_white-white.ensures.passed in
+    omega (arith, c.loop-piece.invariant.left)
+
+pub overflow_add-at : goal.overflow_add-at
+overflow_add-at c =
+    let shorter =
+    left_shorter _ c.loop-piece.rest.now _ _ _ c.in-Some.piece c.loop-piece.invariant.utf8 c.in-Some.ensures.found
+    c.range_from-tail.ensures.value c.past_white-white.ensures.passed in
+    omega (arith, c.loop-piece.invariant.left)
+
+pub loop-piece-preserved : goal.loop-piece-preserved
+loop-piece-preserved c =
+    let base = c.args.base in
+    let h = c.loop-piece.invariant.reads in
+    let found = c.in-Some.ensures.found in
+    let shorter =
+    left_shorter _ c.loop-piece.rest.now _ _ _ c.in-Some.piece c.loop-piece.invariant.utf8 found
+    c.range_from-tail.ensures.value c.past_white-white.ensures.passed in
+    let tail = ap chars c.range_from-tail.ensures.value
+    ∙ piece_rest _ c.loop-piece.rest.now c.in-Some.piece c.loop-piece.invariant.utf8 found in
+    let told = rw c.in_default-2.is at c.in_ok-refusal.ensures in
+    let place = read_at _ _ _ _ _ _ h in
+    let here = c.stretch.ensures base (read _ _ _ _ _ _ h) found.front (read_whole _ _ _ _ _ _ h)
+    (found.whole ∙ ap (λ t. found.front ++ t) (sym tail)) place (ap (λ n. c.loop-piece.at + n) found.chars) in
+    record {
+      utf8 = c.past_white-white.ensures.utf8;
+      left = omega (arith, c.loop-piece.invariant.left);
+      reads = open_past base (chars c.args.text.now) _ _ _ c.loop-piece.at _ _ c.loop-piece.open.items
+          c.take.new.open.items c.in-Some.piece h found tail
+          (subst (λ n. Steps c.loop-piece.open.items c.take.new.open.items
+          (events_onto n (kind_of c.in-Some.piece.kind found.front) found.front []))
+          (ap (λ s. s.lo) here.span ∙ sym place) (told found.front))
+          c.past_white-white.ensures.passed;
+    }
+
+pub returns-then-is_empty : goal.returns-then-is_empty
+returns-then-is_empty c =
+    let done = ap chars (nil_from_length c.loop-piece.rest.now (eqb-true _ _
+        (sym c.if-is_empty.ensures))) ∙ chars-nil in
+    left_answer _ _ _ _ _ _ c.loop-piece.invariant.reads done c.left_open.result c.left_open.ensures
+
+pub stuck-requires-clause-behind : goal.stuck-requires-clause-behind
+stuck-requires-clause-behind c =
+    let h = c.loop-piece.invariant.reads in
+    (read _ _ _ _ _ _ h, read_whole _ _ _ _ _ _ h)
+
+pub returns : goal.returns
+returns c =
+    stuck_explained _ _ _ _ _ _ c.loop-piece.invariant.reads c.stuck.result
+    (λ e. eqb-false _ _ (sym c.if-is_empty.ensures) (bytes_from_no_chars _ c.loop-piece.invariant.utf8 e))
+    c.in_default.ensures.none c.stuck.ensures.stuck c.stuck.ensures.open

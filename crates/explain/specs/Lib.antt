@@ -1,0 +1,5 @@
+pub mod Shapes
+pub mod Reason
+pub mod Trouble
+pub mod Open
+pub mod Explained

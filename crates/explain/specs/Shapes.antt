@@ -1,0 +1,157 @@
+-- What stands where a reason holds, in the words of the grammar's rules.
+use Rattle.std.specs.Prelude.{ℕ, Bool, true, not, ◌&&◌, ◌||◌, ◌==◌, List, [], ◌∷◌, codes, length, nat_lt}
+use Rattle.std.specs.Char.{is_ascii_digit}
+use Rattle.lexical.specs.Character.{double_quote, hash_sign, line_feed, single_quote}
+use Rattle.lexical.specs.Class.{is_white, is_ident_start, is_ident_continue}
+use Rattle.lexical.specs.Delimiter.{is_opener, is_closer}
+use Rattle.lexical.specs.Mark.{is_mark, comment_fronts}
+use Rattle.lexical.specs.Number.{is_digit_or_underscore_in, is_underscore, base_digits}
+use Rattle.lexical.specs.Quoted.{front, is_one_of}
+use Rattle.lexical.specs.RawString.{raw_front}
+use Rattle.lexical.specs.Identifier.{name, is_reserved}
+use Rattle.lexical.specs.Rule.{Rule, One, Run, Exactly, Then, Next, UpTo, Either, Else, NotAt, NotBefore, Where}
+use Rattle.lexical.specs.Rule.{nothing, perhaps}
+use Rattle.lexical.specs.declared.bytes.Base.{Base}
+use Rattle.lexical.specs.declared.bytes.Base.TheVariants.{Binary, Octal, Hexadecimal}
+use Rattle.lexical.specs.declared.quoted.StringKind.{StringKind}
+use Rattle.lexical.specs.Bytes.{radix}
+
+-- any character
+abbrev pub any : ℕ → Bool
+any c = true
+
+-- whether it is this character
+abbrev pub is_hash : ℕ → Bool
+is_hash c = c == hash_sign
+
+abbrev pub is_quote : ℕ → Bool
+is_quote c = c == single_quote
+
+-- ---- strings
+
+-- a character but `"` and backslash, or a backslash and any character
+abbrev pub pair : Rule
+pair = Either (One (λ c. not (is_one_of (codes "\"\\") c))) (Then (Exactly (codes "\\")) (One any))
+
+-- such pairs up to the first `"` that is in none of them
+abbrev pub closed_body : Rule
+closed_body = UpTo pair (Exactly (codes "\""))
+
+-- a string that ends, whatever stands in it
+abbrev pub closed_string : StringKind → Rule
+closed_string kind = Then (Exactly (front kind)) closed_body
+
+-- a character at which what closes a raw string with these hash signs doesn't begin
+abbrev pub raw_unit : List ℕ → Rule
+raw_unit hashes = NotAt ((double_quote ∷ hashes) ∷ []) (One any)
+
+-- all up to the first `"` with these hash signs after it
+abbrev pub closed_raw_body : List ℕ → Rule
+closed_raw_body hashes = UpTo (raw_unit hashes) (Exactly (double_quote ∷ hashes))
+
+-- a raw string that ends, whatever stands in it and however many hash signs it has
+abbrev pub closed_raw : StringKind → Rule
+closed_raw kind =
+    Then (Exactly (raw_front kind)) (Next (Run is_hash) (λ hashes. Then (Exactly (codes "\""))
+        (closed_raw_body hashes)))
+
+-- what opens a raw string
+abbrev pub raw_opening : StringKind → Rule
+raw_opening kind = Then (Exactly (raw_front kind)) (Then (Run is_hash) (Exactly (codes "\"")))
+
+-- what opens one with more than 255 hash signs
+abbrev pub long_opening : StringKind → Rule
+long_opening kind =
+    Then (Exactly (raw_front kind))
+    (Then (Where (λ hashes. nat_lt 255 (length hashes)) (Run is_hash)) (Exactly (codes "\"")))
+
+-- the letters of a raw string and one hash sign at least
+abbrev pub hashed_front : StringKind → Rule
+hashed_front kind = Then (Exactly (raw_front kind)) (Then (One is_hash) (Run is_hash))
+
+-- a character but `"`, or nothing at the end of the text
+abbrev pub no_double_quote : Rule
+no_double_quote = NotAt (codes "\"" ∷ []) (perhaps (One any))
+
+-- how a raw name begins
+abbrev pub raw_name_start : Rule
+raw_name_start = Then (Exactly (codes "r#")) (One is_ident_start)
+
+-- ---- names
+
+-- a reserved name after `r#`, or as a lifetime
+abbrev pub reserved_raw : Rule
+reserved_raw =
+    Either (Then (Exactly (codes "r#")) (Where is_reserved name))
+    (NotBefore is_quote (Then (Exactly (codes "'r#")) (Where is_reserved name)))
+
+-- ---- characters and lifetimes
+
+-- what bars a lone `'` from opening a character: a name or a digit
+abbrev pub bars_character : ℕ → Bool
+bars_character c = is_ident_start c || is_ascii_digit c
+
+-- what opens a character or a byte
+abbrev pub single_opening : Rule
+single_opening = Either (NotBefore bars_character (Exactly (codes "'"))) (Exactly (codes "b'"))
+
+-- a character but `'`, backslash and LF, or a backslash and a character but LF, where no comment begins
+abbrev pub single_pair : Rule
+single_pair =
+    NotAt comment_fronts
+    (Either (One (λ c. not (is_one_of (codes "'\\\n") c)))
+    (Then (Exactly (codes "\\")) (One (λ c. not (c == line_feed)))))
+
+-- up to the `'` that closes a character: after one `'` or LF, or else after such pairs
+abbrev pub closed_single_body : Rule
+closed_single_body =
+    Else (Then (One (is_one_of (codes "'\n"))) (Exactly (codes "'"))) (UpTo single_pair (Exactly (codes "'")))
+
+-- a character or a byte that ends, whatever stands in it
+abbrev pub closed_single : Rule
+closed_single = Then single_opening closed_single_body
+
+-- a lifetime that begins with a digit
+abbrev pub digit_lifetime : Rule
+digit_lifetime = NotBefore is_quote (Then (Exactly (codes "'")) (Then (One is_ascii_digit) (Run is_ident_continue)))
+
+-- a lifetime
+abbrev pub lifetime : Rule
+lifetime = Then (Exactly (codes "'")) name
+
+-- how a raw lifetime begins
+abbrev pub raw_lifetime_start : Rule
+raw_lifetime_start = Then (Exactly (codes "'r#")) (One is_ident_start)
+
+-- ---- numbers
+
+-- how the numbers of a base begin
+abbrev pub base_prefix : Base → List ℕ
+base_prefix Binary = codes "0b"
+base_prefix Octal = codes "0o"
+base_prefix Hexadecimal = codes "0x"
+
+-- a digit of the base, an ASCII digit or `_`
+abbrev pub goes_on_base : Base → ℕ → Bool
+goes_on_base base c = is_digit_or_underscore_in (radix base) c || is_ascii_digit c
+
+-- the prefix of a base and all `_` that follow, before none of these
+abbrev pub bare_prefix : Base → Rule
+bare_prefix base = NotBefore (goes_on_base base) (Then (Exactly (base_prefix base)) (Run is_underscore))
+
+-- the prefix of a base, all `_` that follow, and all digits of the base and `_`
+abbrev pub base_front : Base → Rule
+base_front base =
+    Then (Exactly (base_prefix base)) (Then (Run is_underscore) (perhaps (base_digits (radix base))))
+
+-- whether the character can't follow a number: a name goes on with it and begins with it as little as a number goes on
+abbrev pub ends_badly : ℕ → Bool
+ends_badly c = is_ident_continue c && not (is_ident_start c || is_ascii_digit c)
+
+-- ---- others
+
+-- whether no token, comment or white space begins with the character
+abbrev pub begins_nothing : ℕ → Bool
+begins_nothing c =
+    not (is_white c || is_ident_start c || is_ascii_digit c || is_opener c || is_closer c || is_mark c
+    || (c == double_quote) || (c == 0xFEFF))

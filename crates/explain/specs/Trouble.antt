@@ -1,0 +1,16 @@
+-- A reason at the byte offset of a fault, as a reader answers it.
+use Rattle.std.specs.Prelude.{ℕ, ◌≡◌, ◌+◌, List, ◌++◌, length}
+use Rattle.std.specs.Str.{chars}
+use Rattle.lexical.specs.declared.cursor.Cursor.{Cursor}
+use Rattle.explain.specs.Reason.{Holds}
+use Rattle.explain.specs.declared.trouble.Trouble.{Trouble}
+
+-- the reason holds of the text at the cursor, where the answer says
+pub record IsTrouble (at : Cursor) (x : Trouble) : Type 0 where
+  pub front : List ℕ
+  pub part : List ℕ
+  pub before : chars at.rest.now ≡ front ++ chars x.at.rest.now
+  pub here : chars x.at.rest.now ≡ part ++ chars x.after.rest.now
+  pub count : x.at.chars_before ≡ at.chars_before + length front
+  pub size : x.after.chars_before ≡ x.at.chars_before + length part
+  pub holds : Holds x.reason front part (chars x.after.rest.now)

@@ -1,0 +1,94 @@
+//! Why no number stands where a digit does.
+#![tactic(auto, using(lexical::proofs::RuleSteps::steps))]
+
+ghost use Rattle.std.specs.Prelude.{◌≡◌, None, false, true};
+ghost use Rattle.std.specs.Str.{chars};
+ghost use Rattle.std.specs.Char.{is_ascii_digit};
+ghost use Rattle.lexical.specs.Number as rule;
+ghost use Rattle.lexical.specs.Rule.{Exactly, One, Then, find};
+ghost use Rattle.lexical.specs.Step.{Passes};
+ghost use Rattle.lexical.specs.Text.{first_passes};
+ghost use Rattle.lexical.specs.Bytes.{radix};
+ghost use Rattle.explain.specs.Shapes.{base_prefix, ends_badly};
+ghost use Rattle.explain.specs.Trouble.{IsTrouble};
+
+use crate::reason::Reason;
+use crate::trouble::Trouble;
+use lexical::parts::{Base, Class, Cursor, one, skip};
+
+/// The cursor after the character that can't end a number there.
+#[tactic(auto, using(crate::proofs::NumberLemmas::past_bad))]
+fn past_bad_end(end: Cursor<'_>) -> Cursor<'_>
+    requires none { find rule.end (chars end.rest.now) ≡ None }
+    requires digit { first_passes is_ascii_digit (chars end.rest.now) ≡ false }
+    ensures { Passes (One ends_badly) end.entry result }
+{
+    let Some((_, after)) = end.advance() else {
+        unreachable!()
+    };
+    after
+}
+
+/// Why no number of the base stands at the cursor, after the prefix of which is `inside`.
+fn based<'a>(at: Cursor<'a>, inside: Cursor<'a>, base: Base) -> Trouble<'a>
+    requires prefix { Passes (Exactly (base_prefix base)) at inside }
+    requires none { find (Then (rule.digits_in (radix base)) rule.end) (chars inside.rest.now) ≡ None }
+    ensures { IsTrouble at.entry result }
+{
+    let start = skip(inside, Class::Underscore);
+    match one(start, Class::DigitOf(base)) {
+        Some(first) => {
+            let end = skip(first, Class::DigitOrUnderscoreOf(base));
+            match one(end, Class::Digit) {
+                Some(after) => Trouble {
+                    reason: Reason::BadDigit,
+                    at: end,
+                    after,
+                },
+                None => Trouble {
+                    reason: Reason::BadNumberEnd,
+                    at: end,
+                    after: past_bad_end(end),
+                },
+            }
+        }
+        None => match one(start, Class::Digit) {
+            Some(after) => Trouble {
+                reason: Reason::BadDigit,
+                at: start,
+                after,
+            },
+            None => Trouble {
+                reason: Reason::NoDigits,
+                at,
+                after: start,
+            },
+        },
+    }
+}
+
+/// Why no number stands at the cursor, where a digit does.
+pub fn number(at: Cursor<'_>) -> Trouble<'_>
+    requires digit { first_passes is_ascii_digit (chars at.rest.now) ≡ true }
+    requires none { find rule.number (chars at.rest.now) ≡ None }
+    ensures { IsTrouble at.entry result }
+{
+    if let Some(inside) = at.past("0x") {
+        return based(at, inside, Base::Hexadecimal);
+    }
+    if let Some(inside) = at.past("0o") {
+        return based(at, inside, Base::Octal);
+    }
+    if let Some(inside) = at.past("0b") {
+        return based(at, inside, Base::Binary);
+    }
+    let Some(first) = one(at, Class::Digit) else {
+        unreachable!()
+    };
+    let end = skip(first, Class::DigitOrUnderscore);
+    Trouble {
+        reason: Reason::BadNumberEnd,
+        at: end,
+        after: past_bad_end(end),
+    }
+}

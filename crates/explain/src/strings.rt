@@ -1,0 +1,147 @@
+//! Why no string stands where what opens one does.
+#![tactic(auto, using(lexical::proofs::RuleSteps::steps))]
+
+ghost use Rattle.std.specs.Prelude.{◌≡◌, ◌∷◌, IfSome, IsTrue, None, codes, not};
+ghost use Rattle.std.specs.Str.{chars};
+ghost use Rattle.lexical.specs.Ascii.{all_ascii};
+ghost use Rattle.lexical.specs.Quoted.{front, is_one_of};
+ghost use Rattle.lexical.specs.RawString.{raw_front};
+ghost use Rattle.lexical.specs.Rule.{Exactly, Run, find};
+ghost use Rattle.lexical.specs.Step.{Passes, Reads};
+ghost use Rattle.explain.specs.Shapes.{any, closed_body, closed_raw_body, no_double_quote, pair, raw_name_start};
+ghost use Rattle.explain.specs.Shapes.{raw_unit};
+ghost use Rattle.explain.specs.Trouble.{IsTrouble};
+
+use crate::reason::Reason;
+use crate::trouble::Trouble;
+use lexical::parts::{
+    Class, Cursor, StringKind, before, begins, one, one_that, skip, skip_to, skip_to_either,
+};
+
+/// Whether a pair may be the character alone.
+fn stands_alone(c: char) -> bool
+    ensures { result ≡ not (is_one_of (codes "\"\\") c) }
+{
+    !matches!(c, '"' | '\\')
+}
+
+/// The cursor after a character but `"` and backslash, or after a backslash and any character.
+fn past_pair(at: Cursor<'_>) -> Option<Cursor<'_>>
+    ensures { Reads pair at.entry result }
+{
+    match one_that(at, |c| stands_alone(c)) {
+        Some(end) => Some(end),
+        None => one_that(at.past("\\")?, |_| true),
+    }
+}
+
+/// The cursor after the first `"` that no backslash takes.
+fn past_quote(inside: Cursor<'_>) -> Option<Cursor<'_>>
+    ensures { Reads closed_body inside.entry result }
+{
+    let mut end = skip_to_either(inside, b'"', b'\\');
+    while let Some(after) = past_pair(end) {
+        end = skip_to_either(after, b'"', b'\\');
+    }
+    end.past("\"")
+}
+
+/// The cursor after a character with which what closes a raw string of these hash signs doesn't begin.
+#[tactic(auto, unfolding(lexical::specs::Rule::find))]
+fn past_raw_unit<'a>(at: Cursor<'a>, hashes: &str) -> Option<Cursor<'a>>
+    requires { IsTrue (all_ascii hashes.now) }
+    ensures { Reads (raw_unit hashes.now) at.entry result }
+{
+    let (c, after) = at.advance()?;
+    if c == '"' && begins(after.rest, hashes) {
+        return None;
+    }
+    Some(after)
+}
+
+/// The cursor after the first `"` that so many hash signs follow.
+fn past_raw_quote<'a>(inside: Cursor<'a>, hashes: &str) -> Option<Cursor<'a>>
+    requires { IsTrue (all_ascii hashes.now) }
+    ensures { Reads (closed_raw_body hashes.now) inside.entry result }
+{
+    let mut end = skip_to(inside, b'"');
+    while let Some(after) = past_raw_unit(end, hashes) {
+        end = skip_to(after, b'"');
+    }
+    end.past("\"")?.past(hashes)
+}
+
+/// Why no string of the kind stands at the cursor, which what opens one leads `inside`.
+pub fn string<'a>(at: Cursor<'a>, inside: Cursor<'a>, kind: StringKind) -> Option<Trouble<'a>>
+    requires { Passes (Exactly (front kind)) at inside }
+    ensures { IfSome result (IsTrouble at.entry) }
+{
+    match past_quote(inside) {
+        Some(_) => None,
+        None => Some(Trouble {
+            reason: Reason::UnclosedString,
+            at,
+            after: inside,
+        }),
+    }
+}
+
+/// Why no raw string of the kind stands at the cursor, which the letters that open one lead `inside`.
+pub fn raw_string<'a>(at: Cursor<'a>, inside: Cursor<'a>, kind: StringKind) -> Option<Trouble<'a>>
+    requires letters { Passes (Exactly (raw_front kind)) at inside }
+    requires name { find raw_name_start (chars at.rest.now) ≡ None }
+    ensures { IfSome result (IsTrouble at.entry) }
+{
+    let quote = skip(inside, Class::Hash);
+    let Some(body) = quote.past("\"") else {
+        return without_quote(at, inside, kind);
+    };
+    let hashes = before(inside.rest, quote.rest);
+    let Some(_) = past_raw_quote(body, hashes) else {
+        return Some(Trouble {
+            reason: Reason::UnclosedRawString,
+            at,
+            after: body,
+        });
+    };
+    if hashes.len() > MOST_HASHES {
+        return Some(Trouble {
+            reason: Reason::TooManyHashes,
+            at,
+            after: body,
+        });
+    }
+    None
+}
+
+/// How many hash signs a raw string may have at most.
+const MOST_HASHES: usize = 255;
+
+/// That no quote follows the hash signs at `inside`, if there are any.
+fn without_quote<'a>(at: Cursor<'a>, inside: Cursor<'a>, kind: StringKind) -> Option<Trouble<'a>>
+    requires letters { Passes (Exactly (raw_front kind)) at inside }
+    requires name { find raw_name_start (chars at.rest.now) ≡ None }
+    ensures { IfSome result (IsTrouble at.entry) }
+{
+    let first = one(inside, Class::Hash)?;
+    let end = skip(first, Class::Hash);
+    let after = past_other(end)?;
+    Some(Trouble {
+        reason: Reason::HashesWithoutQuote,
+        at: end,
+        after,
+    })
+}
+
+/// The cursor after a character but `"`, or the cursor itself at the end of the text.
+fn past_other(at: Cursor<'_>) -> Option<Cursor<'_>>
+    ensures { Reads no_double_quote at.entry result }
+{
+    if begins(at.rest, "\"") {
+        return None;
+    }
+    match one_that(at, |_| true) {
+        Some(end) => Some(end),
+        None => Some(at),
+    }
+}

@@ -1,0 +1,73 @@
+// Made from crates/explain/src/numbers.rt by rust/erase: change that file, not this one.
+//! Why no number stands where a digit does.
+
+use crate::explain::reason::Reason;
+use crate::explain::trouble::Trouble;
+use crate::lexical::parts::{Base, Class, Cursor, one, skip};
+
+/// The cursor after the character that can't end a number there.
+fn past_bad_end(end: Cursor<'_>) -> Cursor<'_>
+{
+    let Some((_, after)) = end.advance() else {
+        unreachable!()
+    };
+    after
+}
+
+/// Why no number of the base stands at the cursor, after the prefix of which is `inside`.
+fn based<'a>(at: Cursor<'a>, inside: Cursor<'a>, base: Base) -> Trouble<'a>
+{
+    let start = skip(inside, Class::Underscore);
+    match one(start, Class::DigitOf(base)) {
+        Some(first) => {
+            let end = skip(first, Class::DigitOrUnderscoreOf(base));
+            match one(end, Class::Digit) {
+                Some(after) => Trouble {
+                    reason: Reason::BadDigit,
+                    at: end,
+                    after,
+                },
+                None => Trouble {
+                    reason: Reason::BadNumberEnd,
+                    at: end,
+                    after: past_bad_end(end),
+                },
+            }
+        }
+        None => match one(start, Class::Digit) {
+            Some(after) => Trouble {
+                reason: Reason::BadDigit,
+                at: start,
+                after,
+            },
+            None => Trouble {
+                reason: Reason::NoDigits,
+                at,
+                after: start,
+            },
+        },
+    }
+}
+
+/// Why no number stands at the cursor, where a digit does.
+pub fn number(at: Cursor<'_>) -> Trouble<'_>
+{
+    if let Some(inside) = at.past("0x") {
+        return based(at, inside, Base::Hexadecimal);
+    }
+    if let Some(inside) = at.past("0o") {
+        return based(at, inside, Base::Octal);
+    }
+    if let Some(inside) = at.past("0b") {
+        return based(at, inside, Base::Binary);
+    }
+    let Some(first) = one(at, Class::Digit) else {
+        unreachable!()
+    };
+    let end = skip(first, Class::DigitOrUnderscore);
+    Trouble {
+        reason: Reason::BadNumberEnd,
+        at: end,
+        after: past_bad_end(end),
+    }
+}

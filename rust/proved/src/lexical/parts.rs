@@ -1,0 +1,12 @@
+// Made from crates/lexical/src/parts.rt by rust/erase: change that file, not this one.
+//! The steps of the lexer, for crates that say why no piece stands somewhere. Users don't call them.
+
+pub use crate::lexical::bytes::{Base, Class, one, skip};
+pub use crate::lexical::class::{PieceStart, piece_start_of};
+pub use crate::lexical::comments::skip_comment;
+pub use crate::lexical::cursor::Cursor;
+pub use crate::lexical::identifiers::name;
+pub use crate::lexical::quoted::StringKind;
+pub use crate::lexical::search::{skip_to, skip_to_either};
+pub use crate::lexical::skip::one as one_that;
+pub use crate::lexical::text::{before, begins};

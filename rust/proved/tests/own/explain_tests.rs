@@ -1,0 +1,10 @@
+// Made from crates/explain_tests/src/lib.rt by rust/erase: change that file, not this one.
+//! Tests of the reasons: texts, and for each its reason and the bytes that are at fault.
+//!
+//! The answers are those of a model of the grammar in another language.
+//! The tests stand in a crate of their own, since a crate that has tests is proved once more with them.
+
+#[cfg(test)]
+mod checks;
+#[cfg(test)]
+mod rows;

@@ -1,0 +1,182 @@
+// Made from crates/explain_tests/src/rows.rt by rust/erase: change that file, not this one.
+
+use crate::shim::prelude::HostRuntime;
+
+use crate::explain_tests::checks::{check, check_none};
+
+#[test]
+fn texts_that_parse() {
+    let rt = HostRuntime;
+    check_none(&rt, "");
+    check_none(&rt, "\u{FEFF}a");
+    check_none(&rt, "fn f(x: u8) -> [u8; 1] { [x + 0x1f_u8] }");
+}
+
+#[test]
+fn strings_that_do_not_end() {
+    let rt = HostRuntime;
+    check(&rt, "fn f() {\n    let a = \"abc;\n}\n", "UnclosedString", 21, 22);
+    check(&rt, "let a = \"a\\q b;\n", "UnclosedString", 8, 9);
+    check(&rt, "let a = \"ab\\", "UnclosedString", 8, 9);
+    check(&rt, "let a = \"abc;\nlet b = \"def\";\n", "UnclosedString", 26, 27);
+    check(&rt, "let a = b\"abc;\n", "UnclosedString", 8, 10);
+    check(&rt, "let a = c\"abc;\n", "UnclosedString", 8, 10);
+    check(&rt, "let a = \"abc';\nlet b = 1;\n", "UnclosedString", 8, 9);
+    check(&rt, "let a = \"x\";\n/* let b = \"*/\n y\";\n", "UnclosedString", 30, 31);
+}
+
+#[test]
+fn raw_strings_that_do_not_end() {
+    let rt = HostRuntime;
+    check(&rt, "let a = r\"abc;\n", "UnclosedRawString", 8, 10);
+    check(&rt, "let a = r##\"abc\"# ;\nlet b = \"x\";\n", "UnclosedRawString", 8, 12);
+    check(&rt, "let a = r#\"abc ;\n", "UnclosedRawString", 8, 11);
+    check(&rt, "let a = br#\"abc\" ;\n", "UnclosedRawString", 8, 12);
+    check(&rt, "let a = r##\"a\"#b\"# ;\nlet c = 1;\n", "UnclosedRawString", 8, 12);
+}
+
+#[test]
+fn raw_fronts_and_names() {
+    let rt = HostRuntime;
+    check(&rt, "let a = r#~\"x\"~#;\n", "HashesWithoutQuote", 10, 11);
+    check(&rt, "let a = r##x;\n", "HashesWithoutQuote", 11, 12);
+    check(&rt, "let a = r#", "HashesWithoutQuote", 10, 10);
+    check(&rt, "let a = br#x;\n", "HashesWithoutQuote", 11, 12);
+    check(&rt, "fn f<'r#self>() {}\n", "ReservedRawName", 5, 12);
+    check(&rt, "let r#self = 1;\n", "ReservedRawName", 4, 10);
+    check(&rt, "let r#_ = 1;\n", "ReservedRawName", 4, 7);
+    check(&rt, "use r#crate::x;\n", "ReservedRawName", 4, 11);
+}
+
+#[test]
+fn characters_that_do_not_end() {
+    let rt = HostRuntime;
+    check(&rt, "let a = '\\';\nlet b = 1;\n", "UnclosedCharacter", 8, 9);
+    check(&rt, "let a = '+;\n", "UnclosedCharacter", 8, 9);
+    check(&rt, "let a = '\\n;\n", "UnclosedCharacter", 8, 9);
+    check(&rt, "let a = ' ;\n", "UnclosedCharacter", 8, 9);
+    check(&rt, "let a = '", "UnclosedCharacter", 8, 9);
+    check(&rt, "let a = b'a;\n", "UnclosedCharacter", 8, 10);
+    check(&rt, "fn f() {\n    println!('hello world');\n}\n", "UnclosedCharacter", 34, 35);
+    check(&rt, "m!(it is the dogs' bone);\n", "UnclosedCharacter", 17, 18);
+}
+
+#[test]
+fn lifetimes_that_are_none() {
+    let rt = HostRuntime;
+    check(&rt, "fn f<'1>() {}\n", "DigitLifetime", 5, 7);
+    check(&rt, "fn f() { 'a#b }\n", "HashAfterLifetime", 11, 12);
+    check(&rt, "m!('a#\"x\"#);\n", "HashAfterLifetime", 5, 6);
+    check(&rt, "m!('r# a);\n", "HashAfterLifetime", 5, 6);
+    check(&rt, "m!('static#);\n", "HashAfterLifetime", 10, 11);
+}
+
+#[test]
+fn numbers_that_are_none_1() {
+    let rt = HostRuntime;
+    check(&rt, "let a = 0x;\n", "NoDigits", 8, 10);
+    check(&rt, "let a = 0b__;\n", "NoDigits", 8, 12);
+    check(&rt, "let a = 0xu8g;\n", "NoDigits", 8, 10);
+    check(&rt, "let a = 0xg1;\n", "NoDigits", 8, 10);
+    check(&rt, "let a = 0x.5;\n", "NoDigits", 8, 10);
+    check(&rt, "let a = 0b;\nlet b = 0o9;\n", "NoDigits", 8, 10);
+    check(&rt, "let a = 0b1021;\n", "BadDigit", 12, 13);
+    check(&rt, "let a = 0o_8;\n", "BadDigit", 11, 12);
+    check(&rt, "let a = 12\u{301};\n", "BadNumberEnd", 10, 12);
+}
+
+#[test]
+fn numbers_that_are_none_2() {
+    let rt = HostRuntime;
+    check(&rt, "let a = 1\u{663};\n", "BadNumberEnd", 9, 11);
+}
+
+#[test]
+fn comments_that_do_not_end() {
+    let rt = HostRuntime;
+    check(&rt, "fn f() {}\n/* abc\nfn g() {}\n", "UnclosedComment", 10, 12);
+    check(&rt, "/* a\n/* b */\nfn g() {}\n/* c\n", "UnclosedComment", 0, 2);
+    check(&rt, "/** a\nfn g() {}\n", "UnclosedComment", 0, 2);
+    check(&rt, "/*/\nfn g() {}\n", "UnclosedComment", 0, 2);
+}
+
+#[test]
+fn characters_that_begin_no_token_1() {
+    let rt = HostRuntime;
+    check(&rt, "let a\u{FEFF} = 1;\n", "MisplacedMark", 5, 8);
+    check(&rt, "let a = \\n;\n", "NoToken", 8, 9);
+    check(&rt, "let a = `x`;\n", "NoToken", 8, 9);
+    check(&rt, "let a\0 = 1;\n", "NoToken", 5, 6);
+    check(&rt, "let a = 1\u{37E}\n", "NoToken", 9, 11);
+    check(&rt, "let a = \u{2212}1;\n", "NoToken", 8, 11);
+    check(&rt, "f(\u{201C}hello\u{201D});\n", "NoToken", 2, 5);
+    check(&rt, "let \u{1F980} = 1;\n", "NoToken", 4, 8);
+    check(&rt, "let x\u{1F980} = 1;\n", "NoToken", 5, 9);
+}
+
+#[test]
+fn characters_that_begin_no_token_2() {
+    let rt = HostRuntime;
+    check(&rt, "let a\u{200B} = 1;\n", "NoToken", 5, 8);
+    check(&rt, "let a \u{202E}= 1;\n", "NoToken", 6, 9);
+    check(&rt, "let \u{301} = 1;\n", "NoToken", 4, 6);
+    check(&rt, "let \u{E000} = 1;\n", "NoToken", 4, 7);
+    check(&rt, "let \u{20AC} = 1;\n", "NoToken", 4, 7);
+    check(&rt, "let a = r\"say \"hi\" now\";\nlet b = \\;\n", "NoToken", 33, 34);
+    check(&rt, "let a = f\u{FF08}1\u{FF09};\n", "NoToken", 9, 12);
+    check(&rt, "f\0n\0 \0m\0a\0i\0n\0", "NoToken", 1, 2);
+    check(&rt, "let a = \\\\\\\\ 1;\n", "NoToken", 8, 9);
+}
+
+#[test]
+fn characters_that_begin_no_token_3() {
+    let rt = HostRuntime;
+    check(&rt, "let a = \u{1B}[31m1;\n", "NoToken", 8, 9);
+}
+
+#[test]
+fn closers_that_match_nothing() {
+    let rt = HostRuntime;
+    check(&rt, "fn f() {}\n}\n", "StrayCloser", 10, 11);
+    check(&rt, "fn f() {\n    if x {}\n    }\n    y();\n}\n", "StrayCloser", 36, 37);
+    check(&rt, "fn f() {\n    g(a, [b);\n}\n", "MismatchedCloser", 20, 21);
+    check(&rt, "fn f() {\n    g(\n}\n", "MismatchedCloser", 16, 17);
+    check(
+        &rt,
+        "mod m {\n    fn f() {\n        if x {\n            g(1;\n        }\n    }\n}\n",
+        "MismatchedCloser",
+        61,
+        62,
+    );
+    check(&rt, "fn f() {\n    let v = [1, 2, 3};\n}\n", "MismatchedCloser", 29, 30);
+    check(&rt, "fn f() {\n    g(1));\n}\n", "MismatchedCloser", 17, 18);
+    check(&rt, "fn f() {\n    let x = g(h(1);\n    let y = 2;\n}\n", "MismatchedCloser", 44, 45);
+}
+
+#[test]
+fn openers_that_stay_open() {
+    let rt = HostRuntime;
+    check(&rt, "fn f() {\n", "UnclosedOpener", 7, 8);
+    check(&rt, "mod m {\n    fn f(a: [u8; 4] {\n        g(\n", "UnclosedOpener", 39, 40);
+    check(
+        &rt,
+        "mod m {\n    fn f() {\n        if x {\n            g();\n    }\n}\nfn h() {}\n",
+        "UnclosedOpener",
+        6,
+        7,
+    );
+    check(
+        &rt,
+        "fn f() {\n    if x {\n        g();\n    } else {\n        h();\n\n    k();\n}\n\nfn z() {\n}\n",
+        "UnclosedOpener",
+        7,
+        8,
+    );
+    check(
+        &rt,
+        "impl X {\n    fn a() {\n        b();\n\n    fn c() {\n        d();\n    }\n}\n",
+        "UnclosedOpener",
+        7,
+        8,
+    );
+}
