@@ -5,7 +5,7 @@ use Rattle.std.specs.List.{list_all}
 use Rattle.std.specs.Char.{is_ascii_digit, digit_value}
 use Rattle.std.specs.Str.{chars, IsAscii}
 use Rattle.std.specs.Fmt.{decimal, signed_decimal}
-use Rattle.std.specs.Int.{w128}
+use Rattle.std.specs.Int.{w64, w128}
 use Rattle.std.specs.Str.Parse.{AllDigits, IsNumeral}
 use Rattle.std.proofs.lemmas.Bool.{both_ways, and_parts, and_from, or_left, or_cases, le-leb, false_from_ne_true}
 use Rattle.std.proofs.lemmas.Fmt.{decimal_is_IsNumeral_wide, IsAscii-decimal_wide}
@@ -166,3 +166,8 @@ chars_signed (pos n) suffix h = chars_unsigned n suffix (omega (arith, h.sfits))
 chars_signed (negsuc n) suffix h =
     chars_behind (45 ∷ decimal (suc n)) suffix
     (IsAscii-cons 45 (decimal (suc n)) (omega arith) (IsAscii-decimal_wide (suc n) (omega (arith, h.sfits))))
+
+-- a number that fits 64 bits fits 128
+pub fits_wide : (z : ℤ) → SFits w64 z → SFits w128 z
+fits_wide (pos n) h = record { sfits = omega (arith, h.sfits) }
+fits_wide (negsuc n) h = record { sfits = omega (arith, h.sfits) }

@@ -27,3 +27,4 @@ pub mod UnitLemmas
 pub mod ValueLawLemmas
 pub mod WholeLemmas
 pub mod SpellingLemmas
+mod PlainNameLemmas

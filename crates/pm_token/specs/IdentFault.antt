@@ -1,8 +1,8 @@
 -- Why no identifier has a name.
-use Rattle.std.specs.Prelude.{ℕ, Bool, false, not, ◌&&◌, List, [], ◌∷◌, length, ◌==◌, Option, Some, None, Result, Err}
-use Rattle.std.specs.Prelude.{◌≡◌, ◌↔◌, if◌then◌else◌, codes}
+use Rattle.std.specs.Prelude.{ℕ, Bool, false, not, ◌&&◌, ◌||◌, List, [], ◌∷◌, length, ◌==◌, Option, Some, None, Result}
+use Rattle.std.specs.Prelude.{Err, ◌≡◌, ◌↔◌, if◌then◌else◌, codes}
 use Rattle.std.specs.List.{list_all}
-use Rattle.std.specs.Char.{is_ascii_digit}
+use Rattle.std.specs.Char.{is_ascii_alphabetic, is_ascii_alphanumeric, is_ascii_digit}
 use Rattle.lexical.specs.Class.{is_ident_start, is_ident_continue}
 use Rattle.lexical.specs.Identifier.{is_allowed}
 use Rattle.pm_token.specs.declared.identifiers.faults.IdentError.{IdentError}
@@ -16,6 +16,14 @@ is_name (c ∷ text) = is_ident_start c && list_all is_ident_continue text
 -- whether it has ASCII digits only
 abbrev pub is_number : List ℕ → Bool
 is_number text = list_all is_ascii_digit text
+
+-- whether the byte is an ASCII letter or `_`, with which a name may begin, and may go on
+abbrev pub is_plain_start : ℕ → Bool
+is_plain_start b = is_ascii_alphabetic b || (b == 95)
+
+-- the same of an ASCII digit too, with which it may go on
+abbrev pub is_plain_continue : ℕ → Bool
+is_plain_continue b = is_ascii_alphanumeric b || (b == 95)
 
 -- `identifier-fault`: the first of these that holds
 abbrev pub ident_fault : Bool → List ℕ → Option IdentError

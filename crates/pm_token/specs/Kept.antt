@@ -1,8 +1,9 @@
 -- How a token keeps its text.
 use Rattle.std.specs.Prelude.{◌≤◌, ℕ, List, Bool, true, false, length, string_bytes}
+use Rattle.std.specs.Rc.{rc_str_bytes}
 use Rattle.std.specs.Str.{encode_utf8_all}
 use Rattle.pm_token.specs.declared.symbols.Text.{Text}
-use Rattle.pm_token.specs.declared.symbols.Text.TheVariants.{Short, Long}
+use Rattle.pm_token.specs.declared.symbols.Text.TheVariants.{Short, Long, Negative}
 use Rattle.pm_token.specs.declared.symbols.short.TheConstants.{ROOM}
 use Rattle.pm_token.specs.declared.symbols.names.NameText.{NameText}
 use Rattle.pm_token.specs.declared.symbols.names.NameText.TheVariants as names
@@ -10,7 +11,8 @@ use Rattle.pm_token.specs.declared.symbols.names.NameText.TheVariants as names
 -- the bytes of a text
 abbrev pub text_bytes : Text → List ℕ
 text_bytes (Short text) = text
-text_bytes (Long text) = string_bytes text.value
+text_bytes (Long long) = rc_str_bytes long.text
+text_bytes (Negative text) = string_bytes text.value
 
 -- a text that stands in place: a copy of it takes no memory
 abbrev pub IsShort : List ℕ → Type 0
@@ -24,9 +26,9 @@ pub record KeptName : Type 0 where
 -- the bytes of a name
 abbrev pub name_bytes : NameText → List ℕ
 name_bytes (names.Short name) = name
-name_bytes (names.Long name) = string_bytes name.value
+name_bytes (names.Long name) = rc_str_bytes name
 name_bytes (names.RawShort name) = name
-name_bytes (names.RawLong name) = string_bytes name.value
+name_bytes (names.RawLong name) = rc_str_bytes name
 
 -- whether it is raw
 abbrev pub is_raw : NameText → Bool

@@ -44,6 +44,7 @@ impl Ident {
     ghost use Rattle.lexical.specs.Token as tokens;
 
     /// The identifier of this name, which has no `r#`.
+    #[inline(always)]
     pub(crate) fn from_parts(
         alloc: Global,
         name: &str,
@@ -60,6 +61,7 @@ impl Ident {
     }
 
     /// The identifier of this name, if the name has no fault.
+    #[inline(always)]
     fn checked(alloc: Global, name: &str, raw: bool, span: Span) -> Result<Ident, IdentError>
         ensures ok { IfOk result (λ ident. ident ≡ record { name = chars name.now; raw = raw; span = span }) }
         ensures refused { Refuses (ident_fault raw (chars name.now)) result }
@@ -77,6 +79,7 @@ impl Ident {
     /// name has no character; `Number` where it has ASCII digits only; `Invalid` where it isn't a
     /// character that may begin an identifier and then characters that may go on with one. Only a
     /// name without a fault is refused for `Memory`. `255` is a `Number`, and `r#a` is `Invalid`.
+    #[inline(always)]
     pub fn new(alloc: Global, name: &str, span: Span) -> Result<Ident, IdentError>
         ensures ok { IfOk result (λ ident. ident ≡ record { name = chars name.now; raw = false; span = span }) }
 
@@ -96,6 +99,7 @@ impl Ident {
     ///
     /// Refused as by [`new`](Ident::new), and then with `Reserved` where the name is `_`, `super`,
     /// `self`, `Self` or `crate`. `fn` makes `r#fn`.
+    #[inline(always)]
     pub fn new_raw(alloc: Global, name: &str, span: Span) -> Result<Ident, IdentError>
         ensures ok { IfOk result (λ ident. ident ≡ record { name = chars name.now; raw = true; span = span }) }
 
@@ -115,6 +119,7 @@ impl Ident {
     ///
     /// Of a text that a program writes out, as in `name.eq_str("fn")`, a proof learns by `spelled` that
     /// the identifier is written `fn`: `spelled (codes "fn")` computes to `codes "fn"`.
+    #[inline(always)]
     pub fn eq_str(&self, text: &str) -> bool
         ensures exactly { IsTrue result ↔ (name_text self.now ≡ chars text.now) }
         ensures value { result ≡ pointwise nat_eq (name_text self.now) (chars text.now) }
@@ -123,12 +128,12 @@ impl Ident {
         ensures spelled { IsTrue result ↔ (name_text self.now ≡ spelled text.now) }
         ensures computed { result ≡ pointwise nat_eq (name_text self.now) (spelled text.now) }
     {
-        let name = self.name.as_str();
+        let name = self.name.as_bytes();
         if !self.name.is_raw() {
-            return name == text;
+            return name == text.as_bytes();
         }
         match text.strip_prefix("r#") {
-            Some(rest) => name == rest,
+            Some(rest) => name == rest.as_bytes(),
             None => false,
         }
     }
@@ -153,8 +158,8 @@ impl Ident {
     }
 }
 
-/// The same identifier, with the same span. A name of more than 22 bytes takes memory, and the copy fails where that
-/// runs out.
+/// The same identifier, with the same span. It takes no memory. A name of more than 22 bytes is shared, and the copy
+/// fails where it has more owners than can be counted.
 impl Clone for Ident {
     ghost use Rattle.pm_token.specs.Kept.{IsShort};
 
@@ -162,6 +167,7 @@ impl Clone for Ident {
 
     ghost is_infallible = { λ ident. IsShort ident.name };
 
+    #[inline(always)]
     fn clone(&self) -> Result<Ident, AllocError> {
         Ok(Ident {
             name: self.name.clone()?,

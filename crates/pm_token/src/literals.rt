@@ -41,6 +41,7 @@ impl Literal {
     ghost use Rattle.pm_token.specs.LiteralText.{IsLiteralText};
 
     /// The literal of this text, where it stands. Fails where memory runs out.
+    #[inline(always)]
     pub(crate) fn from_parts(alloc: Global, text: &str, span: Span) -> Result<Literal, AllocError>
         requires { IsLiteralText (chars text.now) }
         ensures ok { IfOk result (λ literal. literal ≡ record { text = chars text.now; span = span }) }
@@ -52,6 +53,7 @@ impl Literal {
     }
 
     /// The literal as it is written, with its quotes, its suffix and the `-` that may stand before it.
+    #[inline(always)]
     pub fn text(&self) -> &str
         ensures { chars result.now ≡ self.now.text }
     {
@@ -78,8 +80,8 @@ impl Literal {
     }
 }
 
-/// The same literal, with the same span. A text of more than 22 bytes takes memory, and the copy fails where that runs
-/// out.
+/// The same literal, with the same span. A text of more than 22 bytes is shared, or copied where it begins with `-`.
+/// The copy fails where the text has more owners than can be counted, or memory runs out.
 impl Clone for Literal {
     ghost use Rattle.pm_token.specs.Kept.{IsShort};
 
@@ -87,6 +89,7 @@ impl Clone for Literal {
 
     ghost is_infallible = { λ literal. IsShort literal.text };
 
+    #[inline(always)]
     fn clone(&self) -> Result<Literal, AllocError> {
         Ok(Literal {
             text: self.text.clone()?,

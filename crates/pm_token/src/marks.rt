@@ -57,6 +57,7 @@ impl Punct {
     ///
     /// The character is one of the 22 `marks`: [`Punct::is_punct_char`] is the test. Of `'+'` it prints
     /// `+`, whatever its spacing.
+    #[inline(always)]
     pub fn new(mark: char, spacing: Spacing) -> Punct
         requires { IsTrue (is_mark mark) }
         ensures { result ≡ record { mark = mark; spacing = spacing; span = nowhere } }
@@ -64,6 +65,7 @@ impl Punct {
         Punct::from_parts(mark, spacing, Span::call_site())
     }
 
+    #[inline(always)]
     pub(crate) fn from_parts(mark: char, spacing: Spacing, span: Span) -> Punct
         requires { IsTrue (is_mark mark) }
         ensures { result ≡ record { mark = mark; spacing = spacing; span = span } }
@@ -76,6 +78,7 @@ impl Punct {
     }
 
     /// The mark's character.
+    #[inline(always)]
     pub fn as_char(&self) -> char
         ensures { result ≡ self.now.mark }
     {
@@ -83,6 +86,7 @@ impl Punct {
     }
 
     /// Whether it goes together with what follows right after it.
+    #[inline(always)]
     pub fn spacing(&self) -> Spacing
         ensures { result ≡ self.now.spacing }
     {
@@ -116,6 +120,7 @@ impl Clone for Punct {
 
     ghost is_infallible = { λ punct. ⊤ };
 
+    #[inline(always)]
     fn clone(&self) -> Result<Punct, AllocError> {
         Ok(Punct {
             mark: self.mark,

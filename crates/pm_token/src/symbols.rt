@@ -1,28 +1,55 @@
 //! The text of a token, kept once.
-ghost use Rattle.std.specs.Prelude.{◌≡◌, ℕ, List, drop, IfOk, IsOk, Some, if◌then◌else◌, string_bytes};
+ghost use Rattle.std.specs.Prelude.{◌≡◌, ◌++◌, ℕ, List, drop, IfOk, IfSome, IsOk, Some, if◌then◌else◌};
+ghost use Rattle.std.specs.Prelude.{string_bytes};
+ghost use Rattle.std.specs.Rc.{rc_str_bytes};
 ghost use Rattle.std.specs.Str.{chars, encode_utf8_all};
 ghost use Rattle.pm_token.specs.Kept.{IsShort, text_bytes};
 ghost use Rattle.pm_token.specs.Negative.{has_minus};
 ghost use Rattle.pm_token.specs.Text.{IsText};
 
 mod names;
+mod shared;
 mod short;
 
 pub use names::Name;
+use shared::Shared;
 use short::{ROOM, Short};
 use std::alloc::{AllocError, Global};
 use std::fmt;
 use std::marker::Model;
 
-/// A short text, in place, or a long one, behind a pointer.
+/// A short text, in place, or a long one, behind a pointer. One that begins with `-` has a block of its own, so that
+/// the `-` can be taken away without memory.
 #[derive(Drop)]
 enum Text {
     Short(Short),
-    Long(Box<String>),
+    Long(Shared),
+    Negative(Box<String>),
 }
 
 impl Text {
+    /// A copy of a long text. Fails where memory runs out.
+    fn long(alloc: Global, text: &str) -> Result<Text, AllocError>
+        ensures ok { IfOk result (λ kept. text_bytes kept ≡ text.now) }
+    {
+        if is_negative(text) {
+            return Ok(Text::Negative(Box::new(alloc, String::from_str(alloc, text)?)?));
+        }
+        Ok(Text::Long(Shared::new(alloc, text)?))
+    }
+
+    /// The long text itself. Fails where memory runs out.
+    fn long_from_string(alloc: Global, text: String) -> Result<Text, AllocError>
+        ensures ok { IfOk result (λ kept. text_bytes kept ≡ string_bytes text) }
+    {
+        if is_negative(text.as_str()) {
+            return Ok(Text::Negative(Box::new(alloc, text)?));
+        }
+        Ok(Text::Long(Shared::from_string(text)?))
+    }
+
     /// A copy of the text. Fails where memory runs out.
+    #[inline(always)]
     fn new(alloc: Global, text: &str) -> Result<Text, AllocError>
         ensures ok { IfOk result (λ kept. text_bytes kept ≡ text.now) }
         ensures short { IsShort (chars text.now) → IsOk result }
@@ -30,7 +57,7 @@ impl Text {
         if text.len() <= ROOM {
             Ok(Text::Short(Short::new(text)))
         } else {
-            Ok(Text::Long(Box::new(alloc, String::from_str(alloc, text)?)?))
+            Ok(Text::long(alloc, text)?)
         }
     }
 
@@ -43,22 +70,48 @@ impl Text {
         if text.len() <= ROOM {
             Ok(Text::Short(Short::new(text.as_str())))
         } else {
-            Ok(Text::Long(Box::new(alloc, text)?))
+            Ok(Text::long_from_string(alloc, text)?)
         }
     }
 }
 
-/// The same text. A long one fails where memory runs out.
+/// The same text, which a long one shares. It fails as the copy of a literal does.
 impl Clone for Text {
     ghost is_clone = { λ text copy. text_bytes copy ≡ text_bytes text };
 
     ghost is_infallible = { λ text. IsShort (chars (text_bytes text)) };
 
+    #[inline(always)]
     fn clone(&self) -> Result<Text, AllocError> {
         match self {
             Text::Short(text) => Ok(Text::Short(text.copy())),
-            Text::Long(text) => Text::new(*text.allocator(), text.as_str()),
+            Text::Long(text) => share(text),
+            Text::Negative(text) => Text::new(*text.allocator(), text.as_str()),
         }
+    }
+}
+
+/// The same text, which a long one shares. It fails where a long one has more owners than can be counted.
+#[inline(always)]
+fn share(text: &Shared) -> Result<Text, AllocError>
+    ensures ok { IfOk result (λ kept. text_bytes kept ≡ rc_str_bytes text.now.text) }
+    ensures short { IsShort (chars (rc_str_bytes text.now.text)) → IsOk result }
+{
+    let whole = text.as_str();
+    if whole.len() <= ROOM {
+        return Ok(Text::Short(Short::new(whole)));
+    }
+    Ok(Text::Long(text.share()?))
+}
+
+/// Whether the text begins with `-`.
+#[tactic(auto, using(std::proofs::lemmas::Str::chars_past_char))]
+fn is_negative(text: &str) -> bool
+    ensures { result ≡ has_minus (chars text.now) }
+{
+    match text.chars().next() {
+        Some('-') => true,
+        _ => false,
     }
 }
 
@@ -92,6 +145,7 @@ impl Model for Symbol {
 
 impl Symbol {
     /// Keeps a copy of the text. Fails where memory runs out.
+    #[inline(always)]
     pub fn new(alloc: Global, text: &str) -> Result<Symbol, AllocError>
         ensures ok { IfOk result (λ symbol. symbol ≡ chars text.now) }
     {
@@ -110,6 +164,20 @@ impl Symbol {
         })
     }
 
+    /// Both texts, one after the other, if together they are short. It takes no memory.
+    #[inline(always)]
+    pub fn joined(front: &str, back: &str) -> Option<Symbol>
+        ensures value { IfSome result (λ symbol. symbol ≡ chars (front.now ++ back.now)) }
+        ensures text { IfSome result IsText }
+    {
+        if front.len() > ROOM || back.len() > ROOM - front.len() {
+            return None;
+        }
+        Some(Symbol {
+            text: Text::Short(Short::joined(front, back)),
+        })
+    }
+
     /// Takes away the `-` that the text begins with, and answers whether there was one.
     pub fn strip_minus(&mut self) -> bool
         ensures found { result ≡ has_minus self.old }
@@ -117,27 +185,32 @@ impl Symbol {
     {
         match &mut self.text {
             Text::Short(text) => text.strip_minus(),
-            Text::Long(text) => strip_minus(text),
+            // It has none.
+            Text::Long(text) => is_negative(text.as_str()),
+            Text::Negative(text) => strip_minus(text),
         }
     }
 
     /// The text.
+    #[inline(always)]
     pub fn as_str(&self) -> &str
         ensures { chars result.now ≡ self.now }
     {
         match &self.text {
             Text::Short(text) => text.as_str(),
             Text::Long(text) => text.as_str(),
+            Text::Negative(text) => text.as_str(),
         }
     }
 }
 
-/// The same text. A long one fails where memory runs out.
+/// The same text, which a long one shares. It fails as the copy of a literal does.
 impl Clone for Symbol {
     ghost is_clone = { λ symbol copy. copy ≡ symbol };
 
     ghost is_infallible = { IsShort };
 
+    #[inline(always)]
     fn clone(&self) -> Result<Symbol, AllocError> {
         Ok(Symbol {
             text: self.text.clone()?,

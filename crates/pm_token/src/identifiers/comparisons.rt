@@ -16,13 +16,14 @@ impl PartialEq for Ident {
 
     /// Whether both have the same name, and both are raw or both plain, by the rule
     /// `identifier-equality`. Their spans don't count.
+    #[inline(always)]
     fn eq(&self, other: &Ident) -> bool
         ensures value { result ≡ name_eq self.now other.now }
         ensures fields { IsTrue result ↔ ((self.now.name ≡ other.now.name) × (self.now.raw ≡ other.now.raw)) }
         ensures text { IsTrue result ↔ (name_text self.now ≡ name_text other.now) }
     {
-        let name = self.name.as_str();
-        let other_name = other.name.as_str();
+        let name = self.name.as_bytes();
+        let other_name = other.name.as_bytes();
         let raw = self.name.is_raw();
         if raw == other.name.is_raw() {
             return name == other_name;

@@ -1,11 +1,13 @@
 //! The literals of integers.
-ghost use Rattle.std.specs.Prelude.{◌≡◌, ◌++◌, IfOk, codes};
+ghost use Rattle.std.specs.Prelude.{◌≡◌, ◌++◌, IfOk, IfSome, codes};
 ghost use Rattle.std.specs.Fmt.{decimal, signed_decimal};
 ghost use Rattle.pm_span.specs.Extent.{nowhere};
 ghost use Rattle.pm_token.specs.Integer.{suffix_text};
+ghost use Rattle.pm_token.specs.Text.{IsText};
 
 use crate::literals::Literal;
 use crate::symbols::Symbol;
+use itoa::Buffer;
 use pm_span::Span;
 use std::alloc::{AllocError, Global};
 
@@ -42,6 +44,7 @@ enum Suffix {
 
 impl Suffix {
     /// The suffix as it is written.
+    #[inline(always)]
     fn name(self) -> &'static str
         ensures { result.now ≡ suffix_text self }
     {
@@ -63,26 +66,96 @@ impl Suffix {
     }
 }
 
+/// The text of a number of 64 bits and its suffix, if it is short. It takes no memory.
+#[inline(always)]
+fn short_unsigned(value: u64, suffix: Suffix) -> Option<Symbol>
+    ensures value { IfSome result (λ text. text ≡ decimal value ++ suffix_text suffix) }
+    ensures text { IfSome result IsText }
+{
+    let mut buffer = Buffer::new();
+    let text = Symbol::joined(buffer.format(value), suffix.name())?;
+    Some(text)
+}
+
+/// The same of a number with a sign.
+#[inline(always)]
+fn short_signed(value: i64, suffix: Suffix) -> Option<Symbol>
+    ensures value { IfSome result (λ text. text ≡ signed_decimal value ++ suffix_text suffix) }
+    ensures text { IfSome result IsText }
+{
+    let mut buffer = Buffer::new();
+    let text = Symbol::joined(buffer.format(value), suffix.name())?;
+    Some(text)
+}
+
+/// The text of any number and its suffix. Fails where memory runs out.
+fn wide_unsigned(alloc: Global, value: u128, suffix: Suffix) -> Result<Symbol, AllocError>
+    ensures value { IfOk result (λ text. text ≡ decimal value ++ suffix_text suffix) }
+    ensures text { IfOk result IsText }
+{
+    let suffix = suffix.name();
+    let text = Symbol::from_string(alloc, format!(in alloc; "{value}{suffix}")?)?;
+    Ok(text)
+}
+
+/// The same of a number with a sign.
+fn wide_signed(alloc: Global, value: i128, suffix: Suffix) -> Result<Symbol, AllocError>
+    ensures value { IfOk result (λ text. text ≡ signed_decimal value ++ suffix_text suffix) }
+    ensures text { IfOk result IsText }
+{
+    let suffix = suffix.name();
+    let text = Symbol::from_string(alloc, format!(in alloc; "{value}{suffix}")?)?;
+    Ok(text)
+}
+
+/// The text of a number and its suffix. Fails where memory runs out.
+#[inline(always)]
+fn unsigned_text(alloc: Global, value: u128, suffix: Suffix) -> Result<Symbol, AllocError>
+    ensures value { IfOk result (λ text. text ≡ decimal value ++ suffix_text suffix) }
+    ensures text { IfOk result IsText }
+{
+    if value <= u128::from(u64::MAX) {
+        if let Some(text) = short_unsigned(value as u64, suffix) {
+            return Ok(text);
+        }
+    }
+    wide_unsigned(alloc, value, suffix)
+}
+
+/// The same of a number with a sign.
+#[inline(always)]
+fn signed_text(alloc: Global, value: i128, suffix: Suffix) -> Result<Symbol, AllocError>
+    ensures value { IfOk result (λ text. text ≡ signed_decimal value ++ suffix_text suffix) }
+    ensures text { IfOk result IsText }
+{
+    if value >= i128::from(i64::MIN) && value <= i128::from(i64::MAX) {
+        if let Some(text) = short_signed(value as i64, suffix) {
+            return Ok(text);
+        }
+    }
+    wide_signed(alloc, value, suffix)
+}
+
 /// The literal of a number without a sign.
+#[inline(always)]
 fn unsigned(alloc: Global, value: u128, suffix: Suffix) -> Result<Literal, AllocError>
     ensures ok { IfOk result (λ literal.
         literal ≡ record { text = decimal value ++ suffix_text suffix; span = nowhere }) }
 {
-    let suffix = suffix.name();
     Ok(Literal {
-        text: Symbol::from_string(alloc, format!(in alloc; "{value}{suffix}")?)?,
+        text: unsigned_text(alloc, value, suffix)?,
         span: Span::call_site(),
     })
 }
 
 /// The literal of a number, with `-` before it where it is negative.
+#[inline(always)]
 fn signed(alloc: Global, value: i128, suffix: Suffix) -> Result<Literal, AllocError>
     ensures ok { IfOk result (λ literal.
         literal ≡ record { text = signed_decimal value ++ suffix_text suffix; span = nowhere }) }
 {
-    let suffix = suffix.name();
     Ok(Literal {
-        text: Symbol::from_string(alloc, format!(in alloc; "{value}{suffix}")?)?,
+        text: signed_text(alloc, value, suffix)?,
         span: Span::call_site(),
     })
 }
@@ -94,6 +167,7 @@ fn signed(alloc: Global, value: i128, suffix: Suffix) -> Result<Literal, AllocEr
 impl Literal {
     /// The literal of the number, without its type, with the span 0..0. For 255 it is `255`.
     /// Fails where memory runs out.
+    #[inline]
     pub fn u8_unsuffixed(alloc: Global, value: u8) -> Result<Literal, AllocError>
         ensures ok { IfOk result (λ literal.
             literal ≡ record { text = decimal value; span = nowhere }) }
@@ -103,6 +177,7 @@ impl Literal {
 
     /// The literal of the number, without its type, with the span 0..0. For 65535 it is `65535`.
     /// Fails where memory runs out.
+    #[inline]
     pub fn u16_unsuffixed(alloc: Global, value: u16) -> Result<Literal, AllocError>
         ensures ok { IfOk result (λ literal.
             literal ≡ record { text = decimal value; span = nowhere }) }
@@ -112,6 +187,7 @@ impl Literal {
 
     /// The literal of the number, without its type, with the span 0..0. For 3 it is `3`.
     /// Fails where memory runs out.
+    #[inline]
     pub fn u32_unsuffixed(alloc: Global, value: u32) -> Result<Literal, AllocError>
         ensures ok { IfOk result (λ literal.
             literal ≡ record { text = decimal value; span = nowhere }) }
@@ -121,6 +197,7 @@ impl Literal {
 
     /// The literal of the number, without its type, with the span 0..0. For 10 it is `10`.
     /// Fails where memory runs out.
+    #[inline]
     pub fn u64_unsuffixed(alloc: Global, value: u64) -> Result<Literal, AllocError>
         ensures ok { IfOk result (λ literal.
             literal ≡ record { text = decimal value; span = nowhere }) }
@@ -130,6 +207,7 @@ impl Literal {
 
     /// The literal of the number, without its type, with the span 0..0. For 7 it is `7`.
     /// Fails where memory runs out.
+    #[inline]
     pub fn u128_unsuffixed(alloc: Global, value: u128) -> Result<Literal, AllocError>
         ensures ok { IfOk result (λ literal.
             literal ≡ record { text = decimal value; span = nowhere }) }
@@ -139,6 +217,7 @@ impl Literal {
 
     /// The literal of the number, without its type, with the span 0..0. For 0 it is `0`.
     /// Fails where memory runs out.
+    #[inline]
     pub fn usize_unsuffixed(alloc: Global, value: usize) -> Result<Literal, AllocError>
         ensures ok { IfOk result (λ literal.
             literal ≡ record { text = decimal value; span = nowhere }) }
@@ -148,6 +227,7 @@ impl Literal {
 
     /// The literal of the number and `u8`, with the span 0..0. For 255 it is `255u8`.
     /// Fails where memory runs out.
+    #[inline]
     pub fn u8_suffixed(alloc: Global, value: u8) -> Result<Literal, AllocError>
         ensures ok { IfOk result (λ literal.
             literal ≡ record { text = decimal value ++ codes "u8"; span = nowhere }) }
@@ -157,6 +237,7 @@ impl Literal {
 
     /// The literal of the number and `u16`, with the span 0..0. For 65535 it is `65535u16`.
     /// Fails where memory runs out.
+    #[inline]
     pub fn u16_suffixed(alloc: Global, value: u16) -> Result<Literal, AllocError>
         ensures ok { IfOk result (λ literal.
             literal ≡ record { text = decimal value ++ codes "u16"; span = nowhere }) }
@@ -166,6 +247,7 @@ impl Literal {
 
     /// The literal of the number and `u32`, with the span 0..0. For 3 it is `3u32`.
     /// Fails where memory runs out.
+    #[inline]
     pub fn u32_suffixed(alloc: Global, value: u32) -> Result<Literal, AllocError>
         ensures ok { IfOk result (λ literal.
             literal ≡ record { text = decimal value ++ codes "u32"; span = nowhere }) }
@@ -175,6 +257,7 @@ impl Literal {
 
     /// The literal of the number and `u64`, with the span 0..0. For 10 it is `10u64`.
     /// Fails where memory runs out.
+    #[inline]
     pub fn u64_suffixed(alloc: Global, value: u64) -> Result<Literal, AllocError>
         ensures ok { IfOk result (λ literal.
             literal ≡ record { text = decimal value ++ codes "u64"; span = nowhere }) }
@@ -184,6 +267,7 @@ impl Literal {
 
     /// The literal of the number and `u128`, with the span 0..0. For 7 it is `7u128`.
     /// Fails where memory runs out.
+    #[inline]
     pub fn u128_suffixed(alloc: Global, value: u128) -> Result<Literal, AllocError>
         ensures ok { IfOk result (λ literal.
             literal ≡ record { text = decimal value ++ codes "u128"; span = nowhere }) }
@@ -193,6 +277,7 @@ impl Literal {
 
     /// The literal of the number and `usize`, with the span 0..0. For 0 it is `0usize`.
     /// Fails where memory runs out.
+    #[inline]
     pub fn usize_suffixed(alloc: Global, value: usize) -> Result<Literal, AllocError>
         ensures ok { IfOk result (λ literal.
             literal ≡ record { text = decimal value ++ codes "usize"; span = nowhere }) }
@@ -202,6 +287,7 @@ impl Literal {
 
     /// The literal of the number, without its type, with the span 0..0. For -128 it is `-128`.
     /// Fails where memory runs out.
+    #[inline]
     pub fn i8_unsuffixed(alloc: Global, value: i8) -> Result<Literal, AllocError>
         ensures ok { IfOk result (λ literal.
             literal ≡ record { text = signed_decimal value; span = nowhere }) }
@@ -211,6 +297,7 @@ impl Literal {
 
     /// The literal of the number, without its type, with the span 0..0. For -3 it is `-3`.
     /// Fails where memory runs out.
+    #[inline]
     pub fn i16_unsuffixed(alloc: Global, value: i16) -> Result<Literal, AllocError>
         ensures ok { IfOk result (λ literal.
             literal ≡ record { text = signed_decimal value; span = nowhere }) }
@@ -220,6 +307,7 @@ impl Literal {
 
     /// The literal of the number, without its type, with the span 0..0. For -3 it is `-3`.
     /// Fails where memory runs out.
+    #[inline]
     pub fn i32_unsuffixed(alloc: Global, value: i32) -> Result<Literal, AllocError>
         ensures ok { IfOk result (λ literal.
             literal ≡ record { text = signed_decimal value; span = nowhere }) }
@@ -229,6 +317,7 @@ impl Literal {
 
     /// The literal of the number, without its type, with the span 0..0. For 12 it is `12`.
     /// Fails where memory runs out.
+    #[inline]
     pub fn i64_unsuffixed(alloc: Global, value: i64) -> Result<Literal, AllocError>
         ensures ok { IfOk result (λ literal.
             literal ≡ record { text = signed_decimal value; span = nowhere }) }
@@ -238,6 +327,7 @@ impl Literal {
 
     /// The literal of the number, without its type, with the span 0..0. For -1 it is `-1`.
     /// Fails where memory runs out.
+    #[inline]
     pub fn i128_unsuffixed(alloc: Global, value: i128) -> Result<Literal, AllocError>
         ensures ok { IfOk result (λ literal.
             literal ≡ record { text = signed_decimal value; span = nowhere }) }
@@ -247,6 +337,7 @@ impl Literal {
 
     /// The literal of the number, without its type, with the span 0..0. For 0 it is `0`.
     /// Fails where memory runs out.
+    #[inline]
     pub fn isize_unsuffixed(alloc: Global, value: isize) -> Result<Literal, AllocError>
         ensures ok { IfOk result (λ literal.
             literal ≡ record { text = signed_decimal value; span = nowhere }) }
@@ -256,6 +347,7 @@ impl Literal {
 
     /// The literal of the number and `i8`, with the span 0..0. For -128 it is `-128i8`.
     /// Fails where memory runs out.
+    #[inline]
     pub fn i8_suffixed(alloc: Global, value: i8) -> Result<Literal, AllocError>
         ensures ok { IfOk result (λ literal.
             literal ≡ record { text = signed_decimal value ++ codes "i8"; span = nowhere }) }
@@ -265,6 +357,7 @@ impl Literal {
 
     /// The literal of the number and `i16`, with the span 0..0. For -3 it is `-3i16`.
     /// Fails where memory runs out.
+    #[inline]
     pub fn i16_suffixed(alloc: Global, value: i16) -> Result<Literal, AllocError>
         ensures ok { IfOk result (λ literal.
             literal ≡ record { text = signed_decimal value ++ codes "i16"; span = nowhere }) }
@@ -274,6 +367,7 @@ impl Literal {
 
     /// The literal of the number and `i32`, with the span 0..0. For -3 it is `-3i32`.
     /// Fails where memory runs out.
+    #[inline]
     pub fn i32_suffixed(alloc: Global, value: i32) -> Result<Literal, AllocError>
         ensures ok { IfOk result (λ literal.
             literal ≡ record { text = signed_decimal value ++ codes "i32"; span = nowhere }) }
@@ -283,6 +377,7 @@ impl Literal {
 
     /// The literal of the number and `i64`, with the span 0..0. For 12 it is `12i64`.
     /// Fails where memory runs out.
+    #[inline]
     pub fn i64_suffixed(alloc: Global, value: i64) -> Result<Literal, AllocError>
         ensures ok { IfOk result (λ literal.
             literal ≡ record { text = signed_decimal value ++ codes "i64"; span = nowhere }) }
@@ -292,6 +387,7 @@ impl Literal {
 
     /// The literal of the number and `i128`, with the span 0..0. For -1 it is `-1i128`.
     /// Fails where memory runs out.
+    #[inline]
     pub fn i128_suffixed(alloc: Global, value: i128) -> Result<Literal, AllocError>
         ensures ok { IfOk result (λ literal.
             literal ≡ record { text = signed_decimal value ++ codes "i128"; span = nowhere }) }
@@ -301,6 +397,7 @@ impl Literal {
 
     /// The literal of the number and `isize`, with the span 0..0. For 0 it is `0isize`.
     /// Fails where memory runs out.
+    #[inline]
     pub fn isize_suffixed(alloc: Global, value: isize) -> Result<Literal, AllocError>
         ensures ok { IfOk result (λ literal.
             literal ≡ record { text = signed_decimal value ++ codes "isize"; span = nowhere }) }

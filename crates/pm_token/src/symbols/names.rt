@@ -1,35 +1,65 @@
 //! Names, raw and plain.
-ghost use Rattle.std.specs.Prelude.{◌≡◌, IfOk, Some};
-ghost use Rattle.std.specs.Str.{chars, encode_utf8_all};
-ghost use Rattle.pm_token.specs.Kept.{IsShort, KeptName, is_raw, name_bytes, text_bytes};
+ghost use Rattle.std.specs.Prelude.{◌≡◌, ◌≤◌, IfOk, IsOk, Some, length};
+ghost use Rattle.std.specs.Rc.{rc_str_bytes};
+ghost use Rattle.std.specs.Str.{IsUtf8, chars, encode_utf8_all};
+ghost use Rattle.pm_token.specs.Kept.{IsShort, KeptName, is_raw, name_bytes};
+ghost use Rattle.pm_token.specs.declared.symbols.short.TheConstants.{ROOM};
 
-use super::Text;
-use super::short::Short;
+use super::short::{ROOM, Short};
 use std::alloc::{AllocError, Global};
 use std::fmt;
 use std::marker::Model;
+use std::rc::RcStr;
 
-/// A plain or a raw name, short or long. One enum tells all four apart, so a name is as long as a text.
+/// A plain or a raw name, short or long. One enum tells all four apart, so a name is as long as a text. Copies of a
+/// long name share it.
 #[derive(Drop)]
 enum NameText {
     Short(Short),
-    Long(Box<String>),
+    Long(RcStr),
     RawShort(Short),
-    RawLong(Box<String>),
+    RawLong(RcStr),
 }
 
 impl NameText {
-    /// The text as a name.
-    fn new(text: Text, raw: bool) -> NameText
-        ensures bytes { name_bytes result ≡ text_bytes text }
+    /// A copy of a short text as a name.
+    #[inline(always)]
+    fn short(text: &str, raw: bool) -> NameText
+        requires { length text.now ≤ ROOM }
+        ensures bytes { name_bytes result ≡ text.now }
         ensures raw { is_raw result ≡ raw }
     {
-        match text {
-            Text::Short(text) if raw => NameText::RawShort(text),
-            Text::Short(text) => NameText::Short(text),
-            Text::Long(text) if raw => NameText::RawLong(text),
-            Text::Long(text) => NameText::Long(text),
+        if raw {
+            NameText::RawShort(Short::new(text))
+        } else {
+            NameText::Short(Short::new(text))
         }
+    }
+
+    /// The text as a name.
+    fn long(text: RcStr, raw: bool) -> NameText
+        ensures bytes { name_bytes result ≡ rc_str_bytes text }
+        ensures raw { is_raw result ≡ raw }
+    {
+        if raw {
+            NameText::RawLong(text)
+        } else {
+            NameText::Long(text)
+        }
+    }
+
+    /// The text as a name that shares it. It takes no memory, and fails where a long one has more owners than can be
+    /// counted.
+    fn shared(text: &RcStr, raw: bool) -> Result<NameText, AllocError>
+        ensures bytes { IfOk result (λ kept. name_bytes kept ≡ rc_str_bytes text.now) }
+        ensures raw { IfOk result (λ kept. is_raw kept ≡ raw) }
+        ensures short { IsShort (chars (rc_str_bytes text.now)) → IsOk result }
+    {
+        let name = text.as_str();
+        if name.len() <= ROOM {
+            return Ok(NameText::short(name, raw));
+        }
+        Ok(NameText::long(text.clone()?, raw))
     }
 }
 
@@ -47,15 +77,20 @@ impl Model for Name {
 
 impl Name {
     /// Keeps a copy of the name. Fails where memory runs out.
+    #[inline(always)]
     pub fn new(alloc: Global, name: &str, raw: bool) -> Result<Name, AllocError>
         ensures ok { IfOk result (λ kept. kept ≡ record { name = chars name.now; raw = raw }) }
     {
-        Ok(Name {
-            text: NameText::new(Text::new(alloc, name)?, raw),
-        })
+        let text = if name.len() <= ROOM {
+            NameText::short(name, raw)
+        } else {
+            NameText::long(RcStr::from_str(alloc, name)?, raw)
+        };
+        Ok(Name { text })
     }
 
     /// The name, without `r#`.
+    #[inline(always)]
     pub fn as_str(&self) -> &str
         ensures { chars result.now ≡ self.now.name }
     {
@@ -65,7 +100,20 @@ impl Name {
         }
     }
 
+    /// The bytes of the name, without `r#`. Names are compared by them.
+    #[inline(always)]
+    pub fn as_bytes(&self) -> &[u8]
+        ensures value { chars result.now ≡ self.now.name }
+        ensures utf8 { IsUtf8 result.now }
+    {
+        match &self.text {
+            NameText::Short(name) | NameText::RawShort(name) => name.as_bytes(),
+            NameText::Long(name) | NameText::RawLong(name) => name.as_str().as_bytes(),
+        }
+    }
+
     /// Whether it is raw.
+    #[inline(always)]
     pub fn is_raw(&self) -> bool
         ensures { result ≡ self.now.raw }
     {
@@ -76,22 +124,21 @@ impl Name {
     }
 }
 
-/// The same name. A long one fails where memory runs out.
+/// The same name, which a long one shares. It fails where that has more owners than can be counted.
 impl Clone for Name {
     ghost is_clone = { λ name copy. copy ≡ name };
 
     ghost is_infallible = { λ name. IsShort name.name };
 
+    #[inline(always)]
     fn clone(&self) -> Result<Name, AllocError> {
         let text = match &self.text {
-            NameText::Short(name) | NameText::RawShort(name) => Text::Short(name.copy()),
-            NameText::Long(name) | NameText::RawLong(name) => {
-                Text::new(*name.allocator(), name.as_str())?
-            }
+            NameText::Short(name) => NameText::Short(name.copy()),
+            NameText::RawShort(name) => NameText::RawShort(name.copy()),
+            NameText::Long(name) => NameText::shared(name, false)?,
+            NameText::RawLong(name) => NameText::shared(name, true)?,
         };
-        Ok(Name {
-            text: NameText::new(text, self.is_raw()),
-        })
+        Ok(Name { text })
     }
 }
 

@@ -1,6 +1,6 @@
 //! Short texts, which stand in place.
-ghost use Rattle.std.specs.Prelude.{◌≡◌, ◌≤◌, ℕ, List, drop, length, take, false, true, IfSome, IsUtf8, MatchOption};
-ghost use Rattle.std.specs.Prelude.{if◌then◌else◌};
+ghost use Rattle.std.specs.Prelude.{◌≡◌, ◌≤◌, ◌+◌, ◌++◌, ℕ, List, drop, length, take, false, true, IfSome, IsUtf8};
+ghost use Rattle.std.specs.Prelude.{MatchOption, if◌then◌else◌};
 ghost use Rattle.std.specs.Str.{chars};
 ghost use Rattle.pm_token.specs.Negative.{has_minus};
 ghost use Rattle.pm_token.specs.declared.symbols.short.TheConstants.{ROOM};
@@ -28,6 +28,7 @@ impl Model for Short {
 
 impl Short {
     /// A copy of the text.
+    #[inline(always)]
     pub(crate) fn new(text: &str) -> Short
         requires { length text.now ≤ ROOM }
         ensures { result ≡ text.now }
@@ -40,7 +41,33 @@ impl Short {
         }
     }
 
+    /// A copy of both texts, one after the other.
+    #[inline(always)]
+    pub(crate) fn joined(front: &str, back: &str) -> Short
+        requires { length front.now + length back.now ≤ ROOM }
+        ensures { result ≡ front.now ++ back.now }
+    {
+        let end = front.len() + back.len();
+        let mut bytes = [0; ROOM];
+        bytes[..front.len()].copy_from_slice(front.as_bytes());
+        bytes[front.len()..end].copy_from_slice(back.as_bytes());
+        Short {
+            len: end as u8,
+            bytes,
+        }
+    }
+
+    /// The bytes of the text.
+    #[inline(always)]
+    pub(crate) fn as_bytes(&self) -> &[u8]
+        ensures value { result.now ≡ self.now }
+        ensures utf8 { IsUtf8 result.now }
+    {
+        &self.bytes[..self.len as usize]
+    }
+
     /// The text.
+    #[inline(always)]
     pub(crate) fn as_str(&self) -> &str
         ensures value { result.now ≡ self.now }
         ensures fits { length result.now ≤ ROOM }
@@ -62,6 +89,7 @@ impl Short {
     }
 
     /// The same text.
+    #[inline(always)]
     pub(crate) fn copy(&self) -> Short
         ensures { result ≡ self.now }
     {

@@ -23,6 +23,7 @@ pub struct Ident {
 
 impl Ident {
     /// The identifier of this name, which has no `r#`.
+    #[inline(always)]
     pub(crate) fn from_parts(
         alloc: Global,
         name: &str,
@@ -37,6 +38,7 @@ impl Ident {
     }
 
     /// The identifier of this name, if the name has no fault.
+    #[inline(always)]
     fn checked(alloc: Global, name: &str, raw: bool, span: Span) -> Result<Ident, IdentError>
     {
         match fault(name, raw) {
@@ -52,6 +54,7 @@ impl Ident {
     /// name has no character; `Number` where it has ASCII digits only; `Invalid` where it isn't a
     /// character that may begin an identifier and then characters that may go on with one. Only a
     /// name without a fault is refused for `Memory`. `255` is a `Number`, and `r#a` is `Invalid`.
+    #[inline(always)]
     pub fn new(alloc: Global, name: &str, span: Span) -> Result<Ident, IdentError>
     {
         Ident::checked(alloc, name, false, span)
@@ -61,6 +64,7 @@ impl Ident {
     ///
     /// Refused as by [`new`](Ident::new), and then with `Reserved` where the name is `_`, `super`,
     /// `self`, `Self` or `crate`. `fn` makes `r#fn`.
+    #[inline(always)]
     pub fn new_raw(alloc: Global, name: &str, span: Span) -> Result<Ident, IdentError>
     {
         Ident::checked(alloc, name, true, span)
@@ -70,16 +74,17 @@ impl Ident {
     ///
     /// Of a text that a program writes out, as in `name.eq_str("fn")`, a proof learns by `spelled` that
     /// the identifier is written `fn`: `spelled (codes "fn")` computes to `codes "fn"`.
+    #[inline(always)]
     pub fn eq_str(&self, text: &str) -> bool
 
         // The same, in words that compute for an ASCII text that is known.
     {
-        let name = self.name.as_str();
+        let name = self.name.as_bytes();
         if !self.name.is_raw() {
-            return name == text;
+            return name == text.as_bytes();
         }
         match text.strip_prefix("r#") {
-            Some(rest) => name == rest,
+            Some(rest) => name == rest.as_bytes(),
             None => false,
         }
     }
@@ -100,9 +105,10 @@ impl Ident {
     }
 }
 
-/// The same identifier, with the same span. A name of more than 22 bytes takes memory, and the copy fails where that
-/// runs out.
+/// The same identifier, with the same span. It takes no memory. A name of more than 22 bytes is shared, and the copy
+/// fails where it has more owners than can be counted.
 impl Clone for Ident {
+    #[inline(always)]
     fn clone(&self) -> Result<Ident, AllocError> {
         Ok(Ident {
             name: self.name.clone()?,

@@ -27,6 +27,7 @@ pub struct Literal {
 
 impl Literal {
     /// The literal of this text, where it stands. Fails where memory runs out.
+    #[inline(always)]
     pub(crate) fn from_parts(alloc: Global, text: &str, span: Span) -> Result<Literal, AllocError>
     {
         Ok(Literal {
@@ -36,6 +37,7 @@ impl Literal {
     }
 
     /// The literal as it is written, with its quotes, its suffix and the `-` that may stand before it.
+    #[inline(always)]
     pub fn text(&self) -> &str
     {
         self.text.as_str()
@@ -57,9 +59,10 @@ impl Literal {
     }
 }
 
-/// The same literal, with the same span. A text of more than 22 bytes takes memory, and the copy fails where that runs
-/// out.
+/// The same literal, with the same span. A text of more than 22 bytes is shared, or copied where it begins with `-`.
+/// The copy fails where the text has more owners than can be counted, or memory runs out.
 impl Clone for Literal {
+    #[inline(always)]
     fn clone(&self) -> Result<Literal, AllocError> {
         Ok(Literal {
             text: self.text.clone()?,

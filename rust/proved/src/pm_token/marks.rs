@@ -39,11 +39,13 @@ impl Punct {
     ///
     /// The character is one of the 22 `marks`: [`Punct::is_punct_char`] is the test. Of `'+'` it prints
     /// `+`, whatever its spacing.
+    #[inline(always)]
     pub fn new(mark: char, spacing: Spacing) -> Punct
     {
         Punct::from_parts(mark, spacing, Span::call_site())
     }
 
+    #[inline(always)]
     pub(crate) fn from_parts(mark: char, spacing: Spacing, span: Span) -> Punct
     {
         Punct {
@@ -54,12 +56,14 @@ impl Punct {
     }
 
     /// The mark's character.
+    #[inline(always)]
     pub fn as_char(&self) -> char
     {
         self.mark
     }
 
     /// Whether it goes together with what follows right after it.
+    #[inline(always)]
     pub fn spacing(&self) -> Spacing
     {
         self.spacing
@@ -82,6 +86,7 @@ impl Punct {
 
 /// The same mark, with the same span. It takes no memory.
 impl Clone for Punct {
+    #[inline(always)]
     fn clone(&self) -> Result<Punct, AllocError> {
         Ok(Punct {
             mark: self.mark,

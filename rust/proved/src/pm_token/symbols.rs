@@ -4,27 +4,50 @@
 use crate::shim::prelude::{Box, Clone, String};
 
 mod names;
+mod shared;
 mod short;
 
 pub use names::Name;
+use shared::Shared;
 use short::{ROOM, Short};
 use crate::shim::alloc::{AllocError, Global};
 use crate::shim::fmt;
 
-/// A short text, in place, or a long one, behind a pointer.
+/// A short text, in place, or a long one, behind a pointer. One that begins with `-` has a block of its own, so that
+/// the `-` can be taken away without memory.
 enum Text {
     Short(Short),
-    Long(Box<String>),
+    Long(Shared),
+    Negative(Box<String>),
 }
 
 impl Text {
+    /// A copy of a long text. Fails where memory runs out.
+    fn long(alloc: Global, text: &str) -> Result<Text, AllocError>
+    {
+        if is_negative(text) {
+            return Ok(Text::Negative(Box::new(alloc, String::from_str(alloc, text)?)?));
+        }
+        Ok(Text::Long(Shared::new(alloc, text)?))
+    }
+
+    /// The long text itself. Fails where memory runs out.
+    fn long_from_string(alloc: Global, text: String) -> Result<Text, AllocError>
+    {
+        if is_negative(text.as_str()) {
+            return Ok(Text::Negative(Box::new(alloc, text)?));
+        }
+        Ok(Text::Long(Shared::from_string(text)?))
+    }
+
     /// A copy of the text. Fails where memory runs out.
+    #[inline(always)]
     fn new(alloc: Global, text: &str) -> Result<Text, AllocError>
     {
         if text.len() <= ROOM {
             Ok(Text::Short(Short::new(text)))
         } else {
-            Ok(Text::Long(Box::new(alloc, String::from_str(alloc, text)?)?))
+            Ok(Text::long(alloc, text)?)
         }
     }
 
@@ -35,18 +58,40 @@ impl Text {
         if text.len() <= ROOM {
             Ok(Text::Short(Short::new(text.as_str())))
         } else {
-            Ok(Text::Long(Box::new(alloc, text)?))
+            Ok(Text::long_from_string(alloc, text)?)
         }
     }
 }
 
-/// The same text. A long one fails where memory runs out.
+/// The same text, which a long one shares. It fails as the copy of a literal does.
 impl Clone for Text {
+    #[inline(always)]
     fn clone(&self) -> Result<Text, AllocError> {
         match self {
             Text::Short(text) => Ok(Text::Short(text.copy())),
-            Text::Long(text) => Text::new(*text.allocator(), text.as_str()),
+            Text::Long(text) => share(text),
+            Text::Negative(text) => Text::new(*text.allocator(), text.as_str()),
         }
+    }
+}
+
+/// The same text, which a long one shares. It fails where a long one has more owners than can be counted.
+#[inline(always)]
+fn share(text: &Shared) -> Result<Text, AllocError>
+{
+    let whole = text.as_str();
+    if whole.len() <= ROOM {
+        return Ok(Text::Short(Short::new(whole)));
+    }
+    Ok(Text::Long(text.share()?))
+}
+
+/// Whether the text begins with `-`.
+fn is_negative(text: &str) -> bool
+{
+    match text.chars().next() {
+        Some('-') => true,
+        _ => false,
     }
 }
 
@@ -69,6 +114,7 @@ pub struct Symbol {
 
 impl Symbol {
     /// Keeps a copy of the text. Fails where memory runs out.
+    #[inline(always)]
     pub fn new(alloc: Global, text: &str) -> Result<Symbol, AllocError>
     {
         Ok(Symbol {
@@ -84,27 +130,44 @@ impl Symbol {
         })
     }
 
+    /// Both texts, one after the other, if together they are short. It takes no memory.
+    #[inline(always)]
+    pub fn joined(front: &str, back: &str) -> Option<Symbol>
+    {
+        if front.len() > ROOM || back.len() > ROOM - front.len() {
+            return None;
+        }
+        Some(Symbol {
+            text: Text::Short(Short::joined(front, back)),
+        })
+    }
+
     /// Takes away the `-` that the text begins with, and answers whether there was one.
     pub fn strip_minus(&mut self) -> bool
     {
         match &mut self.text {
             Text::Short(text) => text.strip_minus(),
-            Text::Long(text) => strip_minus(text),
+            // It has none.
+            Text::Long(text) => is_negative(text.as_str()),
+            Text::Negative(text) => strip_minus(text),
         }
     }
 
     /// The text.
+    #[inline(always)]
     pub fn as_str(&self) -> &str
     {
         match &self.text {
             Text::Short(text) => text.as_str(),
             Text::Long(text) => text.as_str(),
+            Text::Negative(text) => text.as_str(),
         }
     }
 }
 
-/// The same text. A long one fails where memory runs out.
+/// The same text, which a long one shares. It fails as the copy of a literal does.
 impl Clone for Symbol {
+    #[inline(always)]
     fn clone(&self) -> Result<Symbol, AllocError> {
         Ok(Symbol {
             text: self.text.clone()?,

@@ -8,10 +8,11 @@ use crate::shim::hash::{Hash, Hasher};
 impl PartialEq for Ident {
     /// Whether both have the same name, and both are raw or both plain, by the rule
     /// `identifier-equality`. Their spans don't count.
+    #[inline(always)]
     fn eq(&self, other: &Ident) -> bool
     {
-        let name = self.name.as_str();
-        let other_name = other.name.as_str();
+        let name = self.name.as_bytes();
+        let other_name = other.name.as_bytes();
         let raw = self.name.is_raw();
         if raw == other.name.is_raw() {
             return name == other_name;

@@ -62,8 +62,61 @@ fn is_name(text: &str) -> bool
     name_at(text) == Some(text.len())
 }
 
+/// Whether the byte is an ASCII letter or `_`.
+#[inline(always)]
+fn begins_plain(byte: u8) -> bool
+{
+    byte.is_ascii_alphabetic() || byte == b'_'
+}
+
+/// Whether the byte is an ASCII letter, a digit or `_`.
+#[inline(always)]
+fn continues_plain(byte: u8) -> bool
+{
+    byte.is_ascii_alphanumeric() || byte == b'_'
+}
+
+/// How many bytes at the front are ASCII letters, digits or `_`.
+#[inline(always)]
+fn count_plain(bytes: &[u8]) -> usize
+{
+    let mut count = 0;
+    while count < bytes.len() {
+        if !continues_plain(bytes[count]) {
+            break;
+        }
+        count += 1;
+    }
+    count
+}
+
+/// Whether the text is a name of ASCII letters, digits and `_`. It says nothing of other names.
+#[inline(always)]
+fn is_plain_name(text: &str) -> bool
+{
+    let Some((first, rest)) = text.as_bytes().split_first() else {
+        return false;
+    };
+    if !begins_plain(*first) {
+        return false;
+    }
+    count_plain(rest) == rest.len()
+}
+
 /// Why no identifier has the name, by the rule `identifier-fault`.
+// Most names are ASCII, which one look at their bytes tells.
+#[inline(always)]
 pub(crate) fn fault(name: &str, raw: bool) -> Option<IdentError>
+{
+    if !raw && is_plain_name(name) {
+        return None;
+    }
+    other_fault(name, raw)
+}
+
+/// The same of any name.
+#[inline(never)]
+fn other_fault(name: &str, raw: bool) -> Option<IdentError>
 {
     if is_empty(name) {
         return Some(IdentError::Empty);

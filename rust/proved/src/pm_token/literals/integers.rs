@@ -5,6 +5,7 @@ use crate::shim::prelude::format;
 
 use crate::pm_token::literals::Literal;
 use crate::pm_token::symbols::Symbol;
+use crate::shim::itoa::Buffer;
 use crate::pm_span::Span;
 use crate::shim::alloc::{AllocError, Global};
 
@@ -41,6 +42,7 @@ enum Suffix {
 
 impl Suffix {
     /// The suffix as it is written.
+    #[inline(always)]
     fn name(self) -> &'static str
     {
         match self {
@@ -61,22 +63,80 @@ impl Suffix {
     }
 }
 
-/// The literal of a number without a sign.
-fn unsigned(alloc: Global, value: u128, suffix: Suffix) -> Result<Literal, AllocError>
+/// The text of a number of 64 bits and its suffix, if it is short. It takes no memory.
+#[inline(always)]
+fn short_unsigned(value: u64, suffix: Suffix) -> Option<Symbol>
+{
+    let mut buffer = Buffer::new();
+    let text = Symbol::joined(buffer.format(value), suffix.name())?;
+    Some(text)
+}
+
+/// The same of a number with a sign.
+#[inline(always)]
+fn short_signed(value: i64, suffix: Suffix) -> Option<Symbol>
+{
+    let mut buffer = Buffer::new();
+    let text = Symbol::joined(buffer.format(value), suffix.name())?;
+    Some(text)
+}
+
+/// The text of any number and its suffix. Fails where memory runs out.
+fn wide_unsigned(alloc: Global, value: u128, suffix: Suffix) -> Result<Symbol, AllocError>
 {
     let suffix = suffix.name();
+    let text = Symbol::from_string(alloc, format!(in alloc; "{value}{suffix}")?)?;
+    Ok(text)
+}
+
+/// The same of a number with a sign.
+fn wide_signed(alloc: Global, value: i128, suffix: Suffix) -> Result<Symbol, AllocError>
+{
+    let suffix = suffix.name();
+    let text = Symbol::from_string(alloc, format!(in alloc; "{value}{suffix}")?)?;
+    Ok(text)
+}
+
+/// The text of a number and its suffix. Fails where memory runs out.
+#[inline(always)]
+fn unsigned_text(alloc: Global, value: u128, suffix: Suffix) -> Result<Symbol, AllocError>
+{
+    if value <= u128::from(u64::MAX) {
+        if let Some(text) = short_unsigned(value as u64, suffix) {
+            return Ok(text);
+        }
+    }
+    wide_unsigned(alloc, value, suffix)
+}
+
+/// The same of a number with a sign.
+#[inline(always)]
+fn signed_text(alloc: Global, value: i128, suffix: Suffix) -> Result<Symbol, AllocError>
+{
+    if value >= i128::from(i64::MIN) && value <= i128::from(i64::MAX) {
+        if let Some(text) = short_signed(value as i64, suffix) {
+            return Ok(text);
+        }
+    }
+    wide_signed(alloc, value, suffix)
+}
+
+/// The literal of a number without a sign.
+#[inline(always)]
+fn unsigned(alloc: Global, value: u128, suffix: Suffix) -> Result<Literal, AllocError>
+{
     Ok(Literal {
-        text: Symbol::from_string(alloc, format!(in alloc; "{value}{suffix}")?)?,
+        text: unsigned_text(alloc, value, suffix)?,
         span: Span::call_site(),
     })
 }
 
 /// The literal of a number, with `-` before it where it is negative.
+#[inline(always)]
 fn signed(alloc: Global, value: i128, suffix: Suffix) -> Result<Literal, AllocError>
 {
-    let suffix = suffix.name();
     Ok(Literal {
-        text: Symbol::from_string(alloc, format!(in alloc; "{value}{suffix}")?)?,
+        text: signed_text(alloc, value, suffix)?,
         span: Span::call_site(),
     })
 }
@@ -88,6 +148,7 @@ fn signed(alloc: Global, value: i128, suffix: Suffix) -> Result<Literal, AllocEr
 impl Literal {
     /// The literal of the number, without its type, with the span 0..0. For 255 it is `255`.
     /// Fails where memory runs out.
+    #[inline]
     pub fn u8_unsuffixed(alloc: Global, value: u8) -> Result<Literal, AllocError>
     {
         Literal::u16_unsuffixed(alloc, u16::from(value))
@@ -95,6 +156,7 @@ impl Literal {
 
     /// The literal of the number, without its type, with the span 0..0. For 65535 it is `65535`.
     /// Fails where memory runs out.
+    #[inline]
     pub fn u16_unsuffixed(alloc: Global, value: u16) -> Result<Literal, AllocError>
     {
         Literal::u32_unsuffixed(alloc, u32::from(value))
@@ -102,6 +164,7 @@ impl Literal {
 
     /// The literal of the number, without its type, with the span 0..0. For 3 it is `3`.
     /// Fails where memory runs out.
+    #[inline]
     pub fn u32_unsuffixed(alloc: Global, value: u32) -> Result<Literal, AllocError>
     {
         Literal::u64_unsuffixed(alloc, u64::from(value))
@@ -109,6 +172,7 @@ impl Literal {
 
     /// The literal of the number, without its type, with the span 0..0. For 10 it is `10`.
     /// Fails where memory runs out.
+    #[inline]
     pub fn u64_unsuffixed(alloc: Global, value: u64) -> Result<Literal, AllocError>
     {
         Literal::u128_unsuffixed(alloc, u128::from(value))
@@ -116,6 +180,7 @@ impl Literal {
 
     /// The literal of the number, without its type, with the span 0..0. For 7 it is `7`.
     /// Fails where memory runs out.
+    #[inline]
     pub fn u128_unsuffixed(alloc: Global, value: u128) -> Result<Literal, AllocError>
     {
         unsigned(alloc, value, Suffix::Nothing)
@@ -123,6 +188,7 @@ impl Literal {
 
     /// The literal of the number, without its type, with the span 0..0. For 0 it is `0`.
     /// Fails where memory runs out.
+    #[inline]
     pub fn usize_unsuffixed(alloc: Global, value: usize) -> Result<Literal, AllocError>
     {
         unsigned(alloc, value as u128, Suffix::Nothing)
@@ -130,6 +196,7 @@ impl Literal {
 
     /// The literal of the number and `u8`, with the span 0..0. For 255 it is `255u8`.
     /// Fails where memory runs out.
+    #[inline]
     pub fn u8_suffixed(alloc: Global, value: u8) -> Result<Literal, AllocError>
     {
         unsigned(alloc, u128::from(value), Suffix::U8)
@@ -137,6 +204,7 @@ impl Literal {
 
     /// The literal of the number and `u16`, with the span 0..0. For 65535 it is `65535u16`.
     /// Fails where memory runs out.
+    #[inline]
     pub fn u16_suffixed(alloc: Global, value: u16) -> Result<Literal, AllocError>
     {
         unsigned(alloc, u128::from(value), Suffix::U16)
@@ -144,6 +212,7 @@ impl Literal {
 
     /// The literal of the number and `u32`, with the span 0..0. For 3 it is `3u32`.
     /// Fails where memory runs out.
+    #[inline]
     pub fn u32_suffixed(alloc: Global, value: u32) -> Result<Literal, AllocError>
     {
         unsigned(alloc, u128::from(value), Suffix::U32)
@@ -151,6 +220,7 @@ impl Literal {
 
     /// The literal of the number and `u64`, with the span 0..0. For 10 it is `10u64`.
     /// Fails where memory runs out.
+    #[inline]
     pub fn u64_suffixed(alloc: Global, value: u64) -> Result<Literal, AllocError>
     {
         unsigned(alloc, u128::from(value), Suffix::U64)
@@ -158,6 +228,7 @@ impl Literal {
 
     /// The literal of the number and `u128`, with the span 0..0. For 7 it is `7u128`.
     /// Fails where memory runs out.
+    #[inline]
     pub fn u128_suffixed(alloc: Global, value: u128) -> Result<Literal, AllocError>
     {
         unsigned(alloc, value, Suffix::U128)
@@ -165,6 +236,7 @@ impl Literal {
 
     /// The literal of the number and `usize`, with the span 0..0. For 0 it is `0usize`.
     /// Fails where memory runs out.
+    #[inline]
     pub fn usize_suffixed(alloc: Global, value: usize) -> Result<Literal, AllocError>
     {
         unsigned(alloc, value as u128, Suffix::Usize)
@@ -172,6 +244,7 @@ impl Literal {
 
     /// The literal of the number, without its type, with the span 0..0. For -128 it is `-128`.
     /// Fails where memory runs out.
+    #[inline]
     pub fn i8_unsuffixed(alloc: Global, value: i8) -> Result<Literal, AllocError>
     {
         Literal::i16_unsuffixed(alloc, i16::from(value))
@@ -179,6 +252,7 @@ impl Literal {
 
     /// The literal of the number, without its type, with the span 0..0. For -3 it is `-3`.
     /// Fails where memory runs out.
+    #[inline]
     pub fn i16_unsuffixed(alloc: Global, value: i16) -> Result<Literal, AllocError>
     {
         Literal::i32_unsuffixed(alloc, i32::from(value))
@@ -186,6 +260,7 @@ impl Literal {
 
     /// The literal of the number, without its type, with the span 0..0. For -3 it is `-3`.
     /// Fails where memory runs out.
+    #[inline]
     pub fn i32_unsuffixed(alloc: Global, value: i32) -> Result<Literal, AllocError>
     {
         Literal::i64_unsuffixed(alloc, i64::from(value))
@@ -193,6 +268,7 @@ impl Literal {
 
     /// The literal of the number, without its type, with the span 0..0. For 12 it is `12`.
     /// Fails where memory runs out.
+    #[inline]
     pub fn i64_unsuffixed(alloc: Global, value: i64) -> Result<Literal, AllocError>
     {
         Literal::i128_unsuffixed(alloc, i128::from(value))
@@ -200,6 +276,7 @@ impl Literal {
 
     /// The literal of the number, without its type, with the span 0..0. For -1 it is `-1`.
     /// Fails where memory runs out.
+    #[inline]
     pub fn i128_unsuffixed(alloc: Global, value: i128) -> Result<Literal, AllocError>
     {
         signed(alloc, value, Suffix::Nothing)
@@ -207,6 +284,7 @@ impl Literal {
 
     /// The literal of the number, without its type, with the span 0..0. For 0 it is `0`.
     /// Fails where memory runs out.
+    #[inline]
     pub fn isize_unsuffixed(alloc: Global, value: isize) -> Result<Literal, AllocError>
     {
         signed(alloc, value as i128, Suffix::Nothing)
@@ -214,6 +292,7 @@ impl Literal {
 
     /// The literal of the number and `i8`, with the span 0..0. For -128 it is `-128i8`.
     /// Fails where memory runs out.
+    #[inline]
     pub fn i8_suffixed(alloc: Global, value: i8) -> Result<Literal, AllocError>
     {
         signed(alloc, i128::from(value), Suffix::I8)
@@ -221,6 +300,7 @@ impl Literal {
 
     /// The literal of the number and `i16`, with the span 0..0. For -3 it is `-3i16`.
     /// Fails where memory runs out.
+    #[inline]
     pub fn i16_suffixed(alloc: Global, value: i16) -> Result<Literal, AllocError>
     {
         signed(alloc, i128::from(value), Suffix::I16)
@@ -228,6 +308,7 @@ impl Literal {
 
     /// The literal of the number and `i32`, with the span 0..0. For -3 it is `-3i32`.
     /// Fails where memory runs out.
+    #[inline]
     pub fn i32_suffixed(alloc: Global, value: i32) -> Result<Literal, AllocError>
     {
         signed(alloc, i128::from(value), Suffix::I32)
@@ -235,6 +316,7 @@ impl Literal {
 
     /// The literal of the number and `i64`, with the span 0..0. For 12 it is `12i64`.
     /// Fails where memory runs out.
+    #[inline]
     pub fn i64_suffixed(alloc: Global, value: i64) -> Result<Literal, AllocError>
     {
         signed(alloc, i128::from(value), Suffix::I64)
@@ -242,6 +324,7 @@ impl Literal {
 
     /// The literal of the number and `i128`, with the span 0..0. For -1 it is `-1i128`.
     /// Fails where memory runs out.
+    #[inline]
     pub fn i128_suffixed(alloc: Global, value: i128) -> Result<Literal, AllocError>
     {
         signed(alloc, value, Suffix::I128)
@@ -249,6 +332,7 @@ impl Literal {
 
     /// The literal of the number and `isize`, with the span 0..0. For 0 it is `0isize`.
     /// Fails where memory runs out.
+    #[inline]
     pub fn isize_suffixed(alloc: Global, value: isize) -> Result<Literal, AllocError>
     {
         signed(alloc, value as i128, Suffix::Isize)

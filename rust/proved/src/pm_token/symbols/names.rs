@@ -1,31 +1,53 @@
 // Made from crates/pm_token/src/symbols/names.rt by rust/erase: change that file, not this one.
 //! Names, raw and plain.
 
-use crate::shim::prelude::{Box, Clone, String};
+use crate::shim::prelude::Clone;
 
-use super::Text;
-use super::short::Short;
+use super::short::{ROOM, Short};
 use crate::shim::alloc::{AllocError, Global};
 use crate::shim::fmt;
+use crate::shim::rc::RcStr;
 
-/// A plain or a raw name, short or long. One enum tells all four apart, so a name is as long as a text.
+/// A plain or a raw name, short or long. One enum tells all four apart, so a name is as long as a text. Copies of a
+/// long name share it.
 enum NameText {
     Short(Short),
-    Long(Box<String>),
+    Long(RcStr),
     RawShort(Short),
-    RawLong(Box<String>),
+    RawLong(RcStr),
 }
 
 impl NameText {
-    /// The text as a name.
-    fn new(text: Text, raw: bool) -> NameText
+    /// A copy of a short text as a name.
+    #[inline(always)]
+    fn short(text: &str, raw: bool) -> NameText
     {
-        match text {
-            Text::Short(text) if raw => NameText::RawShort(text),
-            Text::Short(text) => NameText::Short(text),
-            Text::Long(text) if raw => NameText::RawLong(text),
-            Text::Long(text) => NameText::Long(text),
+        if raw {
+            NameText::RawShort(Short::new(text))
+        } else {
+            NameText::Short(Short::new(text))
         }
+    }
+
+    /// The text as a name.
+    fn long(text: RcStr, raw: bool) -> NameText
+    {
+        if raw {
+            NameText::RawLong(text)
+        } else {
+            NameText::Long(text)
+        }
+    }
+
+    /// The text as a name that shares it. It takes no memory, and fails where a long one has more owners than can be
+    /// counted.
+    fn shared(text: &RcStr, raw: bool) -> Result<NameText, AllocError>
+    {
+        let name = text.as_str();
+        if name.len() <= ROOM {
+            return Ok(NameText::short(name, raw));
+        }
+        Ok(NameText::long(text.clone()?, raw))
     }
 }
 
@@ -36,14 +58,19 @@ pub struct Name {
 
 impl Name {
     /// Keeps a copy of the name. Fails where memory runs out.
+    #[inline(always)]
     pub fn new(alloc: Global, name: &str, raw: bool) -> Result<Name, AllocError>
     {
-        Ok(Name {
-            text: NameText::new(Text::new(alloc, name)?, raw),
-        })
+        let text = if name.len() <= ROOM {
+            NameText::short(name, raw)
+        } else {
+            NameText::long(RcStr::from_str(alloc, name)?, raw)
+        };
+        Ok(Name { text })
     }
 
     /// The name, without `r#`.
+    #[inline(always)]
     pub fn as_str(&self) -> &str
     {
         match &self.text {
@@ -52,7 +79,18 @@ impl Name {
         }
     }
 
+    /// The bytes of the name, without `r#`. Names are compared by them.
+    #[inline(always)]
+    pub fn as_bytes(&self) -> &[u8]
+    {
+        match &self.text {
+            NameText::Short(name) | NameText::RawShort(name) => name.as_bytes(),
+            NameText::Long(name) | NameText::RawLong(name) => name.as_str().as_bytes(),
+        }
+    }
+
     /// Whether it is raw.
+    #[inline(always)]
     pub fn is_raw(&self) -> bool
     {
         match &self.text {
@@ -62,18 +100,17 @@ impl Name {
     }
 }
 
-/// The same name. A long one fails where memory runs out.
+/// The same name, which a long one shares. It fails where that has more owners than can be counted.
 impl Clone for Name {
+    #[inline(always)]
     fn clone(&self) -> Result<Name, AllocError> {
         let text = match &self.text {
-            NameText::Short(name) | NameText::RawShort(name) => Text::Short(name.copy()),
-            NameText::Long(name) | NameText::RawLong(name) => {
-                Text::new(*name.allocator(), name.as_str())?
-            }
+            NameText::Short(name) => NameText::Short(name.copy()),
+            NameText::RawShort(name) => NameText::RawShort(name.copy()),
+            NameText::Long(name) => NameText::shared(name, false)?,
+            NameText::RawLong(name) => NameText::shared(name, true)?,
         };
-        Ok(Name {
-            text: NameText::new(text, self.is_raw()),
-        })
+        Ok(Name { text })
     }
 }
 

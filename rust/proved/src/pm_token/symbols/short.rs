@@ -14,6 +14,7 @@ pub(crate) struct Short {
 
 impl Short {
     /// A copy of the text.
+    #[inline(always)]
     pub(crate) fn new(text: &str) -> Short
     {
         let mut bytes = [0; ROOM];
@@ -24,7 +25,29 @@ impl Short {
         }
     }
 
+    /// A copy of both texts, one after the other.
+    #[inline(always)]
+    pub(crate) fn joined(front: &str, back: &str) -> Short
+    {
+        let end = front.len() + back.len();
+        let mut bytes = [0; ROOM];
+        bytes[..front.len()].copy_from_slice(front.as_bytes());
+        bytes[front.len()..end].copy_from_slice(back.as_bytes());
+        Short {
+            len: end as u8,
+            bytes,
+        }
+    }
+
+    /// The bytes of the text.
+    #[inline(always)]
+    pub(crate) fn as_bytes(&self) -> &[u8]
+    {
+        &self.bytes[..self.len as usize]
+    }
+
     /// The text.
+    #[inline(always)]
     pub(crate) fn as_str(&self) -> &str
     {
         // The invariant says that the bytes are UTF-8, so they aren't looked at again.
@@ -42,6 +65,7 @@ impl Short {
     }
 
     /// The same text.
+    #[inline(always)]
     pub(crate) fn copy(&self) -> Short
     {
         Short {

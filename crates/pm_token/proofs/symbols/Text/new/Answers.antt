@@ -3,14 +3,8 @@ use Rattle.std.proofs.lemmas.Str.{encodes-chars}
 use Rattle.pm_token.specs.declared.symbols.short.TheConstants.{ROOM}
 use Rattle.pm_token.proofs.symbols.Text.new.Goals as goal
 
-pub returns-in_err-from_str-clause-short : goal.returns-in_err-from_str-clause-short
-returns-in_err-from_str-clause-short c = λ short.
-    let fits : length c.args.text.now ≤ ROOM =
-    subst (λ bytes. length bytes ≤ ROOM) (encodes-chars _ c.utf8.text) short in
-    search rules
-
-pub returns-in_err-new-clause-short : goal.returns-in_err-new-clause-short
-returns-in_err-new-clause-short c = λ short.
+pub returns-in_err-long-clause-short : goal.returns-in_err-long-clause-short
+returns-in_err-long-clause-short c = λ short.
     let fits : length c.args.text.now ≤ ROOM =
     subst (λ bytes. length bytes ≤ ROOM) (encodes-chars _ c.utf8.text) short in
     search rules

@@ -6,8 +6,9 @@ use Rattle.pm_token.proofs.identifiers.comparisons.IdentPartialEq.eq.Goals as go
 
 pub returns-then-raw-is_raw-clause-value : goal.returns-then-raw-is_raw-clause-value
 returns-then-raw-is_raw-clause-value c =
-    let own = name_of _ c.self.view_is c.as_str-name.ensures c.as_str-name.utf8 c.self.invariant in
-    let other = name_of _ c.other.view_is c.as_str-other_name.ensures c.as_str-other_name.utf8 c.other.invariant in
+    let own = name_of _ c.self.view_is c.as_bytes-name.ensures.value c.as_bytes-name.ensures.utf8 c.self.invariant in
+    let other = name_of _ c.other.view_is c.as_bytes-other_name.ensures.value c.as_bytes-other_name.ensures.utf8
+    c.other.invariant in
     let alike : c.args.self.now.raw ≡ c.args.other.now.raw =
     sym (ap (λ x. x.raw) c.self.view_is)
     ∙ (sym c.is_raw-raw.ensures
@@ -16,8 +17,9 @@ returns-then-raw-is_raw-clause-value c =
 
 pub returns-then-raw-is_raw-clause-fields : goal.returns-then-raw-is_raw-clause-fields
 returns-then-raw-is_raw-clause-fields c =
-    let own = name_of _ c.self.view_is c.as_str-name.ensures c.as_str-name.utf8 c.self.invariant in
-    let other = name_of _ c.other.view_is c.as_str-other_name.ensures c.as_str-other_name.utf8 c.other.invariant in
+    let own = name_of _ c.self.view_is c.as_bytes-name.ensures.value c.as_bytes-name.ensures.utf8 c.self.invariant in
+    let other = name_of _ c.other.view_is c.as_bytes-other_name.ensures.value c.as_bytes-other_name.ensures.utf8
+    c.other.invariant in
     let alike : c.args.self.now.raw ≡ c.args.other.now.raw =
     sym (ap (λ x. x.raw) c.self.view_is)
     ∙ (sym c.is_raw-raw.ensures
@@ -30,8 +32,9 @@ returns-then-raw-is_raw-clause-text c =
 
 pub returns-clause-value : goal.returns-clause-value
 returns-clause-value c =
-    let own = name_of _ c.self.view_is c.as_str-name.ensures c.as_str-name.utf8 c.self.invariant in
-    let other = name_of _ c.other.view_is c.as_str-other_name.ensures c.as_str-other_name.utf8 c.other.invariant in
+    let own = name_of _ c.self.view_is c.as_bytes-name.ensures.value c.as_bytes-name.ensures.utf8 c.self.invariant in
+    let other = name_of _ c.other.view_is c.as_bytes-other_name.ensures.value c.as_bytes-other_name.ensures.utf8
+    c.other.invariant in
     let differ : c.args.self.now.raw ≢ c.args.other.now.raw =
     λ e. both_ways _ c.if-raw-is_raw.false
     ((booleans_Decides _ _).1

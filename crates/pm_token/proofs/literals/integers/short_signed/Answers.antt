@@ -1,0 +1,16 @@
+use Rattle.std.proofs.Common.{◌≡◌, ◌++◌, ap, ap₂, ◌∙◌}
+use Rattle.std.specs.Fmt.{signed_decimal}
+use Rattle.std.specs.Int.{w64}
+use Rattle.std.proofs.lemmas.Int.{to_z-of_z}
+use Rattle.std.specs.Str.{chars}
+use Rattle.pm_token.proofs.IntegerLemmas.{chars_signed, fits_wide}
+use Rattle.pm_token.proofs.literals.integers.short_signed.Goals as goal
+
+pub returns : goal.returns
+returns c = record {
+  value = c.in_ok-text.ensures.value
+      ∙ (ap chars (ap₂ (λ xs ys. xs ++ ys) (c.format.ensures.text ∙ ap signed_decimal (to_z-of_z w64 c.args.value c.ranges.value))
+      c.name.ensures)
+      ∙ chars_signed c.args.value c.args.suffix (fits_wide c.args.value c.ranges.value));
+  text = c.in_ok-text.ensures.text;
+}

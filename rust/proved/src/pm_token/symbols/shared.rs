@@ -1,0 +1,46 @@
+// Made from crates/pm_token/src/symbols/shared.rt by rust/erase: change that file, not this one.
+//! Long texts, which their copies share.
+
+use crate::shim::prelude::{Clone, String};
+
+use crate::shim::alloc::{AllocError, Global};
+use crate::shim::rc::RcStr;
+
+/// A long text that doesn't begin with `-`. Its copies share it.
+pub(crate) struct Shared {
+    text: RcStr,
+}
+
+impl Shared {
+    /// A copy of the text. Fails where memory runs out.
+    pub(crate) fn new(alloc: Global, text: &str) -> Result<Shared, AllocError>
+    {
+        Ok(Shared {
+            text: RcStr::from_str(alloc, text)?,
+        })
+    }
+
+    /// The text itself. Fails where memory runs out.
+    pub(crate) fn from_string(text: String) -> Result<Shared, AllocError>
+    {
+        Ok(Shared {
+            text: RcStr::from_string(text)?,
+        })
+    }
+
+    /// The text.
+    #[inline(always)]
+    pub(crate) fn as_str(&self) -> &str
+    {
+        self.text.as_str()
+    }
+
+    /// The same text. It takes no memory, and fails where the text has more owners than can be counted.
+    #[inline(always)]
+    pub(crate) fn share(&self) -> Result<Shared, AllocError>
+    {
+        Ok(Shared {
+            text: self.text.clone()?,
+        })
+    }
+}
