@@ -1,5 +1,6 @@
 -- What was put into a buffer, with one step more, and how it ends.
-use Rattle.std.proofs.Common.{◌≡◌, ◌≢◌, ℕ, ◌+◌, ◌-◌, ◌<◌, ◌^◌, Bool, true, false, List, [], ◌∷◌, ◌++◌, length, reverse, codes}
+use Rattle.std.proofs.Common.{◌≡◌, ◌≢◌, ℕ, ◌+◌, ◌-◌, ◌<◌, ◌^◌, Bool, true, false, List, [], ◌∷◌, ◌++◌, length, reverse}
+use Rattle.std.proofs.Common.{codes}
 use Rattle.std.proofs.Common.{refl, sym, ap, ap₂, ◌∙◌, subst, arith, append_assoc, length-append}
 use Rattle.std.proofs.Common.{◌⊎◌, inl, inr, Result, Ok, Err, IfOk, IfErr}
 use Rattle.std.proofs.Math.ListN.{set}
@@ -163,7 +164,8 @@ fills_close_of text old new d hi inside frame was same size grown (x ∷ groups)
       trees_now = joined x.outer (group d x.lo hi trees nil);
       fills = subst (λ es. AreEntries text (reverse new.groups.items) groups es
           (joined x.outer (group d x.lo hi trees nil))) (sym now)
-          (filled-joined text (reverse new.groups.items) groups before closed x.outer (group d x.lo hi trees nil) split.3
+          (filled-joined text (reverse new.groups.items) groups before closed x.outer
+          (group d x.lo hi trees nil) split.3
           (holds-group text inner d x.lo hi inside trees at.holds counted));
       grows = unclosed-joined groups x.outer (group d x.lo hi trees nil) []
           ∙ ap (λ e. unclosed_onto groups x.outer (Opens e x.lo ∷ flat_onto trees (Closes d hi ∷ []))) (sym fits);
@@ -193,7 +195,8 @@ index_of text old frame frames was (x ∷ groups) trees h =
       split.2.index,
     )
 
-pub index_fits : (old : Filling) (frame : OpenGroup) (frames : List OpenGroup) → reverse old.groups.items ≡ frame ∷ frames
+pub index_fits : (old : Filling) (frame : OpenGroup) (frames : List OpenGroup)
+    → reverse old.groups.items ≡ frame ∷ frames
     → IsFilling old → frame.index < length old.entries.items
 index_fits old frame frames was h = index_of h.text old frame frames was h.groups h.trees h.fills
 
@@ -233,7 +236,9 @@ holds_doc true text said closing lo hi at end cut ends room = record {
   events = ap (λ event. One hash at end ∷ One bang at end ∷ Opens Bracket at ∷ One (Name false (codes "doc")) at end
       ∷ One equals at end ∷ event ∷ Closes Bracket end ∷ []) (doc_literal text said closing lo hi at end cut ends);
   counted = refl;
-  within = (tt, (tt, (tt, (tt, (tt, ((cut.within, doc_room text said closing lo hi at end cut ends room), (tt, tt)))))));
+  within =
+      let fits = doc_room text said closing lo hi at end cut ends room in
+      (tt, (tt, (tt, (tt, (tt, ((cut.within, fits), (tt, tt)))))));
 }
 holds_doc false text said closing lo hi at end cut ends room = record {
   events = ap (λ event. One hash at end ∷ Opens Bracket at ∷ One (Name false (codes "doc")) at end
@@ -248,7 +253,8 @@ pub fills_doc : (text said passed p rest : List ℕ) (old new : Filling) (inner 
     → begin ≡ lo + 3 → hi ≡ begin + length (encode_utf8_all said)
     → closed ≡ length (encode_utf8_all p) - 3 - length (encode_utf8_all said) → end ≡ at + length p → end < 2 ^ 32
     → FillsEvents text old new (doc_onto at end inner said [])
-fills_doc text said passed p rest old new inner closed lo hi begin at end same grown utf8 e begins doc from to size ends room =
+fills_doc text said passed p rest old new inner closed lo hi begin at end same grown utf8 e begins doc from to size
+    ends room =
     let parts = doc_parts inner said p rest doc in
     let cut : IsCutAs text said begin hi =
     subst (λ n. IsCutAs text said n hi) (sym from)
@@ -297,7 +303,8 @@ filled_none base text new groups none = record {
   reads = reads_none base (chars text);
 }
 
-pub filled_on : (base : ℕ) (text mid tail rest : List ℕ) (at count : ℕ) (first : Bool) (old new : Filling) (piece : Found)
+pub filled_on : (base : ℕ) (text mid tail rest : List ℕ) (at count : ℕ) (first : Bool) (old new : Filling)
+    (piece : Found)
     → (h : FilledTo base text mid at first old) → (found : IsPieceAt first mid piece) → tail ≡ found.rest
     → FillsEvents text old new (events_onto at (kind_of piece.kind found.front) found.front [])
     → IsPastWhite tail rest count

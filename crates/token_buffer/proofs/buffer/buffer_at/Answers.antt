@@ -32,7 +32,8 @@ take-requires-clause-bytes c =
     let filled = c.loop-piece.invariant.filled in
     let len = front_len c.args.text.now c.loop-piece.rest.now filled.passed c.utf8.text c.loop-piece.invariant.utf8
     filled.split in
-    let fits = piece_boundary _ c.loop-piece.rest.now c.in-Some.piece c.loop-piece.invariant.utf8 c.in-Some.ensures.found
+    let fits =
+    piece_boundary _ c.loop-piece.rest.now c.in-Some.piece c.loop-piece.invariant.utf8 c.in-Some.ensures.found
     in
     omega (arith, len, fits.0, c.requires.bytes)
 
@@ -93,7 +94,8 @@ loop-piece-preserved c =
       utf8 = c.past_white-white.ensures.utf8;
       left = omega (arith, c.loop-piece.invariant.left);
       filled = filled_on c.args.base c.args.text.now _ _ _ _ _ _ _ _ c.in-Some.piece filled found tail
-          (c.in_ok-take.ensures.ok _ c.args.text.now filled.passed _ c.utf8.text filled.split (omega (arith, len)) found)
+          (c.in_ok-take.ensures.ok _ c.args.text.now filled.passed _ c.utf8.text filled.split (omega (arith, len))
+          found)
           c.past_white-white.ensures.passed;
     }
 
