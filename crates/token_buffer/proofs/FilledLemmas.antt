@@ -1,6 +1,6 @@
 -- What was put into a buffer, with one step more, and how it ends.
-use Rattle.std.proofs.Common.{◌≡◌, ◌≢◌, ℕ, ◌+◌, ◌-◌, ◌<◌, ◌^◌, Bool, true, false, List, [], ◌∷◌, ◌++◌, length, reverse}
-use Rattle.std.proofs.Common.{codes}
+use Rattle.std.proofs.Common.{◌≡◌, ◌≢◌, ℕ, ◌+◌, ◌-◌, ◌<◌, ◌≤◌, ◌^◌, Bool, true, false, List, [], ◌∷◌, ◌++◌, length}
+use Rattle.std.proofs.Common.{codes, reverse}
 use Rattle.std.proofs.Common.{refl, sym, ap, ap₂, ◌∙◌, subst, arith, append_assoc, length-append}
 use Rattle.std.proofs.Common.{◌⊎◌, inl, inr, Result, Ok, Err, IfOk, IfErr}
 use Rattle.std.proofs.Math.ListN.{set}
@@ -27,7 +27,7 @@ use Rattle.pm_stream.specs.Forest.{Forest, nil, leaf, group, flat_onto, flatteni
 use Rattle.pm_stream.specs.Parsing.{ParsesTo, HasNoFault, IsOnlyFault}
 use Rattle.pm_stream.specs.OpenGroups.{Opened, unclosed_onto}
 use Rattle.pm_stream.proofs.DocLemmas.{doc_trees, doc_trees-events}
-use Rattle.pm_stream.proofs.EventLemmas.{unclosed-joined}
+use Rattle.pm_stream.proofs.EventLemmas.{unclosed-append, unclosed-joined}
 use Rattle.pm_stream.proofs.LawLemmas.{parsed_faultless, refused_only}
 use Rattle.pm_stream.proofs.ParseLemmas.{reads_on, fault_stray, ends_ok, ends_refused}
 use Rattle.pm_stream.proofs.ParserLemmas.{Reads, reads_none}
@@ -35,7 +35,8 @@ use Rattle.token_buffer.specs.Entries.{event_of, end_of, count_of, IsWithin}
 use Rattle.token_buffer.specs.Filled.{AreEntries, Fills, FillsMore, FillsEvents, IsFilling}
 use Rattle.token_buffer.specs.Held.{Holds}
 use Rattle.token_buffer.specs.Left.{trees_of}
-use Rattle.token_buffer.specs.Refused.{IfParse}
+use Rattle.token_buffer.specs.Many.{HasManyTokens}
+use Rattle.token_buffer.specs.Refused.{IfParse, IfTooLong}
 use Rattle.token_buffer.specs.declared.errors.BufferError.{BufferError}
 use Rattle.token_buffer.specs.declared.errors.BufferError.TheVariants.{Parse, TooLong}
 use Rattle.token_buffer.specs.declared.entry.Entry.{Entry}
@@ -43,7 +44,8 @@ use Rattle.token_buffer.specs.declared.entry.Entry.TheVariants as entries
 use Rattle.token_buffer.specs.declared.filling.Filling.{Filling}
 use Rattle.token_buffer.specs.declared.filling.OpenGroup.{OpenGroup}
 use Rattle.token_buffer.proofs.CutLemmas.{IsCutAs, doc_parts, doc_cut, literal_cut, name_cut, name_front}
-use Rattle.token_buffer.proofs.HeldLemmas.{holds-nil, holds-joined, holds-leaf, holds-group, holds_own, trees_are}
+use Rattle.token_buffer.proofs.HeldLemmas.{held_length, holds-nil, holds-joined}
+use Rattle.token_buffer.proofs.HeldLemmas.{holds-leaf, holds-group, holds_own, trees_are}
 
 -- ---- more entries
 
@@ -460,3 +462,55 @@ pub only_refused : (base begin : ℕ) (source : List ℕ) (result : Result Fores
 only_refused base begin source (Ok trees) e h = tt
 only_refused base begin source (Err (Parse error)) e h = refused_only {A = Forest} base begin source (Err error) e h
 only_refused base begin source (Err TooLong) e h = tt
+
+-- ---- how many entries there are
+
+entries_length : (text : List ℕ) (frames : List OpenGroup) (groups : List Opened) (all : List Entry) (trees : Forest)
+    → AreEntries text frames groups all trees → length all ≡ length (unclosed_onto groups trees [])
+entries_length text [] [] all trees h = held_length text all trees h
+entries_length text [] (x ∷ groups) all trees h = absurd h
+entries_length text (frame ∷ frames) [] all trees h = absurd h
+entries_length text (frame ∷ frames) (x ∷ groups) all trees h =
+    let outer : length h.0 ≡ length (unclosed_onto groups x.outer []) =
+    entries_length text frames groups h.0 x.outer h.3 in
+    let inner : length h.1 ≡ length (flattening trees) = held_length text h.1 trees h.2.holds in
+    let split : unclosed_onto groups x.outer (Opens x.delimiter x.lo ∷ flattening trees)
+    ≡ unclosed_onto groups x.outer [] ++ (Opens x.delimiter x.lo ∷ flattening trees) =
+    unclosed-append groups x.outer [] (Opens x.delimiter x.lo ∷ flattening trees) in
+    omega (
+      arith,
+      ap length h.2.whole,
+      length-append h.0 (entries.Open x.delimiter x.lo 0 ∷ h.1),
+      ap length split,
+      length-append (unclosed_onto groups x.outer []) (Opens x.delimiter x.lo ∷ flattening trees),
+    )
+
+pub many_read : (base : ℕ) (text rest : List ℕ) (at : ℕ) (first : Bool) (filling : Filling) (error : BufferError)
+    → FilledTo base text rest at first filling
+    → IfTooLong error (2 ^ 32 ≤ length filling.entries.items) → IfTooLong error (HasManyTokens base (chars text))
+many_read base text rest at first filling (Parse error) h many = tt
+many_read base text rest at first filling TooLong h many =
+    let size = entries_length text (reverse filling.groups.items) h.groups filling.entries.items h.trees h.fills in
+    record {
+      pieces = h.reads.pieces;
+      rest = rest;
+      covers = h.reads.covers;
+      many = omega (arith, many, size, ap length h.reads.expands);
+    }
+
+pub few_held : (text : List ℕ) (all : List Entry) (trees : Forest) → Holds text all trees → length all < 2 ^ 32
+    → length (flattening trees) < 2 ^ 32
+few_held text all trees h few = omega (arith, few, held_length text all trees h)
+
+pub few_read : (size : ℕ) (result : Result Forest BufferError) → size < 2 ^ 32
+    → IfOk result (λ trees. length (flattening trees) < 2 ^ 32)
+    → IfOk result (λ trees. (size < 2 ^ 32) × (length (flattening trees) < 2 ^ 32))
+few_read size (Ok trees) short few = (short, few)
+few_read size (Err error) short few = tt
+
+pub too_many : (base begin : ℕ) (source : List ℕ) (other : Type 0) (result : Result Forest BufferError) → base ≡ begin
+    → IfErr result (λ error. IfTooLong error (HasManyTokens base source))
+    → IfErr result (λ error. IfTooLong error (other ⊎ HasManyTokens begin source))
+too_many base begin source other (Ok trees) e h = tt
+too_many base begin source other (Err (Parse error)) e h = tt
+too_many base begin source other (Err TooLong) e h = inr (subst (λ n. HasManyTokens n source) e h)
