@@ -56,7 +56,8 @@ rising_doc_group : (lo hi : ℕ) (text : List ℕ) (es : List Event) → lo ≤ 
     → Rising lo (doc_group_onto lo hi text es)
 rising_doc_group lo hi text es within all h =
     let same : lo ≤ lo = omega arith in
-    (same, (doc_name_built, same, within, (refl, same, within, (escaped.doc_built text all, same, within, (within, h)))))
+    let literal = escaped.doc_built text all in
+    (same, (doc_name_built, same, within, (refl, same, within, (literal, same, within, (within, h)))))
 
 rising_doc : (lo hi : ℕ) (inner : Bool) (text : List ℕ) (es : List Event) → lo ≤ hi → IsText text → Rising hi es
     → Rising lo (doc_onto lo hi inner text es)

@@ -88,7 +88,8 @@ name_cut first text passed source lo piece raw name utf8 e begins found is =
     = e ∙ (ap (λ x. passed ++ x) (found.whole ∙ (ap (λ x. x ++ found.rest)
     (name_front first source piece raw name found is) ∙ append_assoc front (chars name.now) found.rest))
     ∙ sym (append_assoc passed front (chars name.now ++ found.rest))) in
-    let size : length (encode_utf8_all (passed ++ front)) ≡ length (encode_utf8_all passed) + length (encode_utf8_all front)
+    let size : length (encode_utf8_all (passed ++ front))
+    ≡ length (encode_utf8_all passed) + length (encode_utf8_all front)
     = ap length (encodes-append passed front) ∙ length-append (encode_utf8_all passed) (encode_utf8_all front) in
     let own : length (encode_utf8_all (chars name.now)) ≡ length name.now = ap length bytes.0 in
     cut_at text (passed ++ front) (chars name.now) found.rest (lo + piece.bytes - length name.now) (lo + piece.bytes)

@@ -1,5 +1,6 @@
 -- What was put into a buffer, with one step more, and how it ends.
-use Rattle.std.proofs.Common.{◌≡◌, ◌≢◌, ℕ, ◌+◌, ◌-◌, ◌<◌, ◌^◌, Bool, true, false, List, [], ◌∷◌, ◌++◌, length, reverse, codes}
+use Rattle.std.proofs.Common.{◌≡◌, ◌≢◌, ℕ, ◌+◌, ◌-◌, ◌<◌, ◌≤◌, ◌^◌, Bool, true, false, List, [], ◌∷◌, ◌++◌, length}
+use Rattle.std.proofs.Common.{codes, reverse}
 use Rattle.std.proofs.Common.{refl, sym, ap, ap₂, ◌∙◌, subst, arith, append_assoc, length-append}
 use Rattle.std.proofs.Common.{◌⊎◌, inl, inr, Result, Ok, Err, IfOk, IfErr}
 use Rattle.std.proofs.Math.ListN.{set}
@@ -26,7 +27,7 @@ use Rattle.pm_stream.specs.Forest.{Forest, nil, leaf, group, flat_onto, flatteni
 use Rattle.pm_stream.specs.Parsing.{ParsesTo, HasNoFault, IsOnlyFault}
 use Rattle.pm_stream.specs.OpenGroups.{Opened, unclosed_onto}
 use Rattle.pm_stream.proofs.DocLemmas.{doc_trees, doc_trees-events}
-use Rattle.pm_stream.proofs.EventLemmas.{unclosed-joined}
+use Rattle.pm_stream.proofs.EventLemmas.{unclosed-append, unclosed-joined}
 use Rattle.pm_stream.proofs.LawLemmas.{parsed_faultless, refused_only}
 use Rattle.pm_stream.proofs.ParseLemmas.{reads_on, fault_stray, ends_ok, ends_refused}
 use Rattle.pm_stream.proofs.ParserLemmas.{Reads, reads_none}
@@ -34,7 +35,8 @@ use Rattle.token_buffer.specs.Entries.{event_of, end_of, count_of, IsWithin}
 use Rattle.token_buffer.specs.Filled.{AreEntries, Fills, FillsMore, FillsEvents, IsFilling}
 use Rattle.token_buffer.specs.Held.{Holds}
 use Rattle.token_buffer.specs.Left.{trees_of}
-use Rattle.token_buffer.specs.Refused.{IfParse}
+use Rattle.token_buffer.specs.Many.{HasManyTokens}
+use Rattle.token_buffer.specs.Refused.{IfParse, IfTooLong}
 use Rattle.token_buffer.specs.declared.errors.BufferError.{BufferError}
 use Rattle.token_buffer.specs.declared.errors.BufferError.TheVariants.{Parse, TooLong}
 use Rattle.token_buffer.specs.declared.entry.Entry.{Entry}
@@ -42,7 +44,8 @@ use Rattle.token_buffer.specs.declared.entry.Entry.TheVariants as entries
 use Rattle.token_buffer.specs.declared.filling.Filling.{Filling}
 use Rattle.token_buffer.specs.declared.filling.OpenGroup.{OpenGroup}
 use Rattle.token_buffer.proofs.CutLemmas.{IsCutAs, doc_parts, doc_cut, literal_cut, name_cut, name_front}
-use Rattle.token_buffer.proofs.HeldLemmas.{holds-nil, holds-joined, holds-leaf, holds-group, holds_own, trees_are}
+use Rattle.token_buffer.proofs.HeldLemmas.{held_length, holds-nil, holds-joined}
+use Rattle.token_buffer.proofs.HeldLemmas.{holds-leaf, holds-group, holds_own, trees_are}
 
 -- ---- more entries
 
@@ -163,7 +166,8 @@ fills_close_of text old new d hi inside frame was same size grown (x ∷ groups)
       trees_now = joined x.outer (group d x.lo hi trees nil);
       fills = subst (λ es. AreEntries text (reverse new.groups.items) groups es
           (joined x.outer (group d x.lo hi trees nil))) (sym now)
-          (filled-joined text (reverse new.groups.items) groups before closed x.outer (group d x.lo hi trees nil) split.3
+          (filled-joined text (reverse new.groups.items) groups before closed x.outer
+          (group d x.lo hi trees nil) split.3
           (holds-group text inner d x.lo hi inside trees at.holds counted));
       grows = unclosed-joined groups x.outer (group d x.lo hi trees nil) []
           ∙ ap (λ e. unclosed_onto groups x.outer (Opens e x.lo ∷ flat_onto trees (Closes d hi ∷ []))) (sym fits);
@@ -193,7 +197,8 @@ index_of text old frame frames was (x ∷ groups) trees h =
       split.2.index,
     )
 
-pub index_fits : (old : Filling) (frame : OpenGroup) (frames : List OpenGroup) → reverse old.groups.items ≡ frame ∷ frames
+pub index_fits : (old : Filling) (frame : OpenGroup) (frames : List OpenGroup)
+    → reverse old.groups.items ≡ frame ∷ frames
     → IsFilling old → frame.index < length old.entries.items
 index_fits old frame frames was h = index_of h.text old frame frames was h.groups h.trees h.fills
 
@@ -233,7 +238,9 @@ holds_doc true text said closing lo hi at end cut ends room = record {
   events = ap (λ event. One hash at end ∷ One bang at end ∷ Opens Bracket at ∷ One (Name false (codes "doc")) at end
       ∷ One equals at end ∷ event ∷ Closes Bracket end ∷ []) (doc_literal text said closing lo hi at end cut ends);
   counted = refl;
-  within = (tt, (tt, (tt, (tt, (tt, ((cut.within, doc_room text said closing lo hi at end cut ends room), (tt, tt)))))));
+  within =
+      let fits = doc_room text said closing lo hi at end cut ends room in
+      (tt, (tt, (tt, (tt, (tt, ((cut.within, fits), (tt, tt)))))));
 }
 holds_doc false text said closing lo hi at end cut ends room = record {
   events = ap (λ event. One hash at end ∷ Opens Bracket at ∷ One (Name false (codes "doc")) at end
@@ -248,7 +255,8 @@ pub fills_doc : (text said passed p rest : List ℕ) (old new : Filling) (inner 
     → begin ≡ lo + 3 → hi ≡ begin + length (encode_utf8_all said)
     → closed ≡ length (encode_utf8_all p) - 3 - length (encode_utf8_all said) → end ≡ at + length p → end < 2 ^ 32
     → FillsEvents text old new (doc_onto at end inner said [])
-fills_doc text said passed p rest old new inner closed lo hi begin at end same grown utf8 e begins doc from to size ends room =
+fills_doc text said passed p rest old new inner closed lo hi begin at end same grown utf8 e begins doc from to size
+    ends room =
     let parts = doc_parts inner said p rest doc in
     let cut : IsCutAs text said begin hi =
     subst (λ n. IsCutAs text said n hi) (sym from)
@@ -297,7 +305,8 @@ filled_none base text new groups none = record {
   reads = reads_none base (chars text);
 }
 
-pub filled_on : (base : ℕ) (text mid tail rest : List ℕ) (at count : ℕ) (first : Bool) (old new : Filling) (piece : Found)
+pub filled_on : (base : ℕ) (text mid tail rest : List ℕ) (at count : ℕ) (first : Bool) (old new : Filling)
+    (piece : Found)
     → (h : FilledTo base text mid at first old) → (found : IsPieceAt first mid piece) → tail ≡ found.rest
     → FillsEvents text old new (events_onto at (kind_of piece.kind found.front) found.front [])
     → IsPastWhite tail rest count
@@ -453,3 +462,55 @@ pub only_refused : (base begin : ℕ) (source : List ℕ) (result : Result Fores
 only_refused base begin source (Ok trees) e h = tt
 only_refused base begin source (Err (Parse error)) e h = refused_only {A = Forest} base begin source (Err error) e h
 only_refused base begin source (Err TooLong) e h = tt
+
+-- ---- how many entries there are
+
+entries_length : (text : List ℕ) (frames : List OpenGroup) (groups : List Opened) (all : List Entry) (trees : Forest)
+    → AreEntries text frames groups all trees → length all ≡ length (unclosed_onto groups trees [])
+entries_length text [] [] all trees h = held_length text all trees h
+entries_length text [] (x ∷ groups) all trees h = absurd h
+entries_length text (frame ∷ frames) [] all trees h = absurd h
+entries_length text (frame ∷ frames) (x ∷ groups) all trees h =
+    let outer : length h.0 ≡ length (unclosed_onto groups x.outer []) =
+    entries_length text frames groups h.0 x.outer h.3 in
+    let inner : length h.1 ≡ length (flattening trees) = held_length text h.1 trees h.2.holds in
+    let split : unclosed_onto groups x.outer (Opens x.delimiter x.lo ∷ flattening trees)
+    ≡ unclosed_onto groups x.outer [] ++ (Opens x.delimiter x.lo ∷ flattening trees) =
+    unclosed-append groups x.outer [] (Opens x.delimiter x.lo ∷ flattening trees) in
+    omega (
+      arith,
+      ap length h.2.whole,
+      length-append h.0 (entries.Open x.delimiter x.lo 0 ∷ h.1),
+      ap length split,
+      length-append (unclosed_onto groups x.outer []) (Opens x.delimiter x.lo ∷ flattening trees),
+    )
+
+pub many_read : (base : ℕ) (text rest : List ℕ) (at : ℕ) (first : Bool) (filling : Filling) (error : BufferError)
+    → FilledTo base text rest at first filling
+    → IfTooLong error (2 ^ 32 ≤ length filling.entries.items) → IfTooLong error (HasManyTokens base (chars text))
+many_read base text rest at first filling (Parse error) h many = tt
+many_read base text rest at first filling TooLong h many =
+    let size = entries_length text (reverse filling.groups.items) h.groups filling.entries.items h.trees h.fills in
+    record {
+      pieces = h.reads.pieces;
+      rest = rest;
+      covers = h.reads.covers;
+      many = omega (arith, many, size, ap length h.reads.expands);
+    }
+
+pub few_held : (text : List ℕ) (all : List Entry) (trees : Forest) → Holds text all trees → length all < 2 ^ 32
+    → length (flattening trees) < 2 ^ 32
+few_held text all trees h few = omega (arith, few, held_length text all trees h)
+
+pub few_read : (size : ℕ) (result : Result Forest BufferError) → size < 2 ^ 32
+    → IfOk result (λ trees. length (flattening trees) < 2 ^ 32)
+    → IfOk result (λ trees. (size < 2 ^ 32) × (length (flattening trees) < 2 ^ 32))
+few_read size (Ok trees) short few = (short, few)
+few_read size (Err error) short few = tt
+
+pub too_many : (base begin : ℕ) (source : List ℕ) (other : Type 0) (result : Result Forest BufferError) → base ≡ begin
+    → IfErr result (λ error. IfTooLong error (HasManyTokens base source))
+    → IfErr result (λ error. IfTooLong error (other ⊎ HasManyTokens begin source))
+too_many base begin source other (Ok trees) e h = tt
+too_many base begin source other (Err (Parse error)) e h = tt
+too_many base begin source other (Err TooLong) e h = inr (subst (λ n. HasManyTokens n source) e h)

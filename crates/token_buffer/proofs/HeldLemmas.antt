@@ -68,7 +68,7 @@ holds-leaf text e token lo hi is none within = record {
   within = (within, tt);
 }
 
-held_length : (text : List ℕ) (es : List Entry) (f : Forest) → Holds text es f → length es ≡ length (flattening f)
+pub held_length : (text : List ℕ) (es : List Entry) (f : Forest) → Holds text es f → length es ≡ length (flattening f)
 held_length text es f h = sym (events_of-length text es) ∙ ap length h.events
 
 pub holds-group : (text : List ℕ) (inner : List Entry) (d : Delimiter) (lo hi n : ℕ) (f : Forest) → Holds text inner f

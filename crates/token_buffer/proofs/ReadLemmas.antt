@@ -1,7 +1,10 @@
 -- What the first entry of a cursor says of the trees that are left.
-use Rattle.std.proofs.Common.{◌≡◌, ℕ, ◌+◌, ◌<◌, List, [], ◌∷◌, ◌++◌, length, take, drop, refl, sym, ap, ap₂, ◌∙◌}
+use Rattle.std.proofs.Common.{◌≡◌, ℕ, ◌+◌, ◌<◌, ◌≤◌, List, [], ◌∷◌, ◌++◌, length, take, drop, get_or, refl, sym, ap}
+use Rattle.std.proofs.Common.{ap₂, ◌∙◌}
 use Rattle.std.proofs.Common.{subst, append_assoc, arith, length-append, zero, suc, Bool, false, ◌==◌, ne_eqb}
-use Rattle.std.proofs.Math.Logic.{∥∥₁_map}
+use Rattle.std.proofs.Math.Logic.{∥∥₁_elim, ∥∥₁_map}
+use Rattle.std.proofs.Math.Seq.{drop-cons}
+use Rattle.std.specs.Coded.{le_prop}
 use Rattle.std.proofs.lemmas.List.{take_at, drop_at}
 use Rattle.lexical.specs.Token.{Token}
 use Rattle.pm_token.specs.declared.delimiters.Delimiter.{Delimiter}
@@ -9,13 +12,14 @@ use Rattle.pm_stream.specs.Events.{Event, One, Opens, Closes}
 use Rattle.pm_stream.specs.Forest.{Forest, nil, leaf, group, flat_onto, flattening, IsBuilt}
 use Rattle.pm_stream.specs.Size.{is_nil}
 use Rattle.pm_stream.proofs.TreeLemmas.{flat_onto-append}
-use Rattle.token_buffer.specs.Entries.{event_of, events_of, count_of, counts_of, AreWithin}
+use Rattle.token_buffer.specs.Entries.{closer_end, event_of, events_of, count_of, counts_of, AreWithin}
 use Rattle.token_buffer.specs.Held.{counts_onto, counts, Holds}
 use Rattle.token_buffer.specs.Left.{trees_of}
 use Rattle.token_buffer.specs.Unflattened.{unflattened}
 use Rattle.token_buffer.specs.declared.entry.Entry.{Entry}
 use Rattle.token_buffer.specs.declared.entry.Entry.TheVariants as entries
-use Rattle.token_buffer.proofs.HeldLemmas.{counts_onto-append, events_of-length, trees_are, holds_own, unflattened_flattening}
+use Rattle.token_buffer.proofs.HeldLemmas.{counts_onto-append, events_of-length, trees_are, holds_own}
+use Rattle.token_buffer.proofs.HeldLemmas.{unflattened_flattening}
 
 -- ---- a token
 
@@ -237,3 +241,36 @@ is_nil-empty text (e ∷ es) empty h is =
     not_nil nil k = let clash : event_of text e ∷ events_of text es ≡ [] = k.events in cc
     not_nil (leaf t lo hi f) k = refl
     not_nil (group d lo hi f g) k = refl
+
+-- ---- where the first tree stands
+
+pub leaf_ordered : (trees rest : Forest) (token : Token) (lo hi : ℕ) → ∥ IsBuilt trees ∥₁
+    → trees ≡ leaf token lo hi rest → lo ≤ hi
+leaf_ordered trees rest token lo hi built is =
+    ∥∥₁_elim built le_prop (λ (all : IsBuilt trees). (subst IsBuilt is all).1)
+
+pub group_ordered : (trees inside rest : Forest) (d : Delimiter) (lo hi : ℕ) → ∥ IsBuilt trees ∥₁
+    → trees ≡ group d lo hi inside rest → lo ≤ hi
+group_ordered trees inside rest d lo hi built is =
+    ∥∥₁_elim built le_prop (λ (all : IsBuilt trees). (subst IsBuilt is all).0)
+
+closer_is : (text : List ℕ) (d : Delimiter) (hi : ℕ) (entry : Entry) → event_of text entry ≡ Closes d hi
+    → closer_end entry ≡ hi
+closer_is text d hi (entries.Name raw lo to at) is = cc
+closer_is text d hi (entries.Mark joint mark at end) is = cc
+closer_is text d hi (entries.Literal lo to at) is = cc
+closer_is text d hi (entries.Open delimiter at count) is = cc
+closer_is text d hi (entries.Close delimiter end) is = cc
+closer_is text d hi (entries.DocName at end) is = cc
+closer_is text d hi (entries.DocText closing lo to at) is = cc
+
+-- the closer of a group stands behind its entries
+pub closer_at : (text : List ℕ) (d : Delimiter) (hi n : ℕ) (es : List Entry) (other : Entry) → n < length es
+    → drop n (events_of text es) ≡ Closes d hi ∷ drop (n + 1) (events_of text es)
+    → closer_end (get_or es n other) ≡ hi
+closer_at text d hi n es other fits closer =
+    let whole : event_of text (get_or es n other) ∷ events_of text (drop (suc n) es)
+    ≡ Closes d hi ∷ drop (n + 1) (events_of text es)
+    = sym (ap (events_of text) (drop-cons es n other fits)) ∙ (events_of-drop text n es ∙ closer) in
+    let is : event_of text (get_or es n other) ≡ Closes d hi = cc in
+    closer_is text d hi (get_or es n other) is

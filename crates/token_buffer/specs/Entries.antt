@@ -47,6 +47,16 @@ abbrev pub counts_of : List Entry → List ℕ
 counts_of [] = []
 counts_of (entry ∷ more) = count_of entry ∷ counts_of more
 
+-- where a closer's group ends, and 0 of any other entry
+abbrev pub closer_end : Entry → ℕ
+closer_end (entries.Name raw lo hi at) = 0
+closer_end (entries.Mark joint mark at end) = 0
+closer_end (entries.Literal lo hi at) = 0
+closer_end (entries.Open delimiter at count) = 0
+closer_end (entries.Close delimiter end) = end
+closer_end (entries.DocName at end) = 0
+closer_end (entries.DocText closing lo hi at) = 0
+
 -- the text may be cut from lo to hi
 abbrev pub IsCut : ℕ → ℕ → List ℕ → Type 0
 IsCut lo hi text = (lo ≤ hi) × IsCharBoundary text lo × IsCharBoundary text hi
@@ -59,9 +69,11 @@ end_of (Closes d hi) = hi
 
 -- what the entry says may be cut from the text, and its token ends at a position that a span may have
 abbrev pub IsWithin : List ℕ → Entry → Type 0
-IsWithin text (entries.Name raw lo hi at) = IsCut lo hi text × (end_of (event_of text (entries.Name raw lo hi at)) < 2 ^ 32)
+IsWithin text (entries.Name raw lo hi at) =
+    IsCut lo hi text × (end_of (event_of text (entries.Name raw lo hi at)) < 2 ^ 32)
 IsWithin text (entries.Mark joint mark at end) = Unit {0}
-IsWithin text (entries.Literal lo hi at) = IsCut lo hi text × (end_of (event_of text (entries.Literal lo hi at)) < 2 ^ 32)
+IsWithin text (entries.Literal lo hi at) =
+    IsCut lo hi text × (end_of (event_of text (entries.Literal lo hi at)) < 2 ^ 32)
 IsWithin text (entries.Open delimiter at count) = Unit {0}
 IsWithin text (entries.Close delimiter end) = Unit {0}
 IsWithin text (entries.DocName at end) = Unit {0}

@@ -58,7 +58,8 @@ coded_delimiter = delimiter.the_row.coded
 
 abbrev coded_event : Coded Event
 coded_event = code_by Packed
-    (coded⊎ (coded× coded_token (coded× coded_ℕ coded_ℕ)) (coded⊎ (coded× coded_delimiter coded_ℕ) (coded× coded_delimiter coded_ℕ)))
+    (coded⊎ (coded× coded_token (coded× coded_ℕ coded_ℕ))
+    (coded⊎ (coded× coded_delimiter coded_ℕ) (coded× coded_delimiter coded_ℕ)))
     pack unpack unpack_pack
 
 events-prop : (es fs : List Event) → IsProp (es ≡ fs)

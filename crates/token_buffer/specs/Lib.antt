@@ -4,5 +4,6 @@ pub mod Held
 pub mod Left
 pub mod Filled
 pub mod Refused
+pub mod Many
 pub mod Message
 pub mod Reads

@@ -2,6 +2,7 @@
 use Rattle.std.specs.Prelude.{ℕ, ◌≡◌, ◌==◌, ◌&&◌, Bool, true, false, List, Option, Some, None}
 use Rattle.std.specs.Str.{chars}
 use Rattle.lexical.specs.Token.{Token, Name, Mark, Literal}
+use Rattle.pm_span.specs.Extent.{Extent}
 use Rattle.pm_token.specs.Escaped.{string_text}
 use Rattle.pm_token.specs.Leaf.{is_joint}
 use Rattle.pm_token.specs.declared.delimiters.Delimiter.{Delimiter}
@@ -61,3 +62,9 @@ abbrev pub group_first : Forest → Option Delimiter
 group_first nil = None
 group_first (leaf token lo hi rest) = None
 group_first (group d lo hi inside rest) = Some d
+
+-- where the first tree stands
+abbrev pub first_extent : Forest → Option Extent
+first_extent nil = None
+first_extent (leaf token lo hi rest) = Some (record { lo = lo; hi = hi })
+first_extent (group d lo hi inside rest) = Some (record { lo = lo; hi = hi })

@@ -1,12 +1,14 @@
 //! A text's tokens, one after another.
-ghost use Rattle.std.specs.Prelude.{◌≡◌, ◌≤◌, ◌+◌, ◌<◌, ◌^◌, ◌↔◌, IfOk, IfErr, length};
+ghost use Rattle.std.specs.Prelude.{◌≡◌, ◌≤◌, ◌+◌, ◌<◌, ◌^◌, ◌↔◌, ◌⊎◌, IfOk, IfErr, length};
 ghost use Rattle.std.specs.Str.{chars};
 ghost use Rattle.pm_span.specs.Files.{Fits, new_map, next_lo};
 ghost use Rattle.pm_token.specs.Outcome.{IfLex};
 ghost use Rattle.pm_stream.specs.Fault.{IsFault};
+ghost use Rattle.pm_stream.specs.Forest.{flattening};
 ghost use Rattle.pm_stream.specs.Parsing.{FaultAt, HasNoFault, IsOnlyFault, ParsesTo};
 ghost use Rattle.token_buffer.specs.Reads.{left};
-ghost use Rattle.token_buffer.specs.Refused.{IfParse};
+ghost use Rattle.token_buffer.specs.Many.{HasManyTokens};
+ghost use Rattle.token_buffer.specs.Refused.{IfParse, IfTooLong};
 
 use crate::cursor::Cursor;
 use crate::entry::Entry;
@@ -20,7 +22,8 @@ use std::marker::Model;
 
 /// The tokens of a text, for [`Cursor`](crate::Cursor)s to read.
 ///
-/// It takes 16 bytes a token and one more for each end of a group; each token's text stays in the source.
+/// It takes 16 bytes a token, and as many for each beginning and each end of a group. Each token's text stays in the
+/// source.
 #[derive(Drop)]
 pub struct TokenBuffer<'a> {
     text: &'a str,
@@ -51,9 +54,9 @@ impl<'a> TokenBuffer<'a> {
     /// The tokens of a text: those of the stream that it parses to (`parses-to`).
     ///
     /// Positions, and faults, are those of a new map, where the text begins at 1, as
-    /// [`parse_unmapped`](pm_stream::TokenStream::parse_unmapped) has them. `TooLong` is answered only of a text with
-    /// more than 4294967295 bytes or tokens, and `Parse(MapFull)` where a text that isn't has too many characters for
-    /// a new map (`fits`).
+    /// [`parse_unmapped`](pm_stream::TokenStream::parse_unmapped) has them. `TooLong` is answered of a text with more
+    /// than 4294967295 bytes, and of one with more tokens, each end of a group counted as one; of a shorter one
+    /// `Parse(MapFull)` exactly where it has too many characters for a new map (`fits`).
     ///
     /// `a += (b)` has the identifier `a`, the marks `+` and `=`, and the group of `b`.
     pub fn new(alloc: Global, text: &'a str) -> Result<TokenBuffer<'a>, BufferError>
@@ -65,6 +68,9 @@ impl<'a> TokenBuffer<'a> {
             IsOnlyFault (next_lo new_map) (chars text.now) fault.lo))) }
         ensures map_full { (result ≡ Err (BufferError.Parse ParseError.MapFull))
             ↔ ((length text.now < 2 ^ 32) × (Fits new_map (length (chars text.now)) → ⊥)) }
+        ensures few { IfOk result (λ buffer. (length text.now < 2 ^ 32) × (length (flattening buffer) < 2 ^ 32)) }
+        ensures many { IfErr result (λ error. IfTooLong error
+            ((2 ^ 32 ≤ length text.now) ⊎ HasManyTokens (next_lo new_map) (chars text.now))) }
     {
         if text.len() > u32::MAX as usize {
             return Err(BufferError::TooLong);
@@ -89,6 +95,8 @@ fn buffer_at(alloc: Global, base: u32, text: &str) -> Result<TokenBuffer<'_>, Bu
     requires room { base + length (chars text.now) < 2 ^ 32 }
     ensures ok { IfOk result (λ buffer. ParsesTo base (chars text.now) buffer) }
     ensures lex { IfErr result (λ error. IfParse error (IsFault base (chars text.now))) }
+    ensures few { IfOk result (λ buffer. length (flattening buffer) < 2 ^ 32) }
+    ensures many { IfErr result (λ error. IfTooLong error (HasManyTokens base (chars text.now))) }
 {
     let mut filling = Filling::with_room(alloc, text.len())?;
     let mut rest = text;

@@ -4,10 +4,12 @@ ghost use Rattle.std.specs.Str.{chars};
 ghost use Rattle.pm_token.specs.Leaf.{is_joint};
 ghost use Rattle.pm_stream.specs.Forest.{IsBuilt, nil};
 ghost use Rattle.pm_stream.specs.Size.{is_nil};
-ghost use Rattle.token_buffer.specs.Held.{Holds, Holds-prop};
-ghost use Rattle.token_buffer.specs.Left.{trees_of};
+ghost use Rattle.token_buffer.specs.Entries.{closer_end};
+ghost use Rattle.token_buffer.specs.Left.{trees_of, HoldsOwn, HoldsOwn-prop};
 
 use crate::entry::Entry;
+use pm_span::Span;
+use pm_span::parts::{char_count, span_of};
 use pm_token::{Delimiter, Spacing};
 
 /// The trees of a buffer, or of a group in it, from one on. It is copied freely, and lends the texts of its tokens.
@@ -18,7 +20,7 @@ use pm_token::{Delimiter, Spacing};
 pub struct Cursor<'a> {
     text: &'a str,
     entries: &'a [Entry],
-    ghost holds: { Holds text.now entries.now (trees_of text.now entries.now) } by { Holds-prop text.now entries.now (trees_of text.now entries.now) },
+    ghost holds: { HoldsOwn text.now entries.now } by { HoldsOwn-prop text.now entries.now },
     ghost built: { ∥ IsBuilt (trees_of text.now entries.now) ∥₁ },
 }
 
@@ -57,10 +59,11 @@ impl<'a> Cursor<'a> {
     ghost use Rattle.lexical.specs.Token as tokens;
     ghost use Rattle.token_buffer.specs.Reads.{left, Begins, BeginsWith, BeginsWithGroup, literal_text};
     ghost use Rattle.token_buffer.specs.Reads.{name_first, mark_first, literal_first, lifetime_first, group_first};
+    ghost use Rattle.token_buffer.specs.Reads.{first_extent};
 
     /// The cursor over the trees of these entries.
     pub(crate) fn over(text: &'a str, entries: &'a [Entry]) -> Cursor<'a>
-        requires holds { Holds text.now entries.now (trees_of text.now entries.now) }
+        requires holds { HoldsOwn text.now entries.now }
         requires built { IsBuilt (trees_of text.now entries.now) }
         ensures { left result ≡ trees_of text.now entries.now }
     {
@@ -166,6 +169,64 @@ impl<'a> Cursor<'a> {
         Some(rest)
     }
 
+    /// Where the first tree stands, in characters, a group with its delimiters. None at the end.
+    ///
+    /// It takes time proportional to the length of its text where that is an identifier or a literal. Of a text `(b)`
+    /// it is 1..4.
+    pub fn span(self) -> Option<Span>
+        ensures { result ≡ first_extent (left self.entry) }
+    {
+        let text = self.text;
+        let Some((entry, entries)) = self.entries.split_first() else {
+            return None;
+        };
+        match *entry {
+            Entry::Name { raw, lo, hi, at } => {
+                let front = if raw { 2 } else { 0 };
+                let name = char_count(&text[lo as usize..hi as usize]);
+                Some(span_of(at, at + (front + name) as u32))
+            }
+            Entry::Mark {
+                joint,
+                mark,
+                at,
+                end,
+            } => {
+                let _ = joint;
+                let _ = mark;
+                Some(span_of(at, end))
+            }
+            Entry::Literal { lo, hi, at } => {
+                let literal = char_count(&text[lo as usize..hi as usize]);
+                Some(span_of(at, at + literal as u32))
+            }
+            Entry::Open {
+                delimiter,
+                at,
+                count,
+            } => {
+                let _ = delimiter;
+                let end = closer_end(entries[count as usize]);
+                Some(span_of(at, end))
+            }
+            Entry::Close { delimiter, end } => {
+                let _ = delimiter;
+                let _ = end;
+                unreachable!()
+            }
+            Entry::DocName { at, end } => Some(span_of(at, end)),
+            Entry::DocText {
+                closing,
+                lo,
+                hi,
+                at,
+            } => {
+                let said = char_count(&text[lo as usize..hi as usize]);
+                Some(span_of(at, at + (3 + said + closing as usize) as u32))
+            }
+        }
+    }
+
     /// The identifier that comes first, if one does, and the trees after it.
     pub fn ident(self) -> Option<(Name<'a>, Cursor<'a>)>
         ensures { MatchOption result (name_first (left self.entry) ≡ false)
@@ -232,6 +293,19 @@ impl<'a> Cursor<'a> {
             Some((TokenText::Group(delimiter, inside), after)) => Some((delimiter, inside, after)),
             _ => None,
         }
+    }
+}
+
+/// The position where the group of a closer ends, and 0 of what is no closer.
+fn closer_end(entry: Entry) -> u32
+    ensures { result ≡ closer_end entry }
+{
+    match entry {
+        Entry::Close { delimiter, end } => {
+            let _ = delimiter;
+            end
+        }
+        _ => 0,
     }
 }
 

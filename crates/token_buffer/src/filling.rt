@@ -11,7 +11,7 @@ ghost use Rattle.pm_stream.specs.Forest.{Forest, flattening};
 ghost use Rattle.pm_stream.specs.OpenGroups.{FitsInnermost, Opened};
 ghost use Rattle.token_buffer.specs.Filled.{Fills, FillsEvents, IsFilling};
 ghost use Rattle.token_buffer.specs.Held.{Holds};
-ghost use Rattle.token_buffer.specs.Refused.{IfParse};
+ghost use Rattle.token_buffer.specs.Refused.{IfParse, IfTooLong};
 ghost use Rattle.token_buffer.specs.declared.entry.Entry.{Entry};
 
 use crate::entry::Entry;
@@ -70,6 +70,7 @@ impl Filling {
         ensures stray { IfErr result (λ error. IfParse error (λ parse.
             (text : List ℕ) (groups : List Opened) (trees : Forest) → Fills text self.old groups trees
             → IsFaultFor at (IsStray piece.entry.kind groups) parse)) }
+        ensures many { IfErr result (λ error. IfTooLong error (2 ^ 32 ≤ length self.old.entries.items)) }
     {
         let hi = lo + piece.bytes as u32;
         let end = at + piece.chars as u32;
@@ -99,14 +100,10 @@ impl Filling {
     }
 
     /// Puts in an entry.
-    fn push(&mut self, entry: Entry) -> Result<(), BufferError>
+    fn push(&mut self, entry: Entry) -> Result<(), AllocError>
         ensures ok { OnOk result (self.new.entries.items ≡ self.old.entries.items ++ (entry ∷ [])) }
         ensures groups { self.new.groups ≡ self.old.groups }
-        ensures err { IfErr result (λ error. IfParse error (IsFaultFor 0 ⊥)) }
     {
-        if self.entries.len() >= u32::MAX as usize {
-            return Err(BufferError::TooLong);
-        }
         self.entries.push(entry)?;
         Ok(())
     }
@@ -122,14 +119,13 @@ impl Filling {
         lo: u32,
         at: u32,
         end: u32,
-    ) -> Result<(), BufferError>
+    ) -> Result<(), AllocError>
         requires doc { (p rest : List ℕ) × Doc inner (chars text.now) p rest × (bytes ≡ length (encode_utf8_all p)) }
         requires fits { lo + bytes < 2 ^ 32 }
         ensures ok { OnOk result ((whole passed p rest : List ℕ) → IsUtf8 whole
             → chars whole ≡ passed ++ (p ++ rest) → lo ≡ length (encode_utf8_all passed)
             → Doc inner (chars text.now) p rest → bytes ≡ length (encode_utf8_all p) → end ≡ at + length p
             → FillsEvents whole self.old self.new (doc_onto at end inner (chars text.now) [])) }
-        ensures err { IfErr result (λ error. IfParse error (IsFaultFor 0 ⊥)) }
     {
         let closing = (bytes - 3 - text.len()) as u8;
         let begin = lo + 3;
@@ -159,9 +155,8 @@ impl Filling {
     }
 
     /// Puts in an opener that begins at the position `lo`.
-    fn open(&mut self, delimiter: Delimiter, lo: u32) -> Result<(), BufferError>
+    fn open(&mut self, delimiter: Delimiter, lo: u32) -> Result<(), AllocError>
         ensures ok { OnOk result ((text : List ℕ) → FillsEvents text self.old self.new (Opens delimiter lo ∷ [])) }
-        ensures err { IfErr result (λ error. IfParse error (IsFaultFor 0 ⊥)) }
     {
         let index = self.entries.len();
         self.groups.push(OpenGroup {
@@ -185,6 +180,7 @@ impl Filling {
         ensures stray { IfErr result (λ error. IfParse error (λ parse.
             (text : List ℕ) (groups : List Opened) (trees : Forest) → Fills text self.old groups trees
             → IsFaultFor lo (FitsInnermost delimiter groups → ⊥) parse)) }
+        ensures many { IfErr result (λ error. IfTooLong error (2 ^ 32 ≤ length self.old.entries.items)) }
     {
         let Some(group) = self.groups.pop() else {
             return Err(fault_at(lo));
@@ -210,6 +206,8 @@ impl Filling {
         ensures ok { IfOk result (λ entries. (chars rest.now ≡ [])
             × ((text : List ℕ) (groups : List Opened) (trees : Forest) → Fills text self groups trees
             → (groups ≡ []) × Holds text entries.items trees)) }
+        ensures few { IfOk result (λ entries. length entries.items < 2 ^ 32) }
+        ensures many { IfErr result (λ error. IfTooLong error (2 ^ 32 ≤ length self.entries.items)) }
         ensures stuck { chars rest.now ≢ [] → IfErr result (λ error. IfParse error (IsFaultFor at (Unit {0}))) }
         ensures stays_open { chars rest.now ≡ [] → IfErr result (λ error. IfParse error (λ parse.
             (text : List ℕ) (groups : List Opened) (trees : Forest) → Fills text self groups trees
@@ -224,6 +222,9 @@ impl Filling {
         } = self;
         if let Some(group) = groups.pop() {
             return Err(fault_at(group.lo));
+        }
+        if entries.len() > u32::MAX as usize {
+            return Err(BufferError::TooLong);
         }
         Ok(entries)
     }

@@ -48,6 +48,8 @@ erased! {
     pm_span
     pm_token
     pm_stream
+    #[cfg(feature = "token_buffer")]
+    token_buffer
     proc_macro2
     #[cfg(feature = "quoting")]
     quoting

@@ -5,7 +5,8 @@ use Rattle.lexical.proofs.PieceFacts.{piece_boundary, piece_rest}
 use Rattle.lexical.proofs.TextLemmas.{front_len}
 use Rattle.pm_stream.proofs.ParseLemmas.{left_shorter}
 use Rattle.token_buffer.proofs.BuiltLemmas.{parsed_text_built}
-use Rattle.token_buffer.proofs.FilledLemmas.{filled_none, filled_on, filled_stray, filled_ok, filled_refused}
+use Rattle.token_buffer.proofs.FilledLemmas.{filled_none, filled_on, filled_stray}
+use Rattle.token_buffer.proofs.FilledLemmas.{filled_ok, filled_refused, few_held, many_read}
 use Rattle.token_buffer.proofs.buffer.buffer_at.Goals as goal
 
 pub loop-piece-init : goal.loop-piece-init
@@ -32,7 +33,8 @@ take-requires-clause-bytes c =
     let filled = c.loop-piece.invariant.filled in
     let len = front_len c.args.text.now c.loop-piece.rest.now filled.passed c.utf8.text c.loop-piece.invariant.utf8
     filled.split in
-    let fits = piece_boundary _ c.loop-piece.rest.now c.in-Some.piece c.loop-piece.invariant.utf8 c.in-Some.ensures.found
+    let fits =
+    piece_boundary _ c.loop-piece.rest.now c.in-Some.piece c.loop-piece.invariant.utf8 c.in-Some.ensures.found
     in
     omega (arith, len, fits.0, c.requires.bytes)
 
@@ -93,7 +95,8 @@ loop-piece-preserved c =
       utf8 = c.past_white-white.ensures.utf8;
       left = omega (arith, c.loop-piece.invariant.left);
       filled = filled_on c.args.base c.args.text.now _ _ _ _ _ _ _ _ c.in-Some.piece filled found tail
-          (c.in_ok-take.ensures.ok _ c.args.text.now filled.passed _ c.utf8.text filled.split (omega (arith, len)) found)
+          (c.in_ok-take.ensures.ok _ c.args.text.now filled.passed _ c.utf8.text filled.split (omega (arith, len))
+          found)
           c.past_white-white.ensures.passed;
     }
 
@@ -113,3 +116,21 @@ pub returns-clause-ok : goal.returns-clause-ok
 returns-clause-ok c =
     (filled_ok c.args.base c.args.text.now _ _ _ _ c.in_ok-entries.entries.items c.loop-piece.invariant.filled
     c.in_ok-entries.ensures.ok).parses
+
+pub returns-in_err-take-clause-many : goal.returns-in_err-take-clause-many
+returns-in_err-take-clause-many c =
+    let p = err_from_is_err_and c.from_residual-in_err-take.result c.from_residual-in_err-take.ensures.1 in
+    rw (p.1, p.2) (many_read c.args.base c.args.text.now _ _ _ _ _ c.loop-piece.invariant.filled
+    c.in_err-take.ensures.many)
+
+pub returns-in_err-entries-clause-many : goal.returns-in_err-entries-clause-many
+returns-in_err-entries-clause-many c =
+    let p = err_from_is_err_and c.from_residual-in_err-entries.result c.from_residual-in_err-entries.ensures.1 in
+    rw (p.1, p.2) (many_read c.args.base c.args.text.now _ _ _ _ _ c.loop-piece.invariant.filled
+    c.in_err-entries.ensures.many)
+
+pub returns-clause-few : goal.returns-clause-few
+returns-clause-few c =
+    let all = filled_ok c.args.base c.args.text.now _ _ _ _ c.in_ok-entries.entries.items c.loop-piece.invariant.filled
+    c.in_ok-entries.ensures.ok in
+    few_held c.args.text.now c.in_ok-entries.entries.items _ all.holds c.in_ok-entries.ensures.few

@@ -36,8 +36,8 @@ overflow_add-hi c =
     ap length (encodes-chars c.args.text.now c.utf8.text) in
     omega (arith, c.requires.doc.3, parts.all_bytes, c.requires.fits)
 
-pub returns-clause-ok : goal.returns-clause-ok
-returns-clause-ok c =
+pub returns : goal.returns
+returns c =
     let old = c.args.self.now in
     let at = c.args.at in
     let end = c.args.end in
@@ -76,7 +76,9 @@ returns-clause-ok c =
     c.push-3.new.self.entries.items c.push-4.new.self.entries.items c.push-5.new.self.entries.items
     c.push-6.new.self.entries.items first marks c.in_ok-push-3.ensures.ok c.in_ok-push-4.ensures.ok third
     c.in_ok-push-6.ensures.ok c.in_ok-push-7.ensures.ok in
-    λ whole passed p rest utf8 split begins doc bytes ends.
-    fills_doc whole (chars c.args.text.now) passed p rest old c.push-6.new.self c.args.inner closing c.args.lo
-    (begin + said) begin at end kept grown utf8 split begins doc refl (ap (λ n. begin + n) (sym own))
-    (omega (arith, bytes, own)) ends (omega arith)
+    record {
+      ok = λ whole passed p rest utf8 split begins doc bytes ends.
+          fills_doc whole (chars c.args.text.now) passed p rest old c.push-6.new.self c.args.inner closing c.args.lo
+          (begin + said) begin at end kept grown utf8 split begins doc refl (ap (λ n. begin + n) (sym own))
+          (omega (arith, bytes, own)) ends (omega arith);
+    }

@@ -1,0 +1,47 @@
+// Made from crates/token_buffer/src/errors.rt by rust/erase: change that file, not this one.
+//! Why a buffer isn't made.
+
+use crate::pm_token::ParseError;
+use crate::shim::alloc::{AllocError, AllocFailed};
+use crate::shim::error::Error;
+use crate::shim::fmt;
+
+/// Why a buffer was not made.
+#[derive(Debug)]
+pub enum BufferError {
+    /// The text wasn't read.
+    Parse(ParseError),
+    /// The text has more than 4294967295 bytes, or more tokens.
+    TooLong,
+}
+
+impl fmt::Display for BufferError {
+    fn fmt<W: fmt::Write>(&self, f: &mut fmt::Formatter<W>) -> fmt::Result {
+        match self {
+            BufferError::Parse(error) => error.fmt(f),
+            BufferError::TooLong => f.write_str("text too long"),
+        }
+    }
+}
+
+crate::shim::display!(BufferError);
+
+impl Error for BufferError {}
+
+impl From<ParseError> for BufferError {
+    fn from(error: ParseError) -> BufferError {
+        BufferError::Parse(error)
+    }
+}
+
+impl From<AllocError> for BufferError {
+    fn from(error: AllocError) -> BufferError {
+        BufferError::Parse(ParseError::Memory(error))
+    }
+}
+
+impl<T> From<AllocFailed<T>> for BufferError {
+    fn from(error: AllocFailed<T>) -> BufferError {
+        BufferError::Parse(ParseError::Memory(AllocError::from(error)))
+    }
+}

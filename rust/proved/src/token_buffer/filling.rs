@@ -1,0 +1,206 @@
+// Made from crates/token_buffer/src/filling.rt by rust/erase: change that file, not this one.
+//! From the pieces of a text to the entries of its buffer.
+
+use crate::shim::prelude::Vec;
+
+use crate::token_buffer::entry::Entry;
+use crate::token_buffer::errors::BufferError;
+use crate::lexical::{Piece, PieceKind};
+use crate::pm_span::parts::span_of;
+use crate::pm_token::parts::fault;
+use crate::pm_token::{Delimiter, ParseError};
+use crate::shim::alloc::{AllocError, Global};
+
+/// What was put into a buffer so far.
+pub struct Filling {
+    /// The groups that are open, the innermost last.
+    groups: Vec<OpenGroup>,
+    /// The entries of all tokens.
+    entries: Vec<Entry>,
+}
+
+/// A group whose closer is still to come.
+pub struct OpenGroup {
+    /// What stands around it.
+    delimiter: Delimiter,
+    /// The position of its opener.
+    lo: u32,
+    /// How many entries stand before that of its opener.
+    index: usize,
+}
+
+impl Filling {
+    /// Nothing was put in. There is room for most texts of so many bytes.
+    pub fn with_room(alloc: Global, bytes: usize) -> Result<Filling, AllocError>
+    {
+        Ok(Filling {
+            groups: Vec::new(alloc),
+            // A token of code has some four bytes, with the white characters after it.
+            entries: Vec::with_capacity(alloc, bytes / 4)?,
+        })
+    }
+
+    /// Takes a piece that stands at the byte offset `lo` and the position `at`. A closer that doesn't close the
+    /// innermost open group is a fault.
+    pub fn take(&mut self, piece: Piece, lo: u32, at: u32) -> Result<(), BufferError>
+    {
+        let hi = lo + piece.bytes as u32;
+        let end = at + piece.chars as u32;
+        match piece.kind {
+            PieceKind::Opener(c) => self.open(delimiter(c), at)?,
+            PieceKind::Closer(c) => self.close(delimiter(c), at, end)?,
+            PieceKind::Doc { inner, text } => self.push_doc(inner, text, piece.bytes, lo, at, end)?,
+            PieceKind::Mark { joint, mark } => self.push(Entry::Mark {
+                joint,
+                mark,
+                at,
+                end,
+            })?,
+            PieceKind::Name { raw, name } => {
+                let begin = hi - name.len() as u32;
+                self.push(Entry::Name {
+                    raw,
+                    lo: begin,
+                    hi,
+                    at,
+                })?;
+            }
+            PieceKind::Literal => self.push(Entry::Literal { lo, hi, at })?,
+            PieceKind::FrontMark | PieceKind::Gap => {}
+        }
+        Ok(())
+    }
+
+    /// Puts in an entry.
+    fn push(&mut self, entry: Entry) -> Result<(), BufferError>
+    {
+        if self.entries.len() >= u32::MAX as usize {
+            return Err(BufferError::TooLong);
+        }
+        self.entries.push(entry)?;
+        Ok(())
+    }
+
+    /// Puts in a doc comment of so many bytes, with this text: the mark `#`, the mark `!` if it is inner, and the group
+    /// of its text.
+    #[inline(never)]
+    fn push_doc(
+        &mut self,
+        inner: bool,
+        text: &str,
+        bytes: usize,
+        lo: u32,
+        at: u32,
+        end: u32,
+    ) -> Result<(), BufferError>
+    {
+        let closing = (bytes - 3 - text.len()) as u8;
+        let begin = lo + 3;
+        let hi = begin + text.len() as u32;
+        self.push(alone('#', at, end))?;
+        if inner {
+            self.push(alone('!', at, end))?;
+        }
+        self.push(Entry::Open {
+            delimiter: Delimiter::Bracket,
+            at,
+            count: 3,
+        })?;
+        self.push(Entry::DocName { at, end })?;
+        self.push(alone('=', at, end))?;
+        self.push(Entry::DocText {
+            closing,
+            lo: begin,
+            hi,
+            at,
+        })?;
+        self.push(Entry::Close {
+            delimiter: Delimiter::Bracket,
+            end,
+        })?;
+        Ok(())
+    }
+
+    /// Puts in an opener that begins at the position `lo`.
+    fn open(&mut self, delimiter: Delimiter, lo: u32) -> Result<(), BufferError>
+    {
+        let index = self.entries.len();
+        self.groups.push(OpenGroup {
+            delimiter,
+            lo,
+            index,
+        })?;
+        self.push(Entry::Open {
+            delimiter,
+            at: lo,
+            count: 0,
+        })?;
+        Ok(())
+    }
+
+    /// Puts in a closer that stands from `lo` to `hi`, and how many entries are inside of its group. It is a fault
+    /// unless it closes the innermost open group.
+    fn close(&mut self, delimiter: Delimiter, lo: u32, hi: u32) -> Result<(), BufferError>
+    {
+        let Some(group) = self.groups.pop() else {
+            return Err(fault_at(lo));
+        };
+        if group.delimiter != delimiter {
+            return Err(fault_at(lo));
+        }
+        let inside = self.entries.len() - group.index - 1;
+        if inside > u32::MAX as usize {
+            return Err(BufferError::TooLong);
+        }
+        self.entries[group.index] = Entry::Open {
+            delimiter,
+            at: group.lo,
+            count: inside as u32,
+        };
+        self.push(Entry::Close { delimiter, end: hi })?;
+        Ok(())
+    }
+
+    /// What was put in, where nothing is left of the text and no group is open.
+    pub fn end(self, rest: &str, at: u32) -> Result<Vec<Entry>, BufferError>
+    {
+        if !rest.is_empty() {
+            return Err(fault_at(at));
+        }
+        let Filling {
+            mut groups,
+            entries,
+        } = self;
+        if let Some(group) = groups.pop() {
+            return Err(fault_at(group.lo));
+        }
+        Ok(entries)
+    }
+}
+
+/// A mark that isn't Joint.
+fn alone(mark: char, at: u32, end: u32) -> Entry
+{
+    Entry::Mark {
+        joint: false,
+        mark,
+        at,
+        end,
+    }
+}
+
+/// The delimiter of which `c` is the opener or the closer.
+fn delimiter(c: char) -> Delimiter
+{
+    match c {
+        '(' | ')' => Delimiter::Parenthesis,
+        '{' | '}' => Delimiter::Brace,
+        _ => Delimiter::Bracket,
+    }
+}
+
+/// The fault at a position.
+fn fault_at(position: u32) -> BufferError
+{
+    BufferError::Parse(ParseError::Lex(fault(span_of(position, position))))
+}
