@@ -1,8 +1,9 @@
-/* Refuses one growth of memory of the program that it is preloaded into, for checks/refusals.
+/* Makes one allocation fail of the program that it is preloaded into, for checks/out_of_memory.
  *
- * A growth is a call of the C library for new or more memory. Those are counted from the line "call" that the program
- * writes on standard output up to its line "answered"; or, where REFUSE_WHOLE is set, from its first instruction on.
- * The one with the number REFUSE is refused. At the end the number of all that were counted is written to REFUSE_TO.
+ * An allocation is a call of the C library for new or more memory. Those are counted from the line "call" that the
+ * program writes on standard output up to its line "answered"; or, where FAIL_FROM_START is set, from its first
+ * instruction on. The one with the number FAIL fails. At the end the number of all that were counted is written to
+ * FAIL_COUNT.
  */
 #include <errno.h>
 #include <fcntl.h>
@@ -16,19 +17,19 @@ extern void *__libc_malloc(size_t), *__libc_calloc(size_t, size_t), *__libc_real
 extern void *__libc_memalign(size_t, size_t);
 extern ssize_t __write(int, const void *, size_t);
 
-static unsigned long refused, seen;
+static unsigned long failing, seen;
 static int counting, ended;
 
-static int refuses(void) {
-    int refuse = counting && ++seen == refused;
-    if (refuse) errno = ENOMEM;
-    return refuse;
+static int fails(void) {
+    int fail = counting && ++seen == failing;
+    if (fail) errno = ENOMEM;
+    return fail;
 }
 
-void *malloc(size_t bytes) { return refuses() ? NULL : __libc_malloc(bytes); }
-void *calloc(size_t count, size_t bytes) { return refuses() ? NULL : __libc_calloc(count, bytes); }
-void *realloc(void *block, size_t bytes) { return refuses() ? NULL : __libc_realloc(block, bytes); }
-void *memalign(size_t align, size_t bytes) { return refuses() ? NULL : __libc_memalign(align, bytes); }
+void *malloc(size_t bytes) { return fails() ? NULL : __libc_malloc(bytes); }
+void *calloc(size_t count, size_t bytes) { return fails() ? NULL : __libc_calloc(count, bytes); }
+void *realloc(void *block, size_t bytes) { return fails() ? NULL : __libc_realloc(block, bytes); }
+void *memalign(size_t align, size_t bytes) { return fails() ? NULL : __libc_memalign(align, bytes); }
 void *aligned_alloc(size_t align, size_t bytes) { return memalign(align, bytes); }
 
 int posix_memalign(void **block, size_t align, size_t bytes) {
@@ -46,13 +47,13 @@ ssize_t write(int file, const void *bytes, size_t count) {
 }
 
 __attribute__((constructor)) static void begin(void) {
-    const char *number = getenv("REFUSE");
-    refused = number ? strtoul(number, NULL, 10) : 0;
-    counting = getenv("REFUSE_WHOLE") != NULL;
+    const char *number = getenv("FAIL");
+    failing = number ? strtoul(number, NULL, 10) : 0;
+    counting = getenv("FAIL_FROM_START") != NULL;
 }
 
 __attribute__((destructor)) static void end(void) {
-    const char *path = getenv("REFUSE_TO");
+    const char *path = getenv("FAIL_COUNT");
     int file = path ? open(path, O_WRONLY | O_CREAT | O_TRUNC, 0600) : -1;
     char text[32];
     counting = 0;

@@ -2,7 +2,7 @@
 
 use crate::fails::Fail;
 use crate::shown::{show_map, show_stream};
-use crate::watched::watched;
+use crate::watched::{begin, show};
 use proc_macro2::{
     Delimiter, Group, Ident, Punct, SourceMap, Spacing, Span, TokenStream, TokenTree,
 };
@@ -33,16 +33,14 @@ pub fn run<W: Write>(alloc: Global, out: &mut W, call: &str) -> Result<(), Fail>
 
 fn push<W: Write>(alloc: Global, out: &mut W, quote: &mut Quote) -> Result<(), Fail> {
     let tree = name(alloc, "z")?;
-    let answer = watched!(out; quote.push(tree));
-    writeln!(out, "{answer:?}")?;
-    Ok(())
+    begin(out)?;
+    show(out, quote.push(tree))
 }
 
 fn push_stream<W: Write>(alloc: Global, out: &mut W, quote: &mut Quote) -> Result<(), Fail> {
     let stream = TokenStream::from_tree(alloc, name(alloc, "z")?)?;
-    let answer = watched!(out; quote.push_stream(stream));
-    writeln!(out, "{answer:?}")?;
-    Ok(())
+    begin(out)?;
+    show(out, quote.push_stream(stream))
 }
 
 /// Fills a template with a stream for its name and one for each turn of its repetition.
@@ -51,9 +49,8 @@ fn fill<W: Write>(alloc: Global, out: &mut W, quote: &mut Quote) -> Result<(), F
     let one = TokenStream::from_tree(alloc, name(alloc, "z")?)?;
     let each = [one.clone()?, one.clone()?];
     let holes = [Hole::one("one", &one), Hole::each("each", &each)];
-    let answer = watched!(out; quote.fill(&template, &holes));
-    writeln!(out, "{answer:?}")?;
-    Ok(())
+    begin(out)?;
+    show(out, quote.fill(&template, &holes))
 }
 
 /// The same of the template's text, which becomes a file of a map.
@@ -62,16 +59,15 @@ fn parse<W: Write>(alloc: Global, out: &mut W, quote: &mut Quote) -> Result<(), 
     let one = TokenStream::from_tree(alloc, name(alloc, "z")?)?;
     let each = [one.clone()?, one.clone()?];
     let holes = [Hole::one("one", &one), Hole::each("each", &each)];
-    let answer = watched!(out; quote.parse(TEMPLATE, &mut map, &holes));
-    writeln!(out, "{answer:?}")?;
+    begin(out)?;
+    show(out, quote.parse(TEMPLATE, &mut map, &holes))?;
     show_map(out, &map)?;
     Ok(())
 }
 
 fn finish<W: Write>(out: &mut W, quote: &Quote) -> Result<(), Fail> {
-    let answer = watched!(out; quote.finish());
-    writeln!(out, "{answer:?}")?;
-    Ok(())
+    begin(out)?;
+    show(out, quote.finish())
 }
 
 // A quote that shares its trees with no stream, and whose list has no room.

@@ -1,7 +1,7 @@
 //! Literals that are made, and the values of literals.
 
 use crate::fails::Fail;
-use crate::watched::watched;
+use crate::watched::{begin, show};
 use proc_macro2::{Literal, SourceMap};
 use std::alloc::{AllocError, Global};
 use std::io::Write;
@@ -9,8 +9,8 @@ use std::io::Write;
 /// Makes a literal of the text, or of the greatest value.
 pub fn run<W: Write>(alloc: Global, out: &mut W, call: &str, text: &str) -> Result<(), Fail> {
     for _ in 0..2 {
-        let answer = watched!(out; made(alloc, call, text)).ok_or(Fail::NoCase)?;
-        writeln!(out, "{answer:?}")?;
+        begin(out)?;
+        show(out, made(alloc, call, text).ok_or(Fail::NoCase)?)?;
     }
     Ok(())
 }
@@ -100,19 +100,16 @@ fn show_value<W: Write>(
 }
 
 fn show_str<W: Write>(alloc: Global, out: &mut W, literal: &Literal) -> Result<(), Fail> {
-    let answer = watched!(out; literal.str_value(alloc));
-    writeln!(out, "{answer:?}")?;
-    Ok(())
+    begin(out)?;
+    show(out, literal.str_value(alloc))
 }
 
 fn show_byte_str<W: Write>(alloc: Global, out: &mut W, literal: &Literal) -> Result<(), Fail> {
-    let answer = watched!(out; literal.byte_str_value(alloc));
-    writeln!(out, "{answer:?}")?;
-    Ok(())
+    begin(out)?;
+    show(out, literal.byte_str_value(alloc))
 }
 
 fn show_cstr<W: Write>(alloc: Global, out: &mut W, literal: &Literal) -> Result<(), Fail> {
-    let answer = watched!(out; literal.cstr_value(alloc));
-    writeln!(out, "{answer:?}")?;
-    Ok(())
+    begin(out)?;
+    show(out, literal.cstr_value(alloc))
 }

@@ -1,8 +1,8 @@
 //! Texts that are parsed, into a map that holds another or without a map.
 
 use crate::fails::Fail;
-use crate::shown::{show_map, show_stream};
-use crate::watched::watched;
+use crate::shown::{show_made, show_map};
+use crate::watched::{begin, show};
 use proc_macro2::{Literal, ParseError, SourceMap, TokenStream, reprint};
 use std::alloc::Global;
 use std::io::Write;
@@ -30,8 +30,8 @@ pub fn map_of_x(alloc: Global, limit: u32) -> Result<SourceMap, ParseError> {
 
 fn parse_stream<W: Write>(out: &mut W, text: &str, map: &mut SourceMap) -> Result<(), Fail> {
     for _ in 0..2 {
-        let answer = watched!(out; TokenStream::from_str(text, map));
-        show_answer(out, &answer)?;
+        begin(out)?;
+        show_made(out, TokenStream::from_str(text, map))?;
         show_map(out, map)?;
     }
     Ok(())
@@ -39,39 +39,24 @@ fn parse_stream<W: Write>(out: &mut W, text: &str, map: &mut SourceMap) -> Resul
 
 fn parse_unmapped<W: Write>(alloc: Global, out: &mut W, text: &str) -> Result<(), Fail> {
     for _ in 0..2 {
-        let answer = watched!(out; TokenStream::parse_unmapped(alloc, text));
-        show_answer(out, &answer)?;
+        begin(out)?;
+        show_made(out, TokenStream::parse_unmapped(alloc, text))?;
     }
     Ok(())
 }
 
 fn reprint_text<W: Write>(alloc: Global, out: &mut W, text: &str) -> Result<(), Fail> {
     for _ in 0..2 {
-        let answer = watched!(out; reprint(alloc, text));
-        writeln!(out, "{answer:?}")?;
-    }
-    Ok(())
-}
-
-/// Writes the stream, or why there is none.
-fn show_answer<W: Write>(
-    out: &mut W,
-    answer: &Result<TokenStream, ParseError>,
-) -> Result<(), Fail> {
-    match answer {
-        Ok(stream) => {
-            writeln!(out, "Ok")?;
-            show_stream(out, stream)?;
-        }
-        Err(error) => writeln!(out, "{error:?}")?,
+        begin(out)?;
+        show(out, reprint(alloc, text))?;
     }
     Ok(())
 }
 
 fn parse_literal<W: Write>(out: &mut W, text: &str, map: &mut SourceMap) -> Result<(), Fail> {
     for _ in 0..2 {
-        let answer = watched!(out; Literal::from_str(text, map));
-        writeln!(out, "{answer:?}")?;
+        begin(out)?;
+        show(out, Literal::from_str(text, map))?;
         show_map(out, map)?;
     }
     Ok(())

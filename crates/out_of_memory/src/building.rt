@@ -1,8 +1,8 @@
 //! Streams that are made of `x`, `-3i32` and `(y)`, and streams that these are put into.
 
 use crate::fails::Fail;
-use crate::shown::show_stream;
-use crate::watched::watched;
+use crate::shown::{show_made, show_stream};
+use crate::watched::{begin, show};
 use proc_macro2::{
     Delimiter, Group, Ident, IdentError, Literal, Punct, SourceMap, Spacing, Span, TokenStream,
     TokenTree,
@@ -46,60 +46,58 @@ fn x_and_group(alloc: Global) -> Result<TokenStream, Fail> {
 /// Makes a stream.
 pub fn run_new<W: Write>(alloc: Global, out: &mut W, call: &str) -> Result<(), Fail> {
     for _ in 0..2 {
-        match &made(alloc, out, call)? {
-            Ok(stream) => {
-                writeln!(out, "Ok")?;
-                show_stream(out, stream)?;
-            }
-            Err(error) => writeln!(out, "{error:?}")?,
-        }
+        make(alloc, out, call)?;
     }
     Ok(())
 }
 
-// A stream, or that memory ran out.
-type Made = Result<TokenStream, AllocError>;
-
-fn made<W: Write>(alloc: Global, out: &mut W, call: &str) -> Result<Made, Fail> {
+fn make<W: Write>(alloc: Global, out: &mut W, call: &str) -> Result<(), Fail> {
     match call {
         "from_tree" => from_tree(alloc, out),
         "from_trees" => from_trees(alloc, out),
         "from_no_trees" => from_no_trees(alloc, out),
         "from_streams" => from_streams(alloc, out),
         "from_no_streams" => from_no_streams(alloc, out),
-        "collect" => collected(alloc, out),
+        "collect" => collect(alloc, out),
         _ => Err(Fail::NoCase),
     }
 }
 
-fn from_tree<W: Write>(alloc: Global, out: &mut W) -> Result<Made, Fail> {
+fn from_tree<W: Write>(alloc: Global, out: &mut W) -> Result<(), Fail> {
     let tree = TokenTree::Literal(minus_three(alloc)?);
-    Ok(watched!(out; TokenStream::from_tree(alloc, tree)))
+    begin(out)?;
+    show_made(out, TokenStream::from_tree(alloc, tree))
 }
 
-fn from_trees<W: Write>(alloc: Global, out: &mut W) -> Result<Made, Fail> {
+fn from_trees<W: Write>(alloc: Global, out: &mut W) -> Result<(), Fail> {
     let trees = trees(alloc)?;
-    Ok(watched!(out; TokenStream::from_trees(alloc, trees)))
+    begin(out)?;
+    show_made(out, TokenStream::from_trees(alloc, trees))
 }
 
-fn from_no_trees<W: Write>(alloc: Global, out: &mut W) -> Result<Made, Fail> {
+fn from_no_trees<W: Write>(alloc: Global, out: &mut W) -> Result<(), Fail> {
     let trees: [TokenTree; 0] = [];
-    Ok(watched!(out; TokenStream::from_trees(alloc, trees)))
+    begin(out)?;
+    show_made(out, TokenStream::from_trees(alloc, trees))
 }
 
-fn from_streams<W: Write>(alloc: Global, out: &mut W) -> Result<Made, Fail> {
+fn from_streams<W: Write>(alloc: Global, out: &mut W) -> Result<(), Fail> {
     let stream = x_and_group(alloc)?;
-    Ok(watched!(out; TokenStream::from_streams(alloc, [stream])))
+    begin(out)?;
+    show_made(out, TokenStream::from_streams(alloc, [stream]))
 }
 
-fn from_no_streams<W: Write>(alloc: Global, out: &mut W) -> Result<Made, Fail> {
+fn from_no_streams<W: Write>(alloc: Global, out: &mut W) -> Result<(), Fail> {
     let streams: [TokenStream; 0] = [];
-    Ok(watched!(out; TokenStream::from_streams(alloc, streams)))
+    begin(out)?;
+    show_made(out, TokenStream::from_streams(alloc, streams))
 }
 
-fn collected<W: Write>(alloc: Global, out: &mut W) -> Result<Made, Fail> {
+fn collect<W: Write>(alloc: Global, out: &mut W) -> Result<(), Fail> {
     let trees = trees(alloc)?;
-    Ok(watched!(out; trees.into_iter().collect(alloc)))
+    begin(out)?;
+    let made: Result<TokenStream, AllocError> = trees.into_iter().collect(alloc);
+    show_made(out, made)
 }
 
 /// Puts trees into a stream of `a`, `+` and `b`.
@@ -111,8 +109,7 @@ pub fn run_extend<W: Write>(
 ) -> Result<(), Fail> {
     let (mut stream, other) = old_streams(alloc, input)?;
     for _ in 0..2 {
-        let answer = extended(alloc, out, &mut stream, call)?;
-        writeln!(out, "{answer:?}")?;
+        extend(alloc, out, &mut stream, call)?;
         show_stream(out, &stream)?;
         show_stream(out, &other)?;
     }
@@ -148,15 +145,12 @@ fn first_inside(alloc: Global, stream: &TokenStream) -> Result<TokenStream, Allo
     }
 }
 
-// Whether memory ran out.
-type Extended = Result<(), AllocError>;
-
-fn extended<W: Write>(
+fn extend<W: Write>(
     alloc: Global,
     out: &mut W,
     stream: &mut TokenStream,
     call: &str,
-) -> Result<Extended, Fail> {
+) -> Result<(), Fail> {
     match call {
         "trees" => by_trees(alloc, out, stream),
         "streams" => by_streams(alloc, out, stream),
@@ -170,66 +164,50 @@ fn extended<W: Write>(
     }
 }
 
-fn by_trees<W: Write>(
-    alloc: Global,
-    out: &mut W,
-    stream: &mut TokenStream,
-) -> Result<Extended, Fail> {
+fn by_trees<W: Write>(alloc: Global, out: &mut W, stream: &mut TokenStream) -> Result<(), Fail> {
     let trees = trees(alloc)?;
-    Ok(watched!(out; stream.extend_trees(trees)))
+    begin(out)?;
+    show(out, stream.extend_trees(trees))
 }
 
-fn by_streams<W: Write>(
-    alloc: Global,
-    out: &mut W,
-    stream: &mut TokenStream,
-) -> Result<Extended, Fail> {
+fn by_streams<W: Write>(alloc: Global, out: &mut W, stream: &mut TokenStream) -> Result<(), Fail> {
     let new = x_and_group(alloc)?;
-    Ok(watched!(out; stream.extend_streams([new])))
+    begin(out)?;
+    show(out, stream.extend_streams([new]))
 }
 
-fn by_groups<W: Write>(
-    alloc: Global,
-    out: &mut W,
-    stream: &mut TokenStream,
-) -> Result<Extended, Fail> {
+fn by_groups<W: Write>(alloc: Global, out: &mut W, stream: &mut TokenStream) -> Result<(), Fail> {
     let group = group_of_y(alloc)?;
-    Ok(watched!(out; stream.extend_groups([group])))
+    begin(out)?;
+    show(out, stream.extend_groups([group]))
 }
 
-fn by_idents<W: Write>(
-    alloc: Global,
-    out: &mut W,
-    stream: &mut TokenStream,
-) -> Result<Extended, Fail> {
+fn by_idents<W: Write>(alloc: Global, out: &mut W, stream: &mut TokenStream) -> Result<(), Fail> {
     let x = ident(alloc, "x")?;
-    Ok(watched!(out; stream.extend_idents([x])))
+    begin(out)?;
+    show(out, stream.extend_idents([x]))
 }
 
-fn by_puncts<W: Write>(out: &mut W, stream: &mut TokenStream) -> Result<Extended, Fail> {
+fn by_puncts<W: Write>(out: &mut W, stream: &mut TokenStream) -> Result<(), Fail> {
     let plus = Punct::new('+', Spacing::Alone);
-    Ok(watched!(out; stream.extend_puncts([plus])))
+    begin(out)?;
+    show(out, stream.extend_puncts([plus]))
 }
 
-fn by_literals<W: Write>(
-    alloc: Global,
-    out: &mut W,
-    stream: &mut TokenStream,
-) -> Result<Extended, Fail> {
+fn by_literals<W: Write>(alloc: Global, out: &mut W, stream: &mut TokenStream) -> Result<(), Fail> {
     let literal = minus_three(alloc)?;
-    Ok(watched!(out; stream.extend_literals([literal])))
+    begin(out)?;
+    show(out, stream.extend_literals([literal]))
 }
 
-fn by_no_trees<W: Write>(out: &mut W, stream: &mut TokenStream) -> Result<Extended, Fail> {
+fn by_no_trees<W: Write>(out: &mut W, stream: &mut TokenStream) -> Result<(), Fail> {
     let trees: [TokenTree; 0] = [];
-    Ok(watched!(out; stream.extend_trees(trees)))
+    begin(out)?;
+    show(out, stream.extend_trees(trees))
 }
 
-fn by_std<W: Write>(
-    alloc: Global,
-    out: &mut W,
-    stream: &mut TokenStream,
-) -> Result<Extended, Fail> {
+fn by_std<W: Write>(alloc: Global, out: &mut W, stream: &mut TokenStream) -> Result<(), Fail> {
     let trees = trees(alloc)?;
-    Ok(watched!(out; stream.extend(trees)))
+    begin(out)?;
+    show(out, stream.extend(trees))
 }

@@ -1,7 +1,7 @@
 //! Identifiers from their names.
 
 use crate::fails::Fail;
-use crate::watched::watched;
+use crate::watched::{begin, show};
 use proc_macro2::{Ident, IdentError, Span};
 use std::alloc::Global;
 use std::io::Write;
@@ -9,8 +9,8 @@ use std::io::Write;
 /// Makes an identifier of the name.
 pub fn run<W: Write>(alloc: Global, out: &mut W, call: &str, name: &str) -> Result<(), Fail> {
     for _ in 0..2 {
-        let answer = watched!(out; made(alloc, call, name)).ok_or(Fail::NoCase)?;
-        writeln!(out, "{answer:?}")?;
+        begin(out)?;
+        show(out, made(alloc, call, name).ok_or(Fail::NoCase)?)?;
     }
     Ok(())
 }

@@ -24,7 +24,7 @@ pub enum Fail {
     /// What was pushed to a quote has a fault.
     #[error(transparent)]
     Quote(#[from] QuoteError),
-    /// Memory ran out, though none was refused.
+    /// Memory ran out, though no allocation was made to fail.
     #[error(transparent)]
     Memory(#[from(alloc)] AllocError),
 }

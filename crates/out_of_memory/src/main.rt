@@ -1,7 +1,7 @@
 //! Does one call of the library twice, and writes what each answered and what stood after it.
 //!
-//! It is for `checks/refusals`, which runs each case once for each time that the first call asks for memory, and
-//! refuses it that time. The three arguments name what is asked, the call, and what it is asked of.
+//! It is for `checks/out_of_memory`, which runs each case once for each allocation of the first call, and lets that one
+//! fail. The three arguments name what is asked, the call, and what it is asked of.
 #![tactic(auto)]
 
 mod building;

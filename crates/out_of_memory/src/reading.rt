@@ -2,7 +2,7 @@
 
 use crate::fails::Fail;
 use crate::shown::{show_stream, show_tree};
-use crate::watched::watched;
+use crate::watched::{begin, show};
 use proc_macro2::{SourceMap, TokenStream, TokenTree};
 use std::alloc::{AllocError, Global};
 use std::fmt::Display;
@@ -39,12 +39,9 @@ fn read<W: Write>(
 }
 
 fn print_stream<W: Write>(alloc: Global, out: &mut W, stream: &TokenStream) -> Result<(), Fail> {
-    let answer = watched!(out; {
-        let text: Result<_, _> = format!(in alloc; "{stream}");
-        text
-    });
-    writeln!(out, "{answer:?}")?;
-    Ok(())
+    begin(out)?;
+    let text: Result<_, _> = format!(in alloc; "{stream}");
+    show(out, text)
 }
 
 // Writes the stream, its first tree, and that tree where it is a group, into texts that have room for them.
@@ -56,13 +53,13 @@ fn write_all<W: Write>(alloc: Global, out: &mut W, stream: &TokenStream) -> Resu
         return Err(Fail::NoCase);
     };
     let mut texts = (roomy(alloc)?, roomy(alloc)?, roomy(alloc)?);
-    let answers = watched!(out; (
+    begin(out)?;
+    let answers = (
         is_written(&mut texts.0, stream),
         is_written(&mut texts.1, tree),
         is_written(&mut texts.2, group),
-    ));
-    writeln!(out, "{answers:?} {texts:?}")?;
-    Ok(())
+    );
+    show(out, (answers, texts))
 }
 
 // Writes the value after the text, and answers whether that succeeded.
@@ -76,25 +73,26 @@ fn roomy(alloc: Global) -> Result<String, AllocError> {
 
 fn show_walk<W: Write>(alloc: Global, out: &mut W, stream: &TokenStream) -> Result<(), Fail> {
     let mut trees = Vec::with_capacity(alloc, STEPS)?;
-    let refusals = watched!(out; walk(stream, &mut trees))?;
-    writeln!(out, "{refusals} refusals")?;
+    begin(out)?;
+    let failures = walk(stream, &mut trees)?;
+    show(out, failures)?;
     for tree in trees {
         show_tree(out, tree)?;
     }
     Ok(())
 }
 
-// Walks over the stream and puts its trees into the list, which has room for them. A step that is refused is taken
+// Walks over the stream and puts its trees into the list, which has room for them. A step that fails is taken
 // again. Answers how many were.
 fn walk<'a>(stream: &'a TokenStream, trees: &mut Vec<&'a TokenTree>) -> Result<usize, AllocError> {
     let mut walk = stream.walk();
-    let mut refusals = 0;
+    let mut failures = 0;
     for _ in 0..STEPS {
         match walk.next() {
             Ok(Some(tree)) => trees.push(tree)?,
-            Ok(None) => return Ok(refusals),
-            Err(_) => refusals = 1,
+            Ok(None) => return Ok(failures),
+            Err(_) => failures = 1,
         }
     }
-    Ok(refusals)
+    Ok(failures)
 }

@@ -1,7 +1,7 @@
 //! Calls that answer the same, whatever memory there is. Most of them take none.
 
 use crate::fails::Fail;
-use crate::watched::watched;
+use crate::watched::{begin, show};
 use proc_macro2::rustc_literal_escaper::{
     MixedUnit, Mode, check_for_errors, check_raw_byte_str, check_raw_c_str, check_raw_str,
     unescape_byte, unescape_byte_str, unescape_c_str, unescape_char, unescape_str,
@@ -51,15 +51,15 @@ fn parsed(alloc: Global, text: &str) -> Result<TokenStream, ParseError> {
 fn ask_streams<W: Write>(alloc: Global, out: &mut W, text: &str) -> Result<(), Fail> {
     let stream = parsed(alloc, text)?;
     let other = parsed(alloc, text)?;
-    let answers = watched!(out; (
+    begin(out)?;
+    let answers = (
         TokenStream::new(alloc).is_empty(),
         stream.is_empty(),
         stream.trees().len(),
         stream.is_well_spaced(),
         stream.same_tokens(&other),
-    ));
-    writeln!(out, "{answers:?}")?;
-    Ok(())
+    );
+    show(out, answers)
 }
 
 fn ask_maps<W: Write>(alloc: Global, out: &mut W, text: &str) -> Result<(), Fail> {
@@ -69,15 +69,21 @@ fn ask_maps<W: Write>(alloc: Global, out: &mut W, text: &str) -> Result<(), Fail
         return Err(Fail::NoCase);
     };
     let span = tree.span();
-    let answers = watched!(out; {
-        let new = SourceMap::new(alloc);
-        let small = SourceMap::with_limit(alloc, 4);
-        let before = map.holds(span);
-        map.invalidate();
-        (new.holds(span), small.holds(Span::call_site()), before, map.holds(span))
-    });
-    writeln!(out, "{answers:?}")?;
-    Ok(())
+    begin(out)?;
+    show(out, asked_of_maps(alloc, &mut map, span))
+}
+
+fn asked_of_maps(alloc: Global, map: &mut SourceMap, span: Span) -> (bool, bool, bool, bool) {
+    let new = SourceMap::new(alloc);
+    let small = SourceMap::with_limit(alloc, 4);
+    let before = map.holds(span);
+    map.invalidate();
+    (
+        new.holds(span),
+        small.holds(Span::call_site()),
+        before,
+        map.holds(span),
+    )
 }
 
 fn ask_spans<W: Write>(alloc: Global, out: &mut W, text: &str) -> Result<(), Fail> {
@@ -86,7 +92,8 @@ fn ask_spans<W: Write>(alloc: Global, out: &mut W, text: &str) -> Result<(), Fai
         return Err(Fail::NoCase);
     };
     let (first, last) = (first.span(), last.span());
-    let answers = watched!(out; (
+    begin(out)?;
+    let answers = (
         Span::call_site(),
         Span::mixed_site(),
         Span::def_site(),
@@ -95,9 +102,8 @@ fn ask_spans<W: Write>(alloc: Global, out: &mut W, text: &str) -> Result<(), Fai
         first.local_file(),
         first.eq(&last),
         first.eq(&first),
-    ));
-    writeln!(out, "{answers:?}")?;
-    Ok(())
+    );
+    show(out, answers)
 }
 
 fn look_up<W: Write>(alloc: Global, out: &mut W, text: &str) -> Result<(), Fail> {
@@ -110,12 +116,12 @@ fn look_up<W: Write>(alloc: Global, out: &mut W, text: &str) -> Result<(), Fail>
     if !map.holds(last) {
         return Err(Fail::NoCase);
     }
-    let places = watched!(out; {
-        let places: (LineColumn, LineColumn) = (last.start(&map), last.end(&map));
-        (places, places.0 < places.1, last.byte_range(&mut map), last.join(first, &map))
-    });
-    let source = last.source_str(&map);
-    writeln!(out, "{places:?} {source:?}")?;
+    begin(out)?;
+    let ends: (LineColumn, LineColumn) = (last.start(&map), last.end(&map));
+    let bytes = last.byte_range(&mut map);
+    let joined = last.join(first, &map);
+    show(out, (ends, ends.0 < ends.1, bytes, joined))?;
+    writeln!(out, "{:?}", last.source_str(&map))?;
     Ok(())
 }
 
@@ -125,9 +131,8 @@ fn ask_groups<W: Write>(alloc: Global, out: &mut W, text: &str) -> Result<(), Fa
         return Err(Fail::NoCase);
     };
     let inside = parsed(alloc, text)?;
-    let answers = watched!(out; asked_of_a_group(group, inside));
-    writeln!(out, "{answers:?}")?;
-    Ok(())
+    begin(out)?;
+    show(out, asked_of_a_group(group, inside))
 }
 
 type SixSpans = (Span, Span, Span, Span, Span, Span);
@@ -158,23 +163,23 @@ fn spans_of(group: &Group) -> SixSpans {
 
 fn ask_marks<W: Write>(out: &mut W) -> Result<(), Fail> {
     let span = Span::call_site();
-    let answers = watched!(out; {
-        let mut mark = Punct::new('+', Spacing::Joint);
-        mark.set_span(span);
-        let copy: Result<_, _> = mark.clone();
-        (Punct::is_punct_char('+'), mark.as_char(), mark.spacing(), mark.span(), copy, TokenTree::from(mark))
-    });
-    writeln!(out, "{answers:?}")?;
-    Ok(())
+    begin(out)?;
+    let mut mark = Punct::new('+', Spacing::Joint);
+    mark.set_span(span);
+    let copy: Result<_, _> = mark.clone();
+    let read = (mark.as_char(), mark.spacing(), mark.span());
+    show(
+        out,
+        (Punct::is_punct_char('+'), read, copy, TokenTree::from(mark)),
+    )
 }
 
 fn ask_names<W: Write>(alloc: Global, out: &mut W, text: &str) -> Result<(), Fail> {
     let mut name = Ident::new(alloc, text, Span::call_site())?;
     let raw = Ident::new_raw(alloc, text, Span::call_site())?;
-    let answers = watched!(out; asked_of_names(&mut name, &raw, text));
-    let tree = watched!(out; TokenTree::from(name));
-    writeln!(out, "{answers:?} {tree:?}")?;
-    Ok(())
+    begin(out)?;
+    let answers = asked_of_names(&mut name, &raw, text);
+    show(out, (answers, TokenTree::from(name)))
 }
 
 fn asked_of_names(
@@ -206,21 +211,27 @@ fn compared(name: &Ident, raw: &Ident) -> (bool, bool, Ordering, bool) {
 
 fn ask_literals<W: Write>(alloc: Global, out: &mut W, text: &str) -> Result<(), Fail> {
     let mut literal = Literal::from_str(text, &mut SourceMap::new(alloc))?;
-    let answers = watched!(out; {
-        let part = literal.subspan(Bound::Included(1), Bound::Excluded(3));
-        let span = literal.span();
-        literal.set_span(Span::call_site());
-        (Literal::is_whole(text), span, part, literal.text().len(), TokenTree::from(literal))
-    });
-    writeln!(out, "{answers:?}")?;
-    Ok(())
+    begin(out)?;
+    let part = literal.subspan(Bound::Included(1), Bound::Excluded(3));
+    let span = literal.span();
+    literal.set_span(Span::call_site());
+    let bytes = literal.text().len();
+    show(
+        out,
+        (
+            Literal::is_whole(text),
+            span,
+            part,
+            bytes,
+            TokenTree::from(literal),
+        ),
+    )
 }
 
 fn ask_iterators<W: Write>(alloc: Global, out: &mut W, text: &str) -> Result<(), Fail> {
     let mut trees = parsed(alloc, text)?.into_iter()?;
-    let answers = watched!(out; two_taken(&mut trees));
-    writeln!(out, "{answers:?}")?;
-    Ok(())
+    begin(out)?;
+    show(out, two_taken(&mut trees))
 }
 
 type Hint = (usize, Option<usize>);
@@ -236,44 +247,45 @@ fn ask_faults<W: Write>(alloc: Global, out: &mut W, text: &str) -> Result<(), Fa
         Err(ParseError::Lex(fault)) => fault,
         _ => return Err(Fail::NoCase),
     };
-    let span = watched!(out; fault.span());
-    writeln!(out, "{span:?} {fault}")?;
+    begin(out)?;
+    show(out, fault.span())?;
+    writeln!(out, "{fault}")?;
     Ok(())
 }
 
 fn ask_contents<W: Write>(out: &mut W, text: &str) -> Result<(), Fail> {
-    let answers = watched!(out; (
+    begin(out)?;
+    let answers = (
         unescape_str(text).last(),
         unescape_byte_str(text).last(),
         unescape_c_str(text).last(),
         check_for_errors(text, Mode::Str).last(),
         unescape_char(text),
         unescape_byte(text),
-    ));
-    writeln!(out, "{answers:?}")?;
-    Ok(())
+    );
+    show(out, answers)
 }
 
 fn ask_raw_contents<W: Write>(out: &mut W, text: &str) -> Result<(), Fail> {
-    let answers = watched!(out; (
+    begin(out)?;
+    let answers = (
         check_raw_str(text).last(),
         check_raw_byte_str(text).last(),
         check_raw_c_str(text).last(),
         check_for_errors(text, Mode::RawStr).last(),
-    ));
-    writeln!(out, "{answers:?}")?;
-    Ok(())
+    );
+    show(out, answers)
 }
 
 fn ask_units<W: Write>(out: &mut W) -> Result<(), Fail> {
-    let answers = watched!(out; (
+    begin(out)?;
+    let answers = (
         NonZeroChar::new('a'),
         NonZeroU8::new(0),
         Mode::CStr.in_double_quotes(),
         Mode::CStr.prefix_noraw(),
         MixedUnit::try_from('é'),
         MixedUnit::try_from(0),
-    ));
-    writeln!(out, "{answers:?}")?;
-    Ok(())
+    );
+    show(out, answers)
 }

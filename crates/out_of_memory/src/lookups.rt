@@ -3,7 +3,7 @@
 use crate::fails::Fail;
 use crate::parsing::map_of_x;
 use crate::shown::show_map;
-use crate::watched::watched;
+use crate::watched::{begin, show};
 use proc_macro2::{SourceMap, Span, TokenStream};
 use std::alloc::{AllocError, Global};
 use std::io::Write;
@@ -14,13 +14,13 @@ pub fn run<W: Write>(alloc: Global, out: &mut W, call: &str, text: &str) -> Resu
     let mut map = map_of_x(alloc, u32::MAX)?;
     let spans = spans_of(alloc, text, &mut map)?;
     for _ in 0..2 {
-        show(alloc, out, call, &mut map, &spans)?;
+        ask(alloc, out, call, &mut map, &spans)?;
         show_map(out, &map)?;
     }
     Ok(())
 }
 
-fn show<W: Write>(
+fn ask<W: Write>(
     alloc: Global,
     out: &mut W,
     call: &str,
@@ -42,9 +42,9 @@ fn show_files<W: Write>(
     spans: &[Span],
 ) -> Result<(), Fail> {
     let mut names = Vec::with_capacity(alloc, spans.len())?;
-    watched!(out; ask_files(map, spans, &mut names))?;
-    writeln!(out, "{names:?}")?;
-    Ok(())
+    begin(out)?;
+    ask_files(map, spans, &mut names)?;
+    show(out, names)
 }
 
 fn show_bytes<W: Write>(
@@ -54,9 +54,9 @@ fn show_bytes<W: Write>(
     spans: &[Span],
 ) -> Result<(), Fail> {
     let mut ranges = Vec::with_capacity(alloc, spans.len())?;
-    watched!(out; ask_bytes(map, spans, &mut ranges))?;
-    writeln!(out, "{ranges:?}")?;
-    Ok(())
+    begin(out)?;
+    ask_bytes(map, spans, &mut ranges)?;
+    show(out, ranges)
 }
 
 fn show_texts<W: Write>(
@@ -66,9 +66,9 @@ fn show_texts<W: Write>(
     spans: &[Span],
 ) -> Result<(), Fail> {
     let mut texts = Vec::with_capacity(alloc, spans.len())?;
-    watched!(out; ask_texts(map, spans, &mut texts))?;
-    writeln!(out, "{texts:?}")?;
-    Ok(())
+    begin(out)?;
+    ask_texts(map, spans, &mut texts)?;
+    show(out, texts)
 }
 
 // 0..0, and the spans of the trees of the text, which becomes a file of the map.

@@ -1,22 +1,36 @@
 //! What stands, written whole.
 
 use crate::fails::Fail;
+use crate::watched::{end, show};
 use pm_span::parts::span_of;
 use proc_macro2::{SourceMap, Span, TokenStream, TokenTree};
+use std::fmt::Debug;
 use std::io;
 use std::io::Write;
 
 /// No map of a case has more positions.
 const POSITIONS: u32 = 10_000;
 
+/// Writes the line after a call, and the stream that it made or why there is none.
+pub fn show_made<W: Write, E: Debug + Drop>(
+    out: &mut W,
+    made: Result<TokenStream, E>,
+) -> Result<(), Fail> {
+    match made {
+        Ok(stream) => {
+            end(out)?;
+            out.write_all(b"Ok\n")?;
+            show_stream(out, &stream)
+        }
+        Err(error) => show(out, error),
+    }
+}
+
 /// Writes what the stream prints, and a line for each of its trees, each group before those inside it.
 pub fn show_stream<W: Write>(out: &mut W, stream: &TokenStream) -> Result<(), Fail> {
     writeln!(out, "stream {stream}")?;
     let mut walk = stream.walk();
-    for _ in 0..u64::MAX {
-        let Some(tree) = walk.next()? else {
-            break;
-        };
+    while let Some(tree) = walk.next()? {
         show_tree(out, tree)?;
     }
     Ok(())

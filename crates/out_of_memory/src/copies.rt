@@ -3,7 +3,7 @@
 use crate::building::{minus_three, trees};
 use crate::fails::Fail;
 use crate::shown::show_stream;
-use crate::watched::watched;
+use crate::watched::{begin, show};
 use proc_macro2::{SourceMap, TokenStream, TokenTree};
 use std::alloc::Global;
 use std::io::Write;
@@ -42,12 +42,9 @@ fn copy<W: Write>(
 }
 
 fn copy_stream<W: Write>(out: &mut W, stream: &TokenStream) -> Result<(), Fail> {
-    let answer = watched!(out; {
-        let copy: Result<_, _> = stream.clone();
-        copy
-    });
-    writeln!(out, "{answer:?}")?;
-    Ok(())
+    begin(out)?;
+    let copy: Result<_, _> = stream.clone();
+    show(out, copy)
 }
 
 // Copies the stream after `x`, `-3i32` and `(y)` were put into it.
@@ -76,12 +73,9 @@ fn copy_tree<W: Write>(out: &mut W, stream: &TokenStream) -> Result<(), Fail> {
 }
 
 fn copy_one<W: Write>(out: &mut W, tree: &TokenTree) -> Result<(), Fail> {
-    let answer = watched!(out; {
-        let copy: Result<_, _> = tree.clone();
-        copy
-    });
-    writeln!(out, "{answer:?}")?;
-    Ok(())
+    begin(out)?;
+    let copy: Result<_, _> = tree.clone();
+    show(out, copy)
 }
 
 // Asks the first tree, a group, for its stream.
@@ -89,26 +83,22 @@ fn copy_inside<W: Write>(out: &mut W, stream: &TokenStream) -> Result<(), Fail> 
     let Some(TokenTree::Group(group)) = stream.trees().first() else {
         return Err(Fail::NoCase);
     };
-    let answer = watched!(out; group.stream());
-    writeln!(out, "{answer:?}")?;
-    Ok(())
+    begin(out)?;
+    show(out, group.stream())
 }
 
 fn take_trees<W: Write>(out: &mut W, stream: TokenStream) -> Result<(), Fail> {
-    let answer = watched!(out; stream.into_iter());
-    writeln!(out, "{answer:?}")?;
-    Ok(())
+    begin(out)?;
+    show(out, stream.into_iter())
 }
 
 // Copies the iterator over the trees after the first.
 fn copy_iterator<W: Write>(out: &mut W, stream: TokenStream) -> Result<(), Fail> {
     let mut trees = stream.into_iter()?;
     let _ = trees.next();
-    let answer = watched!(out; {
-        let copy: Result<_, _> = trees.clone();
-        copy
-    });
-    writeln!(out, "{answer:?}")?;
+    begin(out)?;
+    let copy: Result<_, _> = trees.clone();
+    show(out, copy)?;
     writeln!(out, "{trees:?}")?;
     Ok(())
 }
