@@ -160,7 +160,7 @@ static void pieces(pm_session *s) {
     static const uint8_t kinds[] = {0, 2, 1, 3, 1, 4, 8, 7, 6, 6, 5, 1};
     pm_piece found[13] = {{.kind = 9}};
     want("pieces", listed.code, PM_DONE);
-    want("up to where none stands", listed.bytes, 28);
+    want("up to where none stands", listed.bytes, 26);
     want("how many", listed.number, sizeof kinds);
     want("no room", pm_copy_pieces(*s, s, found, sizeof kinds + 1), PM_NO_ROOM);
     want("unwritten", found[0].kind, 9);
