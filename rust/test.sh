@@ -110,25 +110,52 @@ else
     skip "rust/proved and rust/tools: no cargo of Rust 1.82 or later"
 fi
 
-# The static library for C, and its demo.
+# The static library for C, its header, its tests, its demo, and a Python program over it.
 callers_in_c() {
-    local archive=../crates/pm_c/out/libpm_c.a cc=${CC:-cc}
+    local archive=../crates/pm_c/out/libpm_c.a cc=${CC:-cc} cxx=${CXX:-c++} heap
     if ! command -v rt > /dev/null; then
-        skip "the archive, and the demo in C: no rt"
+        skip "the archive, and what is over it in C and Python: no rt"
         return
     fi
     try "the archive" ./archive.sh
+    if command -v python3 > /dev/null; then
+        try "pm_c.h is what the sources say, and the archive exports its calls" c/header.py --check "$archive"
+    fi
     if ! command -v "$cc" > /dev/null; then
-        skip "the demo in C: no C compiler"
+        skip "the tests, the demo and the Python program over the archive: no C compiler"
         return
     fi
-    demo() {
-        local flags=(-std=c11 -Wall -Wextra -Werror -g -fsanitize=address,undefined -fno-sanitize-recover=all)
-        "$cc" "${flags[@]}" c/demo.c c/heap.c "$archive" -o "$room/demo" || return 1
+    local flags=(-D_DEFAULT_SOURCE -std=c11 -Wall -Wextra -Werror -g)
+    local checked=(-fsanitize=address,undefined -fno-sanitize-recover=all)
+    # Builds a program with the heap of the second word, by the flags that follow, and runs it on the demo's text.
+    run_demo() {
+        "$cc" "${flags[@]}" "${@:3}" "$1" "$archive" "$2" -o "$room/demo" || return 1
         "$room/demo" < c/demo.stdin > "$room/seen" || return 1
         diff c/demo.stdout "$room/seen"
     }
-    try "the demo in C, under the sanitizers of addresses and of undefined behaviour" demo
+    try "the demo in C, under the sanitizers of addresses and of undefined behaviour" \
+        run_demo c/demo.c c/heap.c "${checked[@]}"
+    heap=$(dirname "$(rt doc 2> /dev/null)")/c/liblibc_c.a
+    try "the demo over the toolchain's heap, under both" run_demo c/demo.c "$heap" "${checked[@]}"
+    tests() { "$cc" "${flags[@]}" "${checked[@]}" c/tests.c "$archive" -o "$room/tests" && "$room/tests"; }
+    try "the tests in C: each code, what it leaves, mistakes, and each allocation refused in turn" tests
+    freed_twice() { ! "$room/tests" twice 2> "$room/errors" && grep -q double-free "$room/errors"; }
+    try "the sanitizer reports a session that is freed twice" freed_twice
+    if command -v "$cxx" > /dev/null; then
+        in_cpp() { echo '#include "pm_c.h"' | "$cxx" -x c++ -std=c++17 -Wall -Wextra -Werror -Ic -fsyntax-only -; }
+        try "pm_c.h as C++" in_cpp
+    else
+        skip "pm_c.h as C++: no C++ compiler"
+    fi
+    if command -v python3 > /dev/null; then
+        functions() {
+            local whole=(-Wl,--whole-archive "$archive" -Wl,--no-whole-archive)
+            "$cc" -shared -fPIC -o "$room/libpm_c.so" "${whole[@]}" c/heap.c || return 1
+            c/functions.py "$room/libpm_c.so" c/functions.rs.txt > "$room/seen" || return 1
+            diff c/functions.stdout "$room/seen"
+        }
+        try "a Python program over the library lists a file's functions" functions
+    fi
 }
 callers_in_c
 

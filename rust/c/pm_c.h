@@ -1,4 +1,5 @@
-/* Token streams of Rust, read, listed, printed, made and looked up by a proved library.
+/* Token streams of Rust, read, listed, printed, made and looked up by a proved library. rust/c/header.py makes this
+ * file of the sources of crates/pm_c.
  *
  * Link libpm_c.a and three functions of a heap: the toolchain's liblibc_c.a, or heap.c beside this file.
  *
@@ -6,22 +7,25 @@
  * session begins at 1, and each later one a position behind the end of the one before. A span goes from `lo` up to
  * `hi`. All numbers of bytes are named so.
  *
- * A session holds all that it read, and what it prints, lists or makes until the next such call: records, a text, and
- * bytes. Its handle goes into a call by value and comes back by `back`, so that `pm_parse(s, &s, ..)` is the usual
- * form. Use one session on one thread at a time, and always on the same one. Sessions share nothing, so each thread may
- * have its own. Nothing here is for signal handlers.
+ * A session holds the texts and streams that it read, and what it prints, lists or makes until the next such call:
+ * records of trees, records of pieces, a text, and bytes. Its handle goes into a call by value and comes back by
+ * `back`, so that `pm_parse(s, &s, ..)` is the usual form. Use one session on one thread at a time, and always on the
+ * same one. Sessions share nothing, so each thread may have its own. Nothing here is for signal handlers.
  *
  * No pointer may be null, not even to no bytes, and what one points to overlaps with nothing else of the call. All else
- * is answered by a code: a call that isn't PM_DONE leaves the session live and its streams as they were. It leaves the
- * rest as it was too, but for these: PM_NO_MEMORY and PM_TOO_LONG may leave another text, other records, and the text
- * that was read as a file of the session; PM_FAULT, and PM_NO_LITERAL of pm_read_literal, leave that file; and
- * PM_NO_ROOM of pm_read_once and PM_NO_LISTING may leave other records and another text.
+ * is answered by a code. A call that isn't PM_DONE leaves the session live and as it was, but for these: PM_NO_MEMORY
+ * and, of pm_list, PM_TOO_LONG may leave other records and another text; PM_FAULT and PM_TOO_LONG of pm_parse, and
+ * PM_NO_LITERAL of pm_read_literal, leave the text that was read as a file of the session; PM_NO_MEMORY of pm_parse may
+ * leave it. A buffer is written only where it is PM_DONE.
  */
 #ifndef PM_C_H
 #define PM_C_H
 #include <stdbool.h>
 #include <stddef.h>
 #include <stdint.h>
+
+/* Rises with each change that a caller sees. */
+#define PM_VERSION 2
 
 #ifdef __cplusplus
 extern "C" {
@@ -35,104 +39,181 @@ typedef struct pm_session {
 
 /* The codes. */
 enum {
+    /* It is done. */
     PM_DONE = 0,
-    PM_FAULT = 1,          /* the text has a fault at the position `number` */
-    PM_MAP_FULL = 2,       /* the text's positions would pass 4294967295 */
+    /* The text has a fault at the position `number`. */
+    PM_FAULT = 1,
+    /* The text's positions would pass 4294967295. */
+    PM_MAP_FULL = 2,
+    /* Memory ran out. */
     PM_NO_MEMORY = 3,
+    /* The bytes aren't UTF-8. */
     PM_NOT_UTF8 = 4,
-    PM_NO_STREAM = 5,      /* the session has no stream of this number */
-    PM_NO_ROOM = 6,        /* the buffer hasn't just the length of what is copied; of pm_read_once, is shorter */
-    PM_NOT_LIVE = 7,       /* the handle is of no session */
-    PM_TOO_LONG = 8,       /* a count doesn't go into 32 bits */
-    PM_NO_LISTING = 9,     /* the records were not found to be those of a stream */
-    PM_NAME_EMPTY = 10,
-    PM_NAME_NUMBER = 11,   /* the name has digits only */
-    PM_NAME_INVALID = 12,
-    PM_NAME_RESERVED = 13, /* `_`, `super`, `self`, `Self` or `crate`, which can't be raw */
-    PM_NO_LITERAL = 14,
-    PM_OTHER_KIND = 15,    /* the literal is of another kind than was asked for, or has a suffix */
-    PM_NOT_UNESCAPED = 16, /* the literal's content has a fault, `number` says which, in the order of EscapeError */
-    PM_NOT_HELD = 17,      /* no text of the session has the span */
-    PM_NO_CHARACTER = 18,  /* the number is no character, or the bytes have a zero */
-    PM_NOT_JOINED = 19     /* no text of the session has both spans */
+    /* The session has no stream of this number. */
+    PM_NO_STREAM = 5,
+    /* The buffer hasn't just the length of what is copied. */
+    PM_NO_ROOM = 6,
+    /* The handle is of no session. */
+    PM_NOT_LIVE = 7,
+    /* A count doesn't go into 32 bits. */
+    PM_TOO_LONG = 8,
+    /* The name has no character. */
+    PM_NAME_EMPTY = 9,
+    /* The name has digits only. */
+    PM_NAME_NUMBER = 10,
+    /* The name is none. */
+    PM_NAME_INVALID = 11,
+    /* The name can't be raw: `_`, `super`, `self`, `Self` or `crate`. */
+    PM_NAME_RESERVED = 12,
+    /* The text is no literal. */
+    PM_NO_LITERAL = 13,
+    /* The literal is of another kind, or has a suffix. */
+    PM_OTHER_KIND = 14,
+    /* The literal's content has a fault: `number` is one of the values of pm_escape. */
+    PM_NOT_UNESCAPED = 15,
+    /* No text of the session has the span. */
+    PM_NOT_HELD = 16,
+    /* The number is no character, or the bytes have a zero. */
+    PM_NO_CHARACTER = 17,
+    /* No text of the session has both spans. */
+    PM_NOT_JOINED = 18
 };
 
-/* What a call answers. Where it isn't PM_DONE only `code`, and with it what its line above names, is of use. */
+/* The faults of a literal's content, in the order of EscapeError. */
+enum pm_escape {
+    PM_ESCAPE_ZERO_CHARS = 0,
+    PM_ESCAPE_MORE_THAN_ONE_CHAR = 1,
+    PM_ESCAPE_LONE_SLASH = 2,
+    PM_ESCAPE_INVALID_ESCAPE = 3,
+    PM_ESCAPE_BARE_CARRIAGE_RETURN = 4,
+    PM_ESCAPE_BARE_CARRIAGE_RETURN_IN_RAW_STRING = 5,
+    PM_ESCAPE_ESCAPE_ONLY_CHAR = 6,
+    PM_ESCAPE_TOO_SHORT_HEX_ESCAPE = 7,
+    PM_ESCAPE_INVALID_CHAR_IN_HEX_ESCAPE = 8,
+    PM_ESCAPE_OUT_OF_RANGE_HEX_ESCAPE = 9,
+    PM_ESCAPE_NO_BRACE_IN_UNICODE_ESCAPE = 10,
+    PM_ESCAPE_INVALID_CHAR_IN_UNICODE_ESCAPE = 11,
+    PM_ESCAPE_EMPTY_UNICODE_ESCAPE = 12,
+    PM_ESCAPE_UNCLOSED_UNICODE_ESCAPE = 13,
+    PM_ESCAPE_LEADING_UNDERSCORE_UNICODE_ESCAPE = 14,
+    PM_ESCAPE_OVERLONG_UNICODE_ESCAPE = 15,
+    PM_ESCAPE_LONE_SURROGATE_UNICODE_ESCAPE = 16,
+    PM_ESCAPE_OUT_OF_RANGE_UNICODE_ESCAPE = 17,
+    PM_ESCAPE_UNICODE_ESCAPE_IN_BYTE = 18,
+    PM_ESCAPE_NON_ASCII_CHAR_IN_BYTE = 19,
+    PM_ESCAPE_NUL_IN_C_STR = 20,
+    PM_ESCAPE_UNSKIPPED_WHITESPACE_WARNING = 21,
+    PM_ESCAPE_MULTIPLE_SKIPPED_LINES_WARNING = 22
+};
+
+/* What a call answers. Where it isn't done only `code` is of use, and `number` where the code's line names it. */
 typedef struct pm_answer {
+    /* How it went: a code. */
     uint32_t code;
+    /* A number, which the call names. */
     uint32_t number;
+    /* How many bytes the call's text or bytes have. */
     size_t bytes;
 } pm_answer;
 
-/* A tree. A list of them has each group before the trees inside it. */
+/* A tree, as it is listed in reading order. */
 typedef struct pm_tree {
-    uint8_t kind;   /* 0 group, 1 identifier, 2 mark, 3 literal */
-    uint8_t detail; /* of a group 0 for ( ), 1 for { }, 2 for [ ], 3 for none; 1 for a mark that is joint; else 0 */
+    /* 0 group, 1 identifier, 2 mark, 3 literal. */
+    uint8_t kind;
+    /* Of a group 0 for ( ), 1 for { }, 2 for [ ], 3 for none; 1 for a mark that is joint; else 0. */
+    uint8_t detail;
+    /* The position where it begins, in characters. */
     uint32_t lo;
+    /* The position where it ends, in characters. */
     uint32_t hi;
-    uint32_t start; /* where the text begins, in bytes of the session's text; of a mark its character; of a group 0 */
-    uint32_t count; /* how many bytes the text has; of a group how many trees stand right inside it; of a mark 0 */
+    /* Where its text begins, in bytes of the session's text; of a mark its character; of a group 0. */
+    uint32_t start;
+    /* How many bytes its text has; of a group how many trees stand right inside it; of a mark 0. */
+    uint32_t count;
 } pm_tree;
 
-typedef struct pm_place {
-    uint32_t code;
-    size_t line;   /* from 1 on */
-    size_t column; /* in characters, from 0 on */
-} pm_place;
+/* A piece of a text. */
+typedef struct pm_piece {
+    /* 0 the mark U+FEFF at the front, 1 white character, 2 comment, 3 doc comment, 4 opener, 5 closer, 6 literal, 7
+     * mark, 8 identifier. */
+    uint8_t kind;
+    /* 1 for a doc comment with `!`, a mark that is joint and an identifier with `r#`; else 0. */
+    uint8_t detail;
+    /* Where it begins, in bytes of the text. */
+    uint32_t start;
+    /* How many bytes it has. */
+    uint32_t count;
+} pm_piece;
 
-typedef struct pm_range {
+/* A line and a column. */
+typedef struct pm_line_column {
+    /* How it went: a code. */
     uint32_t code;
+    /* The line, from 1 on. */
+    size_t line;
+    /* The column in characters, from 0 on. */
+    size_t column;
+} pm_line_column;
+
+/* Where something begins and ends. */
+typedef struct pm_range {
+    /* How it went: a code. */
+    uint32_t code;
+    /* Where it begins. */
     size_t start;
+    /* Where it ends. */
     size_t end;
 } pm_range;
 
-/* Makes a session, which pm_session_free frees. Codes: PM_NO_MEMORY. `out` is written only where it is done; what it
- * held before is lost. */
+/* Makes a session, which pm_session_free frees, and writes its handle over one that isn't live. What stood there is
+ * lost. Codes: PM_NO_MEMORY. */
 uint32_t pm_session_new(pm_session *out);
 
-/* Frees a session with all that it holds. No copy of the handle may be used from then on. Codes: PM_NOT_LIVE. */
+/* Frees a session with all that it holds. No copy of its handle may be used from then on. Codes: PM_NOT_LIVE. */
 uint32_t pm_session_free(pm_session session);
 
-/* Every call below also answers PM_NOT_LIVE, and then doesn't write `back`. */
+/* Every call below that has `back` also answers PM_NOT_LIVE, and then doesn't write it. */
 
-/* Reads a text into a stream of the session, whose number is `number`; pm_stream_free or pm_session_free frees it. The
- * text is a file of the session from then on, also if it has a fault. Codes: PM_FAULT, PM_MAP_FULL, PM_NO_MEMORY,
- * PM_NOT_UTF8, PM_TOO_LONG. After PM_MAP_FULL and PM_NOT_UTF8 it is no file; after PM_NO_MEMORY it may be one. */
+/* Reads a text into a stream of the session, whose number is `number`. The text is a file of the session from then on,
+ * also if it has a fault. After PM_NOT_UTF8 and PM_MAP_FULL it is none, after PM_NO_MEMORY it may be one. Codes:
+ * PM_FAULT, PM_MAP_FULL, PM_NO_MEMORY, PM_NOT_UTF8, PM_TOO_LONG. */
 pm_answer pm_parse(pm_session session, pm_session *back, const uint8_t *text, size_t bytes);
 
-/* Reads a text and lists its trees, as pm_parse and pm_list do, and keeps no stream. */
-pm_answer pm_read(pm_session session, pm_session *back, const uint8_t *text, size_t bytes);
-
-/* Reads a text that is no file of the session, and lists its trees as pm_list does, in one call: positions begin at
- * 1, and no look-up is to be asked about them. The records and the text are copied to the fronts of two buffers, which
- * have room for `count` records and for `room` bytes. Where one is too short, that is PM_NO_ROOM, and `number` and
- * `bytes` say what to give pm_copy_trees and pm_copy_text. A short text is read soonest so. Where it isn't PM_DONE
- * nothing is copied. Codes: PM_FAULT, PM_NO_MEMORY, PM_NOT_UTF8, PM_NO_ROOM, PM_TOO_LONG, and PM_MAP_FULL for a text of
- * 4294967295 bytes or more. */
-pm_answer pm_read_once(pm_session session, pm_session *back, const uint8_t *text, size_t bytes, pm_tree *trees,
-                       size_t count, uint8_t *into, size_t room);
-
-/* Frees a stream. Its number may be that of a later one. Codes: PM_NO_STREAM. */
+/* Lets a stream of the session go. Its number may be that of a later one. Codes: PM_NO_STREAM. */
 uint32_t pm_stream_free(pm_session session, pm_session *back, uint32_t stream);
 
-/* Lists a stream: the session's records are its trees, and the session's text is the texts of its identifiers and
- * literals one after another. `number` says how many records there are, `bytes` how many bytes of text. Codes:
- * PM_NO_STREAM, PM_TOO_LONG, PM_NO_MEMORY. */
-pm_answer pm_list(pm_session session, pm_session *back, uint32_t stream);
-
-/* Prints a stream into the session's text, of `bytes` bytes. Codes: PM_NO_STREAM, PM_NO_MEMORY. */
+/* Prints a stream into the session's text, of `bytes` bytes. Codes: PM_NO_MEMORY, PM_NO_STREAM. */
 pm_answer pm_print(pm_session session, pm_session *back, uint32_t stream);
 
-/* Prints the stream that a list says, which is in the form of pm_list: each text right behind the one before. Codes:
- * PM_NO_LISTING, PM_TOO_LONG, PM_NO_MEMORY. */
-pm_answer pm_print_records(pm_session session, pm_session *back, const pm_tree *trees, size_t count,
-                           const uint8_t *text, size_t bytes);
+/* Prints a text into the session's text, of `bytes` bytes, as pm_parse and pm_print would, but makes no stream and no
+ * file. A fault's position counts from 1. Codes: PM_FAULT, PM_MAP_FULL, PM_NO_MEMORY, PM_NOT_UTF8. */
+pm_answer pm_reprint(pm_session session, pm_session *back, const uint8_t *text, size_t bytes);
 
-/* Copy the session's text, bytes and records into a buffer of just their number. Codes: PM_NO_ROOM for a buffer of any
- * other length, which isn't written then. */
+/* Lists a stream: the session's records are its trees in reading order, and the session's text is the texts of its
+ * identifiers and literals one after another. `number` says how many records there are, `bytes` how many bytes. Codes:
+ * PM_NO_MEMORY, PM_NO_STREAM, PM_TOO_LONG. */
+pm_answer pm_list(pm_session session, pm_session *back, uint32_t stream);
+
+/* Lists all pieces of a text, white characters and comments too, and makes no file. `number` says how many records
+ * there are, and `bytes` where the pieces end: they cover the text exactly if that is its length. Codes: PM_NO_MEMORY,
+ * PM_NOT_UTF8, PM_TOO_LONG. */
+pm_answer pm_pieces(pm_session session, pm_session *back, const uint8_t *text, size_t bytes);
+
+/* Copies the session's text into a buffer of just its length. One of any other length isn't written. Codes: PM_NO_ROOM.
+ */
 uint32_t pm_copy_text(pm_session session, pm_session *back, uint8_t *into, size_t bytes);
+
+/* Copies the session's bytes into a buffer of just their number. One of any other length isn't written. Codes:
+ * PM_NO_ROOM. */
 uint32_t pm_copy_bytes(pm_session session, pm_session *back, uint8_t *into, size_t bytes);
+
+/* Copies the records of pm_list into a buffer of just their number. One of any other length isn't written. Codes:
+ * PM_NO_ROOM. */
 uint32_t pm_copy_trees(pm_session session, pm_session *back, pm_tree *into, size_t count);
+
+/* Copies the records of pm_pieces into a buffer of just their number. One of any other length isn't written. Codes:
+ * PM_NO_ROOM. */
+uint32_t pm_copy_pieces(pm_session session, pm_session *back, pm_piece *into, size_t count);
 
 /* Whether the name is that of an identifier, a raw one or a plain one; it is given without `r#`. Any thread may call
  * it. Codes: PM_NAME_EMPTY, PM_NAME_NUMBER, PM_NAME_INVALID, PM_NAME_RESERVED, PM_NOT_UTF8, PM_NO_MEMORY. */
@@ -142,43 +223,54 @@ uint32_t pm_ident_check(const uint8_t *name, size_t bytes, bool raw);
 uint32_t pm_literal_check(const uint8_t *text, size_t bytes);
 
 /* Reads the text of a literal, which is a file of the session from then on, also if it is none: it begins at the
- * position `number` and has `bytes` characters. Codes: PM_NO_LITERAL, PM_MAP_FULL, PM_NO_MEMORY, PM_NOT_UTF8. */
+ * position `number` and has `bytes` characters. Codes: PM_MAP_FULL, PM_NO_LITERAL, PM_NO_MEMORY, PM_NOT_UTF8. */
 pm_answer pm_read_literal(pm_session session, pm_session *back, const uint8_t *text, size_t bytes);
 
-/* Make a literal of a value: its text is the session's text, of `bytes` bytes. Codes: PM_NO_MEMORY; of pm_string
- * PM_NOT_UTF8; of pm_character and pm_c_string PM_NO_CHARACTER. pm_c_string is given the bytes without the zero that
- * ends them. */
+/* The string literal of a text, as the session's text, of `bytes` bytes. Codes: PM_NO_MEMORY, PM_NOT_UTF8. */
 pm_answer pm_string(pm_session session, pm_session *back, const uint8_t *text, size_t bytes);
+
+/* The literal of a character, as the session's text, of `bytes` bytes. Codes: PM_NO_CHARACTER, PM_NO_MEMORY. */
 pm_answer pm_character(pm_session session, pm_session *back, uint32_t character);
+
+/* The literal of a byte, as the session's text, of `bytes` bytes. Codes: PM_NO_MEMORY. */
 pm_answer pm_byte_character(pm_session session, pm_session *back, uint8_t byte);
+
+/* The byte string literal of some bytes, as the session's text, of `bytes` bytes. Codes: PM_NO_MEMORY. */
 pm_answer pm_byte_string(pm_session session, pm_session *back, const uint8_t *contents, size_t bytes);
+
+/* The C string literal of some bytes without the zero that ends them, as the session's text, of `bytes` bytes. Codes:
+ * PM_NO_CHARACTER, PM_NO_MEMORY. */
 pm_answer pm_c_string(pm_session session, pm_session *back, const uint8_t *contents, size_t bytes);
 
-/* The value of a literal, given by its text: of a string the session's text, of a byte string and of a C string, whose
- * zero counts, the session's bytes; `bytes` says how many they are. Codes: PM_OTHER_KIND, PM_NOT_UNESCAPED,
- * PM_NO_LITERAL, PM_NOT_UTF8, PM_NO_MEMORY. */
+/* The value of a string literal, given by its text, as the session's text, of `bytes` bytes. Codes: PM_NO_LITERAL,
+ * PM_NO_MEMORY, PM_NOT_UNESCAPED, PM_NOT_UTF8, PM_OTHER_KIND. */
 pm_answer pm_str_value(pm_session session, pm_session *back, const uint8_t *text, size_t bytes);
+
+/* The value of a byte string literal, given by its text, as the session's bytes, `bytes` of them. Codes: PM_NO_LITERAL,
+ * PM_NO_MEMORY, PM_NOT_UNESCAPED, PM_NOT_UTF8, PM_OTHER_KIND. */
 pm_answer pm_byte_str_value(pm_session session, pm_session *back, const uint8_t *text, size_t bytes);
+
+/* The value of a C string literal, given by its text, with the zero that ends it, as the session's bytes, `bytes` of
+ * them. Codes: PM_NO_LITERAL, PM_NO_MEMORY, PM_NOT_UNESCAPED, PM_NOT_UTF8, PM_OTHER_KIND. */
 pm_answer pm_cstr_value(pm_session session, pm_session *back, const uint8_t *text, size_t bytes);
 
 /* The line and column of a position. Codes: PM_NOT_HELD. */
-pm_place pm_place_of(pm_session session, pm_session *back, uint32_t position);
+pm_line_column pm_line_column_of(pm_session session, pm_session *back, uint32_t position);
 
-/* The bytes that a span takes of its text. Codes: PM_NOT_HELD. */
+/* The bytes of its text that a span takes. Codes: PM_NOT_HELD. */
 pm_range pm_byte_range(pm_session session, pm_session *back, uint32_t lo, uint32_t hi);
 
-/* What stands in the text between the ends of a span, as the session's text. Codes: PM_NOT_HELD, also for the span
- * 0..0, and PM_NO_MEMORY. */
+/* What stands in its text between the ends of a span, as the session's text, of `bytes` bytes. The span 0..0 has none.
+ * Codes: PM_NOT_HELD, PM_NO_MEMORY. */
 pm_answer pm_source_text(pm_session session, pm_session *back, uint32_t lo, uint32_t hi);
 
-/* The name of the text that has a span, as the session's text: <parsed string 2> for the second one. Codes:
+/* The name of the text that has a span, as the session's text: `<parsed string 2>` for the second one. Codes:
  * PM_NOT_HELD, PM_NO_MEMORY. */
 pm_answer pm_file_name(pm_session session, pm_session *back, uint32_t lo, uint32_t hi);
 
-/* The span from the first beginning of two spans to their last end. Codes: PM_NOT_HELD for the first of them, and
- * PM_NOT_JOINED where no text has both. */
-pm_range pm_join(pm_session session, pm_session *back, uint32_t lo, uint32_t hi, uint32_t other_lo,
-                 uint32_t other_hi);
+/* The span from the first beginning of two spans to their last end. PM_NOT_HELD is of the first of them. Codes:
+ * PM_NOT_HELD, PM_NOT_JOINED. */
+pm_range pm_join(pm_session session, pm_session *back, uint32_t lo, uint32_t hi, uint32_t other_lo, uint32_t other_hi);
 
 /* Forgets the texts that were read, but no stream. The next one begins at 1 again, so spans of those before are of no
  * use. */

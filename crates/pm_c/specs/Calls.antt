@@ -1,32 +1,38 @@
--- What the calls of a session answer.
-use Rattle.std.specs.Prelude.{ℕ, Bool, ◌≡◌, ◌↔◌, ◌⊎◌, ◌<◌, ◌≤◌, List, [], ◌∷◌, flat_map, length, take}
-use Rattle.std.specs.Prelude.{Some, None, Result, Ok, Err}
+-- What each call answers, and what it leaves of the session.
+use Rattle.std.specs.Prelude.{ℕ, Bool, ◌≡◌, ◌≢◌, ◌↔◌, ◌⊎◌, ◌≤◌, List, [], ◌∷◌, flat_map, length}
+use Rattle.std.specs.Prelude.{Some, None, Result, Ok, Err, false}
+use Rattle.std.specs.Char.{IsScalar}
 use Rattle.std.specs.String.{string_bytes}
 use Rattle.std.specs.Str.{chars, encode_utf8_all, IsUtf8}
 use Rattle.slab.specs.Slab.{get, SameValues, Updates}
-use Rattle.proc_macro2.specs.CString.{IsCStringText}
-use Rattle.proc_macro2.specs.Extent.{Extent}
-use Rattle.proc_macro2.specs.Files.{Files, Fits, Holds, next_lo, with_file}
+use Rattle.proc_macro2.specs.CString.{IsCStringText, has_no_zero}
+use Rattle.proc_macro2.specs.Escaped.{character_text, string_text}
+use Rattle.proc_macro2.specs.Extent.{Extent, nowhere}
+use Rattle.proc_macro2.specs.Files.{Files, Fits, Holds, new_map, next_lo, with_file}
 use Rattle.proc_macro2.specs.Forest.{Forest}
 use Rattle.proc_macro2.specs.IdentFault.{ident_fault}
 use Rattle.proc_macro2.specs.InOrder.{in_order}
 use Rattle.proc_macro2.specs.LiteralText.{IsWholeLiteral}
-use Rattle.proc_macro2.specs.Lookup.{HasName, IsTextOf}
-use Rattle.proc_macro2.specs.Parsing.{ParsesTo}
+use Rattle.proc_macro2.specs.Lookup.{AreInOneFile, HasBytes, HasName, IsTextOf, StartsAt, joined}
+use Rattle.proc_macro2.specs.Parsing.{FaultAt, ParsesTo}
 use Rattle.proc_macro2.specs.Printed.{printed}
+use Rattle.proc_macro2.specs.PrintsText.{PrintsText}
 use Rattle.proc_macro2.specs.declared.ConversionErrorKind.{ConversionErrorKind}
+use Rattle.proc_macro2.specs.declared.ConversionErrorKind.TheVariants.{FailedToUnescape, InvalidLiteralKind}
+use Rattle.proc_macro2.specs.declared.EscapeError.{EscapeError}
 use Rattle.proc_macro2.specs.declared.IdentError.TheVariants as faults
 use Rattle.proc_macro2.specs.declared.ParseError.{ParseError}
 use Rattle.proc_macro2.specs.declared.ParseError.TheVariants.{Lex, MapFull, Memory}
-use Rattle.proc_macro2.specs.declared.ConversionErrorKind.TheVariants.{FailedToUnescape}
-use Rattle.proc_macro2.specs.declared.EscapeError.{EscapeError}
 use Rattle.pm_c.specs.Faults.{fault_number}
-use Rattle.pm_c.specs.Listing.{kept_text, records_from}
-use Rattle.pm_c.specs.declared.codes.TheConstants.{DONE, FAULT, MAP_FULL, NO_MEMORY, NOT_UTF8, TOO_LONG}
-use Rattle.pm_c.specs.declared.codes.TheConstants.{NO_LITERAL, NO_ROOM, NOT_UNESCAPED, OTHER_KIND}
+use Rattle.pm_c.specs.Listing.{IsTooLong, kept_text, records_from}
+use Rattle.pm_c.specs.Pieces.{ListsPieces}
+use Rattle.pm_c.specs.declared.codes.TheConstants.{DONE, FAULT, MAP_FULL, NO_MEMORY, NOT_UTF8, NO_STREAM, NO_ROOM}
+use Rattle.pm_c.specs.declared.codes.TheConstants.{TOO_LONG, NO_LITERAL, NOT_UNESCAPED, OTHER_KIND, NO_CHARACTER}
 use Rattle.pm_c.specs.declared.codes.TheConstants.{NAME_EMPTY, NAME_NUMBER, NAME_INVALID, NAME_RESERVED}
+use Rattle.pm_c.specs.declared.codes.TheConstants.{NOT_HELD, NOT_JOINED}
 use Rattle.pm_c.specs.declared.records.PmAnswer.{PmAnswer}
-use Rattle.pm_c.specs.declared.records.PmTree.{PmTree}
+use Rattle.pm_c.specs.declared.records.PmLineColumn.{PmLineColumn}
+use Rattle.pm_c.specs.declared.records.PmRange.{PmRange}
 use Rattle.pm_c.specs.declared.session.Session.{Session}
 
 -- the code is one of these
@@ -34,29 +40,14 @@ abbrev pub IsAmong : List ℕ → ℕ → Type 0
 IsAmong [] code = ⊥
 IsAmong (one ∷ others) code = (code ≡ one) ⊎ IsAmong others code
 
--- what a session answers that keeps or lists a stream
-abbrev pub stream_codes : List ℕ
-stream_codes = DONE ∷ NO_MEMORY ∷ TOO_LONG ∷ []
-
--- what is answered of a name
-abbrev pub name_codes : List ℕ
-name_codes = DONE ∷ NAME_EMPTY ∷ NAME_NUMBER ∷ NAME_INVALID ∷ NAME_RESERVED ∷ NOT_UTF8 ∷ NO_MEMORY ∷ []
-
--- what a session answers that copies what it lends
-abbrev pub copy_codes : List ℕ
-copy_codes = DONE ∷ NO_ROOM ∷ []
-
--- what a session answers that makes the text of a literal
-abbrev pub make_codes : List ℕ
-make_codes = DONE ∷ NO_MEMORY ∷ []
-
--- what a session answers that is asked for the value of a literal
-abbrev pub value_codes : List ℕ
-value_codes = NOT_UTF8 ∷ NO_LITERAL ∷ OTHER_KIND ∷ NOT_UNESCAPED ∷ make_codes
-
--- what a session answers that reads a text
-abbrev pub read_codes : List ℕ
-read_codes = FAULT ∷ MAP_FULL ∷ NOT_UTF8 ∷ stream_codes
+-- the session has read nothing, and lends nothing
+pub record IsNew (session : Session) : Type 0 where
+  pub map : session.map ≡ new_map
+  pub streams : session.streams.slots ≡ []
+  pub trees : session.trees.items ≡ []
+  pub pieces : session.pieces.items ≡ []
+  pub text : string_bytes session.text ≡ []
+  pub bytes : session.bytes.items ≡ []
 
 -- nothing of the session is another but its records and its text
 abbrev pub KeepsAllButListing : Session → Session → Type 0
@@ -78,34 +69,10 @@ IsOtherText bytes = IsUtf8 bytes × (IsWholeLiteral (chars bytes) → ⊥)
 abbrev pub Overflows : Files → List ℕ → Type 0
 Overflows map bytes = IsUtf8 bytes × (Fits map (length (chars bytes)) → ⊥)
 
--- what a call that reads a text leaves where it isn't done: `read` is the map that has the text
-pub record Leaves (old : Session) (read : Files) (code : ℕ) (new : Session) : Type 0 where
-  -- bytes that aren't UTF-8 change nothing, and no more does a text that doesn't fit
-  pub not_utf8 : code ≡ NOT_UTF8 → new ≡ old
-  pub map_full : code ≡ MAP_FULL → new ≡ old
-  -- a text with a fault changes the map alone
-  pub fault : code ≡ FAULT → new ≡ record old { map = read }
-  -- memory may run out before the map has the text, or later
-  pub memory : code ≡ NO_MEMORY → (new.map ≡ old.map) ⊎ (new.map ≡ read)
-  -- the text was read, but it has too many streams or trees
-  pub too_long : code ≡ TOO_LONG → new.map ≡ read
-  -- each stream keeps its number
-  pub streams : (code ≡ DONE → ⊥) → SameValues old.streams new.streams
-
--- the stream has this number now, which no stream had before
-pub record IsKept (old : Session) (stream : Forest) (new : Session) (number : ℕ) : Type 0 where
-  pub vacant : get old.streams number ≡ None
-  pub stands : Updates old.streams new.streams number (Some stream)
-  pub map : new.map ≡ old.map
-
--- the text was parsed, it is a file of the map, and its stream has this number
-pub record IsRead (old : Session) (source : List ℕ) (new : Session) (number : ℕ) : Type 0 where
-  pub stream : Forest
-  pub parses : ParsesTo (next_lo old.map) source stream
-  pub vacant : get old.streams number ≡ None
-  pub stands : Updates old.streams new.streams number (Some stream)
-  pub map : new.map ≡ with_file old.map source
-  pub rest : new ≡ record old { map = new.map; streams = new.streams }
+-- the session's text is this, and the answer says how many bytes it has
+pub record HasText (session : Session) (text : List ℕ) (answer : PmAnswer) : Type 0 where
+  pub value : chars (string_bytes session.text) ≡ text
+  pub bytes : answer.bytes ≡ length (string_bytes session.text)
 
 -- the code of an error
 abbrev pub refusal_code : ParseError → ℕ
@@ -119,104 +86,215 @@ IsFaultAt (Lex fault) at = at ≡ fault.lo
 IsFaultAt MapFull at = ⊥
 IsFaultAt (Memory error) at = ⊥
 
+-- ---- streams
+
+-- the stream has this number now, which no stream had before
+pub record IsKept (old : Session) (stream : Forest) (new : Session) (number : ℕ) : Type 0 where
+  pub vacant : get old.streams number ≡ None
+  pub stands : Updates old.streams new.streams number (Some stream)
+  pub map : new.map ≡ old.map
+
+-- the bytes are a text that was parsed, it is a file of the map, and its stream has this number
+pub record IsRead (old : Session) (bytes : List ℕ) (new : Session) (number : ℕ) : Type 0 where
+  pub utf8 : IsUtf8 bytes
+  pub stream : Forest
+  pub parses : ParsesTo (next_lo old.map) (chars bytes) stream
+  pub vacant : get old.streams number ≡ None
+  pub stands : Updates old.streams new.streams number (Some stream)
+  pub map : new.map ≡ with_file old.map (chars bytes)
+
+-- what is left where a text is read
+pub record LeavesRead (old : Session) (read : Files) (code : ℕ) (new : Session) : Type 0 where
+  -- bytes that aren't UTF-8 change nothing, and no more does a text that doesn't fit
+  pub not_utf8 : code ≡ NOT_UTF8 → new ≡ old
+  pub map_full : code ≡ MAP_FULL → new ≡ old
+  -- a text with a fault changes the map alone
+  pub fault : code ≡ FAULT → new ≡ record old { map = read }
+  -- memory may run out before the map has the text, or later
+  pub memory : code ≡ NO_MEMORY → (new.map ≡ old.map) ⊎ (new.map ≡ read)
+  pub too_long : code ≡ TOO_LONG → new.map ≡ read
+  -- each stream keeps its number
+  pub streams : (code ≡ DONE → ⊥) → SameValues old.streams new.streams
+  pub rest : new ≡ record old { map = new.map; streams = new.streams }
+
+-- `pm_parse`
+pub record ParseAnswer (old : Session) (bytes : List ℕ) (new : Session) (answer : PmAnswer) : Type 0 where
+  pub codes : IsAmong (DONE ∷ FAULT ∷ MAP_FULL ∷ NO_MEMORY ∷ NOT_UTF8 ∷ TOO_LONG ∷ []) answer.code
+  pub done : answer.code ≡ DONE → IsRead old bytes new answer.number
+  pub fault : answer.code ≡ FAULT → FaultAt (next_lo old.map) (chars bytes) answer.number
+  pub not_utf8 : (answer.code ≡ NOT_UTF8) ↔ (IsUtf8 bytes → ⊥)
+  pub map_full : (answer.code ≡ MAP_FULL) ↔ Overflows old.map bytes
+  -- the number that the stream would get doesn't go into 32 bits
+  pub too_long : answer.code ≡ TOO_LONG → 4294967296 ≤ old.streams.vacant_key
+  pub left : LeavesRead old (with_file old.map (chars bytes)) answer.code new
+
 -- a stream had this number, and none has it now; the others keep theirs
 pub record IsFreed (old : Session) (number : ℕ) (new : Session) : Type 0 where
   pub stream : Forest
   pub stood : get old.streams number ≡ Some stream
   pub gone : Updates old.streams new.streams number None
+
+-- `pm_stream_free`
+pub record FreeAnswer (old : Session) (number : ℕ) (new : Session) (code : ℕ) : Type 0 where
+  pub codes : IsAmong (DONE ∷ NO_STREAM ∷ []) code
+  pub done : code ≡ DONE → IsFreed old number new
+  pub no_stream : (code ≡ NO_STREAM) ↔ (get old.streams number ≡ None)
+  pub unchanged : code ≡ NO_STREAM → new ≡ old
   pub rest : new ≡ record old { streams = new.streams }
 
--- the answer counts the session's records, and the bytes of its text
-pub record HasCounts (session : Session) (answer : PmAnswer) : Type 0 where
-  pub number : answer.number ≡ length session.trees.items
-  pub bytes : answer.bytes ≡ length (string_bytes session.text)
-
--- the session's records and text are the stream's
-pub record Lends (session : Session) (stream : Forest) : Type 0 where
-  pub trees : session.trees.items ≡ records_from 0 (in_order stream)
-  pub text : string_bytes session.text ≡ flat_map kept_text (in_order stream)
-
--- the text was parsed, it is a file of the map, and the records and texts are those of its stream
-pub record IsReadAndListed (old : Session) (source : List ℕ) (new : Session) (answer : PmAnswer) : Type 0 where
-  pub stream : Forest
-  pub parses : ParsesTo (next_lo old.map) source stream
-  pub lends : Lends new stream
-  pub counts : HasCounts new answer
-  pub map : new.map ≡ with_file old.map source
-  pub rest : new ≡ record old { map = new.map; trees = new.trees; text = new.text }
-
--- the text was parsed as the first file of a map would be, and the records and texts are those of its stream
-pub record IsReadOnce (source : List ℕ) (new : Session) (answer : PmAnswer) : Type 0 where
-  pub stream : Forest
-  pub parses : ParsesTo 1 source stream
-  pub lends : Lends new stream
-  pub counts : HasCounts new answer
-
--- the session's records and text stand at the fronts of these
-pub record StandInFront (session : Session) (trees : List PmTree) (text : List ℕ) : Type 0 where
-  pub records : take (length session.trees.items) trees ≡ session.trees.items
-  pub texts : take (length (string_bytes session.text)) text ≡ string_bytes session.text
-
--- one of these has less room than the session's records or text take
-abbrev pub IsTooShort : Session → List PmTree → List ℕ → Type 0
-IsTooShort session trees text =
-    (length trees < length session.trees.items) ⊎ (length text < length (string_bytes session.text))
-
--- the records and texts are those of the stream of this number
-pub record IsListed (old : Session) (number : ℕ) (new : Session) (answer : PmAnswer) : Type 0 where
-  pub stream : Forest
-  pub stands : get old.streams number ≡ Some stream
-  pub lends : Lends new stream
-  pub counts : HasCounts new answer
-
--- the session's text is the printed stream, and has so many bytes
-pub record HasPrinted (session : Session) (stream : Forest) (answer : PmAnswer) : Type 0 where
-  pub text : string_bytes session.text ≡ encode_utf8_all (printed stream)
-  pub bytes : answer.bytes ≡ length (string_bytes session.text)
-
--- the session's text is the printed stream of this number
+-- the session's text is the printed stream of this number, and has so many bytes
 pub record IsPrinted (old : Session) (number : ℕ) (new : Session) (answer : PmAnswer) : Type 0 where
   pub stream : Forest
   pub stands : get old.streams number ≡ Some stream
-  pub has : HasPrinted new stream answer
+  pub text : string_bytes new.text ≡ encode_utf8_all (printed stream)
+  pub bytes : answer.bytes ≡ length (string_bytes new.text)
 
--- the records and texts are the stream's
-pub record ListsAs (stream : Forest) (trees : List PmTree) (text : List ℕ) : Type 0 where
-  pub records : trees ≡ records_from 0 (in_order stream)
-  pub texts : text ≡ flat_map kept_text (in_order stream)
+-- `pm_print`
+pub record PrintAnswer (old : Session) (number : ℕ) (new : Session) (answer : PmAnswer) : Type 0 where
+  pub codes : IsAmong (DONE ∷ NO_MEMORY ∷ NO_STREAM ∷ []) answer.code
+  pub done : answer.code ≡ DONE → IsPrinted old number new answer
+  pub no_stream : (answer.code ≡ NO_STREAM) ↔ (get old.streams number ≡ None)
+  pub unchanged : answer.code ≡ NO_STREAM → new ≡ old
+  pub rest : KeepsAllButText old new
 
--- the records and texts are those of a stream, which is printed
-pub record PrintsRecords (trees : List PmTree) (text : List ℕ) (new : Session) (answer : PmAnswer) : Type 0 where
+-- the session's text is the printed text of these bytes, and has so many bytes
+pub record IsReprinted (bytes : List ℕ) (new : Session) (answer : PmAnswer) : Type 0 where
+  pub utf8 : IsUtf8 bytes
+  pub prints : PrintsText (next_lo new_map) (chars bytes) (string_bytes new.text)
+  pub count : answer.bytes ≡ length (string_bytes new.text)
+
+-- `pm_reprint`
+pub record ReprintAnswer (old : Session) (bytes : List ℕ) (new : Session) (answer : PmAnswer) : Type 0 where
+  pub codes : IsAmong (DONE ∷ FAULT ∷ MAP_FULL ∷ NO_MEMORY ∷ NOT_UTF8 ∷ []) answer.code
+  pub done : answer.code ≡ DONE → IsReprinted bytes new answer
+  pub fault : answer.code ≡ FAULT → FaultAt (next_lo new_map) (chars bytes) answer.number
+  pub not_utf8 : (answer.code ≡ NOT_UTF8) ↔ (IsUtf8 bytes → ⊥)
+  pub map_full : (answer.code ≡ MAP_FULL) ↔ Overflows new_map bytes
+  pub unchanged : (answer.code ≡ DONE → ⊥) → new ≡ old
+  pub rest : KeepsAllButText old new
+
+-- the session's records and text are those of the stream of this number, and the answer counts them
+pub record IsListed (old : Session) (number : ℕ) (new : Session) (answer : PmAnswer) : Type 0 where
   pub stream : Forest
-  pub lists : ListsAs stream trees text
-  pub has : HasPrinted new stream answer
+  pub stands : get old.streams number ≡ Some stream
+  pub trees : new.trees.items ≡ records_from 0 (in_order stream)
+  pub text : string_bytes new.text ≡ flat_map kept_text (in_order stream)
+  pub trees_count : answer.number ≡ length new.trees.items
+  pub bytes : answer.bytes ≡ length (string_bytes new.text)
 
--- the code says which fault the name has
-pub record NamesFault (raw : Bool) (name : List ℕ) (code : ℕ) : Type 0 where
-  pub empty : (code ≡ NAME_EMPTY) ↔ (ident_fault raw name ≡ Some faults.Empty)
-  pub number : (code ≡ NAME_NUMBER) ↔ (ident_fault raw name ≡ Some faults.Number)
-  pub invalid : (code ≡ NAME_INVALID) ↔ (ident_fault raw name ≡ Some faults.Invalid)
-  pub reserved : (code ≡ NAME_RESERVED) ↔ (ident_fault raw name ≡ Some faults.Reserved)
+-- the stream of this number has too many trees, or too long texts
+pub record IsStreamTooLong (old : Session) (number : ℕ) : Type 0 where
+  pub stream : Forest
+  pub stands : get old.streams number ≡ Some stream
+  pub too_long : IsTooLong stream
 
--- the session's text is this, and the answer says how many bytes it has
-pub record HasText (session : Session) (text : List ℕ) (answer : PmAnswer) : Type 0 where
-  pub value : chars (string_bytes session.text) ≡ text
-  pub bytes : answer.bytes ≡ length (string_bytes session.text)
+-- `pm_list`
+pub record ListAnswer (old : Session) (number : ℕ) (new : Session) (answer : PmAnswer) : Type 0 where
+  pub codes : IsAmong (DONE ∷ NO_MEMORY ∷ NO_STREAM ∷ TOO_LONG ∷ []) answer.code
+  pub done : answer.code ≡ DONE → IsListed old number new answer
+  pub no_stream : (answer.code ≡ NO_STREAM) ↔ (get old.streams number ≡ None)
+  pub too_long : answer.code ≡ TOO_LONG → IsStreamTooLong old number
+  pub unchanged : answer.code ≡ NO_STREAM → new ≡ old
+  pub rest : KeepsAllButListing old new
 
--- the span between two positions
-abbrev pub span : ℕ → ℕ → Extent
-span lo hi = record { lo = lo; hi = hi }
+-- ---- pieces, and what is copied
+
+-- `pm_pieces`
+pub record PiecesAnswer (old : Session) (bytes : List ℕ) (new : Session) (answer : PmAnswer) : Type 0 where
+  pub codes : IsAmong (DONE ∷ NO_MEMORY ∷ NOT_UTF8 ∷ TOO_LONG ∷ []) answer.code
+  pub done : answer.code ≡ DONE → ListsPieces bytes new.pieces.items answer.bytes
+  pub count : answer.code ≡ DONE → answer.number ≡ length new.pieces.items
+  pub not_utf8 : (answer.code ≡ NOT_UTF8) ↔ (IsUtf8 bytes → ⊥)
+  pub too_long : (answer.code ≡ TOO_LONG) ↔ (IsUtf8 bytes × (4294967296 ≤ length bytes))
+  pub unchanged : IsAmong (NOT_UTF8 ∷ TOO_LONG ∷ []) answer.code → new ≡ old
+  pub rest : new ≡ record old { pieces = new.pieces }
+
+-- `pm_copy_text`, `pm_copy_bytes`, `pm_copy_trees`, `pm_copy_pieces`: the buffer before and after
+pub record CopyAnswer {T : Type 0} (lent old new : List T) (code : ℕ) : Type 0 where
+  pub codes : IsAmong (DONE ∷ NO_ROOM ∷ []) code
+  pub done : code ≡ DONE → new ≡ lent
+  pub no_room : (code ≡ NO_ROOM) ↔ (length old ≢ length lent)
+  pub unwritten : code ≡ NO_ROOM → new ≡ old
+
+-- ---- identifiers and literals
+
+-- `pm_ident_check`
+pub record IdentAnswer (raw : Bool) (bytes : List ℕ) (code : ℕ) : Type 0 where
+  pub codes : IsAmong (DONE ∷ NAME_EMPTY ∷ NAME_NUMBER ∷ NAME_INVALID ∷ NAME_RESERVED ∷ NOT_UTF8 ∷ NO_MEMORY ∷ []) code
+  pub not_utf8 : (code ≡ NOT_UTF8) ↔ (IsUtf8 bytes → ⊥)
+  pub done : code ≡ DONE → ident_fault raw (chars bytes) ≡ None
+  pub empty : IsUtf8 bytes → ((code ≡ NAME_EMPTY) ↔ (ident_fault raw (chars bytes) ≡ Some faults.Empty))
+  pub number : IsUtf8 bytes → ((code ≡ NAME_NUMBER) ↔ (ident_fault raw (chars bytes) ≡ Some faults.Number))
+  pub invalid : IsUtf8 bytes → ((code ≡ NAME_INVALID) ↔ (ident_fault raw (chars bytes) ≡ Some faults.Invalid))
+  pub reserved : IsUtf8 bytes → ((code ≡ NAME_RESERVED) ↔ (ident_fault raw (chars bytes) ≡ Some faults.Reserved))
+
+-- `pm_literal_check`
+pub record LiteralAnswer (bytes : List ℕ) (code : ℕ) : Type 0 where
+  pub codes : IsAmong (DONE ∷ NO_LITERAL ∷ NOT_UTF8 ∷ []) code
+  pub done : (code ≡ DONE) ↔ (IsUtf8 bytes × IsWholeLiteral (chars bytes))
+  pub not_utf8 : (code ≡ NOT_UTF8) ↔ (IsUtf8 bytes → ⊥)
+  pub no_literal : (code ≡ NO_LITERAL) ↔ IsOtherText bytes
+
+-- the text is a literal, and is the next file of the map: the answer says where it begins and how many
+-- characters it has
+pub record IsReadLiteral (old : Session) (bytes : List ℕ) (new : Session) (answer : PmAnswer) : Type 0 where
+  pub utf8 : IsUtf8 bytes
+  pub whole : IsWholeLiteral (chars bytes)
+  pub number : answer.number ≡ next_lo old.map
+  pub count : answer.bytes ≡ length (chars bytes)
+  pub map : new.map ≡ with_file old.map (chars bytes)
+
+-- `pm_read_literal`
+pub record ReadLiteralAnswer (old : Session) (bytes : List ℕ) (new : Session) (answer : PmAnswer) : Type 0 where
+  pub codes : IsAmong (DONE ∷ MAP_FULL ∷ NO_LITERAL ∷ NO_MEMORY ∷ NOT_UTF8 ∷ []) answer.code
+  pub done : answer.code ≡ DONE → IsReadLiteral old bytes new answer
+  pub not_utf8 : (answer.code ≡ NOT_UTF8) ↔ (IsUtf8 bytes → ⊥)
+  pub no_literal : answer.code ≡ NO_LITERAL → IsOtherText bytes
+  pub map_full : (answer.code ≡ MAP_FULL) ↔ Overflows old.map bytes
+  pub kept : answer.code ≡ NO_LITERAL → new.map ≡ with_file old.map (chars bytes)
+  pub unchanged : IsAmong (NOT_UTF8 ∷ MAP_FULL ∷ NO_MEMORY ∷ []) answer.code → new ≡ old
+  pub rest : new ≡ record old { map = new.map }
+
+-- a call that makes a literal with this text, and refuses no value
+pub record MakeAnswer (literal : List ℕ) (old new : Session) (answer : PmAnswer) : Type 0 where
+  pub codes : IsAmong (DONE ∷ NO_MEMORY ∷ []) answer.code
+  pub done : answer.code ≡ DONE → HasText new literal answer
+  pub rest : KeepsAllButText old new
+
+-- `pm_string`
+pub record StringAnswer (bytes : List ℕ) (old new : Session) (answer : PmAnswer) : Type 0 where
+  pub codes : IsAmong (DONE ∷ NO_MEMORY ∷ NOT_UTF8 ∷ []) answer.code
+  pub done : answer.code ≡ DONE → IsUtf8 bytes × HasText new (string_text (chars bytes)) answer
+  pub not_utf8 : (answer.code ≡ NOT_UTF8) ↔ (IsUtf8 bytes → ⊥)
+  pub unchanged : answer.code ≡ NOT_UTF8 → new ≡ old
+  pub rest : KeepsAllButText old new
+
+-- `pm_character`
+pub record CharacterAnswer (c : ℕ) (old new : Session) (answer : PmAnswer) : Type 0 where
+  pub codes : IsAmong (DONE ∷ NO_CHARACTER ∷ NO_MEMORY ∷ []) answer.code
+  pub done : answer.code ≡ DONE → HasText new (character_text c) answer
+  pub no_character : (answer.code ≡ NO_CHARACTER) ↔ (IsScalar c → ⊥)
+  pub unchanged : answer.code ≡ NO_CHARACTER → new ≡ old
+  pub rest : KeepsAllButText old new
 
 -- the session's text is a C string literal of these bytes
 pub record MakesCString (bytes : List ℕ) (session : Session) (answer : PmAnswer) : Type 0 where
   pub text : IsCStringText bytes (chars (string_bytes session.text))
   pub count : answer.bytes ≡ length (string_bytes session.text)
 
+-- `pm_c_string`
+pub record CStringAnswer (bytes : List ℕ) (old new : Session) (answer : PmAnswer) : Type 0 where
+  pub codes : IsAmong (DONE ∷ NO_CHARACTER ∷ NO_MEMORY ∷ []) answer.code
+  pub done : answer.code ≡ DONE → MakesCString bytes new answer
+  pub no_character : (answer.code ≡ NO_CHARACTER) ↔ (has_no_zero bytes ≡ false)
+  pub unchanged : answer.code ≡ NO_CHARACTER → new ≡ old
+  pub rest : KeepsAllButText old new
+
 -- the error is the fault of this number in the content of a literal
 pub record IsNumbered (error : ConversionErrorKind) (number : ℕ) : Type 0 where
   pub fault : EscapeError
   pub is : error ≡ FailedToUnescape fault
-  pub counted : number ≡ fault_number fault
+  pub numbered : number ≡ fault_number fault
 
 -- there is no value, since the content of the literal has the fault of this number
 pub record IsFaulty (value : Result (List ℕ) ConversionErrorKind) (number : ℕ) : Type 0 where
@@ -236,25 +314,77 @@ pub record HasBytesValue (value : Result (List ℕ) ConversionErrorKind) (sessio
     pub is : value ≡ Ok session.bytes.items
     pub count : answer.bytes ≡ length session.bytes.items
 
--- the text is a literal, and is the next file of the map: the answer says where it begins and how many
--- characters it has
-pub record IsReadLiteral (old : Session) (source : List ℕ) (new : Session) (answer : PmAnswer) : Type 0 where
-  pub whole : IsWholeLiteral source
-  pub number : answer.number ≡ next_lo old.map
-  pub count : answer.bytes ≡ length source
-  pub map : new.map ≡ with_file old.map source
-  pub rest : new ≡ record old { map = new.map }
+-- `pm_str_value`, `pm_byte_str_value`, `pm_cstr_value`: why a literal, by its bytes, has no value, and what is left
+pub record ValueAnswer (value : Result (List ℕ) ConversionErrorKind) (bytes : List ℕ) (old new : Session)
+    (answer : PmAnswer) : Type 0 where
+  pub codes : IsAmong (DONE ∷ NO_LITERAL ∷ NO_MEMORY ∷ NOT_UNESCAPED ∷ NOT_UTF8 ∷ OTHER_KIND ∷ []) answer.code
+  pub done : answer.code ≡ DONE → IsUtf8 bytes × IsWholeLiteral (chars bytes)
+  pub kind : answer.code ≡ OTHER_KIND → value ≡ Err InvalidLiteralKind
+  pub unescaped : answer.code ≡ NOT_UNESCAPED → IsFaulty value answer.number
+  pub not_utf8 : (answer.code ≡ NOT_UTF8) ↔ (IsUtf8 bytes → ⊥)
+  pub no_literal : (answer.code ≡ NO_LITERAL) ↔ IsOtherText bytes
+  pub unchanged : (answer.code ≡ DONE → ⊥) → new ≡ old
+
+-- ---- look-ups
+
+-- the span between two positions
+abbrev pub span : ℕ → ℕ → Extent
+span lo hi = record { lo = lo; hi = hi }
 
 -- the positions are in order, and a file of the map has all from the first to the last
 abbrev pub IsHeld : Files → ℕ → ℕ → Type 0
 IsHeld map lo hi = (lo ≤ hi) × Holds map (span lo hi)
+
+-- `pm_line_column`
+pub record LineColumnAnswer (map : Files) (position : ℕ) (answer : PmLineColumn) : Type 0 where
+  pub codes : IsAmong (DONE ∷ NOT_HELD ∷ []) answer.code
+  pub done : answer.code ≡ DONE
+      → StartsAt map (span position position) (record { line = answer.line; column = answer.column })
+  pub not_held : (answer.code ≡ NOT_HELD) ↔ (IsHeld map position position → ⊥)
+
+-- `pm_byte_range`
+pub record ByteRangeAnswer (map : Files) (lo hi : ℕ) (answer : PmRange) : Type 0 where
+  pub codes : IsAmong (DONE ∷ NOT_HELD ∷ []) answer.code
+  pub done : answer.code ≡ DONE → HasBytes map (span lo hi) (record { start = answer.start; end = answer.end })
+  pub not_held : (answer.code ≡ NOT_HELD) ↔ (IsHeld map lo hi → ⊥)
 
 -- the session's text is the source text of the span
 pub record LendsSource (old : Session) (span : Extent) (session : Session) (answer : PmAnswer) : Type 0 where
   pub text : IsTextOf old.map span (chars (string_bytes session.text))
   pub count : answer.bytes ≡ length (string_bytes session.text)
 
+-- `pm_source_text`
+pub record SourceTextAnswer (old : Session) (lo hi : ℕ) (new : Session) (answer : PmAnswer) : Type 0 where
+  pub codes : IsAmong (DONE ∷ NOT_HELD ∷ NO_MEMORY ∷ []) answer.code
+  pub done : answer.code ≡ DONE → LendsSource old (span lo hi) new answer
+  -- the span 0..0 has no text
+  pub not_held : (answer.code ≡ NOT_HELD) ↔ ((IsHeld old.map lo hi → ⊥) ⊎ (span lo hi ≡ nowhere))
+  pub unchanged : answer.code ≡ NOT_HELD → new ≡ old
+  pub rest : KeepsAllButText old new
+
 -- the session's text is the name of the file that has the span
 pub record LendsName (old : Session) (span : Extent) (session : Session) (answer : PmAnswer) : Type 0 where
   pub text : HasName old.map span (chars (string_bytes session.text))
   pub count : answer.bytes ≡ length (string_bytes session.text)
+
+-- `pm_file_name`
+pub record FileNameAnswer (old : Session) (lo hi : ℕ) (new : Session) (answer : PmAnswer) : Type 0 where
+  pub codes : IsAmong (DONE ∷ NOT_HELD ∷ NO_MEMORY ∷ []) answer.code
+  pub done : answer.code ≡ DONE → LendsName old (span lo hi) new answer
+  pub not_held : (answer.code ≡ NOT_HELD) ↔ (IsHeld old.map lo hi → ⊥)
+  pub unchanged : (answer.code ≡ DONE → ⊥) → new ≡ old
+  pub rest : KeepsAllButText old new
+
+-- the other positions are in order too, and one file of the map has both spans
+abbrev pub AreJoined : Files → ℕ → ℕ → ℕ → ℕ → Type 0
+AreJoined map lo hi other_lo other_hi =
+    (other_lo ≤ other_hi) × AreInOneFile map (span lo hi) (span other_lo other_hi)
+
+-- `pm_join`
+pub record JoinAnswer (map : Files) (lo hi other_lo other_hi : ℕ) (answer : PmRange) : Type 0 where
+  pub codes : IsAmong (DONE ∷ NOT_HELD ∷ NOT_JOINED ∷ []) answer.code
+  pub one_file : answer.code ≡ DONE → AreJoined map lo hi other_lo other_hi
+  pub done : answer.code ≡ DONE → span answer.start answer.end ≡ joined (span lo hi) (span other_lo other_hi)
+  pub not_held : (answer.code ≡ NOT_HELD) ↔ (IsHeld map lo hi → ⊥)
+  pub not_joined : (answer.code ≡ NOT_JOINED)
+      ↔ (IsHeld map lo hi × (AreJoined map lo hi other_lo other_hi → ⊥))

@@ -1,4 +1,6 @@
 pub mod Calls
 pub mod Faults
+pub mod Handle
 pub mod Held
 pub mod Listing
+pub mod Pieces

@@ -1,7 +1,8 @@
 -- The records of a stream's trees, and their texts.
-use Rattle.std.specs.Prelude.{ℕ, ◌+◌, List, [], ◌∷◌, length}
+use Rattle.std.specs.Prelude.{ℕ, ◌+◌, ◌⊎◌, ◌≤◌, List, [], ◌∷◌, flat_map, length}
 use Rattle.std.specs.Str.{encode_utf8_all}
 use Rattle.proc_macro2.specs.Forest.{Forest, nil, leaf, group}
+use Rattle.proc_macro2.specs.InOrder.{in_order}
 use Rattle.proc_macro2.specs.Spelling.{spelling}
 use Rattle.proc_macro2.specs.declared.Delimiter.{Delimiter}
 use Rattle.proc_macro2.specs.declared.Delimiter.TheVariants.{Parenthesis, Brace, Bracket, None}
@@ -9,6 +10,9 @@ use Rattle.proc_macro2.specs.declared.Spacing.{Spacing}
 use Rattle.proc_macro2.specs.declared.Spacing.TheVariants.{Alone, Joint}
 use Rattle.proc_macro2.specs.declared.TokenTree.{TokenTree}
 use Rattle.proc_macro2.specs.declared.TokenTree.TheVariants.{Group, Ident, Punct, Literal}
+use Rattle.pm_c.specs.declared.codes.TheConstants.{NO_MEMORY, TOO_LONG}
+use Rattle.pm_c.specs.declared.listing.ListError.{ListError}
+use Rattle.pm_c.specs.declared.listing.ListError.TheVariants as errors
 use Rattle.pm_c.specs.declared.records.PmTree.{PmTree}
 
 abbrev pub delimiter_number : Delimiter → ℕ
@@ -63,3 +67,23 @@ record_of start (Literal l) =
 abbrev pub records_from : ℕ → List TokenTree → List PmTree
 records_from start [] = []
 records_from start (tree ∷ trees) = record_of start tree ∷ records_from (start + length (kept_text tree)) trees
+
+-- the stream has too many trees for 32 bits, or its texts have too many bytes
+abbrev pub IsTooLong : Forest → Type 0
+IsTooLong stream =
+    (4294967296 ≤ length (in_order stream)) ⊎ (4294967296 ≤ length (flat_map kept_text (in_order stream)))
+
+-- how many trees stand right inside the tree
+abbrev pub inner_width : TokenTree → ℕ
+inner_width (Group g) = width g.stream
+inner_width (Ident i) = 0
+inner_width (Punct p) = 0
+inner_width (Literal l) = 0
+
+-- a number of the tree's record doesn't go into 32 bits, or that of the byte where its text ends
+abbrev pub IsLongTree : ℕ → TokenTree → Type 0
+IsLongTree start tree = (4294967296 ≤ start + length (kept_text tree)) ⊎ (4294967296 ≤ inner_width tree)
+
+abbrev pub error_code : ListError → ℕ
+error_code errors.TooLong = TOO_LONG
+error_code errors.Memory = NO_MEMORY

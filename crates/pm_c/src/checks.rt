@@ -1,9 +1,5 @@
 //! Which texts are names and literals.
-ghost use Rattle.std.specs.Prelude.{◌≡◌, ◌↔◌, [], ◌∷◌};
-ghost use Rattle.std.specs.Str.{chars, IsUtf8};
-ghost use Rattle.proc_macro2.specs.LiteralText.{IsWholeLiteral};
-ghost use Rattle.pm_c.specs.Calls.{IsAmong, IsOtherText, NamesFault, name_codes};
-ghost use Rattle.pm_c.specs.declared.codes.TheConstants.{DONE, NO_LITERAL, NOT_UTF8};
+ghost use Rattle.pm_c.specs.Calls.{IdentAnswer, LiteralAnswer};
 
 use crate::codes::{
     DONE, NAME_EMPTY, NAME_INVALID, NAME_NUMBER, NAME_RESERVED, NO_LITERAL, NO_MEMORY, NOT_UTF8,
@@ -14,9 +10,7 @@ use std::str;
 
 /// Which fault a name has.
 pub(crate) fn ident(alloc: Global, name: &[u8], raw: bool) -> u32
-    ensures fault { IsUtf8 name.now → NamesFault raw (chars name.now) result }
-    ensures not_utf8 { (result ≡ NOT_UTF8) ↔ (IsUtf8 name.now → ⊥) }
-    ensures codes { IsAmong name_codes result }
+    ensures { IdentAnswer raw name.now result }
 {
     let Ok(name) = str::from_utf8(name) else {
         return NOT_UTF8;
@@ -38,10 +32,7 @@ pub(crate) fn ident(alloc: Global, name: &[u8], raw: bool) -> u32
 
 /// Whether a text is a literal.
 pub(crate) fn literal(text: &[u8]) -> u32
-    ensures whole { (result ≡ DONE) ↔ (IsUtf8 text.now × IsWholeLiteral (chars text.now)) }
-    ensures not_utf8 { (result ≡ NOT_UTF8) ↔ (IsUtf8 text.now → ⊥) }
-    ensures no_literal { (result ≡ NO_LITERAL) ↔ IsOtherText text.now }
-    ensures codes { IsAmong (DONE ∷ NO_LITERAL ∷ NOT_UTF8 ∷ []) result }
+    ensures { LiteralAnswer text.now result }
 {
     match str::from_utf8(text) {
         Ok(text) => {

@@ -1,9 +1,17 @@
 //! The trees of a stream as records, in reading order.
-ghost use Rattle.std.specs.Prelude.{◌≡◌, [], ◌∷◌, ◌++◌, flat_map, length, string_bytes, IfOk, OnOk};
+ghost use Rattle.std.specs.Prelude.{◌≡◌, ◌++◌, ◌≤◌, flat_map, length, string_bytes, IfErr, IfOk, OnErr, OnOk};
 ghost use Rattle.proc_macro2.specs.InOrder.{in_order};
-ghost use Rattle.pm_c.specs.Calls.{IsAmong};
-ghost use Rattle.pm_c.specs.Listing.{delimiter_number, kept_text, record_of, records_from, spacing_number, width};
-ghost use Rattle.pm_c.specs.declared.codes.TheConstants.{NO_MEMORY, TOO_LONG};
+ghost use Rattle.pm_c.specs.Listing.{
+  IsLongTree,
+  IsTooLong,
+  error_code,
+  delimiter_number,
+  kept_text,
+  record_of,
+  records_from,
+  spacing_number,
+  width,
+};
 
 use crate::codes::{NO_MEMORY, TOO_LONG};
 use crate::records::PmTree;
@@ -24,7 +32,7 @@ pub(crate) enum ListError {
 impl ListError {
     /// Its code.
     pub(crate) fn code(&self) -> u32
-        ensures codes { IsAmong (NO_MEMORY ∷ TOO_LONG ∷ []) result }
+        ensures { result ≡ error_code self.now }
     {
         match self {
             ListError::TooLong => TOO_LONG,
@@ -34,26 +42,38 @@ impl ListError {
 }
 
 impl From<AllocError> for ListError {
+    ghost use Rattle.std.specs.Prelude.{◌≡◌};
+    ghost use Rattle.pm_c.specs.declared.listing.ListError.TheVariants.{Memory};
+
+    ghost from_gives = { λ _ error. error ≡ Memory };
+
     fn from(_error: AllocError) -> ListError {
         ListError::Memory
     }
 }
 
 impl<T: Drop> From<AllocFailed<T>> for ListError {
+    ghost use Rattle.std.specs.Prelude.{◌≡◌};
+    ghost use Rattle.pm_c.specs.declared.listing.ListError.TheVariants.{Memory};
+
+    ghost from_gives = { λ _ error. error ≡ Memory };
+
     fn from(_error: AllocFailed<T>) -> ListError {
         ListError::Memory
     }
 }
 
 /// Writes the records of a stream's trees over `trees`, each group before those inside it, and the texts of its
-/// identifiers and literals, one after another, over `text`.
+/// identifiers and literals, one after another, over `text`. Answers how many records there are.
 pub(crate) fn list(
     stream: &TokenStream,
     trees: &mut Vec<PmTree>,
     text: &mut String,
-) -> Result<(), ListError>
+) -> Result<u32, ListError>
+    ensures count { IfOk result (λ count. count ≡ length trees.new.items) }
     ensures trees { OnOk result (trees.new.items ≡ records_from 0 (in_order stream.now)) }
     ensures text { OnOk result (string_bytes text.new ≡ flat_map kept_text (in_order stream.now)) }
+    ensures too_long { IfErr result (λ error. error ≡ ListError.TooLong → IsTooLong stream.now) }
 {
     trees.clear();
     text.clear();
@@ -62,13 +82,15 @@ pub(crate) fn list(
         let record = record_of(tree, text)?;
         trees.push(record)?;
     }
-    Ok(())
+    narrow(trees.len())
 }
 
 /// The record of a tree, whose text goes after the others.
 fn record_of(tree: &TokenTree, text: &mut String) -> Result<PmTree, ListError>
     ensures record { IfOk result (λ made. made ≡ record_of (length (string_bytes text.old)) tree.now) }
     ensures text { OnOk result (string_bytes text.new ≡ string_bytes text.old ++ kept_text tree.now) }
+    ensures too_long { IfErr result (λ error. error ≡ ListError.TooLong
+        → IsLongTree (length (string_bytes text.old)) tree.now) }
 {
     let (lo, hi) = bounds(tree.span());
     let start = narrow(text.len())?;
@@ -145,7 +167,8 @@ pub(crate) fn spacing_number(spacing: Spacing) -> u8
 
 /// The count in 32 bits.
 pub(crate) fn narrow(count: usize) -> Result<u32, ListError>
-    ensures { IfOk result (λ narrow. narrow ≡ count) }
+    ensures ok { IfOk result (λ narrow. narrow ≡ count) }
+    ensures too_long { OnErr result (4294967296 ≤ count) }
 {
     if count > 0xFFFF_FFFF {
         return Err(ListError::TooLong);

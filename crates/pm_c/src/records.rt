@@ -1,18 +1,18 @@
-//! What crosses to C: answers and records.
+//! What crosses to C: answers and records. `rust/c/header.py` makes the structs of `pm_c.h` of these.
 ghost use Rattle.std.specs.Prelude.{◌≡◌};
 ghost use Rattle.pm_c.specs.declared.codes.TheConstants.{DONE};
 
 use crate::codes::DONE;
 
-/// What a call answers.
+/// What a call answers. Where it isn't done only `code` is of use, and `number` where the code's line names it.
 #[repr(C)]
 #[derive(Clone, Copy)]
 pub struct PmAnswer {
     /// How it went: a code.
     pub code: u32,
-    /// The number of a stream, the position of a fault, or how many records there are.
+    /// A number, which the call names.
     pub number: u32,
-    /// How many bytes the session's text has.
+    /// How many bytes the call's text or bytes have.
     pub bytes: usize,
 }
 
@@ -46,23 +46,37 @@ impl PmAnswer {
 pub struct PmTree {
     /// 0 group, 1 identifier, 2 mark, 3 literal.
     pub kind: u8,
-    /// The delimiter of a group (0 parentheses, 1 braces, 2 brackets, 3 none); 1 for a mark that is
-    /// Joint; else 0.
+    /// Of a group 0 for ( ), 1 for { }, 2 for [ ], 3 for none; 1 for a mark that is joint; else 0.
     pub detail: u8,
     /// The position where it begins, in characters.
     pub lo: u32,
     /// The position where it ends, in characters.
     pub hi: u32,
-    /// Of an identifier and a literal the byte where its text begins in the session's text; of a mark its character.
+    /// Where its text begins, in bytes of the session's text; of a mark its character; of a group 0.
     pub start: u32,
-    /// Of an identifier and a literal how many bytes its text has; of a group how many trees stand right inside it.
+    /// How many bytes its text has; of a group how many trees stand right inside it; of a mark 0.
+    pub count: u32,
+}
+
+/// A piece of a text.
+#[repr(C)]
+#[derive(Clone, Copy)]
+pub struct PmPiece {
+    /// 0 the mark U+FEFF at the front, 1 white character, 2 comment, 3 doc comment, 4 opener, 5 closer, 6 literal,
+    /// 7 mark, 8 identifier.
+    pub kind: u8,
+    /// 1 for a doc comment with `!`, a mark that is joint and an identifier with `r#`; else 0.
+    pub detail: u8,
+    /// Where it begins, in bytes of the text.
+    pub start: u32,
+    /// How many bytes it has.
     pub count: u32,
 }
 
 /// A line and a column.
 #[repr(C)]
 #[derive(Clone, Copy)]
-pub struct PmPlace {
+pub struct PmLineColumn {
     /// How it went: a code.
     pub code: u32,
     /// The line, from 1 on.
@@ -107,12 +121,12 @@ impl PmRange {
     }
 }
 
-impl PmPlace {
+impl PmLineColumn {
     /// That it wasn't done, for this reason.
-    pub(crate) fn refused(code: u32) -> PmPlace
+    pub(crate) fn refused(code: u32) -> PmLineColumn
         ensures { result.code ≡ code }
     {
-        PmPlace {
+        PmLineColumn {
             code,
             line: 0,
             column: 0,

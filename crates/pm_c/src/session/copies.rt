@@ -1,72 +1,48 @@
 //! What the session lends, copied out.
-ghost use Rattle.std.specs.Prelude.{◌≡◌, ◌≢◌, ◌↔◌, length, false, true};
 ghost use Rattle.std.specs.String.{string_bytes};
-ghost use Rattle.pm_c.specs.Calls.{IsAmong, IsTooShort, StandInFront, copy_codes};
-ghost use Rattle.pm_c.specs.declared.codes.TheConstants.{DONE, NO_ROOM};
+ghost use Rattle.pm_c.specs.Calls.{CopyAnswer};
 
 use crate::codes::{DONE, NO_ROOM};
-use crate::records::PmTree;
+use crate::records::{PmPiece, PmTree};
 use crate::session::Session;
 
 impl Session {
     /// Copies the text into a buffer of its length.
     pub(crate) fn copy_text(&self, into: &mut [u8]) -> u32
-        ensures done { result ≡ DONE → into.new ≡ string_bytes self.now.text }
-        ensures no_room { (result ≡ NO_ROOM) ↔ (length into.old ≢ length (string_bytes self.now.text)) }
-        ensures codes { IsAmong copy_codes result }
-        ensures left { result ≡ NO_ROOM → into.new ≡ into.old }
+        ensures { CopyAnswer (string_bytes self.now.text) into.old into.new result }
     {
-        let text = self.text.as_bytes();
-        if text.len() != into.len() {
-            return NO_ROOM;
-        }
-        into.copy_from_slice(text);
-        DONE
+        copy(self.text.as_bytes(), into)
     }
 
-    /// Copies the bytes into a buffer of their length.
+    /// Copies the bytes into a buffer of their number.
     pub(crate) fn copy_bytes(&self, into: &mut [u8]) -> u32
-        ensures done { result ≡ DONE → into.new ≡ self.now.bytes.items }
-        ensures no_room { (result ≡ NO_ROOM) ↔ (length into.old ≢ length self.now.bytes.items) }
-        ensures codes { IsAmong copy_codes result }
-        ensures left { result ≡ NO_ROOM → into.new ≡ into.old }
+        ensures { CopyAnswer self.now.bytes.items into.old into.new result }
     {
-        let bytes = self.bytes.as_slice();
-        if bytes.len() != into.len() {
-            return NO_ROOM;
-        }
-        into.copy_from_slice(bytes);
-        DONE
+        copy(self.bytes.as_slice(), into)
     }
 
-    /// Copies the records into a buffer for as many.
+    /// Copies the records of trees into a buffer for as many.
     pub(crate) fn copy_trees(&self, into: &mut [PmTree]) -> u32
-        ensures done { result ≡ DONE → into.new ≡ self.now.trees.items }
-        ensures no_room { (result ≡ NO_ROOM) ↔ (length into.old ≢ length self.now.trees.items) }
-        ensures codes { IsAmong copy_codes result }
-        ensures left { result ≡ NO_ROOM → into.new ≡ into.old }
+        ensures { CopyAnswer self.now.trees.items into.old into.new result }
     {
-        let trees = self.trees.as_slice();
-        if trees.len() != into.len() {
-            return NO_ROOM;
-        }
-        into.copy_from_slice(trees);
-        DONE
+        copy(self.trees.as_slice(), into)
     }
 
-    /// Copies the records and the text to the fronts of two buffers, if there is room for both, and says whether it is.
-    pub(crate) fn copy_fronts(&self, trees: &mut [PmTree], text: &mut [u8]) -> bool
-        ensures copied { result ≡ true → StandInFront self.now trees.new text.new }
-        ensures short { result ≡ false → IsTooShort self.now trees.old text.old }
-        ensures left { result ≡ false → (trees.new ≡ trees.old) × (text.new ≡ text.old) }
+    /// Copies the records of pieces into a buffer for as many.
+    pub(crate) fn copy_pieces(&self, into: &mut [PmPiece]) -> u32
+        ensures { CopyAnswer self.now.pieces.items into.old into.new result }
     {
-        let records = self.trees.as_slice();
-        let bytes = self.text.as_bytes();
-        if records.len() > trees.len() || bytes.len() > text.len() {
-            return false;
-        }
-        trees[..records.len()].copy_from_slice(records);
-        text[..bytes.len()].copy_from_slice(bytes);
-        true
+        copy(self.pieces.as_slice(), into)
     }
+}
+
+/// Copies into a buffer of just the length, and into no other.
+fn copy<T: Copy>(lent: &[T], into: &mut [T]) -> u32
+    ensures { CopyAnswer lent.now into.old into.new result }
+{
+    if lent.len() != into.len() {
+        return NO_ROOM;
+    }
+    into.copy_from_slice(lent);
+    DONE
 }

@@ -1,12 +1,18 @@
 //! What the map is asked of positions.
-ghost use Rattle.std.specs.Prelude.{◌≡◌, ◌↔◌, ◌≤◌, [], ◌∷◌, IfNone, IfSome, OnSome};
+ghost use Rattle.std.specs.Prelude.{◌≡◌, ◌≤◌, [], IfNone, IfSome, OnSome};
 ghost use Rattle.proc_macro2.specs.Files.{Holds};
-ghost use Rattle.proc_macro2.specs.Lookup.{AreInOneFile, HasBytes, StartsAt, joined};
-ghost use Rattle.pm_c.specs.Calls.{IsAmong, IsHeld, KeepsAllButText, LendsName, LendsSource, span};
-ghost use Rattle.pm_c.specs.declared.codes.TheConstants.{DONE, NO_MEMORY, NOT_HELD, NOT_JOINED};
+ghost use Rattle.pm_c.specs.Calls.{
+  ByteRangeAnswer,
+  FileNameAnswer,
+  IsHeld,
+  JoinAnswer,
+  LineColumnAnswer,
+  SourceTextAnswer,
+  span,
+};
 
 use crate::codes::{DONE, NO_MEMORY, NOT_HELD, NOT_JOINED};
-use crate::records::{PmAnswer, PmPlace, PmRange};
+use crate::records::{PmAnswer, PmLineColumn, PmRange};
 use crate::session::Session;
 use pm_span::parts::{bounds, span_of};
 use proc_macro2::Span;
@@ -30,31 +36,25 @@ impl Session {
     }
 
     /// The line and column of a position.
-    pub(crate) fn place(&self, position: u32) -> PmPlace
-        ensures done { result.code ≡ DONE → StartsAt self.now.map (span position position)
-            (record { line = result.line; column = result.column }) }
-        ensures not_held { (result.code ≡ NOT_HELD) ↔ (IsHeld self.now.map position position → ⊥) }
-        ensures codes { IsAmong (DONE ∷ NOT_HELD ∷ []) result.code }
+    pub(crate) fn line_column(&self, position: u32) -> PmLineColumn
+        ensures { LineColumnAnswer self.now.map position result }
     {
         match self.held(position, position) {
             Some(span) => {
-                let place = span.start(&self.map);
-                PmPlace {
+                let start = span.start(&self.map);
+                PmLineColumn {
                     code: DONE,
-                    line: place.line,
-                    column: place.column,
+                    line: start.line,
+                    column: start.column,
                 }
             }
-            None => PmPlace::refused(NOT_HELD),
+            None => PmLineColumn::refused(NOT_HELD),
         }
     }
 
     /// The bytes of its file that a span takes.
     pub(crate) fn byte_range(&mut self, lo: u32, hi: u32) -> PmRange
-        ensures done { result.code ≡ DONE → HasBytes self.old.map (span lo hi)
-            (record { start = result.start; end = result.end }) }
-        ensures not_held { (result.code ≡ NOT_HELD) ↔ (IsHeld self.old.map lo hi → ⊥) }
-        ensures codes { IsAmong (DONE ∷ NOT_HELD ∷ []) result.code }
+        ensures answer { ByteRangeAnswer self.old.map lo hi result }
         ensures kept { self.new ≡ self.old }
     {
         match self.held(lo, hi) {
@@ -68,33 +68,24 @@ impl Session {
 
     /// The source text of a span, as the session's text.
     pub(crate) fn source_text(&mut self, lo: u32, hi: u32) -> PmAnswer
-        ensures done { result.code ≡ DONE → LendsSource self.old (span lo hi) self.new result }
-        ensures codes { IsAmong (DONE ∷ NOT_HELD ∷ NO_MEMORY ∷ []) result.code }
-        ensures left { result.code ≡ NOT_HELD → self.new ≡ self.old }
-        ensures kept { KeepsAllButText self.old self.new }
+        ensures { SourceTextAnswer self.old lo hi self.new result }
     {
         let Some(span) = self.held(lo, hi) else {
             return PmAnswer::refused(NOT_HELD);
         };
-        // Its ends become known places, from which `source_str` then walks.
-        let _ = span.byte_range(&mut self.map);
-        let Some(text) = span.source_str(&self.map) else {
-            return PmAnswer::refused(NOT_HELD);
-        };
-        self.text.clear();
-        match self.text.push_str(text) {
-            Ok(()) => PmAnswer::done(0, self.text.len()),
+        match span.source_text(&mut self.map) {
+            Ok(Some(text)) => {
+                self.text = text;
+                PmAnswer::done(0, self.text.len())
+            }
+            Ok(None) => PmAnswer::refused(NOT_HELD),
             Err(_) => PmAnswer::refused(NO_MEMORY),
         }
     }
 
     /// The name of the file that a span is in, as the session's text.
     pub(crate) fn file_name(&mut self, lo: u32, hi: u32) -> PmAnswer
-        ensures done { result.code ≡ DONE → LendsName self.old (span lo hi) self.new result }
-        ensures not_held { (result.code ≡ NOT_HELD) ↔ (IsHeld self.old.map lo hi → ⊥) }
-        ensures codes { IsAmong (DONE ∷ NOT_HELD ∷ NO_MEMORY ∷ []) result.code }
-        ensures left { (result.code ≡ DONE → ⊥) → self.new ≡ self.old }
-        ensures kept { KeepsAllButText self.old self.new }
+        ensures { FileNameAnswer self.old lo hi self.new result }
     {
         let Some(span) = self.held(lo, hi) else {
             return PmAnswer::refused(NOT_HELD);
@@ -110,18 +101,13 @@ impl Session {
 
     /// The span of two, where one file has both.
     pub(crate) fn join(&self, lo: u32, hi: u32, other_lo: u32, other_hi: u32) -> PmRange
-        ensures done { result.code ≡ DONE → AreInOneFile self.now.map (span lo hi) (span other_lo other_hi) }
-        ensures span { result.code ≡ DONE
-            → span result.start result.end ≡ joined (span lo hi) (span other_lo other_hi) }
-        ensures not_joined { result.code ≡ NOT_JOINED
-            → AreInOneFile self.now.map (span lo hi) (span other_lo other_hi) → ⊥ }
-        ensures codes { IsAmong (DONE ∷ NOT_HELD ∷ NOT_JOINED ∷ []) result.code }
+        ensures { JoinAnswer self.now.map lo hi other_lo other_hi result }
     {
         let Some(span) = self.held(lo, hi) else {
             return PmRange::refused(NOT_HELD);
         };
         if other_lo > other_hi {
-            return PmRange::refused(NOT_HELD);
+            return PmRange::refused(NOT_JOINED);
         }
         match span.join(span_of(other_lo, other_hi), &self.map) {
             Some(joined) => {

@@ -1,13 +1,19 @@
 //! The texts of literals.
-ghost use Rattle.std.specs.Prelude.{◌≡◌, ◌↔◌, [], ◌∷◌, IfOk, IsOk, false};
-ghost use Rattle.std.specs.Char.{IsScalar};
-ghost use Rattle.std.specs.Str.{chars, IsUtf8};
+ghost use Rattle.std.specs.Prelude.{◌≡◌, IfOk, IsOk};
 ghost use Rattle.proc_macro2.specs.CString.{has_no_zero};
-ghost use Rattle.proc_macro2.specs.Escaped.{byte_string_text, byte_text, character_text, string_text};
-ghost use Rattle.proc_macro2.specs.Files.{with_file};
-ghost use Rattle.pm_c.specs.Calls.{HasText, IsAmong, IsOtherText, IsReadLiteral, KeepsAllButText, MakesCString};
-ghost use Rattle.pm_c.specs.Calls.{Overflows, make_codes};
-ghost use Rattle.pm_c.specs.declared.codes.TheConstants.{DONE, MAP_FULL, NO_CHARACTER, NO_LITERAL, NO_MEMORY, NOT_UTF8};
+ghost use Rattle.proc_macro2.specs.Escaped.{byte_string_text, byte_text};
+ghost use Rattle.pm_c.specs.Calls.{
+  CStringAnswer,
+  CharacterAnswer,
+  HasText,
+  IsAmong,
+  KeepsAllButText,
+  MakeAnswer,
+  ReadLiteralAnswer,
+  StringAnswer,
+};
+ghost use Rattle.std.specs.Prelude.{[], ◌∷◌};
+ghost use Rattle.pm_c.specs.declared.codes.TheConstants.{DONE, NO_MEMORY};
 
 use crate::codes::{MAP_FULL, NO_CHARACTER, NO_LITERAL, NO_MEMORY, NOT_UTF8};
 use crate::records::PmAnswer;
@@ -22,7 +28,7 @@ impl Session {
     fn take_text(&mut self, literal: Result<Literal, AllocError>) -> PmAnswer
         ensures made { result.code ≡ DONE → IsOk literal }
         ensures text { result.code ≡ DONE → IfOk literal (λ literal. HasText self.new literal.text result) }
-        ensures codes { IsAmong make_codes result.code }
+        ensures codes { IsAmong (DONE ∷ NO_MEMORY ∷ []) result.code }
         ensures kept { KeepsAllButText self.old self.new }
     {
         let Ok(literal) = literal else {
@@ -37,15 +43,7 @@ impl Session {
 
     /// Reads the text of a literal, which becomes a file of the map, and answers where it stands.
     pub(crate) fn read_literal(&mut self, text: &[u8]) -> PmAnswer
-        ensures utf8 { result.code ≡ DONE → IsUtf8 text.now }
-        ensures done { result.code ≡ DONE → IsReadLiteral self.old (chars text.now) self.new result }
-        ensures not_utf8 { (result.code ≡ NOT_UTF8) ↔ (IsUtf8 text.now → ⊥) }
-        ensures no_literal { result.code ≡ NO_LITERAL → IsOtherText text.now }
-        ensures map_full { (result.code ≡ MAP_FULL) ↔ Overflows self.old.map text.now }
-        ensures codes { IsAmong (NOT_UTF8 ∷ NO_LITERAL ∷ MAP_FULL ∷ make_codes) result.code }
-        ensures fault { result.code ≡ NO_LITERAL
-            → self.new ≡ record self.old { map = with_file self.old.map (chars text.now) } }
-        ensures left { IsAmong (NOT_UTF8 ∷ MAP_FULL ∷ NO_MEMORY ∷ []) result.code → self.new ≡ self.old }
+        ensures { ReadLiteralAnswer self.old text.now self.new result }
     {
         let Ok(text) = str::from_utf8(text) else {
             return PmAnswer::refused(NOT_UTF8);
@@ -63,12 +61,7 @@ impl Session {
 
     /// The string literal of a text.
     pub(crate) fn string(&mut self, text: &[u8]) -> PmAnswer
-        ensures utf8 { result.code ≡ DONE → IsUtf8 text.now }
-        ensures done { result.code ≡ DONE → HasText self.new (string_text (chars text.now)) result }
-        ensures not_utf8 { (result.code ≡ NOT_UTF8) ↔ (IsUtf8 text.now → ⊥) }
-        ensures codes { IsAmong (NOT_UTF8 ∷ make_codes) result.code }
-        ensures left { result.code ≡ NOT_UTF8 → self.new ≡ self.old }
-        ensures kept { KeepsAllButText self.old self.new }
+        ensures { StringAnswer text.now self.old self.new result }
     {
         match str::from_utf8(text) {
             Ok(text) => self.take_text(Literal::string(self.alloc, text)),
@@ -78,11 +71,7 @@ impl Session {
 
     /// The literal of a character.
     pub(crate) fn character(&mut self, c: u32) -> PmAnswer
-        ensures done { result.code ≡ DONE → HasText self.new (character_text c) result }
-        ensures no_character { (result.code ≡ NO_CHARACTER) ↔ (IsScalar c → ⊥) }
-        ensures codes { IsAmong (NO_CHARACTER ∷ make_codes) result.code }
-        ensures left { result.code ≡ NO_CHARACTER → self.new ≡ self.old }
-        ensures kept { KeepsAllButText self.old self.new }
+        ensures { CharacterAnswer c self.old self.new result }
     {
         match char::from_u32(c) {
             Some(c) => self.take_text(Literal::character(self.alloc, c)),
@@ -92,29 +81,21 @@ impl Session {
 
     /// The literal of a byte.
     pub(crate) fn byte_character(&mut self, byte: u8) -> PmAnswer
-        ensures done { result.code ≡ DONE → HasText self.new (byte_text byte) result }
-        ensures codes { IsAmong make_codes result.code }
-        ensures kept { KeepsAllButText self.old self.new }
+        ensures { MakeAnswer (byte_text byte) self.old self.new result }
     {
         self.take_text(Literal::byte_character(self.alloc, byte))
     }
 
     /// The byte string literal of some bytes.
     pub(crate) fn byte_string(&mut self, bytes: &[u8]) -> PmAnswer
-        ensures done { result.code ≡ DONE → HasText self.new (byte_string_text bytes.now) result }
-        ensures codes { IsAmong make_codes result.code }
-        ensures kept { KeepsAllButText self.old self.new }
+        ensures { MakeAnswer (byte_string_text bytes.now) self.old self.new result }
     {
         self.take_text(Literal::byte_string(self.alloc, bytes))
     }
 
     /// The C string literal of some bytes, none of which is zero.
     pub(crate) fn c_string(&mut self, bytes: &[u8]) -> PmAnswer
-        ensures done { result.code ≡ DONE → MakesCString bytes.now self.new result }
-        ensures no_character { (result.code ≡ NO_CHARACTER) ↔ (has_no_zero bytes.now ≡ false) }
-        ensures codes { IsAmong (NO_CHARACTER ∷ make_codes) result.code }
-        ensures left { result.code ≡ NO_CHARACTER → self.new ≡ self.old }
-        ensures kept { KeepsAllButText self.old self.new }
+        ensures { CStringAnswer bytes.now self.old self.new result }
     {
         if has_no_zero(bytes) {
             self.take_text(Literal::c_string(self.alloc, bytes))

@@ -1,5 +1,5 @@
 //! The values of literals.
-ghost use Rattle.std.specs.Prelude.{◌≡◌, ◌↔◌, [], ◌∷◌, Err, IfErr, IfOk, OnOk};
+ghost use Rattle.std.specs.Prelude.{◌≡◌, ◌↔◌, [], ◌∷◌, IfErr, IfOk, OnOk};
 ghost use Rattle.std.specs.Str.{chars, IsUtf8};
 ghost use Rattle.proc_macro2.specs.LiteralText.{IsWholeLiteral};
 ghost use Rattle.proc_macro2.specs.Value.{byte_str_value, cstr_value, str_value};
@@ -8,12 +8,11 @@ ghost use Rattle.pm_c.specs.Calls.{
   HasBytesValue,
   HasTextValue,
   IsAmong,
-  IsFaulty,
   IsNumbered,
   IsOtherText,
   KeepsAllButBytes,
   KeepsAllButText,
-  value_codes,
+  ValueAnswer,
 };
 ghost use Rattle.pm_c.specs.Faults.{fault_number};
 ghost use Rattle.pm_c.specs.declared.codes.TheConstants.{DONE, NO_LITERAL, NO_MEMORY, NOT_UTF8};
@@ -29,13 +28,8 @@ use std::str;
 impl Session {
     /// The value of a string literal, as the session's text.
     pub(crate) fn str_value(&mut self, text: &[u8]) -> PmAnswer
+        ensures answer { ValueAnswer (str_value (chars text.now)) text.now self.old self.new result }
         ensures done { result.code ≡ DONE → HasTextValue (str_value (chars text.now)) self.new result }
-        ensures kind { result.code ≡ OTHER_KIND → str_value (chars text.now) ≡ Err InvalidLiteralKind }
-        ensures unescaped { result.code ≡ NOT_UNESCAPED → IsFaulty (str_value (chars text.now)) result.number }
-        ensures not_utf8 { (result.code ≡ NOT_UTF8) ↔ (IsUtf8 text.now → ⊥) }
-        ensures no_literal { (result.code ≡ NO_LITERAL) ↔ IsOtherText text.now }
-        ensures codes { IsAmong value_codes result.code }
-        ensures left { (result.code ≡ DONE → ⊥) → self.new ≡ self.old }
         ensures kept { KeepsAllButText self.old self.new }
     {
         let literal = match literal_of(self.alloc, text) {
@@ -53,13 +47,8 @@ impl Session {
 
     /// The value of a byte string literal, as the session's bytes.
     pub(crate) fn byte_str_value(&mut self, text: &[u8]) -> PmAnswer
+        ensures answer { ValueAnswer (byte_str_value (chars text.now)) text.now self.old self.new result }
         ensures done { result.code ≡ DONE → HasBytesValue (byte_str_value (chars text.now)) self.new result }
-        ensures kind { result.code ≡ OTHER_KIND → byte_str_value (chars text.now) ≡ Err InvalidLiteralKind }
-        ensures unescaped { result.code ≡ NOT_UNESCAPED → IsFaulty (byte_str_value (chars text.now)) result.number }
-        ensures not_utf8 { (result.code ≡ NOT_UTF8) ↔ (IsUtf8 text.now → ⊥) }
-        ensures no_literal { (result.code ≡ NO_LITERAL) ↔ IsOtherText text.now }
-        ensures codes { IsAmong value_codes result.code }
-        ensures left { (result.code ≡ DONE → ⊥) → self.new ≡ self.old }
         ensures kept { KeepsAllButBytes self.old self.new }
     {
         let literal = match literal_of(self.alloc, text) {
@@ -77,13 +66,8 @@ impl Session {
 
     /// The value of a C string literal, with the zero that ends it, as the session's bytes.
     pub(crate) fn cstr_value(&mut self, text: &[u8]) -> PmAnswer
+        ensures answer { ValueAnswer (cstr_value (chars text.now)) text.now self.old self.new result }
         ensures done { result.code ≡ DONE → HasBytesValue (cstr_value (chars text.now)) self.new result }
-        ensures kind { result.code ≡ OTHER_KIND → cstr_value (chars text.now) ≡ Err InvalidLiteralKind }
-        ensures unescaped { result.code ≡ NOT_UNESCAPED → IsFaulty (cstr_value (chars text.now)) result.number }
-        ensures not_utf8 { (result.code ≡ NOT_UTF8) ↔ (IsUtf8 text.now → ⊥) }
-        ensures no_literal { (result.code ≡ NO_LITERAL) ↔ IsOtherText text.now }
-        ensures codes { IsAmong value_codes result.code }
-        ensures left { (result.code ≡ DONE → ⊥) → self.new ≡ self.old }
         ensures kept { KeepsAllButBytes self.old self.new }
     {
         let literal = match literal_of(self.alloc, text) {

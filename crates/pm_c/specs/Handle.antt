@@ -1,0 +1,10 @@
+-- What becomes of a session's handle.
+use Rattle.std.specs.Prelude.{ℕ, ◌≡◌, ◌↔◌, true, false}
+use Rattle.pm_c.specs.declared.codes.TheConstants.{NOT_LIVE}
+use Rattle.pm_c.specs.declared.handle.PmSession.{PmSession}
+
+-- a live handle goes back live; of another one that is told, and nothing goes back
+pub record HandsBack (session old new : PmSession) (code : ℕ) : Type 0 where
+  pub live : session.live ≡ true → new.live ≡ true
+  pub not_live : (code ≡ NOT_LIVE) ↔ (session.live ≡ false)
+  pub unwritten : session.live ≡ false → new ≡ old
