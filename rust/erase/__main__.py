@@ -23,7 +23,8 @@ TOOLS = TOP / 'rust/tools'
 
 # The library crates, lowest first, whose text becomes modules of the package.
 LIBRARIES = [
-    'lexical', 'literal_escaper', 'pm_span', 'pm_token', 'pm_stream', 'token_buffer', 'proc_macro2', 'quoting', 'explain',
+    'lexical', 'literal_escaper', 'pm_span', 'pm_token', 'pm_stream', 'token_buffer', 'proc_macro2', 'quoting',
+    'explain',
 ]
 # The crates that only a test of the package takes.
 TESTED = ['conformance']

@@ -79,7 +79,7 @@ no_mark_plain (c ∷ r) h =
     (λ same. both_ways (is_mark c) h (ap is_mark (sym (eqb-true 47 c same)))))
 
 -- one character is no comment
-mark_ends : (c : ℕ) → begins_any comment_fronts (c ∷ []) ≡ false
+pub mark_ends : (c : ℕ) → begins_any comment_fronts (c ∷ []) ≡ false
 mark_ends c = or_from _ _ (and_right (47 == c) false refl) (or_from _ _ (and_right (47 == c) false refl) refl)
 
 -- a mark before `'` begins none
@@ -154,7 +154,7 @@ no_comment b (Leaf (Literal text)) p r g h = ap (λ x. begins_any comment_fronts
 
 -- ---- before which pieces a mark is Joint
 
-alone_before : (r : List ℕ) → first_passes is_mark r ≡ false → joint_before r ≡ false
+pub alone_before : (r : List ℕ) → first_passes is_mark r ≡ false → joint_before r ≡ false
 alone_before r h = and_left (first_passes is_mark r) (not (begins_any comment_fronts r)) h
 
 alone_comment : (r : List ℕ) → begins_any comment_fronts r ≡ true → joint_before r ≡ false
@@ -241,7 +241,7 @@ raw_plain c rest s =
     turned c d h = false_from_ne_true (d == c)
         (λ same. both_ways (c == d) (not-true _ h) (eq-eqb c d (sym (eqb-true d c same))))
 
-built_identifier : (raw : Bool) (name : List ℕ) → IsBuiltToken (Name raw name) → Identifier raw name []
+pub built_identifier : (raw : Bool) (name : List ℕ) → IsBuiltToken (Name raw name) → Identifier raw name []
 built_identifier true name h =
     let n = h.0 in
     let text : name ++ [] ≡ n.first.0 ∷ (n.back ++ []) =
@@ -259,7 +259,7 @@ pub name_stands : (raw : Bool) (name s : List ℕ) → IsBuiltToken (Name raw na
 name_stands raw name s h e = identifier_before_stop raw name [] s e (built_identifier raw name h)
 
 -- the mark c is no `'`
-plain_mark : (c : ℕ) → is_mark c ≡ true → c ≢ 39 → IsTrue (is_mark c && not (c == 39))
+pub plain_mark : (c : ℕ) → is_mark c ≡ true → c ≢ 39 → IsTrue (is_mark c && not (c == 39))
 plain_mark c m other = and_from (is_mark c) (not (c == 39)) m (not_from_false (c == 39) (ne_eqb c 39 other))
 
 pub alone_stands : (c : ℕ) (s : List ℕ) → is_mark c ≡ true → c ≢ 39 → stops s ≡ true → Stands (Mark c false) s
@@ -272,7 +272,7 @@ pub joint_stands : (c : ℕ) (b : Bool) (k : Kind) (p r : List ℕ) → is_mark 
     → begins_any comment_fronts (c ∷ (p ++ r)) ≡ false → Stands (Mark c true) (p ++ r)
 joint_stands c b k p r m other h j plain = inl (((c, refl, plain_mark c m other), plain), sym (joint_by b k p r h ∙ j))
 
-whole_any : (text : List ℕ) → IsBuiltToken (Literal text) → AnyLiteral text []
+pub whole_any : (text : List ℕ) → IsBuiltToken (Literal text) → AnyLiteral text []
 unfolding literals.IsLiteralToken
 whole_any text is = is.0
 

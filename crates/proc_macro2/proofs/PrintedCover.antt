@@ -87,7 +87,7 @@ stand_gap true b ps r h = (inl (32, refl, refl), h false)
 stand_gap false b ps r h = h b
 
 -- a delimiter that is shown stands
-stand_open : (d : Delimiter) (b : Bool) (r : List ℕ) → is_shown d ≡ true
+pub stand_open : (d : Delimiter) (b : Bool) (r : List ℕ) → is_shown d ≡ true
     → (d ≡ Parenthesis → begins_any comment_fronts r ≡ false)
     → IsPiece b (Open (opener_of d)) (opening d) r
 stand_open Parenthesis b r h plain = ((40, refl, refl), no_error r (plain refl))
@@ -95,7 +95,7 @@ stand_open Brace b r h plain = ((123, refl, refl), refl)
 stand_open Bracket b r h plain = ((91, refl, refl), refl)
 stand_open None b r h plain = absurd (both_ways false refl h)
 
-stand_close : (d : Delimiter) (b : Bool) (r : List ℕ) → is_shown d ≡ true
+pub stand_close : (d : Delimiter) (b : Bool) (r : List ℕ) → is_shown d ≡ true
     → IsPiece b (Close (closer_of d)) (closing d) r
 stand_close Parenthesis b r h = (41, refl, refl)
 stand_close Brace b r h = (125, refl, refl)
@@ -138,7 +138,7 @@ plain_behind None f ps r h is = absurd (cc)
 
 -- ---- each token stands before what is printed after it
 
-tick_stands : (r : List ℕ) → FollowsQuote r → Stands (Mark 39 true) r
+pub tick_stands : (r : List ℕ) → FollowsQuote r → Stands (Mark 39 true) r
 tick_stands r f = inr ((refl, f), refl)
 
 quoted : (f : Forest) (ps : List Piece) (r : List ℕ) → follows_quote (next_token f) ≡ true → stops (onto ps r) ≡ true
@@ -229,13 +229,13 @@ said_gap : (gap : Bool) (ps : List Piece) → said (gap_then gap ps) ≡ said ps
 said_gap true ps = refl
 said_gap false ps = refl
 
-said_open : (d : Delimiter) (ps : List Piece) → is_shown d ≡ true → said (open_piece d ∷ ps) ≡ Opens d 0 ∷ said ps
+pub said_open : (d : Delimiter) (ps : List Piece) → is_shown d ≡ true → said (open_piece d ∷ ps) ≡ Opens d 0 ∷ said ps
 said_open Parenthesis ps h = refl
 said_open Brace ps h = refl
 said_open Bracket ps h = refl
 said_open None ps h = absurd (both_ways false refl h)
 
-said_close : (d : Delimiter) (ps : List Piece) → is_shown d ≡ true → said (close_piece d ∷ ps) ≡ Closes d 0 ∷ said ps
+pub said_close : (d : Delimiter) (ps : List Piece) → is_shown d ≡ true → said (close_piece d ∷ ps) ≡ Closes d 0 ∷ said ps
 said_close Parenthesis ps h = refl
 said_close Brace ps h = refl
 said_close Bracket ps h = refl

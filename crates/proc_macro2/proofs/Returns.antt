@@ -40,13 +40,13 @@ comes_back base s built w =
 
 -- ---- what parses is well spaced
 
-abbrev next_event : List Event → Option Token
+abbrev pub next_event : List Event → Option Token
 next_event [] = Nothing
 next_event (One t lo hi ∷ es) = Some t
 next_event (Opens d lo ∷ es) = Nothing
 next_event (Closes d hi ∷ es) = Nothing
 
-abbrev spaced : List Event → Bool
+abbrev pub spaced : List Event → Bool
 spaced [] = true
 spaced (One t lo hi ∷ es) = fits t (next_event es) && spaced es
 spaced (Opens d lo ∷ es) = is_shown d && spaced es
@@ -73,7 +73,7 @@ and_assoc : (a b c : Bool) → (a && (b && c)) ≡ ((a && b) && c)
 and_assoc true b c = refl
 and_assoc false b c = refl
 
-spaced-flat : (f : Forest) (es : List Event) → next_event es ≡ Nothing
+pub spaced-flat : (f : Forest) (es : List Event) → next_event es ≡ Nothing
     → spaced (flat_onto f es) ≡ (well_spaced f && spaced es)
 spaced-flat nil es h = refl
 spaced-flat (leaf t lo hi f) es h =

@@ -1,0 +1,4 @@
+mod TokenLemmas
+mod CoverLemmas
+mod PrintedLemmas
+mod Examples

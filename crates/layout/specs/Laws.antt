@@ -1,0 +1,16 @@
+-- What holds of layouts.
+use Rattle.std.specs.Prelude.{ℕ, List}
+use Rattle.pm_stream.specs.Forest.{Forest, IsBuilt}
+use Rattle.pm_stream.specs.Printed.{printed}
+use Rattle.pm_stream.specs.WellSpaced.{IsWellSpaced}
+use Rattle.proc_macro2.specs.Laws.{Gives}
+use Rattle.layout.specs.Layout.{IsLayout}
+
+-- a well spaced stream comes back from each of its layouts
+abbrev pub LayoutsComeBack : Type 0
+LayoutsComeBack = (base : ℕ) (stream : Forest) (text : List ℕ) → IsBuilt stream → IsWellSpaced stream
+    → IsLayout stream text → Gives base text stream
+
+-- its printed text is one
+abbrev pub PrintedIsLayout : Type 0
+PrintedIsLayout = (stream : Forest) → IsBuilt stream → IsWellSpaced stream → IsLayout stream (printed stream)

@@ -1,0 +1,99 @@
+-- Layouts: the tokens of a stream with white space between them.
+use Rattle.std.specs.Prelude.{ℕ, Bool, true, false, not, ◌&&◌, ◌||◌, ◌==◌, ◌≡◌, List, [], ◌∷◌, ◌++◌, IsTrue}
+use Rattle.std.specs.Prelude.{codes, if◌then◌else◌}
+use Rattle.std.specs.List.{list_all, list_any}
+use Rattle.std.specs.Char.{is_ascii_digit}
+use Rattle.lexical.specs.Class.{is_white, is_ident_continue}
+use Rattle.lexical.specs.Text.{first_passes}
+use Rattle.lexical.specs.Token.{Token, Name, Mark, Literal, token_text}
+use Rattle.lexical.specs.Mark.{is_mark}
+use Rattle.lexical.specs.Number.{is_sign}
+use Rattle.pm_stream.specs.Delimited.{opening, closing}
+use Rattle.pm_stream.specs.Events.{Event, One, Opens, Closes}
+use Rattle.pm_stream.specs.Forest.{Forest, flattening}
+
+-- ---- where white space has to stand
+
+-- whether the character, right after a name, would go on with it, or make a literal or a lifetime of it
+abbrev pub parts_name : ℕ → Bool
+parts_name c = is_ident_continue c || list_any (λ d. d == c) (codes "\"#'")
+
+-- whether it would go on with a number
+abbrev pub parts_number : ℕ → Bool
+parts_number c = is_ident_continue c || ((c == 46) || is_sign c)
+
+-- whether it would go on with the token: with a mark that is Alone another mark, and with a literal between quotes
+-- a suffix
+abbrev pub parts_from : Token → ℕ → Bool
+parts_from (Name raw name) = parts_name
+parts_from (Mark c joint) = is_mark
+parts_from (Literal text) = if first_passes is_ascii_digit text then parts_number else is_ident_continue
+
+-- what a token, an opener and a closer are written as
+abbrev pub event_text : Event → List ℕ
+event_text (One token lo hi) = token_text token
+event_text (Opens d lo) = opening d
+event_text (Closes d hi) = closing d
+
+-- `must-part`: whether white space has to stand between the two
+abbrev pub must_part : Event → Event → Bool
+must_part (One token lo hi) next = first_passes (parts_from token) (event_text next)
+must_part (Opens d lo) next = false
+must_part (Closes d hi) next = false
+
+abbrev pub is_joint : Event → Bool
+is_joint (One (Name raw name) lo hi) = false
+is_joint (One (Mark c joint) lo hi) = joint
+is_joint (One (Literal text) lo hi) = false
+is_joint (Opens d lo) = false
+is_joint (Closes d hi) = false
+
+-- whether the gap may stand between the two: none after a Joint mark, and some where white space has to part them
+abbrev pub may_part : Event → List ℕ → Event → Bool
+may_part before [] next = is_joint before || not (must_part before next)
+may_part before (c ∷ gap) next = not (is_joint before)
+
+-- ---- layouts
+
+-- a token, an opener or a closer, with the gap before it
+abbrev pub Laid : Type 0
+Laid = List ℕ × Event
+
+-- their text, and then the rest
+abbrev pub laid_onto : List Laid → List ℕ → List ℕ
+laid_onto [] rest = rest
+laid_onto (x ∷ xs) rest = x.0 ++ (event_text x.1 ++ laid_onto xs rest)
+
+-- they themselves, without gaps
+abbrev pub events_of : List Laid → List Event
+events_of [] = []
+events_of (x ∷ xs) = x.1 ∷ events_of xs
+
+-- white characters, or nothing
+abbrev pub IsGap : List ℕ → Type 0
+IsGap gap = IsTrue (list_all is_white gap)
+
+-- each gap is one
+abbrev pub AreGaps : List Laid → Type 0
+AreGaps [] = Unit {0}
+AreGaps (x ∷ xs) = IsGap x.0 × AreGaps xs
+
+-- whether the gap before the first may stand after this one
+abbrev pub may_follow : Event → List Laid → Bool
+may_follow before [] = true
+may_follow before (x ∷ xs) = may_part before x.0 x.1
+
+-- whether each gap may stand where it does
+abbrev pub keeps_apart : List Laid → Bool
+keeps_apart [] = true
+keeps_apart (x ∷ xs) = may_follow x.1 xs && keeps_apart xs
+
+-- `layout`: the text is the stream's tokens and delimiters in order, with gaps that may stand there, and one at the end
+pub record IsLayout (stream : Forest) (text : List ℕ) : Type 0 where
+  pub laid : List Laid
+  pub last : List ℕ
+  pub whole : text ≡ laid_onto laid last
+  pub events : events_of laid ≡ flattening stream
+  pub gaps : AreGaps laid
+  pub end : IsGap last
+  pub apart : IsTrue (keeps_apart laid)

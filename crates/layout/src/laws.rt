@@ -1,0 +1,17 @@
+//! What is proved of layouts. The functions compute nothing: their contracts are the laws, which `specs/Laws.antt`
+//! states.
+
+ghost use Rattle.layout.specs.Laws.{LayoutsComeBack, PrintedIsLayout};
+
+/// A built stream that is well spaced comes back from each of its layouts, the same up to spans.
+///
+/// A layout (`layout`) writes the stream's tokens, openers and closers in order, with a gap before each and one at the
+/// end. A gap is white characters or nothing: nothing after a Joint mark, and something where two neighbours must be
+/// parted (`must-part`), which their first characters tell.
+///
+/// The printed text is a layout. `a+=b` and `a += b` on two lines, broken after `=`, are layouts of one stream;
+/// `a + = b` is none of it.
+pub fn layouts_come_back()
+    ensures back { LayoutsComeBack }
+    ensures printed { PrintedIsLayout }
+{}
