@@ -235,7 +235,8 @@ said_open Brace ps h = refl
 said_open Bracket ps h = refl
 said_open None ps h = absurd (both_ways false refl h)
 
-pub said_close : (d : Delimiter) (ps : List Piece) → is_shown d ≡ true → said (close_piece d ∷ ps) ≡ Closes d 0 ∷ said ps
+pub said_close : (d : Delimiter) (ps : List Piece) → is_shown d ≡ true
+    → said (close_piece d ∷ ps) ≡ Closes d 0 ∷ said ps
 said_close Parenthesis ps h = refl
 said_close Brace ps h = refl
 said_close Bracket ps h = refl

@@ -13,5 +13,5 @@ mod stuck;
 mod trouble;
 
 pub use crate::explain::explained::{ExplainError, Explained, Opener, Stretch};
-pub use crate::explain::reason::Reason;
 pub use crate::explain::explaining::explain;
+pub use crate::explain::reason::Reason;

@@ -86,7 +86,8 @@ fn reserved<'a>(at: Cursor<'a>, inner: Cursor<'a>, end: Cursor<'a>) -> Option<Tr
     }
 }
 
-/// Why no lifetime of this name stands at the cursor, before a `#`. `inside` is after the `'`, and `end` after the name.
+/// Why no lifetime of this name stands at the cursor, before a `#`. `inside` is after the `'`, and `end` after the
+/// name.
 fn lifetime<'a>(at: Cursor<'a>, inside: Cursor<'a>, end: Cursor<'a>) -> Option<Trouble<'a>>
 {
     let after = end.past("#")?;
@@ -97,7 +98,8 @@ fn lifetime<'a>(at: Cursor<'a>, inside: Cursor<'a>, end: Cursor<'a>) -> Option<T
     })
 }
 
-/// Why no lifetime stands at the cursor that begins with a digit. `inside` is after the `'`, and `first` after the digit.
+/// Why no lifetime stands at the cursor that begins with a digit. `inside` is after the `'`, and `first` after the
+/// digit.
 fn digit_lifetime<'a>(at: Cursor<'a>, inside: Cursor<'a>, first: Cursor<'a>) -> Option<Trouble<'a>>
 {
     let end = skip(first, Class::IdentifierContinue);

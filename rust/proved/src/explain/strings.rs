@@ -3,7 +3,9 @@
 
 use crate::explain::reason::Reason;
 use crate::explain::trouble::Trouble;
-use crate::lexical::parts::{Class, Cursor, StringKind, before, begins, one, one_that, skip, skip_to, skip_to_either};
+use crate::lexical::parts::{
+    Class, Cursor, StringKind, before, begins, one, one_that, skip, skip_to, skip_to_either,
+};
 
 /// Whether a pair may be the character alone.
 fn stands_alone(c: char) -> bool

@@ -25,7 +25,8 @@ fn comment(at: Cursor<'_>) -> Option<Trouble<'_>>
     }
 }
 
-/// Why no piece stands at the cursor, as far as it is told apart. `first` says whether that is byte offset 0 of a source.
+/// Why no piece stands at the cursor, as far as it is told apart. `first` says whether that is byte offset 0 of a
+/// source.
 fn trouble_at(at: Cursor<'_>, first: bool) -> Option<Trouble<'_>>
 {
     let (c, after) = at.advance()?;

@@ -14,7 +14,8 @@ use crate::shim::alloc::Global;
 
 /// The tokens of a text, for [`Cursor`](crate::token_buffer::Cursor)s to read.
 ///
-/// It takes 16 bytes a token and one more for each end of a group; each token's text stays in the source.
+/// It takes 16 bytes a token, and as many for each beginning and each end of a group. Each token's text stays in the
+/// source.
 pub struct TokenBuffer<'a> {
     text: &'a str,
     entries: Vec<Entry>,
@@ -24,9 +25,9 @@ impl<'a> TokenBuffer<'a> {
     /// The tokens of a text: those of the stream that it parses to (`parses-to`).
     ///
     /// Positions, and faults, are those of a new map, where the text begins at 1, as
-    /// [`parse_unmapped`](pm_stream::TokenStream::parse_unmapped) has them. `TooLong` is answered only of a text with
-    /// more than 4294967295 bytes or tokens, and `Parse(MapFull)` where a text that isn't has too many characters for
-    /// a new map (`fits`).
+    /// [`parse_unmapped`](pm_stream::TokenStream::parse_unmapped) has them. `TooLong` is answered of a text with more
+    /// than 4294967295 bytes, and of one with more tokens, each end of a group counted as one; of a shorter one
+    /// `Parse(MapFull)` exactly where it has too many characters for a new map (`fits`).
     ///
     /// `a += (b)` has the identifier `a`, the marks `+` and `=`, and the group of `b`.
     pub fn new(alloc: Global, text: &'a str) -> Result<TokenBuffer<'a>, BufferError>

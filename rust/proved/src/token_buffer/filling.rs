@@ -72,11 +72,8 @@ impl Filling {
     }
 
     /// Puts in an entry.
-    fn push(&mut self, entry: Entry) -> Result<(), BufferError>
+    fn push(&mut self, entry: Entry) -> Result<(), AllocError>
     {
-        if self.entries.len() >= u32::MAX as usize {
-            return Err(BufferError::TooLong);
-        }
         self.entries.push(entry)?;
         Ok(())
     }
@@ -92,7 +89,7 @@ impl Filling {
         lo: u32,
         at: u32,
         end: u32,
-    ) -> Result<(), BufferError>
+    ) -> Result<(), AllocError>
     {
         let closing = (bytes - 3 - text.len()) as u8;
         let begin = lo + 3;
@@ -122,7 +119,7 @@ impl Filling {
     }
 
     /// Puts in an opener that begins at the position `lo`.
-    fn open(&mut self, delimiter: Delimiter, lo: u32) -> Result<(), BufferError>
+    fn open(&mut self, delimiter: Delimiter, lo: u32) -> Result<(), AllocError>
     {
         let index = self.entries.len();
         self.groups.push(OpenGroup {
@@ -173,6 +170,9 @@ impl Filling {
         } = self;
         if let Some(group) = groups.pop() {
             return Err(fault_at(group.lo));
+        }
+        if entries.len() > u32::MAX as usize {
+            return Err(BufferError::TooLong);
         }
         Ok(entries)
     }

@@ -25,7 +25,8 @@ loop-next-preserved c =
       listed = λ more rest are.
           let words = chars c.in-Some.next.text.now in
           let kind = kind_of c.in-Some.next.piece.kind words in
-          let before = c.loop-next.invariant.listed ((kind, words) ∷ more) rest (all_from _ _ _ more rest found are) in (
+          let before =
+          c.loop-next.invariant.listed ((kind, words) ∷ more) rest (all_from _ _ _ more rest found are) in (
             before.0,
             before.1,
             one_more _ _ _ _ _ _ c.in-Some.next.text.now words kind more (encodes-chars _ found.utf8)

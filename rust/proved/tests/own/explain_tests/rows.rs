@@ -15,24 +15,54 @@ fn texts_that_parse() {
 #[test]
 fn strings_that_do_not_end() {
     let rt = HostRuntime;
-    check(&rt, "fn f() {\n    let a = \"abc;\n}\n", "UnclosedString", 21, 22);
+    check(
+        &rt,
+        "fn f() {\n    let a = \"abc;\n}\n",
+        "UnclosedString",
+        21,
+        22,
+    );
     check(&rt, "let a = \"a\\q b;\n", "UnclosedString", 8, 9);
     check(&rt, "let a = \"ab\\", "UnclosedString", 8, 9);
-    check(&rt, "let a = \"abc;\nlet b = \"def\";\n", "UnclosedString", 26, 27);
+    check(
+        &rt,
+        "let a = \"abc;\nlet b = \"def\";\n",
+        "UnclosedString",
+        26,
+        27,
+    );
     check(&rt, "let a = b\"abc;\n", "UnclosedString", 8, 10);
     check(&rt, "let a = c\"abc;\n", "UnclosedString", 8, 10);
     check(&rt, "let a = \"abc';\nlet b = 1;\n", "UnclosedString", 8, 9);
-    check(&rt, "let a = \"x\";\n/* let b = \"*/\n y\";\n", "UnclosedString", 30, 31);
+    check(
+        &rt,
+        "let a = \"x\";\n/* let b = \"*/\n y\";\n",
+        "UnclosedString",
+        30,
+        31,
+    );
 }
 
 #[test]
 fn raw_strings_that_do_not_end() {
     let rt = HostRuntime;
     check(&rt, "let a = r\"abc;\n", "UnclosedRawString", 8, 10);
-    check(&rt, "let a = r##\"abc\"# ;\nlet b = \"x\";\n", "UnclosedRawString", 8, 12);
+    check(
+        &rt,
+        "let a = r##\"abc\"# ;\nlet b = \"x\";\n",
+        "UnclosedRawString",
+        8,
+        12,
+    );
     check(&rt, "let a = r#\"abc ;\n", "UnclosedRawString", 8, 11);
     check(&rt, "let a = br#\"abc\" ;\n", "UnclosedRawString", 8, 12);
-    check(&rt, "let a = r##\"a\"#b\"# ;\nlet c = 1;\n", "UnclosedRawString", 8, 12);
+    check(
+        &rt,
+        "let a = r##\"a\"#b\"# ;\nlet c = 1;\n",
+        "UnclosedRawString",
+        8,
+        12,
+    );
 }
 
 #[test]
@@ -51,14 +81,32 @@ fn raw_fronts_and_names() {
 #[test]
 fn characters_that_do_not_end() {
     let rt = HostRuntime;
-    check(&rt, "let a = '\\';\nlet b = 1;\n", "UnclosedCharacter", 8, 9);
+    check(
+        &rt,
+        "let a = '\\';\nlet b = 1;\n",
+        "UnclosedCharacter",
+        8,
+        9,
+    );
     check(&rt, "let a = '+;\n", "UnclosedCharacter", 8, 9);
     check(&rt, "let a = '\\n;\n", "UnclosedCharacter", 8, 9);
     check(&rt, "let a = ' ;\n", "UnclosedCharacter", 8, 9);
     check(&rt, "let a = '", "UnclosedCharacter", 8, 9);
     check(&rt, "let a = b'a;\n", "UnclosedCharacter", 8, 10);
-    check(&rt, "fn f() {\n    println!('hello world');\n}\n", "UnclosedCharacter", 34, 35);
-    check(&rt, "m!(it is the dogs' bone);\n", "UnclosedCharacter", 17, 18);
+    check(
+        &rt,
+        "fn f() {\n    println!('hello world');\n}\n",
+        "UnclosedCharacter",
+        34,
+        35,
+    );
+    check(
+        &rt,
+        "m!(it is the dogs' bone);\n",
+        "UnclosedCharacter",
+        17,
+        18,
+    );
 }
 
 #[test]
@@ -94,8 +142,20 @@ fn numbers_that_are_none_2() {
 #[test]
 fn comments_that_do_not_end() {
     let rt = HostRuntime;
-    check(&rt, "fn f() {}\n/* abc\nfn g() {}\n", "UnclosedComment", 10, 12);
-    check(&rt, "/* a\n/* b */\nfn g() {}\n/* c\n", "UnclosedComment", 0, 2);
+    check(
+        &rt,
+        "fn f() {}\n/* abc\nfn g() {}\n",
+        "UnclosedComment",
+        10,
+        12,
+    );
+    check(
+        &rt,
+        "/* a\n/* b */\nfn g() {}\n/* c\n",
+        "UnclosedComment",
+        0,
+        2,
+    );
     check(&rt, "/** a\nfn g() {}\n", "UnclosedComment", 0, 2);
     check(&rt, "/*/\nfn g() {}\n", "UnclosedComment", 0, 2);
 }
@@ -122,7 +182,13 @@ fn characters_that_begin_no_token_2() {
     check(&rt, "let \u{301} = 1;\n", "NoToken", 4, 6);
     check(&rt, "let \u{E000} = 1;\n", "NoToken", 4, 7);
     check(&rt, "let \u{20AC} = 1;\n", "NoToken", 4, 7);
-    check(&rt, "let a = r\"say \"hi\" now\";\nlet b = \\;\n", "NoToken", 33, 34);
+    check(
+        &rt,
+        "let a = r\"say \"hi\" now\";\nlet b = \\;\n",
+        "NoToken",
+        33,
+        34,
+    );
     check(&rt, "let a = f\u{FF08}1\u{FF09};\n", "NoToken", 9, 12);
     check(&rt, "f\0n\0 \0m\0a\0i\0n\0", "NoToken", 1, 2);
     check(&rt, "let a = \\\\\\\\ 1;\n", "NoToken", 8, 9);
@@ -138,8 +204,20 @@ fn characters_that_begin_no_token_3() {
 fn closers_that_match_nothing() {
     let rt = HostRuntime;
     check(&rt, "fn f() {}\n}\n", "StrayCloser", 10, 11);
-    check(&rt, "fn f() {\n    if x {}\n    }\n    y();\n}\n", "StrayCloser", 36, 37);
-    check(&rt, "fn f() {\n    g(a, [b);\n}\n", "MismatchedCloser", 20, 21);
+    check(
+        &rt,
+        "fn f() {\n    if x {}\n    }\n    y();\n}\n",
+        "StrayCloser",
+        36,
+        37,
+    );
+    check(
+        &rt,
+        "fn f() {\n    g(a, [b);\n}\n",
+        "MismatchedCloser",
+        20,
+        21,
+    );
     check(&rt, "fn f() {\n    g(\n}\n", "MismatchedCloser", 16, 17);
     check(
         &rt,
@@ -148,16 +226,34 @@ fn closers_that_match_nothing() {
         61,
         62,
     );
-    check(&rt, "fn f() {\n    let v = [1, 2, 3};\n}\n", "MismatchedCloser", 29, 30);
+    check(
+        &rt,
+        "fn f() {\n    let v = [1, 2, 3};\n}\n",
+        "MismatchedCloser",
+        29,
+        30,
+    );
     check(&rt, "fn f() {\n    g(1));\n}\n", "MismatchedCloser", 17, 18);
-    check(&rt, "fn f() {\n    let x = g(h(1);\n    let y = 2;\n}\n", "MismatchedCloser", 44, 45);
+    check(
+        &rt,
+        "fn f() {\n    let x = g(h(1);\n    let y = 2;\n}\n",
+        "MismatchedCloser",
+        44,
+        45,
+    );
 }
 
 #[test]
 fn openers_that_stay_open() {
     let rt = HostRuntime;
     check(&rt, "fn f() {\n", "UnclosedOpener", 7, 8);
-    check(&rt, "mod m {\n    fn f(a: [u8; 4] {\n        g(\n", "UnclosedOpener", 39, 40);
+    check(
+        &rt,
+        "mod m {\n    fn f(a: [u8; 4] {\n        g(\n",
+        "UnclosedOpener",
+        39,
+        40,
+    );
     check(
         &rt,
         "mod m {\n    fn f() {\n        if x {\n            g();\n    }\n}\nfn h() {}\n",

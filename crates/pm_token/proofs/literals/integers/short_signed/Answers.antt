@@ -9,7 +9,8 @@ use Rattle.pm_token.proofs.literals.integers.short_signed.Goals as goal
 pub returns : goal.returns
 returns c = record {
   value = c.in_ok-text.ensures.value
-      ∙ (ap chars (ap₂ (λ xs ys. xs ++ ys) (c.format.ensures.text ∙ ap signed_decimal (to_z-of_z w64 c.args.value c.ranges.value))
+      ∙ (ap chars (ap₂ (λ xs ys. xs ++ ys)
+      (c.format.ensures.text ∙ ap signed_decimal (to_z-of_z w64 c.args.value c.ranges.value))
       c.name.ensures)
       ∙ chars_signed c.args.value c.args.suffix (fits_wide c.args.value c.ranges.value));
   text = c.in_ok-text.ensures.text;
