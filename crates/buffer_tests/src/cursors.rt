@@ -44,14 +44,22 @@ fn a_doc_comment_is_its_tokens(rt: HostRuntime) -> Result<(), Fail> {
     let (mark, _, inside) = inside.punct().ok_or("a mark")?;
     assert_eq!(rt; mark, '=');
     assert_eq!(rt; inside.span().map(bounds), Some((1, 6)));
-    assert!(rt; matches!(inside.next(), Some((TokenText::Literal(LiteralText::Doc(" d")), _))));
+    assert!(rt;
+        matches!(
+            inside.next(),
+            Some((TokenText::Literal(LiteralText::Doc(" d")), _))
+        )
+    );
     Ok(())
 }
 
 #[test]
 fn a_fault_has_its_position(rt: HostRuntime) {
     match TokenBuffer::new(rt.alloc(), "(é]") {
-        Err(BufferError::Parse(ParseError::Lex(fault))) => assert_eq!(rt; bounds(fault.span()), (3, 3)),
+        Err(BufferError::Parse(ParseError::Lex(fault))) => assert_eq!(rt;
+            bounds(fault.span()),
+            (3, 3)
+        ),
         _ => assert!(rt; false, "a fault"),
     }
 }

@@ -124,7 +124,7 @@ module _ (base : ℕ) (source rest : List ℕ) (at : ℕ) (first : Bool) (opener
     told = told;
     fault = subst (FaultAt base source) (sym (ap (λ s. s.span.lo) says.before))
         (by_groups h.groups h.reads (sym h.around ∙ subst (λ o. WaitsAs
-            (waiting openers) o x.outer.items) says.innermost told));
+        (waiting openers) o x.outer.items) says.innermost told));
     because = inr (inr (record { done = done; says = says }));
   }
     where
@@ -140,7 +140,7 @@ module _ (base : ℕ) (source rest : List ℕ) (at : ℕ) (first : Bool) (opener
   -- a closer can't stand there
   pub refused_explained : (x : Explained) (piece : Found) → (found : IsPieceAt first rest piece)
       → RefusesPiece piece.kind (record { reason = x.reason; innermost = x.innermost })
-          → WaitsAs (waiting openers) x.innermost x.outer.items
+      → WaitsAs (waiting openers) x.innermost x.outer.items
       → IsStretch base read [] x.before → IsStretch base read found.front x.at → IsExplained base source x
   refused_explained x piece found refuses told before here =
       let closer = closer_of piece.kind (record { reason = x.reason; innermost = x.innermost }) refuses in

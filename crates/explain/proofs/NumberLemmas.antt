@@ -96,10 +96,10 @@ pub none_in : (base : Base) (rest : List ℕ) → find number (base_prefix base 
 unfolding find
 none_in Hexadecimal rest e =
     and_none (find number_end) (codes "0x") (find (digits_in 16) rest) _ (sym (number_based
-        (codes "0x" ++ rest) refl) ∙ e)
+    (codes "0x" ++ rest) refl) ∙ e)
 none_in Octal rest e =
     and_none (find number_end) (codes "0o") (find (digits_in 8) rest) _ (sym (number_based
-        (codes "0o" ++ rest) refl) ∙ e)
+    (codes "0o" ++ rest) refl) ∙ e)
 none_in Binary rest e =
     and_last (find number_end) (codes "0b") (find (digits_in 2) rest) (sym (number_based (codes "0b" ++ rest) refl) ∙ e)
 
@@ -211,7 +211,7 @@ module _ (base : Base) (at inside start : Cursor) (prefix : Passes (Exactly (bas
     digits_pass none =
         before_passes is_ascii_digit _ inside end
         (then_passes _ _ inside start end run (then_passes _ _ start first end one more))
-            (one_none is_ascii_digit _ none)
+        (one_none is_ascii_digit _ none)
 
     pub end_none : find (One is_ascii_digit) (chars end.rest.now) ≡ None
         → find (Then (digits_in (radix base)) number_end) (chars inside.rest.now) ≡ None

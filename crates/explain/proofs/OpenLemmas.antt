@@ -80,7 +80,7 @@ steps_open old new x e = λ groups trees h. record {
 -- and one less
 steps_close_of : (old new : List Opener) (x : Opener) (d : Delimiter) (hi : ℕ)
     → waiting old ≡ (x.delimiter, x.at.span.lo) ∷ waiting new → x.delimiter ≡ d
-        → (groups : List Opened) (trees : Forest)
+    → (groups : List Opened) (trees : Forest)
     → waiting old ≡ openers_of groups → Grows new groups trees (Closes d hi ∷ [])
 steps_close_of old new x d hi was same [] trees h =
     let clash : (x.delimiter, x.at.span.lo) ∷ waiting new ≡ [] = sym was ∙ h in absurd (cc)

@@ -77,13 +77,13 @@ module _ (kind : StringKind) (at inside quote body : Cursor) (letters : Passes (
       then_reads (Exactly (raw_front kind)) (Next (Run is_hash) quotes) at inside None letters
       (ap (and_next (λ hashes. find (quotes hashes))) run.found
       ∙ ap (behind run.front) (then_reads (Exactly (codes "\""))
-          (closed_raw_body run.front) quote body None opens none))
+      (closed_raw_body run.front) quote body None opens none))
 
   raw_some : (end : Cursor) → Passes (closed_raw_body run.front) body end → Passes (closed_raw kind) at end
   raw_some end h =
       then_passes (Exactly (raw_front kind)) (Next (Run is_hash) quotes) at inside end letters
       (next_passes quotes inside quote end run (then_passes (Exactly (codes "\""))
-          (closed_raw_body run.front) quote body end opens h))
+      (closed_raw_body run.front) quote body end opens h))
 
   pub unclosed_raw : (hashes : List ℕ) → hashes ≡ run.front → find (closed_raw_body hashes) (chars body.rest.now) ≡ None
       → IsTrouble at (record { reason = UnclosedRawString; at = at; after = body })
@@ -198,7 +198,7 @@ pub opens_single : (at inside : Cursor) → Passes (Exactly (codes "'")) at insi
 opens_single at inside h named digit =
     either_first _ _ at inside (before_passes bars_character (Exactly (codes "'")) at inside h
     (both_none (chars inside.rest.now) (one_none is_ident_start _ (name_none _ named))
-        (one_none is_ascii_digit _ digit)))
+    (one_none is_ascii_digit _ digit)))
   where
     both_none : (text : List ℕ) → first_passes is_ident_start text ≡ false → first_passes is_ascii_digit text ≡ false
         → first_passes bars_character text ≡ false

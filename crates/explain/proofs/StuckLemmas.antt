@@ -89,13 +89,13 @@ nothing_begins c other =
     let opener = none_of starts.Opener c (is_opener c) other (start_opener c) (λ e. cc) in
     let closer = none_of starts.Closer c (is_closer c) other (start_closer c) (λ e. cc) in
     let quote = none_of starts.DoubleQuote c (c == 34) other (λ is. ap piece_start
-        (eqb-true c 34 is) ∙ start_double_quote)
+    (eqb-true c 34 is) ∙ start_double_quote)
     (λ e. cc) in
     let mark = none_of starts.FrontMark c (c == 0xFEFF) other (λ is. ap piece_start
-        (eqb-true c 0xFEFF is) ∙ start_front_mark)
+    (eqb-true c 0xFEFF is) ∙ start_front_mark)
     (λ e. cc) in
     ap not (or_from _ _ (or_from _ _ (or_from _ _ (or_from _ _ (or_from _ _ (or_from _ _
-        (or_from _ _ white letter) digit)
+    (or_from _ _ white letter) digit)
     opener) closer) (no_mark c other)) quote) mark)
 
 pub no_token : (c : ℕ) (at after : Cursor) → chars at.rest.now ≡ c ∷ chars after.rest.now

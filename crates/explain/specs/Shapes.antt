@@ -53,7 +53,7 @@ closed_raw_body hashes = UpTo (raw_unit hashes) (Exactly (double_quote ∷ hashe
 abbrev pub closed_raw : StringKind → Rule
 closed_raw kind =
     Then (Exactly (raw_front kind)) (Next (Run is_hash) (λ hashes. Then (Exactly (codes "\""))
-        (closed_raw_body hashes)))
+    (closed_raw_body hashes)))
 
 -- what opens a raw string
 abbrev pub raw_opening : StringKind → Rule

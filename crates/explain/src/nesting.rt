@@ -29,7 +29,7 @@ pub fn take(
 ) -> Result<Option<Refusal>, AllocError>
     ensures { IfOk result (λ refused. MatchOption refused
         ((front : List ℕ) → Steps open.old.items open.new.items (events_onto at.span.lo
-            (kind_of kind.entry front) front []))
+        (kind_of kind.entry front) front []))
         (λ x. RefusesPiece kind.entry x × WaitsAs (waiting open.old.items) x.innermost open.new.items)) }
 {
     match kind {

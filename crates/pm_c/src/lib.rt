@@ -108,7 +108,12 @@ pub extern "C" fn pm_parse(session: PmSession, back: &mut PmSession, text: &[u8]
     ensures handle { HandsBack session back.old back.new result.code }
     ensures answer { session.live ≡ true → ParseAnswer session.inside.value text.now back.new.inside.value result }
 {
-    on_session!(session, back, PmAnswer::refused(NOT_LIVE), |inside| inside.parse(text))
+    on_session!(
+        session,
+        back,
+        PmAnswer::refused(NOT_LIVE),
+        |inside| inside.parse(text)
+    )
 }
 
 /// Lets a stream of the session go. Its number may be that of a later one.
@@ -126,7 +131,12 @@ pub extern "C" fn pm_print(session: PmSession, back: &mut PmSession, stream: u32
     ensures handle { HandsBack session back.old back.new result.code }
     ensures answer { session.live ≡ true → PrintAnswer session.inside.value stream back.new.inside.value result }
 {
-    on_session!(session, back, PmAnswer::refused(NOT_LIVE), |inside| inside.print(stream))
+    on_session!(
+        session,
+        back,
+        PmAnswer::refused(NOT_LIVE),
+        |inside| inside.print(stream)
+    )
 }
 
 /// Prints a text into the session's text, of `bytes` bytes, as `pm_parse` and `pm_print` would, but makes no stream and
@@ -136,7 +146,12 @@ pub extern "C" fn pm_reprint(session: PmSession, back: &mut PmSession, text: &[u
     ensures handle { HandsBack session back.old back.new result.code }
     ensures answer { session.live ≡ true → ReprintAnswer session.inside.value text.now back.new.inside.value result }
 {
-    on_session!(session, back, PmAnswer::refused(NOT_LIVE), |inside| inside.reprint(text))
+    on_session!(
+        session,
+        back,
+        PmAnswer::refused(NOT_LIVE),
+        |inside| inside.reprint(text)
+    )
 }
 
 /// Lists a stream: the session's records are its trees in reading order, and the session's text is the texts of its
@@ -146,7 +161,12 @@ pub extern "C" fn pm_list(session: PmSession, back: &mut PmSession, stream: u32)
     ensures handle { HandsBack session back.old back.new result.code }
     ensures answer { session.live ≡ true → ListAnswer session.inside.value stream back.new.inside.value result }
 {
-    on_session!(session, back, PmAnswer::refused(NOT_LIVE), |inside| inside.list(stream))
+    on_session!(
+        session,
+        back,
+        PmAnswer::refused(NOT_LIVE),
+        |inside| inside.list(stream)
+    )
 }
 
 /// Lists all pieces of a text, white characters and comments too, and makes no file. `number` says how many records
@@ -156,7 +176,12 @@ pub extern "C" fn pm_pieces(session: PmSession, back: &mut PmSession, text: &[u8
     ensures handle { HandsBack session back.old back.new result.code }
     ensures answer { session.live ≡ true → PiecesAnswer session.inside.value text.now back.new.inside.value result }
 {
-    on_session!(session, back, PmAnswer::refused(NOT_LIVE), |inside| inside.pieces(text))
+    on_session!(
+        session,
+        back,
+        PmAnswer::refused(NOT_LIVE),
+        |inside| inside.pieces(text)
+    )
 }
 
 /// Copies the session's text into a buffer of just its length. One of any other length isn't written.
@@ -237,7 +262,12 @@ pub extern "C" fn pm_read_literal(session: PmSession, back: &mut PmSession, text
     ensures answer { session.live ≡ true
         → ReadLiteralAnswer session.inside.value text.now back.new.inside.value result }
 {
-    on_session!(session, back, PmAnswer::refused(NOT_LIVE), |inside| inside.read_literal(text))
+    on_session!(
+        session,
+        back,
+        PmAnswer::refused(NOT_LIVE),
+        |inside| inside.read_literal(text)
+    )
 }
 
 /// The string literal of a text, as the session's text, of `bytes` bytes.
@@ -246,7 +276,12 @@ pub extern "C" fn pm_string(session: PmSession, back: &mut PmSession, text: &[u8
     ensures handle { HandsBack session back.old back.new result.code }
     ensures answer { session.live ≡ true → StringAnswer text.now session.inside.value back.new.inside.value result }
 {
-    on_session!(session, back, PmAnswer::refused(NOT_LIVE), |inside| inside.string(text))
+    on_session!(
+        session,
+        back,
+        PmAnswer::refused(NOT_LIVE),
+        |inside| inside.string(text)
+    )
 }
 
 /// The literal of a character, as the session's text, of `bytes` bytes.
@@ -255,7 +290,12 @@ pub extern "C" fn pm_character(session: PmSession, back: &mut PmSession, charact
     ensures handle { HandsBack session back.old back.new result.code }
     ensures answer { session.live ≡ true → CharacterAnswer character session.inside.value back.new.inside.value result }
 {
-    on_session!(session, back, PmAnswer::refused(NOT_LIVE), |inside| inside.character(character))
+    on_session!(
+        session,
+        back,
+        PmAnswer::refused(NOT_LIVE),
+        |inside| inside.character(character)
+    )
 }
 
 /// The literal of a byte, as the session's text, of `bytes` bytes.
@@ -265,7 +305,12 @@ pub extern "C" fn pm_byte_character(session: PmSession, back: &mut PmSession, by
     ensures answer { session.live ≡ true
         → MakeAnswer (byte_text byte) session.inside.value back.new.inside.value result }
 {
-    on_session!(session, back, PmAnswer::refused(NOT_LIVE), |inside| inside.byte_character(byte))
+    on_session!(
+        session,
+        back,
+        PmAnswer::refused(NOT_LIVE),
+        |inside| inside.byte_character(byte)
+    )
 }
 
 /// The byte string literal of some bytes, as the session's text, of `bytes` bytes.
@@ -279,7 +324,12 @@ pub extern "C" fn pm_byte_string(
     ensures answer { session.live ≡ true
         → MakeAnswer (byte_string_text contents.now) session.inside.value back.new.inside.value result }
 {
-    on_session!(session, back, PmAnswer::refused(NOT_LIVE), |inside| inside.byte_string(contents))
+    on_session!(
+        session,
+        back,
+        PmAnswer::refused(NOT_LIVE),
+        |inside| inside.byte_string(contents)
+    )
 }
 
 /// The C string literal of some bytes without the zero that ends them, as the session's text, of `bytes` bytes.
@@ -289,7 +339,12 @@ pub extern "C" fn pm_c_string(session: PmSession, back: &mut PmSession, contents
     ensures answer { session.live ≡ true
         → CStringAnswer contents.now session.inside.value back.new.inside.value result }
 {
-    on_session!(session, back, PmAnswer::refused(NOT_LIVE), |inside| inside.c_string(contents))
+    on_session!(
+        session,
+        back,
+        PmAnswer::refused(NOT_LIVE),
+        |inside| inside.c_string(contents)
+    )
 }
 
 /// The value of a string literal, given by its text, as the session's text, of `bytes` bytes.
@@ -301,7 +356,12 @@ pub extern "C" fn pm_str_value(session: PmSession, back: &mut PmSession, text: &
     ensures done { result.code ≡ DONE → HasTextValue (str_value (chars text.now)) back.new.inside.value result }
     ensures kept { session.live ≡ true → KeepsAllButText session.inside.value back.new.inside.value }
 {
-    on_session!(session, back, PmAnswer::refused(NOT_LIVE), |inside| inside.str_value(text))
+    on_session!(
+        session,
+        back,
+        PmAnswer::refused(NOT_LIVE),
+        |inside| inside.str_value(text)
+    )
 }
 
 /// The value of a byte string literal, given by its text, as the session's bytes, `bytes` of them.
@@ -317,7 +377,12 @@ pub extern "C" fn pm_byte_str_value(
     ensures done { result.code ≡ DONE → HasBytesValue (byte_str_value (chars text.now)) back.new.inside.value result }
     ensures kept { session.live ≡ true → KeepsAllButBytes session.inside.value back.new.inside.value }
 {
-    on_session!(session, back, PmAnswer::refused(NOT_LIVE), |inside| inside.byte_str_value(text))
+    on_session!(
+        session,
+        back,
+        PmAnswer::refused(NOT_LIVE),
+        |inside| inside.byte_str_value(text)
+    )
 }
 
 /// The value of a C string literal, given by its text, with the zero that ends it, as the session's bytes, `bytes` of
@@ -330,7 +395,12 @@ pub extern "C" fn pm_cstr_value(session: PmSession, back: &mut PmSession, text: 
     ensures done { result.code ≡ DONE → HasBytesValue (cstr_value (chars text.now)) back.new.inside.value result }
     ensures kept { session.live ≡ true → KeepsAllButBytes session.inside.value back.new.inside.value }
 {
-    on_session!(session, back, PmAnswer::refused(NOT_LIVE), |inside| inside.cstr_value(text))
+    on_session!(
+        session,
+        back,
+        PmAnswer::refused(NOT_LIVE),
+        |inside| inside.cstr_value(text)
+    )
 }
 
 /// The line and column of a position.
@@ -344,7 +414,12 @@ pub extern "C" fn pm_line_column_of(
     ensures answer { session.live ≡ true → LineColumnAnswer session.inside.value.map position result }
     ensures same { session.live ≡ true → back.new.inside.value ≡ session.inside.value }
 {
-    on_session!(session, back, PmLineColumn::refused(NOT_LIVE), |inside| inside.line_column(position))
+    on_session!(
+        session,
+        back,
+        PmLineColumn::refused(NOT_LIVE),
+        |inside| inside.line_column(position)
+    )
 }
 
 /// The bytes of its text that a span takes.
@@ -359,7 +434,12 @@ pub extern "C" fn pm_byte_range(
     ensures answer { session.live ≡ true → ByteRangeAnswer session.inside.value.map lo hi result }
     ensures same { session.live ≡ true → back.new.inside.value ≡ session.inside.value }
 {
-    on_session!(session, back, PmRange::refused(NOT_LIVE), |inside| inside.byte_range(lo, hi))
+    on_session!(
+        session,
+        back,
+        PmRange::refused(NOT_LIVE),
+        |inside| inside.byte_range(lo, hi)
+    )
 }
 
 /// What stands in its text between the ends of a span, as the session's text, of `bytes` bytes. The span 0..0 has none.
@@ -373,7 +453,12 @@ pub extern "C" fn pm_source_text(
     ensures handle { HandsBack session back.old back.new result.code }
     ensures answer { session.live ≡ true → SourceTextAnswer session.inside.value lo hi back.new.inside.value result }
 {
-    on_session!(session, back, PmAnswer::refused(NOT_LIVE), |inside| inside.source_text(lo, hi))
+    on_session!(
+        session,
+        back,
+        PmAnswer::refused(NOT_LIVE),
+        |inside| inside.source_text(lo, hi)
+    )
 }
 
 /// The name of the text that has a span, as the session's text: `<parsed string 2>` for the second one.
@@ -387,7 +472,12 @@ pub extern "C" fn pm_file_name(
     ensures handle { HandsBack session back.old back.new result.code }
     ensures answer { session.live ≡ true → FileNameAnswer session.inside.value lo hi back.new.inside.value result }
 {
-    on_session!(session, back, PmAnswer::refused(NOT_LIVE), |inside| inside.file_name(lo, hi))
+    on_session!(
+        session,
+        back,
+        PmAnswer::refused(NOT_LIVE),
+        |inside| inside.file_name(lo, hi)
+    )
 }
 
 /// The span from the first beginning of two spans to their last end. `NOT_HELD` is of the first of them.
@@ -404,7 +494,12 @@ pub extern "C" fn pm_join(
     ensures answer { session.live ≡ true → JoinAnswer session.inside.value.map lo hi other_lo other_hi result }
     ensures same { session.live ≡ true → back.new.inside.value ≡ session.inside.value }
 {
-    on_session!(session, back, PmRange::refused(NOT_LIVE), |inside| inside.join(lo, hi, other_lo, other_hi))
+    on_session!(
+        session,
+        back,
+        PmRange::refused(NOT_LIVE),
+        |inside| inside.join(lo, hi, other_lo, other_hi)
+    )
 }
 
 /// Forgets the texts that were read, but no stream. The next one begins at 1 again, so spans of those before are of no
@@ -414,7 +509,8 @@ pub extern "C" fn pm_forget(session: PmSession, back: &mut PmSession) -> u32
     ensures handle { HandsBack session back.old back.new result }
     ensures codes { IsAmong (DONE ∷ NOT_LIVE ∷ []) result }
     ensures answer { session.live ≡ true → back.new.inside.value ≡ record session.inside.value {
-        map = record { texts = []; limit = session.inside.value.map.limit } } }
+      map = record { texts = []; limit = session.inside.value.map.limit };
+    } }
 {
     on_session!(session, back, NOT_LIVE, |inside| {
         inside.forget();

@@ -128,7 +128,7 @@ loop-piece-preserved c =
 pub returns-then-is_empty : goal.returns-then-is_empty
 returns-then-is_empty c =
     let done = ap chars (nil_from_length c.loop-piece.rest.now (eqb-true _ _
-        (sym c.if-is_empty.ensures))) ∙ chars-nil in
+    (sym c.if-is_empty.ensures))) ∙ chars-nil in
     left_answer _ _ _ _ _ _ c.loop-piece.invariant.reads done c.left_open.result c.left_open.ensures
 
 pub stuck-requires-clause-behind : goal.stuck-requires-clause-behind

@@ -18,4 +18,4 @@ returns-in_ok-push-in-Opener c = λ front.
 pub returns-in_default : goal.returns-in_default
 returns-in_default c = λ front.
     steps_plain c.args.open.now.items c.args.kind c.args.at.span.lo front c.in_default.not-Opener
-        c.in_default.not-Closer
+    c.in_default.not-Closer

@@ -13,7 +13,7 @@ number-requires-clause-none c =
 pub quote-requires : goal.quote-requires
 quote-requires c =
     past_one 39 c.in_ok-c.c _ _ c.in_ok-c.ensures.0 c.in_ok-c.ensures.1
-        (of_start starts.Quote c.in_ok-c.c c.in-Quote.ensures)
+    (of_start starts.Quote c.in_ok-c.c c.in-Quote.ensures)
 
 pub string-requires : goal.string-requires
 string-requires c =
