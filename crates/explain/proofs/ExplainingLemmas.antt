@@ -15,9 +15,9 @@ use Rattle.pm_stream.specs.Delimited.{delimiter_of}
 use Rattle.pm_stream.specs.Events.{events_onto, expansion}
 use Rattle.pm_stream.specs.Forest.{Forest, nil}
 use Rattle.pm_stream.specs.Parsing.{FaultAt, is_first}
-use Rattle.pm_stream.specs.Written.{Opened, FitsInnermost, written_onto}
+use Rattle.pm_stream.specs.OpenGroups.{Opened, FitsInnermost, unclosed_onto}
 use Rattle.pm_stream.proofs.ParseLemmas.{reads_on}
-use Rattle.pm_stream.proofs.ReadSoFar.{Reads, reads_none, reads_all, reads_open, reads_stray, reads_stuck}
+use Rattle.pm_stream.proofs.ParserLemmas.{Reads, reads_none, reads_all, reads_open, reads_stray, reads_stuck}
 use Rattle.explain.specs.Explained.{IsExplained, IsLeftOpen, IsRefused, IsStretch, IsStuck, Parses, SaysLeftOpen}
 use Rattle.explain.specs.Open.{LeavesOpen, Refuses, RefusesFor, RefusesPiece, Steps, Waiting, WaitsAs, openers_of}
 use Rattle.explain.specs.Open.{waiting}
@@ -75,12 +75,12 @@ module _ (base : ℕ) (source rest : List ℕ) (at : ℕ) (first : Bool) (opener
   read_whole = h.reads.covers.whole ∙ onto_behind h.reads.pieces rest
 
   pub read_at : at ≡ base + length read
-  read_at = omega (arith, h.reads.place, onto_width h.reads.pieces)
+  read_at = omega (arith, h.reads.position, onto_width h.reads.pieces)
 
   leaves : LeavesOpen (expansion base h.reads.pieces) (waiting openers)
   leaves =
       subst (λ es. LeavesOpen es (waiting openers)) h.reads.expands
-      (subst (LeavesOpen (written_onto h.groups h.trees [])) (sym h.around) (leaves_open h.groups h.trees))
+      (subst (LeavesOpen (unclosed_onto h.groups h.trees [])) (sym h.around) (leaves_open h.groups h.trees))
 
   pub stuck_explained : (x : Explained) → rest ≢ [] → HasNoPiece first rest
       → ((base : ℕ) (behind : List ℕ) → source ≡ behind ++ rest → at ≡ base + length behind

@@ -21,7 +21,7 @@ use Rattle.lexical.specs.declared.bytes.Base.{Base}
 use Rattle.lexical.specs.declared.bytes.Base.TheVariants.{Binary, Octal, Hexadecimal}
 use Rattle.lexical.specs.declared.cursor.Cursor.{Cursor}
 use Rattle.lexical.proofs.NumberFinderLemmas.{number_based, number_decimal}
-use Rattle.lexical.proofs.RuleSteps.{find_then, find_other, passed, past_text, one_passes, then_passes, then_lacks}
+use Rattle.lexical.proofs.RuleSteps.{find_then, find_else, passed, past_text, one_passes, then_passes, then_lacks}
 use Rattle.lexical.proofs.RuleSteps.{either_first, either_reads, else_first, perhaps_stays, before_passes}
 use Rattle.lexical.proofs.RuleSteps.{not_at_passes}
 use Rattle.lexical.proofs.RuleSteps.{not_at_stops, text_lacks, lacks_text}
@@ -236,7 +236,7 @@ no_prefix text a b c =
 pub decimal_end : (at end : Cursor) → begins_any base_prefixes (chars at.rest.now) ≡ false
     → find number (chars at.rest.now) ≡ None → Passes digits at end → find number_end (chars end.rest.now) ≡ None
 decimal_end at end plain none h =
-    (or_none _ _ (sym (find_other float_tail number_end (chars end.rest.now))
+    (or_none _ _ (sym (find_else float_tail number_end (chars end.rest.now))
     ∙ none_behind digits tail at end h (sym (number_decimal _ plain) ∙ none))).1
 
 pub bad_end_decimal : (at end after : Cursor) → begins_any base_prefixes (chars at.rest.now) ≡ false

@@ -12,20 +12,20 @@ use Rattle.pm_token.specs.declared.delimiters.Delimiter.{Delimiter}
 use Rattle.pm_token.specs.declared.delimiters.Delimiter.TheVariants.{Bracket}
 use Rattle.pm_stream.specs.Events.{Event, One, Opens, Closes, events_onto, hash, bang, equals}
 use Rattle.pm_stream.specs.Forest.{Forest, nil, leaf, group, flat_onto, flattening, joined}
-use Rattle.pm_stream.specs.Written.{Opened, written_onto}
-use Rattle.pm_stream.proofs.EventLemmas.{written-joined, written-append, flattening_balanced}
+use Rattle.pm_stream.specs.OpenGroups.{Opened, unclosed_onto}
+use Rattle.pm_stream.proofs.EventLemmas.{unclosed-joined, unclosed-append, flattening_balanced}
 use Rattle.pm_stream.specs.Delimited.{delimiter_of}
 use Rattle.explain.specs.declared.explained.Opener.{Opener}
 use Rattle.explain.specs.Open.{Waiting, LeavesOpen, Grows, Steps, each_waiting, openers_of, waiting}
 
 -- the openers that are left open of what was written
 pub leaves_open : (groups : List Opened) (trees : Forest)
-    → LeavesOpen (written_onto groups trees []) (openers_of groups)
+    → LeavesOpen (unclosed_onto groups trees []) (openers_of groups)
 leaves_open [] trees = flattening_balanced trees
 leaves_open (x ∷ groups) trees = (
-  written_onto groups x.outer [],
+  unclosed_onto groups x.outer [],
   flattening trees,
-  written-append groups x.outer [] (Opens x.delimiter x.lo ∷ flattening trees),
+  unclosed-append groups x.outer [] (Opens x.delimiter x.lo ∷ flattening trees),
   flattening_balanced trees,
   leaves_open groups x.outer,
 )
@@ -36,7 +36,7 @@ steps_trees openers f = λ groups trees h. record {
   groups_now = groups;
   trees_now = joined trees f;
   around = h;
-  grows = written-joined groups trees f [];
+  grows = unclosed-joined groups trees f [];
 }
 
 abbrev doc_trees : ℕ → ℕ → List ℕ → Forest
@@ -93,8 +93,8 @@ steps_close_of old new x d hi was same (g ∷ groups) trees h =
       groups_now = groups;
       trees_now = joined g.outer (group d g.lo hi trees nil);
       around = rest;
-      grows = written-joined groups g.outer (group d g.lo hi trees nil) []
-          ∙ ap (λ e. written_onto groups g.outer (Opens e g.lo ∷ flat_onto trees (Closes d hi ∷ []))) (sym fits);
+      grows = unclosed-joined groups g.outer (group d g.lo hi trees nil) []
+          ∙ ap (λ e. unclosed_onto groups g.outer (Opens e g.lo ∷ flat_onto trees (Closes d hi ∷ []))) (sym fits);
     }
 
 pub steps_close : (old new : List Opener) (x : Opener) (d : Delimiter) (hi : ℕ) → old ≡ new ++ x ∷ []

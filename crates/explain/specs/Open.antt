@@ -6,7 +6,7 @@ use Rattle.pm_token.specs.declared.delimiters.Delimiter.{Delimiter}
 use Rattle.pm_stream.specs.Delimited.{delimiter_of}
 use Rattle.pm_stream.specs.Events.{Event, Opens, Balanced}
 use Rattle.pm_stream.specs.Forest.{Forest}
-use Rattle.pm_stream.specs.Written.{Opened, written_onto}
+use Rattle.pm_stream.specs.OpenGroups.{Opened, unclosed_onto}
 use Rattle.explain.specs.declared.explained.Opener.{Opener}
 use Rattle.explain.specs.declared.nesting.Refusal.{Refusal}
 use Rattle.explain.specs.declared.reason.Reason.{Reason}
@@ -42,7 +42,7 @@ pub record Grows (openers : List Opener) (groups : List Opened) (trees : Forest)
   pub groups_now : List Opened
   pub trees_now : Forest
   pub around : waiting openers ≡ openers_of groups_now
-  pub grows : written_onto groups_now trees_now [] ≡ written_onto groups trees events
+  pub grows : unclosed_onto groups_now trees_now [] ≡ unclosed_onto groups trees events
 
 -- from one list of openers the events lead to the other
 abbrev pub Steps : List Opener → List Opener → List Event → Type 0

@@ -24,7 +24,7 @@ use Rattle.pm_stream.specs.WellSpaced.{fits, follows_quote, follows_joint, next_
 use Rattle.proc_macro2.specs.Laws.{Gives}
 use Rattle.proc_macro2.proofs.PieceStarts.{tick_comment, no_comment, no_mark_plain, joint_stands, white_no_mark}
 use Rattle.proc_macro2.proofs.PieceStarts.{whole_any}
-use Rattle.proc_macro2.proofs.Places.{bare, said, same_from_said}
+use Rattle.proc_macro2.proofs.EventSpans.{bare, said, same_from_said}
 use Rattle.proc_macro2.proofs.PrintedCover.{opener_of, closer_of, open_piece, close_piece, token_piece, stand_open}
 use Rattle.proc_macro2.proofs.PrintedCover.{stand_close, said_open, said_close, tick_stands}
 use Rattle.proc_macro2.proofs.Returns.{next_event, spaced, spaced-flat}
