@@ -33,7 +33,7 @@ one_more old new whole record_ at to text words kind more spelled is moved grown
     ∙ append_assoc old (record_ ∷ []) (piece_records to more) ∙ ap (λ l. old ++ l) inner ∙ all
 
 -- the record of a piece
-pub record_is : (numbers : ℕ × ℕ) (start place count : ℕ) (kind : Kind) (text : List ℕ)
-    → numbers ≡ kind_numbers kind text → start ≡ place → count ≡ length text
-    → record { kind = numbers.0; detail = numbers.1; start = start; count = count } ≡ piece_record place kind text
-record_is numbers start place count kind text same at size = rw (same, at, size) refl
+pub record_is : (numbers : ℕ × ℕ) (start offset count : ℕ) (kind : Kind) (text : List ℕ)
+    → numbers ≡ kind_numbers kind text → start ≡ offset → count ≡ length text
+    → record { kind = numbers.0; detail = numbers.1; start = start; count = count } ≡ piece_record offset kind text
+record_is numbers start offset count kind text same at size = rw (same, at, size) refl

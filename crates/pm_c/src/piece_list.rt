@@ -18,7 +18,7 @@ pub(crate) fn list_pieces(text: &str, records: &mut Vec<PmPiece>) -> Result<usiz
     let mut walk = pieces(text);
     while let Some(next) = walk.next_piece() {
         let (kind, detail) = kind_numbers(next.piece.kind, next.text);
-        let start = next.place as u32;
+        let start = next.byte_offset as u32;
         let count = next.text.len() as u32;
         records.push(PmPiece {
             kind,

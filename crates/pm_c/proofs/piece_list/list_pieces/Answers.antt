@@ -12,7 +12,7 @@ loop-next-preserved c =
     let joined = ap length found.joined in
     let split = length-append c.in-Some.next.text.now c.next_piece.new.self.rest.now in
     record {
-      place = omega (arith, c.loop-next.invariant.place, joined, split, found.past);
+      offset = omega (arith, c.loop-next.invariant.offset, joined, split, found.past);
       few = omega (
         arith,
         c.loop-next.invariant.few,
@@ -30,7 +30,7 @@ loop-next-preserved c =
             before.0,
             before.1,
             one_more _ _ _ _ _ _ c.in-Some.next.text.now words kind more (encodes-chars _ found.utf8)
-                (record_is _ _ _ _ kind c.in-Some.next.text.now c.kind_numbers-kind.ensures found.place (search rules))
+                (record_is _ _ _ _ kind c.in-Some.next.text.now c.kind_numbers-kind.ensures found.byte_offset (search rules))
                 found.past c.in_ok-push.ensures.items before.2,
           );
     }
@@ -48,7 +48,7 @@ returns-clause-lists c =
       records = sym (append-nil _) ∙ all.2;
       bytes = omega (
         arith,
-        c.loop-next.invariant.place,
+        c.loop-next.invariant.offset,
         ap length same,
         ap (λ bytes. length (encode_utf8_all (chars bytes))) same,
         ap length (encodes-chars c.rest.result.now c.rest.ensures.utf8),

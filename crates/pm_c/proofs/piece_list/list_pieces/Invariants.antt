@@ -7,11 +7,11 @@ use Rattle.pm_c.proofs.piece_list.list_pieces.Given as goal
 -- with the records of the pieces that are left, it is all
 abbrev pub invariant-loop-next : goal.invariant-loop-next
 invariant-loop-next l = record {
-  place : l.walk.place + length l.walk.rest.now ≡ length l.text;
-  few : length l.records.items ≤ l.walk.place;
+  offset : l.walk.byte_offset + length l.walk.rest.now ≡ length l.text;
+  few : length l.records.items ≤ l.walk.byte_offset;
   listed : (more : List Piece) (rest : List ℕ) → AreAllPieces l.walk.at_front (chars l.walk.rest.now) more rest
       → (all : List Piece) × AreAllPieces true (chars l.text) all rest
-      × (l.records.items ++ piece_records l.walk.place more ≡ piece_records 0 all);
+      × (l.records.items ++ piece_records l.walk.byte_offset more ≡ piece_records 0 all);
 }
 
 abbrev pub decreases-loop-next : goal.decreases-loop-next
