@@ -71,7 +71,7 @@ fn every_source_is_walked() {
         match TokenBuffer::new(Global, &text) {
             Ok(buffer) => count += compare(buffer.begin(), stream.expect("it parses").trees()),
             Err(BufferError::Parse(error)) => {
-                assert_eq!(format!("{error:?}"), format!("{:?}", stream.err().expect("it has a fault")));
+                assert_eq!(format!("{error:?}"), format!("{:?}", stream.expect_err("it has a fault")));
             }
             Err(BufferError::TooLong) => panic!("it is too long"),
         }

@@ -24,10 +24,10 @@ pub struct TokenBuffer<'a> {
 impl<'a> TokenBuffer<'a> {
     /// The tokens of a text: those of the stream that it parses to (`parses-to`).
     ///
-    /// Positions, and faults, are those of a new map, where the text begins at 1, as
-    /// [`parse_unmapped`](pm_stream::TokenStream::parse_unmapped) has them. `TooLong` is answered of a text with more
-    /// than 4294967295 bytes, and of one with more tokens, each end of a group counted as one; of a shorter one
-    /// `Parse(MapFull)` exactly where it has too many characters for a new map (`fits`).
+    /// Positions, and faults, are those of a new map, where the text begins at 1, as `TokenStream::parse_unmapped` has
+    /// them. `TooLong` is answered of a text with more than 4294967295 bytes, and of one with more tokens, each end of
+    /// a group counted as one; of a shorter one `Parse(MapFull)` exactly where it has too many characters for a new map
+    /// (`fits`).
     ///
     /// `a += (b)` has the identifier `a`, the marks `+` and `=`, and the group of `b`.
     pub fn new(alloc: Global, text: &'a str) -> Result<TokenBuffer<'a>, BufferError>
