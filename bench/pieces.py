@@ -17,6 +17,12 @@ TOP = pathlib.Path(__file__).resolve().parent.parent
 PIECES = 2000
 STRIDE = 7
 NO_PIECE = b"`"
+# The program's files, and their names in bench/pieces: the gate reads no source outside of crates.
+FILES = {
+    "src/main.rt": "main.rattle",
+    "proofs/count/Answers.antt": "answers.rattle",
+    "proofs/count/Invariants.antt": "invariants.rattle",
+}
 UNITS = {
     "`alpha` and a space": "alpha ",
     "`return` and a space": "return ",
@@ -42,8 +48,10 @@ def build(room: pathlib.Path) -> pathlib.Path:
     """The program, built in a repository of its own in the room."""
     (room / "crates.txt").write_text("lexical: memchr unicode_ident\npieces: lexical\n")
     shutil.copytree(TOP / "crates/lexical", room / "crates/lexical", ignore=shutil.ignore_patterns("must-fail"))
-    shutil.copytree(TOP / "bench/pieces", room / "crates/pieces")
     folder = room / "crates/pieces"
+    for name, kept in FILES.items():
+        (folder / name).parent.mkdir(parents=True, exist_ok=True)
+        shutil.copy(TOP / "bench/pieces" / kept, folder / name)
     subprocess.run(["rt", "run"], cwd=folder, input=b"", check=True, stdout=subprocess.DEVNULL)
     return folder / "out/pieces"
 
