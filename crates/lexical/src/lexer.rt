@@ -21,7 +21,7 @@ use crate::literals::{literal, quoted};
 use crate::marks::{begins_comment, follows_quote, mark};
 use crate::numbers::number;
 use crate::piece::{Piece, PieceKind};
-use crate::quick::quick;
+use crate::quick::{quick, quick_quoted};
 
 /// A literal that was read, if one was, as a piece: its kind, and the cursor after it.
 #[inline(always)]
@@ -93,6 +93,18 @@ pub fn piece_at(text: &str, first: bool) -> Option<Piece<'_>>
     ensures none { IfNone result (HasNoPiece first (chars text.now)) }
 {
     match quick(text) {
+        Some(piece) => Some(piece),
+        None => other_piece(text, first),
+    }
+}
+
+/// The same, of pieces that stand more seldom.
+#[inline(never)]
+fn other_piece(text: &str, first: bool) -> Option<Piece<'_>>
+    ensures found { IfSome result (λ piece. IsPieceAt first (chars text.now) piece) }
+    ensures none { IfNone result (HasNoPiece first (chars text.now)) }
+{
+    match quick_quoted(text) {
         Some(piece) => Some(piece),
         None => piece_by_characters(text, first),
     }

@@ -9,7 +9,7 @@ use crate::lexical::literals::{literal, quoted};
 use crate::lexical::marks::{begins_comment, follows_quote, mark};
 use crate::lexical::numbers::number;
 use crate::lexical::piece::{Piece, PieceKind};
-use crate::lexical::quick::quick;
+use crate::lexical::quick::{quick, quick_quoted};
 
 /// A literal that was read, if one was, as a piece: its kind, and the cursor after it.
 #[inline(always)]
@@ -76,6 +76,16 @@ fn read_piece(at: Cursor<'_>, at_front: bool) -> Option<(PieceKind<'_>, Cursor<'
 pub fn piece_at(text: &str, first: bool) -> Option<Piece<'_>>
 {
     match quick(text) {
+        Some(piece) => Some(piece),
+        None => other_piece(text, first),
+    }
+}
+
+/// The same, of pieces that stand more seldom.
+#[inline(never)]
+fn other_piece(text: &str, first: bool) -> Option<Piece<'_>>
+{
+    match quick_quoted(text) {
         Some(piece) => Some(piece),
         None => piece_by_characters(text, first),
     }

@@ -236,6 +236,21 @@ pub fn quick(text: &str) -> Option<Piece<'_>>
         PieceStart::Closer => Some(ascii(PieceKind::Closer(byte as char), 1)),
         PieceStart::White => Some(ascii(PieceKind::Gap, 1)),
         PieceStart::Digit => Some(ascii(PieceKind::Literal, number_size(text)?)),
+        _ => None,
+    }
+}
+
+/// The literal between quotes, lone quote or line comment at the front, where a few bytes tell it. `None` says nothing.
+///
+/// It stands apart from [`quick`], which is compiled into the loops over pieces.
+#[inline(always)]
+pub fn quick_quoted(text: &str) -> Option<Piece<'_>>
+{
+    let bytes = text.as_bytes();
+    if bytes.is_empty() {
+        return None;
+    }
+    match byte_start(bytes[0]) {
         PieceStart::DoubleQuote => Some(ascii(PieceKind::Literal, string_size(text)?)),
         PieceStart::Quote => {
             if let Some(size) = character_size(text) {
@@ -252,6 +267,6 @@ pub fn quick(text: &str) -> Option<Piece<'_>>
             Some(ascii(quote, 1))
         }
         PieceStart::Slash => line_comment(text),
-        PieceStart::FrontMark | PieceStart::Other => None,
+        _ => None,
     }
 }
