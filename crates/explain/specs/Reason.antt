@@ -13,9 +13,9 @@ use Rattle.explain.specs.Shapes.{closed_string, closed_raw, raw_opening, long_op
 use Rattle.explain.specs.Shapes.{raw_name_start, reserved_raw, single_opening, closed_single, digit_lifetime, lifetime}
 use Rattle.explain.specs.Shapes.{raw_lifetime_start, bare_prefix, base_front, ends_badly, begins_nothing}
 use Rattle.explain.specs.declared.reason.Reason.{Reason}
-use Rattle.explain.specs.declared.reason.Reason.TheVariants.{UnclosedComment, BareReturnInDoc, UnclosedString}
+use Rattle.explain.specs.declared.reason.Reason.TheVariants.{UnclosedComment, UnclosedString}
 use Rattle.explain.specs.declared.reason.Reason.TheVariants.{UnclosedRawString, TooManyHashes, HashesWithoutQuote}
-use Rattle.explain.specs.declared.reason.Reason.TheVariants.{ReservedRawName, UnclosedCharacter, Content}
+use Rattle.explain.specs.declared.reason.Reason.TheVariants.{ReservedRawName, UnclosedCharacter}
 use Rattle.explain.specs.declared.reason.Reason.TheVariants.{DigitLifetime, HashAfterLifetime, NoDigits, BadDigit}
 use Rattle.explain.specs.declared.reason.Reason.TheVariants.{BadNumberEnd, MisplacedMark, NoToken, StrayCloser}
 use Rattle.explain.specs.declared.reason.Reason.TheVariants.{MismatchedCloser, Unread, UnclosedOpener}
@@ -39,7 +39,6 @@ Has rule front part r = HasNone (Stands rule) (front ++ (part ++ r)) → ⊥
 -- what the reason says where no piece of the grammar stands
 abbrev pub Holds : Reason → List ℕ → List ℕ → List ℕ → Type 0
 Holds UnclosedComment f p r = Begins (Exactly (codes "/*")) f p r × Lacks block_comment f p r
-Holds BareReturnInDoc f p r = ⊥
 Holds UnclosedString f p r =
     (kind : StringKind) × Begins (Exactly (string_front kind)) f p r × Lacks (closed_string kind) f p r
 Holds UnclosedRawString f p r = (kind : StringKind) × Begins (raw_opening kind) f p r × Lacks (closed_raw kind) f p r
@@ -48,7 +47,6 @@ Holds HashesWithoutQuote f p r =
     (kind : StringKind) × Follow (hashed_front kind) no_double_quote f p r × Lacks raw_name_start f p r
 Holds ReservedRawName f p r = Begins reserved_raw f p r
 Holds UnclosedCharacter f p r = Begins single_opening f p r × Lacks closed_single f p r
-Holds (Content e) f p r = ⊥
 Holds DigitLifetime f p r = Begins digit_lifetime f p r
 Holds HashAfterLifetime f p r = Follow lifetime (Exactly (codes "#")) f p r × Lacks raw_lifetime_start f p r
 Holds NoDigits f p r = (base : Base) × Begins (bare_prefix base) f p r

@@ -1,5 +1,11 @@
 // Made from crates/explain/src/lib.rt by rust/erase: change that file, not this one.
-//! Why a text doesn't parse.
+//! Why a text doesn't parse, and where.
+//!
+//! [`explain`] answers a [`Reason`] with what is at fault, as bytes and as a span. Proved is that the reason holds by
+//! its own definition in `specs/Reason.antt`, which is in the words of the grammar's rules, and that the bytes and the
+//! span are what the definition speaks of; that `None` is answered only for a text that parses; and which openers no
+//! closer matches up to the fault. Not proved is that no other reason holds there, nor where [`Reason::Unread`] isn't
+//! answered.
 
 mod explained;
 mod explaining;
