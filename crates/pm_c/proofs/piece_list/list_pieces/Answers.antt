@@ -30,7 +30,8 @@ loop-next-preserved c =
             before.0,
             before.1,
             one_more _ _ _ _ _ _ c.in-Some.next.text.now words kind more (encodes-chars _ found.utf8)
-                (record_is _ _ _ _ kind c.in-Some.next.text.now c.kind_numbers-kind.ensures found.byte_offset (search rules))
+                (record_is _ _ _ _ kind c.in-Some.next.text.now c.kind_numbers-kind.ensures found.byte_offset
+                (search rules))
                 found.past c.in_ok-push.ensures.items before.2,
           );
     }
