@@ -14,18 +14,18 @@ use Rattle.pm_span.specs.Extent.{Extent}
 use Rattle.pm_stream.specs.Delimited.{delimiter_of}
 use Rattle.pm_stream.specs.Events.{events_onto, expansion}
 use Rattle.pm_stream.specs.Forest.{Forest, nil}
-use Rattle.pm_stream.specs.Parsing.{FaultAt, is_first}
+use Rattle.pm_stream.specs.Parsing.{FaultAt}
 use Rattle.pm_stream.specs.OpenGroups.{Opened, FitsInnermost, unclosed_onto}
 use Rattle.pm_stream.proofs.ParseLemmas.{reads_on}
 use Rattle.pm_stream.proofs.ParserLemmas.{Reads, reads_none, reads_all, reads_open, reads_stray, reads_stuck}
-use Rattle.explain.specs.Explained.{IsExplained, IsLeftOpen, IsRefused, IsStretch, IsStuck, Parses, SaysLeftOpen}
+use Rattle.explain.specs.Explained.{IsExplained, IsStretch, IsStuck, Parses, SaysLeftOpen}
 use Rattle.explain.specs.Open.{LeavesOpen, Refuses, RefusesFor, RefusesPiece, Steps, Waiting, WaitsAs, openers_of}
 use Rattle.explain.specs.Open.{waiting}
 use Rattle.explain.specs.declared.explained.Explained.{Explained}
 use Rattle.explain.specs.declared.explained.Opener.{Opener}
 use Rattle.explain.specs.declared.nesting.Refusal.{Refusal}
 use Rattle.explain.specs.declared.reason.Reason.{Reason}
-use Rattle.explain.specs.declared.reason.Reason.TheVariants.{StrayCloser, MismatchedCloser}
+use Rattle.explain.specs.declared.reason.Reason.TheVariants.{MismatchedCloser}
 use Rattle.explain.proofs.OpenLemmas.{leaves_open}
 
 -- the texts of the pieces, as far as they go

@@ -1,5 +1,5 @@
 -- Where no number stands.
-use Rattle.std.proofs.Common.{◌≡◌, ℕ, Bool, true, false, not, ◌||◌, ◌+◌, cond, List, [], ◌∷◌, ◌++◌, codes, Some, None}
+use Rattle.std.proofs.Common.{◌≡◌, ℕ, Bool, true, false, not, ◌+◌, cond, List, [], ◌∷◌, ◌++◌, codes, Some, None}
 use Rattle.std.proofs.Common.{arith}
 use Rattle.std.proofs.Common.{refl, sym, ap, ◌∙◌, subst}
 use Rattle.std.specs.Char.{is_ascii_digit, is_digit}
@@ -14,7 +14,7 @@ use Rattle.lexical.specs.Identifier.{name}
 use Rattle.lexical.specs.Number.{digits, decimal, based, base_prefixes, base_digits, digits_in, end as number_end}
 use Rattle.lexical.specs.Number.{float_tail, integer}
 use Rattle.lexical.specs.Number.{is_digit_or_underscore, is_digit_or_underscore_in, is_underscore, number, tail}
-use Rattle.lexical.specs.Rule.{Rule, One, Run, Exactly, Then, Either, NotAt, find, perhaps}
+use Rattle.lexical.specs.Rule.{Rule, One, Run, Exactly, Then, find}
 use Rattle.lexical.specs.Step.{Passes}
 use Rattle.lexical.specs.Text.{begins_any, begins_with, first_passes}
 use Rattle.lexical.specs.declared.bytes.Base.{Base}

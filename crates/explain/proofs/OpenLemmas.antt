@@ -1,6 +1,6 @@
 -- The openers that wait for a closer, with one piece more.
-use Rattle.std.proofs.Common.{◌≡◌, ℕ, Bool, true, false, List, [], ◌∷◌, ◌++◌, ◌+◌, codes, length, reverse, refl, sym}
-use Rattle.std.proofs.Common.{ap, ◌∙◌, subst}
+use Rattle.std.proofs.Common.{◌≡◌, ℕ, Bool, true, false, List, [], ◌∷◌, ◌++◌, ◌+◌, codes, length, refl, sym}
+use Rattle.std.proofs.Common.{ap, ◌∙◌}
 use Rattle.std.specs.Str.{chars}
 use Rattle.std.proofs.lemmas.List.{reverse-append}
 use Rattle.lexical.specs.Found.{kind_of}
@@ -10,11 +10,10 @@ use Rattle.lexical.specs.declared.piece.PieceKind.TheVariants as kinds
 use Rattle.pm_token.specs.Escaped.{string_text}
 use Rattle.pm_token.specs.declared.delimiters.Delimiter.{Delimiter}
 use Rattle.pm_token.specs.declared.delimiters.Delimiter.TheVariants.{Bracket}
-use Rattle.pm_stream.specs.Events.{Event, One, Opens, Closes, events_onto, hash, bang, equals}
+use Rattle.pm_stream.specs.Events.{Opens, Closes, events_onto, hash, bang, equals}
 use Rattle.pm_stream.specs.Forest.{Forest, nil, leaf, group, flat_onto, flattening, joined}
 use Rattle.pm_stream.specs.OpenGroups.{Opened, unclosed_onto}
 use Rattle.pm_stream.proofs.EventLemmas.{unclosed-joined, unclosed-append, flattening_balanced}
-use Rattle.pm_stream.specs.Delimited.{delimiter_of}
 use Rattle.explain.specs.declared.explained.Opener.{Opener}
 use Rattle.explain.specs.Open.{Waiting, LeavesOpen, Grows, Steps, each_waiting, openers_of, waiting}
 

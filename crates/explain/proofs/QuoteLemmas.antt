@@ -1,9 +1,9 @@
 -- Where nothing stands that quotes or names begin with.
-use Rattle.std.proofs.Common.{◌≡◌, ℕ, ◌<◌, ◌+◌, Bool, true, false, not, ◌==◌, ◌||◌, List, [], ◌∷◌, ◌++◌, codes}
-use Rattle.std.proofs.Common.{length, Option}
+use Rattle.std.proofs.Common.{◌≡◌, ℕ, ◌<◌, ◌+◌, Bool, true, false, List, [], ◌∷◌, ◌++◌, codes}
+use Rattle.std.proofs.Common.{length}
 use Rattle.std.proofs.Common.{Some, None, refl, sym, ap, ◌∙◌, subst, arith, eqb-true}
 use Rattle.std.specs.Char.{is_ascii_digit}
-use Rattle.std.specs.Str.{chars, IsUtf8}
+use Rattle.std.specs.Str.{chars}
 use Rattle.std.specs.Prelude.{nat_lt}
 use Rattle.std.proofs.Common.{length-append}
 use Rattle.std.proofs.lemmas.Bool.{both_ways, eq-eqb, and_from, or_from, false_from_ne_true, lt-ltb}
@@ -14,7 +14,7 @@ use Rattle.lexical.specs.Identifier.{name, is_reserved}
 use Rattle.lexical.specs.Quoted.{front as string_front}
 use Rattle.lexical.specs.RawString.{raw_front}
 use Rattle.lexical.specs.Rule.{Rule, One, Run, Exactly, Then, Next, NotBefore, find}
-use Rattle.lexical.specs.Step.{Passes, Reads}
+use Rattle.lexical.specs.Step.{Passes}
 use Rattle.lexical.specs.Text.{begins_with, first_passes}
 use Rattle.lexical.specs.declared.cursor.Cursor.{Cursor}
 use Rattle.lexical.specs.declared.quoted.StringKind.{StringKind}

@@ -1,21 +1,20 @@
 -- Steps up to what closes a literal.
-use Rattle.std.proofs.Common.{◌≡◌, ℕ, ◌+◌, Bool, true, false, not, ◌==◌, ◌||◌, List, [], ◌∷◌, ◌++◌, codes, length}
+use Rattle.std.proofs.Common.{◌≡◌, ℕ, ◌+◌, Bool, true, false, not, ◌==◌, ◌||◌, List, [], ◌∷◌, ◌++◌}
 use Rattle.std.proofs.Common.{Option, Some}
 use Rattle.std.proofs.Common.{None, refl, sym, ap, ◌∙◌, subst, arith, eqb-true}
 use Rattle.std.specs.List.{list_all}
 use Rattle.std.specs.Str.{chars}
-use Rattle.std.proofs.lemmas.Bool.{both_ways, cond-true, and_parts, or_left, false_from_ne_true}
+use Rattle.std.proofs.lemmas.Bool.{both_ways, and_parts, or_left, false_from_ne_true}
 use Rattle.lexical.specs.Ascii.{all_ascii}
 use Rattle.lexical.specs.Form.{HasNone}
-use Rattle.lexical.specs.Quoted.{is_one_of}
-use Rattle.lexical.specs.Rule.{Rule, One, Run, Exactly, UpTo, Stands, find}
+use Rattle.lexical.specs.Rule.{Rule, One, Stands, find}
 use Rattle.lexical.specs.Step.{Leads, Passes, Reads}
 use Rattle.lexical.specs.Text.{begins_with}
 use Rattle.lexical.specs.declared.cursor.Cursor.{Cursor}
 use Rattle.lexical.proofs.BlockLemmas.{behind_nothing}
 use Rattle.lexical.proofs.FinderLemmas.{none_is}
 use Rattle.lexical.proofs.RuleLemmas.{Clear, exact}
-use Rattle.lexical.proofs.RuleSteps.{passed, one_passes, apart_passes}
+use Rattle.lexical.proofs.RuleSteps.{one_passes, apart_passes}
 use Rattle.lexical.proofs.UnitSteps.{leads_passes, leads_fails}
 use Rattle.lexical.proofs.TextLemmas.{begins_self}
 use Rattle.explain.specs.Shapes.{any, closed_raw_body, is_hash, pair, raw_unit}

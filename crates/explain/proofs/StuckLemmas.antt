@@ -1,7 +1,7 @@
 -- What the first character tells where no piece stands.
-use Rattle.std.proofs.Common.{◌≡◌, ℕ, ◌+◌, Bool, true, false, not, ◌||◌, ◌==◌, List, [], ◌∷◌, ◌++◌, codes, length}
-use Rattle.std.proofs.Common.{Option, Some}
-use Rattle.std.proofs.Common.{None, IfSome, inl, inr, refl, sym, ap, ◌∙◌, subst, arith, eqb-true}
+use Rattle.std.proofs.Common.{◌≡◌, ℕ, ◌+◌, Bool, true, false, not, ◌==◌, List, [], ◌∷◌, ◌++◌, codes}
+use Rattle.std.proofs.Common.{Some}
+use Rattle.std.proofs.Common.{None, IfSome, inl, inr, refl, sym, ap, ◌∙◌, arith, eqb-true}
 use Rattle.std.specs.Char.{is_ascii_digit}
 use Rattle.std.specs.Str.{chars}
 use Rattle.std.proofs.lemmas.Bool.{cases_Bool, false_from_ne_true, or_from}
@@ -12,7 +12,7 @@ use Rattle.lexical.specs.Finder.{Answer}
 use Rattle.lexical.specs.Mark.{is_mark}
 use Rattle.lexical.specs.Number.{number}
 use Rattle.lexical.specs.Piece.{HasNoPiece, IsPiece}
-use Rattle.lexical.specs.PieceFinder.{Found, found, literal_kind, piece_start, tagged}
+use Rattle.lexical.specs.PieceFinder.{found, literal_kind, piece_start, tagged}
 use Rattle.lexical.specs.Rule.{One, Exactly, find}
 use Rattle.lexical.specs.Step.{Passes}
 use Rattle.lexical.specs.Text.{first_passes}

@@ -1,5 +1,5 @@
 -- What an explanation says.
-use Rattle.std.specs.Prelude.{ℕ, Bool, ◌≡◌, ◌+◌, ◌⊎◌, List, [], ◌∷◌, ◌++◌, length, Some}
+use Rattle.std.specs.Prelude.{ℕ, Bool, ◌≡◌, ◌+◌, ◌⊎◌, List, [], ◌++◌, length, Some}
 use Rattle.std.specs.Str.{encode_utf8_all}
 use Rattle.lexical.specs.Cover.{CoversUpTo}
 use Rattle.lexical.specs.Piece.{Piece, Close, IsPiece, HasNoPiece}

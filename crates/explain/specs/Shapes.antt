@@ -10,7 +10,7 @@ use Rattle.lexical.specs.Quoted.{front, is_one_of}
 use Rattle.lexical.specs.RawString.{raw_front}
 use Rattle.lexical.specs.Identifier.{name, is_reserved}
 use Rattle.lexical.specs.Rule.{Rule, One, Run, Exactly, Then, Next, UpTo, Either, Else, NotAt, NotBefore, Where}
-use Rattle.lexical.specs.Rule.{nothing, perhaps}
+use Rattle.lexical.specs.Rule.{perhaps}
 use Rattle.lexical.specs.declared.bytes.Base.{Base}
 use Rattle.lexical.specs.declared.bytes.Base.TheVariants.{Binary, Octal, Hexadecimal}
 use Rattle.lexical.specs.declared.quoted.StringKind.{StringKind}

@@ -40,17 +40,17 @@ fn explain_at(alloc: Global, base: u32, text: &str) -> Result<Option<Explained>,
     ensures { IfOk result (λ answer. MatchOption answer
         (Parses base (chars text.now)) (IsExplained base (chars text.now))) }
 {
-    let mut open = Vec::new(alloc);
+    let mut openers = Vec::new(alloc);
     let mut rest = text;
     let mut at = base;
     let mut first = true;
     while let Some(piece) = piece_at(rest, first) {
         let tail = &rest[piece.bytes..];
         let end = at + piece.chars as u32;
-        if let Some(refusal) = take(&mut open, piece.kind, stretch(text, rest, tail, at, end))? {
+        if let Some(refusal) = take(&mut openers, piece.kind, stretch(text, rest, tail, at, end))? {
             let before = stretch(text, rest, rest, at, at);
             let here = stretch(text, rest, tail, at, end);
-            return Ok(Some(refused(refusal, before, here, open)));
+            return Ok(Some(refused(refusal, before, here, openers)));
         }
         // White characters are gaps, and are passed over all at once.
         let (after, white) = past_white(tail);
@@ -59,9 +59,9 @@ fn explain_at(alloc: Global, base: u32, text: &str) -> Result<Option<Explained>,
         first = false;
     }
     if rest.is_empty() {
-        return Ok(left_open(open));
+        return Ok(left_open(openers));
     }
-    Ok(Some(stuck(text, rest, at, first, open)))
+    Ok(Some(stuck(text, rest, at, first, openers)))
 }
 
 /// That a closer can't stand there.
@@ -101,11 +101,11 @@ fn stretch(text: &str, from: &str, to: &str, lo: u32, hi: u32) -> Stretch
 }
 
 /// That an opener is left open at the end of the text, if one is.
-fn left_open(open: Vec<Opener>) -> Option<Explained>
-    ensures { MatchOption result (waiting open.items ≡ [])
-        (λ x. SaysLeftOpen x × WaitsAs (waiting open.items) x.innermost x.outer.items) }
+fn left_open(openers: Vec<Opener>) -> Option<Explained>
+    ensures { MatchOption result (waiting openers.items ≡ [])
+        (λ x. SaysLeftOpen x × WaitsAs (waiting openers.items) x.innermost x.outer.items) }
 {
-    let mut outer = open;
+    let mut outer = openers;
     let opener = outer.pop()?;
     let at = opener.at;
     let (lo, _) = bounds(at.span);
@@ -123,19 +123,19 @@ fn left_open(open: Vec<Opener>) -> Option<Explained>
 }
 
 /// That no piece stands at this rest of a text, which is at this position.
-fn stuck(text: &str, rest: &str, at: u32, first: bool, open: Vec<Opener>) -> Explained
+fn stuck(text: &str, rest: &str, at: u32, first: bool, openers: Vec<Opener>) -> Explained
     requires none { HasNoPiece first (chars rest.now) }
     requires behind { (behind : List ℕ) × (chars text.now ≡ behind ++ chars rest.now) }
     requires room { at + length (chars rest.now) < 2 ^ 32 }
     ensures stuck { (base : ℕ) (behind : List ℕ) → chars text.now ≡ behind ++ chars rest.now
         → at ≡ base + length behind → IsStuck base behind first (chars rest.now) result }
-    ensures open { WaitsAs (waiting open.items) result.innermost result.outer.items }
+    ensures open { WaitsAs (waiting openers.items) result.innermost result.outer.items }
 {
     let start = Cursor::new(rest);
     let trouble = reason_at(start, first);
     let lo = at + trouble.at.chars_before as u32;
     let hi = at + trouble.after.chars_before as u32;
-    let mut outer = open;
+    let mut outer = openers;
     let innermost = outer.pop();
     Explained {
         reason: trouble.reason,

@@ -23,33 +23,33 @@ pub struct Refusal {
 /// Takes a piece into account, which begins at `at`. Answers why it can't stand there, if it is a closer that doesn't
 /// match the innermost opener, which is then taken out.
 pub fn take(
-    open: &mut Vec<Opener>,
+    openers: &mut Vec<Opener>,
     kind: PieceKind<'_>,
     at: Stretch,
 ) -> Result<Option<Refusal>, AllocError>
     ensures { IfOk result (λ refused. MatchOption refused
-        ((front : List ℕ) → Steps open.old.items open.new.items (events_onto at.span.lo
+        ((front : List ℕ) → Steps openers.old.items openers.new.items (events_onto at.span.lo
         (kind_of kind.entry front) front []))
-        (λ x. RefusesPiece kind.entry x × WaitsAs (waiting open.old.items) x.innermost open.new.items)) }
+        (λ x. RefusesPiece kind.entry x × WaitsAs (waiting openers.old.items) x.innermost openers.new.items)) }
 {
     match kind {
         PieceKind::Opener(c) => {
             let delimiter = delimiter(c);
-            open.push(Opener { delimiter, at })?;
+            openers.push(Opener { delimiter, at })?;
             Ok(None)
         }
-        PieceKind::Closer(c) => Ok(close(open, delimiter(c))),
+        PieceKind::Closer(c) => Ok(close(openers, delimiter(c))),
         _ => Ok(None),
     }
 }
 
 /// Takes out the innermost opener, and answers why this closer doesn't match it, if it doesn't.
-fn close(open: &mut Vec<Opener>, delimiter: Delimiter) -> Option<Refusal>
+fn close(openers: &mut Vec<Opener>, delimiter: Delimiter) -> Option<Refusal>
     ensures { MatchOption result
-        ((hi : ℕ) → Steps open.old.items open.new.items (Closes delimiter hi ∷ []))
-        (λ x. Refuses delimiter x × WaitsAs (waiting open.old.items) x.innermost open.new.items) }
+        ((hi : ℕ) → Steps openers.old.items openers.new.items (Closes delimiter hi ∷ []))
+        (λ x. Refuses delimiter x × WaitsAs (waiting openers.old.items) x.innermost openers.new.items) }
 {
-    let Some(opener) = open.pop() else {
+    let Some(opener) = openers.pop() else {
         return Some(Refusal {
             reason: Reason::StrayCloser,
             innermost: None,

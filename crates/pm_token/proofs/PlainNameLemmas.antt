@@ -1,5 +1,5 @@
 -- Names of ASCII letters, digits and `_` have no fault.
-use Rattle.std.proofs.Common.{◌≡◌, ℕ, ◌<◌, Bool, true, false, not, ◌&&◌, ◌||◌, ◌==◌, List, [], ◌∷◌, length, None, refl}
+use Rattle.std.proofs.Common.{◌≡◌, ℕ, ◌<◌, Bool, true, false, not, ◌||◌, ◌==◌, List, [], ◌∷◌, length, None, refl}
 use Rattle.std.proofs.Common.{ap, sym, ◌∙◌, arith, inl, inr, nat_le}
 use Rattle.std.specs.List.{list_all}
 use Rattle.std.specs.Int.{is_in_range}
@@ -8,7 +8,7 @@ use Rattle.std.specs.Str.{chars}
 use Rattle.std.proofs.lemmas.Bool.{and_parts, and_from, and_left, cond-true, cond-false, eqb-true, false_from_ne_true}
 use Rattle.std.proofs.lemmas.Bool.{leb-true, lt-ltb, ne_eqb, or_cases, or_left, or_right}
 use Rattle.std.proofs.lemmas.Str.{chars-IsAscii}
-use Rattle.lexical.specs.Class.{is_ident_start, is_ident_continue}
+use Rattle.lexical.specs.Class.{is_ident_continue}
 use Rattle.lexical.specs.Finder.{while_front}
 use Rattle.lexical.specs.Ascii.{all_ascii}
 use Rattle.lexical.proofs.ClassLemmas.{ident_start_ascii, ident_continue_ascii}

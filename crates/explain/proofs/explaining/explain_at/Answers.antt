@@ -1,4 +1,4 @@
-use Rattle.std.proofs.Common.{◌≡◌, ◌∙◌, ◌++◌, ◌+◌, [], ap, refl, sym, subst, arith, length, eqb-true}
+use Rattle.std.proofs.Common.{◌∙◌, ◌++◌, ◌+◌, [], ap, refl, sym, subst, arith, eqb-true}
 use Rattle.std.specs.Str.{chars}
 use Rattle.std.proofs.lemmas.Bool.{eqb-false}
 use Rattle.std.proofs.lemmas.List.{nil_from_length}
@@ -18,7 +18,7 @@ pub loop-piece-init : goal.loop-piece-init
 loop-piece-init c = record {
   utf8 = c.utf8.text;
   left = refl;
-  reads = open_none c.args.base (chars c.args.text.now) _ c.new-open.ensures.items;
+  reads = open_none c.args.base (chars c.args.text.now) _ c.new-openers.ensures.items;
 }
 
 pub range_from-tail-requires : goal.range_from-tail-requires
@@ -73,13 +73,13 @@ returns-in-Some-2 c =
     let tail = ap chars c.range_from-tail.ensures.value
     ∙ piece_rest _ c.loop-piece.rest.now c.in-Some.piece c.loop-piece.invariant.utf8 found in
     subst (IsExplained base source) (sym c.refused.ensures)
-    (refused_explained base source rest c.loop-piece.at c.loop-piece.first c.loop-piece.open.items h
+    (refused_explained base source rest c.loop-piece.at c.loop-piece.first c.loop-piece.openers.items h
     (record {
       reason = refusal.reason;
       before = c.stretch-before.result;
       at = c.stretch-here.result;
       innermost = refusal.innermost;
-      outer = c.take.new.open;
+      outer = c.take.new.openers;
     })
     c.in-Some.piece found told.0 told.1
     (c.stretch-before.ensures base (read _ _ _ _ _ _ h) [] whole refl place (omega arith))
@@ -117,9 +117,9 @@ loop-piece-preserved c =
     record {
       utf8 = c.past_white-white.ensures.utf8;
       left = omega (arith, c.loop-piece.invariant.left);
-      reads = open_past base (chars c.args.text.now) _ _ _ c.loop-piece.at _ _ c.loop-piece.open.items
-          c.take.new.open.items c.in-Some.piece h found tail
-          (subst (λ n. Steps c.loop-piece.open.items c.take.new.open.items
+      reads = open_past base (chars c.args.text.now) _ _ _ c.loop-piece.at _ _ c.loop-piece.openers.items
+          c.take.new.openers.items c.in-Some.piece h found tail
+          (subst (λ n. Steps c.loop-piece.openers.items c.take.new.openers.items
           (events_onto n (kind_of c.in-Some.piece.kind found.front) found.front []))
           (ap (λ s. s.lo) here.span ∙ sym place) (told found.front))
           c.past_white-white.ensures.passed;

@@ -9,7 +9,7 @@ abbrev pub invariant-loop-piece : goal.invariant-loop-piece
 invariant-loop-piece l = record {
   utf8 : shadow (Utf8 l.rest);
   left : l.at + length (chars l.rest) ≡ l.base + length (chars l.text);
-  reads : ReadsOpen l.base (chars l.text) (chars l.rest) l.at l.first l.open.items;
+  reads : ReadsOpen l.base (chars l.text) (chars l.rest) l.at l.first l.openers.items;
 }
 
 abbrev pub decreases-loop-piece : goal.decreases-loop-piece

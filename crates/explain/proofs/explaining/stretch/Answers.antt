@@ -1,4 +1,4 @@
-use Rattle.std.proofs.Common.{arith, length, ◌≡◌, ◌+◌, ◌++◌, append_assoc, sym, ap, ◌∙◌, length-append}
+use Rattle.std.proofs.Common.{arith, length, ◌+◌, ◌++◌, ◌∙◌, length-append}
 use Rattle.std.specs.Str.{chars}
 use Rattle.lexical.proofs.TextLemmas.{front_len}
 use Rattle.explain.proofs.ExplainingLemmas.{extent_of, whole_past}

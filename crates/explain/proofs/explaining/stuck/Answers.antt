@@ -1,4 +1,4 @@
-use Rattle.std.proofs.Common.{◌≡◌, ◌++◌, None, sym, ap, ◌∙◌, subst, arith, length, length-append}
+use Rattle.std.proofs.Common.{◌≡◌, ◌++◌, None, sym, ap, ◌∙◌, subst, arith, length-append}
 use Rattle.std.specs.Str.{chars}
 use Rattle.lexical.specs.PieceFinder.{found}
 use Rattle.explain.proofs.ExplainingLemmas.{whole_past}

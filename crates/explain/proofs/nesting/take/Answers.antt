@@ -7,7 +7,7 @@ use Rattle.explain.proofs.nesting.take.Goals as goal
 
 pub returns-in_ok-push-in-Opener : goal.returns-in_ok-push-in-Opener
 returns-in_ok-push-in-Opener c = λ front.
-    let old = c.args.open.now.items in
+    let old = c.args.openers.now.items in
     let new = c.push.new.self.items in
     let lo = c.args.at.span.lo in
     subst (λ k. Steps old new (events_onto lo (kind_of k front) front [])) (sym c.in-Opener.is)
@@ -17,5 +17,5 @@ returns-in_ok-push-in-Opener c = λ front.
 
 pub returns-in_default : goal.returns-in_default
 returns-in_default c = λ front.
-    steps_plain c.args.open.now.items c.args.kind c.args.at.span.lo front c.in_default.not-Opener
+    steps_plain c.args.openers.now.items c.args.kind c.args.at.span.lo front c.in_default.not-Opener
     c.in_default.not-Closer

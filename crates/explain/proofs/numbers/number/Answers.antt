@@ -1,4 +1,4 @@
-use Rattle.std.proofs.Common.{◌≡◌, ◌∙◌, None, codes, sym, ap, subst, ◌++◌}
+use Rattle.std.proofs.Common.{◌≡◌, None, codes, subst}
 use Rattle.std.specs.Str.{chars}
 use Rattle.std.proofs.lemmas.Bool.{both_ways}
 use Rattle.lexical.specs.Number.{number}

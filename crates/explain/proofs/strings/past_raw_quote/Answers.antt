@@ -1,4 +1,4 @@
-use Rattle.std.proofs.Common.{ℕ, List, ◌∷◌, None, codes, refl, ◌∙◌, arith}
+use Rattle.std.proofs.Common.{◌∷◌, codes, ◌∙◌, arith}
 use Rattle.lexical.specs.Rule.{Exactly}
 use Rattle.lexical.proofs.RuleSteps.{run_goes_on, then_lacks, then_reads, reads_same}
 use Rattle.lexical.proofs.UnitSteps.{leads_run, leads_unit, leads_last, unit_shortens, leads_fails, found_cons}

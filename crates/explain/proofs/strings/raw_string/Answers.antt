@@ -1,4 +1,4 @@
-use Rattle.std.proofs.Common.{sym, ap, length, arith}
+use Rattle.std.proofs.Common.{arith}
 use Rattle.lexical.proofs.HashLemmas.{signs, signs_text}
 use Rattle.lexical.proofs.RuleSteps.{passes_whole}
 use Rattle.explain.proofs.QuoteLemmas.{unclosed_raw, too_many}

@@ -1,4 +1,4 @@
-use Rattle.std.proofs.Common.{◌≤◌, ap, sym, length, ◌∙◌, arith}
+use Rattle.std.proofs.Common.{ap, sym, length, ◌∙◌, arith}
 use Rattle.pm_span.specs.CharOffset.{byte_offset}
 use Rattle.pm_span.specs.FileInfo.{IsByteOffset}
 use Rattle.pm_span.proofs.ByteOffsetLemmas.{All-tried}

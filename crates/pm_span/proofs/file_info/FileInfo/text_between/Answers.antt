@@ -1,4 +1,4 @@
-use Rattle.std.proofs.Common.{◌≡◌, ◌-◌, ◌∙◌, take, drop, sym, ap, ap₂, arith}
+use Rattle.std.proofs.Common.{◌≡◌, ◌-◌, ◌∙◌, take, drop, sym, ap, ap₂}
 use Rattle.std.specs.Str.{chars}
 use Rattle.pm_span.specs.CharOffset.{byte_offset, between}
 use Rattle.pm_span.proofs.ByteOffsetLemmas.{known_boundary, known_order}

@@ -1,4 +1,4 @@
-use Rattle.std.proofs.Common.{◌≡◌, ◌<◌, ◌^◌, ◌++◌, ap, ap₂, ◌∙◌, arith}
+use Rattle.std.proofs.Common.{◌<◌, ◌^◌, ◌++◌, ap, ap₂, ◌∙◌, arith}
 use Rattle.std.specs.Str.{chars}
 use Rattle.pm_token.proofs.IntegerLemmas.{chars_unsigned}
 use Rattle.pm_token.proofs.literals.integers.short_unsigned.Goals as goal
