@@ -29,17 +29,17 @@ pub fn explain(alloc: Global, text: &str) -> Result<Option<Explained>, ExplainEr
 /// Why a text doesn't parse that begins at the position `base`.
 fn explain_at(alloc: Global, base: u32, text: &str) -> Result<Option<Explained>, AllocError>
 {
-    let mut open = Vec::new(alloc);
+    let mut openers = Vec::new(alloc);
     let mut rest = text;
     let mut at = base;
     let mut first = true;
     while let Some(piece) = piece_at(rest, first) {
         let tail = &rest[piece.bytes..];
         let end = at + piece.chars as u32;
-        if let Some(refusal) = take(&mut open, piece.kind, stretch(text, rest, tail, at, end))? {
+        if let Some(refusal) = take(&mut openers, piece.kind, stretch(text, rest, tail, at, end))? {
             let before = stretch(text, rest, rest, at, at);
             let here = stretch(text, rest, tail, at, end);
-            return Ok(Some(refused(refusal, before, here, open)));
+            return Ok(Some(refused(refusal, before, here, openers)));
         }
         // White characters are gaps, and are passed over all at once.
         let (after, white) = past_white(tail);
@@ -48,9 +48,9 @@ fn explain_at(alloc: Global, base: u32, text: &str) -> Result<Option<Explained>,
         first = false;
     }
     if rest.is_empty() {
-        return Ok(left_open(open));
+        return Ok(left_open(openers));
     }
-    Ok(Some(stuck(text, rest, at, first, open)))
+    Ok(Some(stuck(text, rest, at, first, openers)))
 }
 
 /// That a closer can't stand there.
@@ -77,9 +77,9 @@ fn stretch(text: &str, from: &str, to: &str, lo: u32, hi: u32) -> Stretch
 }
 
 /// That an opener is left open at the end of the text, if one is.
-fn left_open(open: Vec<Opener>) -> Option<Explained>
+fn left_open(openers: Vec<Opener>) -> Option<Explained>
 {
-    let mut outer = open;
+    let mut outer = openers;
     let opener = outer.pop()?;
     let at = opener.at;
     let (lo, _) = bounds(at.span);
@@ -97,13 +97,13 @@ fn left_open(open: Vec<Opener>) -> Option<Explained>
 }
 
 /// That no piece stands at this rest of a text, which is at this position.
-fn stuck(text: &str, rest: &str, at: u32, first: bool, open: Vec<Opener>) -> Explained
+fn stuck(text: &str, rest: &str, at: u32, first: bool, openers: Vec<Opener>) -> Explained
 {
     let start = Cursor::new(rest);
     let trouble = reason_at(start, first);
     let lo = at + trouble.at.chars_before as u32;
     let hi = at + trouble.after.chars_before as u32;
-    let mut outer = open;
+    let mut outer = openers;
     let innermost = outer.pop();
     Explained {
         reason: trouble.reason,

@@ -20,7 +20,7 @@ pub struct Refusal {
 /// Takes a piece into account, which begins at `at`. Answers why it can't stand there, if it is a closer that doesn't
 /// match the innermost opener, which is then taken out.
 pub fn take(
-    open: &mut Vec<Opener>,
+    openers: &mut Vec<Opener>,
     kind: PieceKind<'_>,
     at: Stretch,
 ) -> Result<Option<Refusal>, AllocError>
@@ -28,18 +28,18 @@ pub fn take(
     match kind {
         PieceKind::Opener(c) => {
             let delimiter = delimiter(c);
-            open.push(Opener { delimiter, at })?;
+            openers.push(Opener { delimiter, at })?;
             Ok(None)
         }
-        PieceKind::Closer(c) => Ok(close(open, delimiter(c))),
+        PieceKind::Closer(c) => Ok(close(openers, delimiter(c))),
         _ => Ok(None),
     }
 }
 
 /// Takes out the innermost opener, and answers why this closer doesn't match it, if it doesn't.
-fn close(open: &mut Vec<Opener>, delimiter: Delimiter) -> Option<Refusal>
+fn close(openers: &mut Vec<Opener>, delimiter: Delimiter) -> Option<Refusal>
 {
-    let Some(opener) = open.pop() else {
+    let Some(opener) = openers.pop() else {
         return Some(Refusal {
             reason: Reason::StrayCloser,
             innermost: None,
