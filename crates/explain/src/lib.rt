@@ -3,8 +3,8 @@
 //! [`explain`] answers a [`Reason`] with what is at fault, as bytes and as a span. Proved is that the reason holds by
 //! its own definition in `specs/Reason.antt`, which is in the words of the grammar's rules, and that the bytes and the
 //! span are what the definition speaks of; that `None` is answered only for a text that parses; and which openers no
-//! closer matches up to the fault. Not proved is that no other reason holds there, nor where [`Reason::Unread`] isn't
-//! answered.
+//! closer matches up to the fault, by kind and first position. Not proved is that no other reason holds there, where
+//! [`Reason::Unread`] isn't answered, and the bytes of openers, those of an unclosed one among them.
 #![tactic(auto)]
 
 mod explained;

@@ -12,7 +12,7 @@ pub enum Reason {
     UnclosedRawString,
     /// More than 255 hash signs before a raw string.
     TooManyHashes,
-    /// Hash signs after `r`, `br` or `cr` that neither a quote nor a name follows: the `~` of `r#~`.
+    /// Hash signs after `r`, `br` or `cr` that no quote follows, nor a name after `r#`: the `~` of `r#~`.
     HashesWithoutQuote,
     /// A name that no raw identifier or lifetime has: `r#self`.
     ReservedRawName,
@@ -26,15 +26,14 @@ pub enum Reason {
     NoDigits,
     /// A digit that is too large for its base: the `2` of `0b12`.
     BadDigit,
-    /// A character right after a number that goes on with a name and begins none.
+    /// A character right after an integer that goes on with a name and begins none.
     BadNumberEnd,
     /// U+FEFF that isn't at the front of the text.
     MisplacedMark,
     /// A character with which no token begins.
     NoToken,
-    /// Nothing of the grammar stands there, for a reason that isn't told apart: what stands in a literal that ends,
-    /// as in
-    /// `"\q"`, or a CR in a doc comment that no LF follows.
+    /// Nothing of the grammar stands there, for a reason that isn't told apart: such as what stands in a literal that
+    /// ends, as in `"\q"`, or a CR in a doc comment that no LF follows.
     Unread,
     /// A closer where no opener waits for one: the `)` of `a)`.
     StrayCloser,
