@@ -40,7 +40,7 @@ LEFT_OUT = {'tests.rt', 'failing.rt', 'sizes.rt', 'main.rt'}
 
 def erased(text, crate, source, package):
     """The Rust of a source, and what is rejected in it."""
-    file = rules.File(crate, tokens_of(text), package)
+    file = rules.File(crate, str(source), tokens_of(text), package)
     for rule in rules.RULES[:-1]:
         rule(file)
     rejected = checks.rejections(file)
@@ -59,7 +59,8 @@ def headed(file, source):
         at += 1
     front, rest = text_of(tokens[:at]).rstrip(), text_of(tokens[at:]).rstrip()
     made = f'// Made from {source} by rust/erase: change that file, not this one.'
-    return '\n'.join([f'{made}\n{front}'.rstrip(), '', *uses, *([''] if uses else []), rest]) + '\n'
+    heads = [line for part in (file.attributes, uses) if part for line in (*part, '')]
+    return '\n'.join([f'{made}\n{front}'.rstrip(), '', *heads, rest]) + '\n'
 
 
 def is_left_out(path):

@@ -17,13 +17,15 @@ def rule(function):
 
 
 class File:
-    """A source that is being erased: its crate and its tokens, and the package that it becomes a part of."""
+    """A source that is being erased: its crate, its path and its tokens, and the package that it becomes a part of."""
 
-    def __init__(self, crate, tokens, package):
+    def __init__(self, crate, source, tokens, package):
         self.crate = crate
+        self.source = source
         self.tokens = tokens
         self.package = package
         self.prelude = []
+        self.attributes = []
 
     def count(self, name, number=1):
         self.package.counts[name] += number
@@ -421,21 +423,21 @@ def destructors(file):
 
 @rule
 def utf8(file):
-    """Calls the shim's `from_utf8_unchecked` as a safe function: it looks at the bytes.
+    """Keeps the one `unsafe`, which reads the bytes of a short text as a text, and allows it in that file alone.
 
         fn text(b: &[u8]) -> &str { unsafe { str::from_utf8_unchecked(b) } }
-        => fn text(b: &[u8]) -> &str { str::from_utf8_unchecked(b) }
+        => #![allow(unsafe_code)] fn text(b: &[u8]) -> &str { unsafe { str::from_utf8_unchecked(b) } }
     """
-    tokens, edits = file.tokens, {}
+    tokens = file.tokens
     for at, token in enumerate(tokens):
-        if token.kind != 'name' or token.text != 'unsafe':
+        if token.kind != 'name' or token.text != 'unsafe' or file.source != known.WITH_UNSAFE:
             continue
         for end in found(tokens, at, 'unsafe { str : : from_utf8_unchecked ('):
             opener = next_mark(tokens, at, '{')
             if following(tokens, closing(tokens, end)) == closing(tokens, opener):
-                edits[at, closing(tokens, opener)] = text_of(tokens[opener + 1:closing(tokens, opener)]).strip()
+                token.kind = 'kept'
+                file.attributes.append('#![allow(unsafe_code)]')
                 file.count('utf8')
-    file.tokens = replaced(tokens, edits)
 
 
 @rule

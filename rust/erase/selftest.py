@@ -2,6 +2,7 @@
 import collections
 
 import checks
+import known
 import rules
 from source import Rejected, is_code, text_of, tokens_of
 
@@ -135,25 +136,25 @@ trait Unit {
 '''
 
 
-def applied(text, tests=False):
-    """A text with all rules applied, as a source of `lexical`, and what is rejected in it."""
+def applied(text, tests=False, source=known.WITH_UNSAFE):
+    """A text with all rules applied, as a source of `lexical` at this path, and what is rejected in it."""
     package = rules.Package(collections.Counter(), ['lexical', 'pm_span'], tests=tests)
     tokens = tokens_of(text)
     code = [token for token in tokens if token.kind not in ('clause', 'ghost')]
     package.learn(code)
     package.learn_fields(code)
-    file = rules.File('lexical', tokens, package)
+    file = rules.File('lexical', source, tokens, package)
     for rule in rules.RULES[:-1]:
         rule(file)
     rejected = checks.rejections(file)
     rules.RULES[-1](file)
     imports = f'use crate::shim::prelude::{{{", ".join(file.prelude)}}}; ' if file.prelude else ''
-    return imports + text_of(file.tokens), [what for _, what in rejected]
+    return ' '.join([*file.attributes, imports + text_of(file.tokens)]), [what for _, what in rejected]
 
 
-def said_of(text):
+def said_of(text, source=known.WITH_UNSAFE):
     try:
-        return applied(text)[1]
+        return applied(text, source=source)[1]
     except Rejected as error:
         return [error.what]
 
@@ -181,11 +182,13 @@ def run():
         said = said_of(text)
         if not any(what in one for one in said):
             failures.append(f'not rejected as {what}: {text}\n    said: {said}')
+    if said_of(example(rules.utf8)[0], 'crates/pm_token/src/symbols.rt') != [known.FORBIDDEN['unsafe']]:
+        failures.append('`unsafe` is not rejected outside its file')
     seen, rejected = applied(LAYOUT[0])
     if seen != LAYOUT[1] or rejected:
         failures.append(f'the layout is\n{seen}{rejected}')
     for failure in failures:
         print(failure)
-    total = 2 * len(rules.RULES) + len(REJECTED) + 1
+    total = 2 * len(rules.RULES) + len(REJECTED) + 2
     print(f'{total - len(failures)} tests of rust/erase passed, {len(failures)} failed')
     return len(failures)

@@ -22,8 +22,9 @@
 //! # What a contract requires
 //!
 //! Where a function requires something, as [`Span::start`](pm_span::Span::start) does of its map, the caller has to see
-//! to it. Else the call may panic, or answer anything; there is no `unsafe` in the package.
-#![forbid(unsafe_code)]
+//! to it. Else the call may panic, or answer anything. The package's one `unsafe` reads the bytes of a short text,
+//! which are copied from whole texts alone, so that they are UTF-8 whatever a caller does.
+#![deny(unsafe_code)]
 #![warn(missing_docs)]
 
 pub mod shim;

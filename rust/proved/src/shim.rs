@@ -88,32 +88,6 @@ pub mod error {
 
 /// Texts of bytes.
 pub mod str {
-    /// The text of these bytes.
-    ///
-    /// Contract: the bytes are UTF-8, which the proof of each caller shows, and the text has these bytes. So the panic
-    /// is never met. Rattle's function looks at no byte and is `unsafe`; this one looks at all of them.
-    #[inline]
-    pub fn from_utf8_unchecked(bytes: &[u8]) -> &str {
-        match core::str::from_utf8(bytes) {
-            Ok(text) => text,
-            Err(_) => panic!("a short text is no UTF-8, against its type's invariant"),
-        }
-    }
-}
-
-#[cfg(test)]
-mod tests {
-    use super::str::from_utf8_unchecked;
-
-    #[test]
-    fn the_text_of_bytes_has_these_bytes() {
-        assert_eq!(from_utf8_unchecked("aé".as_bytes()), "aé");
-        assert_eq!(from_utf8_unchecked(b""), "");
-    }
-
-    #[test]
-    #[should_panic(expected = "no UTF-8")]
-    fn bytes_that_are_no_text_are_never_given_as_one() {
-        from_utf8_unchecked(b"a\xFF");
-    }
+    /// Contract: the bytes are UTF-8, as the proof of its one caller shows, and the text has these bytes.
+    pub use core::str::from_utf8_unchecked;
 }

@@ -1,6 +1,8 @@
 // Made from crates/pm_token/src/symbols/short.rt by rust/erase: change that file, not this one.
 //! Short texts, which stand in place.
 
+#![allow(unsafe_code)]
+
 use crate::shim::str;
 
 /// How many bytes a short text has at most. With its length and the tag of an enum it is as long as three pointers.
@@ -51,7 +53,7 @@ impl Short {
     pub(crate) fn as_str(&self) -> &str
     {
         // The invariant says that the bytes are UTF-8, so they aren't looked at again.
-        str::from_utf8_unchecked(&self.bytes[..self.len as usize])
+        unsafe { str::from_utf8_unchecked(&self.bytes[..self.len as usize]) }
     }
 
     /// Takes away the `-` that the text begins with, and answers whether there was one.
