@@ -20,18 +20,32 @@ impl Chunks<'_, '_> {
         self.used = 0;
         self.out.write_str(text)
     }
+
+    /// Writes a text for which there is no room behind the others.
+    #[cold]
+    #[inline(never)]
+    fn write_past_room(&mut self, text: &str) -> Result {
+        self.flush()?;
+        if text.len() > CHUNK {
+            return self.out.write_str(text);
+        }
+        self.bytes[..text.len()].copy_from_slice(text.as_bytes());
+        self.used = text.len();
+        Ok(())
+    }
 }
 
 impl Write for Chunks<'_, '_> {
-    #[inline]
+    #[inline(always)]
     fn write_str(&mut self, text: &str) -> Result {
-        if text.len() > CHUNK - self.used {
-            self.flush()?;
-            if text.len() > CHUNK {
-                return self.out.write_str(text);
-            }
+        let Some(room) = self.bytes.get_mut(self.used..self.used + text.len()) else {
+            return self.write_past_room(text);
+        };
+        // Most texts are a mark or a space, for which a call that copies costs most of the time.
+        match (room, text.as_bytes()) {
+            ([to], [byte]) => *to = *byte,
+            (room, bytes) => room.copy_from_slice(bytes),
         }
-        self.bytes[self.used..self.used + text.len()].copy_from_slice(text.as_bytes());
         self.used += text.len();
         Ok(())
     }
@@ -40,9 +54,7 @@ impl Write for Chunks<'_, '_> {
 /// Prints a value in chunks.
 pub(crate) fn in_chunks(value: &impl shim::fmt::Display, f: &mut Formatter) -> Result {
     let (out, bytes, used) = (f, [0; CHUNK], 0);
-    let mut chunks = Chunks { out, bytes, used };
-    shim::fmt::print(value, &mut chunks)?;
-    chunks.flush()
+    shim::fmt::print_to(value, Chunks { out, bytes, used })?.flush()
 }
 
 /// Shows a value with its spans, where there are span locations, and else without, by `show`.

@@ -46,6 +46,14 @@ pub fn print<T: Display, W: Write>(value: &T, out: &mut W) -> Result {
     Display::fmt(value, &mut Formatter::new(out))
 }
 
+/// Prints a value to a writer, which is handed over and given back.
+#[inline]
+pub fn print_to<T: Display, W: Write>(value: &T, out: W) -> core::result::Result<W, Error> {
+    let mut f = Formatter::new(out);
+    Display::fmt(value, &mut f)?;
+    Ok(f.out)
+}
+
 /// Gives Rust's `Display` to a type that has Rattle's.
 #[doc(hidden)]
 #[macro_export]
