@@ -11,7 +11,7 @@ STD_ITEMS = set('''
     fmt fmt::Debug fmt::DebugStruct fmt::Display fmt::Error fmt::Formatter fmt::Result fmt::Write fs::File
     hash::Hash hash::Hasher
     io io::BufRead io::Error io::ErrorKind io::Read io::Result io::Write
-    ops::Bound ops::Range process::ExitCode rc::Rc rc::RcStr str str::from_utf8_unchecked
+    ops::Bound ops::Range process::ExitCode rc::Rc rc::RcStr str str::from_utf8 str::from_utf8_unchecked
 '''.split())
 
 # Crates of the toolchain, which the shim answers for.

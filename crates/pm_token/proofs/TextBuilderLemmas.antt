@@ -2,14 +2,16 @@
 use Rattle.std.proofs.Common.{◌≡◌, ℕ, ◌≤◌, ◌<◌, true, false, List, [], ◌∷◌, ◌++◌, if◌then◌else◌, Result, Ok, Err, OnOk}
 use Rattle.std.proofs.Common.{refl, sym, ap, ap₂, ◌∙◌, subst}
 use Rattle.std.proofs.Common.{append-nil, append_assoc, length, length-append, arith, ne_eqb, take, drop, leb-true}
-use Rattle.std.proofs.Common.{ltb-true, nat_le, ◌==◌, not}
+use Rattle.std.proofs.Common.{ltb-true, nat_le, nat_lt, ◌&&◌, ◌==◌, not}
 use Rattle.std.specs.Prelude.{encode_utf8, is_ok}
 use Rattle.std.specs.Char.{IsScalar}
 use Rattle.std.specs.List.{list_all}
 use Rattle.std.specs.Str.{chars, IsCharBoundary, IsUtf8}
-use Rattle.std.proofs.lemmas.Str.{chars-nil, chars-append, chars_past_char, IsUtf8-encode}
+use Rattle.std.proofs.lemmas.Str.{chars-nil, chars-append, chars-IsAscii, chars_past_char, IsUtf8-encode}
+use Rattle.std.proofs.lemmas.Str.Ascii.{IsAscii-from_all}
 use Rattle.std.proofs.lemmas.Bool.{and_left, and_right, and_parts, and_from, cond-true, cond-false, lt-ltb, le-ltb}
 use Rattle.std.proofs.lemmas.Bool.{not-true}
+use Rattle.std.proofs.lemmas.List.Elements.{All-cons, All-nil}
 use Rattle.lexical.specs.Finder.{while_front, while_rest}
 use Rattle.lexical.specs.Form.{Run}
 use Rattle.lexical.proofs.FinderLemmas.{finds_run}
@@ -56,12 +58,12 @@ pub plain_past : (quote c : ℕ) → 128 ≤ c → is_plain_ascii quote c ≡ fa
 plain_past quote c high = and_right (nat_le 32 c) _ (and_left _ _ (le-ltb c 127 (omega arith)))
 
 -- each is written as it is
-plain_written : (quote c : ℕ) (rest : List ℕ) → is_plain_ascii quote c ≡ true
+pub plain_written : (quote c : ℕ) (rest : List ℕ) → is_plain_ascii quote c ≡ true
     → written quote written_char c rest ≡ c ∷ []
 plain_written quote c rest is =
-    let low = and_parts _ _ is in
-    let high = and_parts _ _ low.1 in
-    let signs = and_parts _ _ high.1 in
+    let low = and_parts (nat_le 32 c) (nat_lt c 127 && (not (c == 92) && not (c == quote))) is in
+    let high = and_parts (nat_lt c 127) (not (c == 92) && not (c == quote)) low.1 in
+    let signs = and_parts (not (c == 92)) (not (c == quote)) high.1 in
     let above : 32 ≤ c = leb-true 32 c low.0 in
     let below : c < 127 = ltb-true c 127 high.0 in
     let other : (n : ℕ) → n < 32 → (c == n) ≡ false = λ n few. ne_eqb c n (λ e. omega arith) in
@@ -74,6 +76,21 @@ plain_written quote c rest is =
     ∙ (cond-false _ _ _ (not-true _ signs.1)
     ∙ cond-true _ _ _ (cond-true _ _ _ (lt-ltb c 128 (omega arith))
     ∙ and_from _ _ low.0 (ap not (ne_eqb c 127 (λ e. omega arith))))))))))
+
+-- a character between single quotes
+pub plain_between : (c : ℕ) → is_plain_ascii 39 c ≡ true
+    → chars (39 ∷ c ∷ 39 ∷ []) ≡ 39 ∷ (written 39 written_char c [] ++ 39 ∷ [])
+plain_between c is =
+    let low = and_parts (nat_le 32 c) (nat_lt c 127 && (not (c == 92) && not (c == 39))) is in
+    let high = and_parts (nat_lt c 127) (not (c == 92) && not (c == 39)) low.1 in
+    let below : c < 127 = ltb-true c 127 high.0 in
+    let ascii : c < 128 = omega (arith, below) in
+    let below_128 : ℕ → Type 0 = λ b. b < 128 in
+    let quote : 39 < 128 = omega arith in
+    let all = All-cons below_128 39 (c ∷ 39 ∷ []) quote (All-cons below_128 c (39 ∷ []) ascii
+    (All-cons below_128 39 [] quote (All-nil below_128))) in
+    chars-IsAscii (39 ∷ c ∷ 39 ∷ []) (IsAscii-from_all (39 ∷ c ∷ 39 ∷ []) all)
+    ∙ ap (λ x. 39 ∷ (x ++ 39 ∷ [])) (sym (plain_written 39 c [] is))
 
 pub content_plain : (quote : ℕ) (front rest : List ℕ) → list_all (is_plain_ascii quote) front ≡ true
     → content quote written_char (front ++ rest) ≡ front ++ content quote written_char rest

@@ -191,7 +191,8 @@ fn count_plain(bytes: &[u8], quote: char) -> usize
 }
 
 /// Whether the byte is an ASCII character that prints and is neither this quote nor a backslash.
-fn stands_for_itself(byte: u8, quote: char) -> bool
+#[inline(always)]
+pub(crate) fn stands_for_itself(byte: u8, quote: char) -> bool
     ensures { result ≡ is_plain_ascii quote byte }
 {
     byte >= b' ' && byte < 0x7F && byte != b'\\' && char::from(byte) != quote

@@ -88,6 +88,8 @@ pub mod error {
 
 /// Texts of bytes.
 pub mod str {
+    /// Contract: the text of these bytes, or the error where they aren't UTF-8.
+    pub use core::str::from_utf8;
     /// Contract: the bytes are UTF-8, as the proof of its one caller shows, and the text has these bytes.
     pub use core::str::from_utf8_unchecked;
 }

@@ -1,5 +1,5 @@
 //! The literals of integers.
-ghost use Rattle.std.specs.Prelude.{◌≡◌, ◌++◌, IfOk, IfSome, codes};
+ghost use Rattle.std.specs.Prelude.{◌≡◌, ◌++◌, IfOk, codes};
 ghost use Rattle.std.specs.Fmt.{decimal, signed_decimal};
 ghost use Rattle.pm_span.specs.Extent.{nowhere};
 ghost use Rattle.pm_token.specs.Integer.{suffix_text};
@@ -66,26 +66,26 @@ impl Suffix {
     }
 }
 
-/// The text of a number of 64 bits and its suffix, if it is short. It takes no memory.
+/// The text of a number of 64 bits and its suffix. Fails where memory runs out.
 #[inline(always)]
-fn short_unsigned(value: u64, suffix: Suffix) -> Option<Symbol>
-    ensures value { IfSome result (λ text. text ≡ decimal value ++ suffix_text suffix) }
-    ensures text { IfSome result IsText }
+fn narrow_unsigned(alloc: Global, value: u64, suffix: Suffix) -> Result<Symbol, AllocError>
+    ensures value { IfOk result (λ text. text ≡ decimal value ++ suffix_text suffix) }
+    ensures text { IfOk result IsText }
 {
     let mut buffer = Buffer::new();
-    let text = Symbol::joined(buffer.format(value), suffix.name())?;
-    Some(text)
+    let text = Symbol::concat(alloc, buffer.format(value), suffix.name())?;
+    Ok(text)
 }
 
 /// The same of a number with a sign.
 #[inline(always)]
-fn short_signed(value: i64, suffix: Suffix) -> Option<Symbol>
-    ensures value { IfSome result (λ text. text ≡ signed_decimal value ++ suffix_text suffix) }
-    ensures text { IfSome result IsText }
+fn narrow_signed(alloc: Global, value: i64, suffix: Suffix) -> Result<Symbol, AllocError>
+    ensures value { IfOk result (λ text. text ≡ signed_decimal value ++ suffix_text suffix) }
+    ensures text { IfOk result IsText }
 {
     let mut buffer = Buffer::new();
-    let text = Symbol::joined(buffer.format(value), suffix.name())?;
-    Some(text)
+    let text = Symbol::concat(alloc, buffer.format(value), suffix.name())?;
+    Ok(text)
 }
 
 /// The text of any number and its suffix. Fails where memory runs out.
@@ -93,8 +93,8 @@ fn wide_unsigned(alloc: Global, value: u128, suffix: Suffix) -> Result<Symbol, A
     ensures value { IfOk result (λ text. text ≡ decimal value ++ suffix_text suffix) }
     ensures text { IfOk result IsText }
 {
-    let suffix = suffix.name();
-    let text = Symbol::from_string(alloc, format!(in alloc; "{value}{suffix}")?)?;
+    let mut buffer = Buffer::new();
+    let text = Symbol::concat(alloc, buffer.format(value), suffix.name())?;
     Ok(text)
 }
 
@@ -103,8 +103,8 @@ fn wide_signed(alloc: Global, value: i128, suffix: Suffix) -> Result<Symbol, All
     ensures value { IfOk result (λ text. text ≡ signed_decimal value ++ suffix_text suffix) }
     ensures text { IfOk result IsText }
 {
-    let suffix = suffix.name();
-    let text = Symbol::from_string(alloc, format!(in alloc; "{value}{suffix}")?)?;
+    let mut buffer = Buffer::new();
+    let text = Symbol::concat(alloc, buffer.format(value), suffix.name())?;
     Ok(text)
 }
 
@@ -115,9 +115,7 @@ fn unsigned_text(alloc: Global, value: u128, suffix: Suffix) -> Result<Symbol, A
     ensures text { IfOk result IsText }
 {
     if value <= u128::from(u64::MAX) {
-        if let Some(text) = short_unsigned(value as u64, suffix) {
-            return Ok(text);
-        }
+        return narrow_unsigned(alloc, value as u64, suffix);
     }
     wide_unsigned(alloc, value, suffix)
 }
@@ -129,9 +127,7 @@ fn signed_text(alloc: Global, value: i128, suffix: Suffix) -> Result<Symbol, All
     ensures text { IfOk result IsText }
 {
     if value >= i128::from(i64::MIN) && value <= i128::from(i64::MAX) {
-        if let Some(text) = short_signed(value as i64, suffix) {
-            return Ok(text);
-        }
+        return narrow_signed(alloc, value as i64, suffix);
     }
     wide_signed(alloc, value, suffix)
 }

@@ -1,14 +1,49 @@
 //! The literals of texts, characters and bytes.
-ghost use Rattle.std.specs.Prelude.{◌≡◌, IfOk, IsTrue};
+ghost use Rattle.std.specs.Prelude.{◌≡◌, IfOk, IfSome, IsTrue};
 ghost use Rattle.std.specs.Str.{chars};
 ghost use Rattle.pm_span.specs.Extent.{nowhere};
 ghost use Rattle.pm_token.specs.CString.{IsCStringText, has_no_zero};
 ghost use Rattle.pm_token.specs.Escaped.{byte_string_text, byte_text, character_text, string_text};
+ghost use Rattle.pm_token.specs.Text.{IsText};
 
-use crate::escapes::TextBuilder;
+use crate::escapes::{TextBuilder, stands_for_itself};
 use crate::literals::Literal;
+use crate::symbols::Symbol;
 use pm_span::Span;
 use std::alloc::{AllocError, Global};
+use std::str;
+
+/// The text of the character between quotes, if it is ASCII and stands for itself. It takes no memory.
+fn plain_character(c: char) -> Option<Symbol>
+    ensures value { IfSome result (λ text. text ≡ character_text c) }
+    ensures text { IfSome result IsText }
+{
+    if !c.is_ascii() || !stands_for_itself(c as u8, '\'') {
+        return None;
+    }
+    let end = [c as u8, b'\''];
+    let Ok(end) = str::from_utf8(&end) else {
+        return None;
+    };
+    let text = Symbol::joined("'", end)?;
+    Some(text)
+}
+
+/// The text of the character between quotes. Fails where memory runs out.
+fn between_quotes(alloc: Global, c: char) -> Result<Symbol, AllocError>
+    ensures value { IfOk result (λ text. text ≡ character_text c) }
+    ensures text { IfOk result IsText }
+{
+    if let Some(text) = plain_character(c) {
+        return Ok(text);
+    }
+    let mut builder = TextBuilder::new(alloc);
+    builder.push('\'')?;
+    builder.push_escaped('\'', c, "")?;
+    builder.push('\'')?;
+    let text = builder.finish(alloc)?;
+    Ok(text)
+}
 
 /// The literals of texts, characters and bytes.
 impl Literal {
@@ -43,12 +78,8 @@ impl Literal {
         ensures ok { IfOk result (λ literal.
             literal ≡ record { text = character_text c; span = nowhere }) }
     {
-        let mut builder = TextBuilder::new(alloc);
-        builder.push('\'')?;
-        builder.push_escaped('\'', c, "")?;
-        builder.push('\'')?;
         Ok(Literal {
-            text: builder.finish(alloc)?,
+            text: between_quotes(alloc, c)?,
             span: Span::call_site(),
         })
     }

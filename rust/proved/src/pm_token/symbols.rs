@@ -142,6 +142,25 @@ impl Symbol {
         })
     }
 
+    /// Both texts, one after the other. Fails where memory runs out, which texts that are short together don't take.
+    #[inline(always)]
+    pub fn concat(alloc: Global, front: &str, back: &str) -> Result<Symbol, AllocError>
+    {
+        match Symbol::joined(front, back) {
+            Some(text) => Ok(text),
+            None => Symbol::long_concat(alloc, front, back),
+        }
+    }
+
+    /// The same of texts that are long together.
+    fn long_concat(alloc: Global, front: &str, back: &str) -> Result<Symbol, AllocError>
+    {
+        let mut text = String::with_capacity(alloc, front.len() + back.len())?;
+        text.push_str(front)?;
+        text.push_str(back)?;
+        Symbol::from_string(alloc, text)
+    }
+
     /// Takes away the `-` that the text begins with, and answers whether there was one.
     pub fn strip_minus(&mut self) -> bool
     {

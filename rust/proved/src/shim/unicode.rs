@@ -8,20 +8,52 @@ fn is_within(ranges: &[(u32, u32)], c: char) -> bool {
     after > 0 && c as u32 <= ranges[after - 1].1
 }
 
+/// The code points of the first two planes, which almost all texts keep to, are looked up by a bit each.
+const WITH_BITS: u32 = 0x20000;
+
+type Bits = [u64; (WITH_BITS / 64) as usize];
+
+static START_BITS: Bits = bits_of(&IDENTIFIER_START);
+static CONTINUE_BITS: Bits = bits_of(&IDENTIFIER_CONTINUE);
+
+/// Which code points with a bit are in one of the ranges.
+const fn bits_of(ranges: &[(u32, u32)]) -> Bits {
+    let mut bits = [0; (WITH_BITS / 64) as usize];
+    let mut at = 0;
+    while at < ranges.len() {
+        let (mut point, last) = ranges[at];
+        while point <= last && point < WITH_BITS {
+            bits[(point / 64) as usize] |= 1 << (point % 64);
+            point += 1;
+        }
+        at += 1;
+    }
+    bits
+}
+
+/// Whether the code point is in one of the ranges, of which these are the bits.
+#[inline]
+fn is_among(bits: &Bits, ranges: &[(u32, u32)], c: char) -> bool {
+    match bits.get((c as u32 / 64) as usize) {
+        Some(word) => word >> (c as u32 % 64) & 1 == 1,
+        None => is_within(ranges, c),
+    }
+}
+
 /// Characters of identifiers.
 pub mod unicode_ident {
-    use super::{is_within, IDENTIFIER_CONTINUE, IDENTIFIER_START};
+    use super::{is_among, CONTINUE_BITS, IDENTIFIER_CONTINUE, IDENTIFIER_START, START_BITS};
 
     /// Contract: whether the character has the property `XID_Start`.
     #[inline]
     pub fn is_xid_start(c: char) -> bool {
-        is_within(&IDENTIFIER_START, c)
+        is_among(&START_BITS, &IDENTIFIER_START, c)
     }
 
     /// Contract: whether the character has the property `XID_Continue`.
     #[inline]
     pub fn is_xid_continue(c: char) -> bool {
-        is_within(&IDENTIFIER_CONTINUE, c)
+        is_among(&CONTINUE_BITS, &IDENTIFIER_CONTINUE, c)
     }
 }
 
@@ -73,7 +105,15 @@ pub mod ucd_category {
 mod tests {
     use super::ucd_category::{GeneralCategory, CATEGORIES};
     use super::unicode_ident::{is_xid_continue, is_xid_start};
-    use super::{CATEGORY_RUNS, IDENTIFIER_CONTINUE, IDENTIFIER_START};
+    use super::{is_within, CATEGORY_RUNS, IDENTIFIER_CONTINUE, IDENTIFIER_START};
+
+    #[test]
+    fn each_character_is_what_the_ranges_say() {
+        for c in '\0'..=char::MAX {
+            assert_eq!(is_xid_start(c), is_within(&IDENTIFIER_START, c), "{c:?}");
+            assert_eq!(is_xid_continue(c), is_within(&IDENTIFIER_CONTINUE, c), "{c:?}");
+        }
+    }
 
     #[test]
     fn the_tables_are_in_order() {

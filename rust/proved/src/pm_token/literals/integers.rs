@@ -1,8 +1,6 @@
 // Made from crates/pm_token/src/literals/integers.rt by rust/erase: change that file, not this one.
 //! The literals of integers.
 
-use crate::shim::prelude::format;
-
 use crate::pm_token::literals::Literal;
 use crate::pm_token::symbols::Symbol;
 use crate::shim::itoa::Buffer;
@@ -63,37 +61,37 @@ impl Suffix {
     }
 }
 
-/// The text of a number of 64 bits and its suffix, if it is short. It takes no memory.
+/// The text of a number of 64 bits and its suffix. Fails where memory runs out.
 #[inline(always)]
-fn short_unsigned(value: u64, suffix: Suffix) -> Option<Symbol>
+fn narrow_unsigned(alloc: Global, value: u64, suffix: Suffix) -> Result<Symbol, AllocError>
 {
     let mut buffer = Buffer::new();
-    let text = Symbol::joined(buffer.format(value), suffix.name())?;
-    Some(text)
+    let text = Symbol::concat(alloc, buffer.format(value), suffix.name())?;
+    Ok(text)
 }
 
 /// The same of a number with a sign.
 #[inline(always)]
-fn short_signed(value: i64, suffix: Suffix) -> Option<Symbol>
+fn narrow_signed(alloc: Global, value: i64, suffix: Suffix) -> Result<Symbol, AllocError>
 {
     let mut buffer = Buffer::new();
-    let text = Symbol::joined(buffer.format(value), suffix.name())?;
-    Some(text)
+    let text = Symbol::concat(alloc, buffer.format(value), suffix.name())?;
+    Ok(text)
 }
 
 /// The text of any number and its suffix. Fails where memory runs out.
 fn wide_unsigned(alloc: Global, value: u128, suffix: Suffix) -> Result<Symbol, AllocError>
 {
-    let suffix = suffix.name();
-    let text = Symbol::from_string(alloc, format!(in alloc; "{value}{suffix}")?)?;
+    let mut buffer = Buffer::new();
+    let text = Symbol::concat(alloc, buffer.format(value), suffix.name())?;
     Ok(text)
 }
 
 /// The same of a number with a sign.
 fn wide_signed(alloc: Global, value: i128, suffix: Suffix) -> Result<Symbol, AllocError>
 {
-    let suffix = suffix.name();
-    let text = Symbol::from_string(alloc, format!(in alloc; "{value}{suffix}")?)?;
+    let mut buffer = Buffer::new();
+    let text = Symbol::concat(alloc, buffer.format(value), suffix.name())?;
     Ok(text)
 }
 
@@ -102,9 +100,7 @@ fn wide_signed(alloc: Global, value: i128, suffix: Suffix) -> Result<Symbol, All
 fn unsigned_text(alloc: Global, value: u128, suffix: Suffix) -> Result<Symbol, AllocError>
 {
     if value <= u128::from(u64::MAX) {
-        if let Some(text) = short_unsigned(value as u64, suffix) {
-            return Ok(text);
-        }
+        return narrow_unsigned(alloc, value as u64, suffix);
     }
     wide_unsigned(alloc, value, suffix)
 }
@@ -114,9 +110,7 @@ fn unsigned_text(alloc: Global, value: u128, suffix: Suffix) -> Result<Symbol, A
 fn signed_text(alloc: Global, value: i128, suffix: Suffix) -> Result<Symbol, AllocError>
 {
     if value >= i128::from(i64::MIN) && value <= i128::from(i64::MAX) {
-        if let Some(text) = short_signed(value as i64, suffix) {
-            return Ok(text);
-        }
+        return narrow_signed(alloc, value as i64, suffix);
     }
     wide_signed(alloc, value, suffix)
 }

@@ -1,10 +1,40 @@
 // Made from crates/pm_token/src/literals/quoted.rt by rust/erase: change that file, not this one.
 //! The literals of texts, characters and bytes.
 
-use crate::pm_token::escapes::TextBuilder;
+use crate::pm_token::escapes::{TextBuilder, stands_for_itself};
 use crate::pm_token::literals::Literal;
+use crate::pm_token::symbols::Symbol;
 use crate::pm_span::Span;
 use crate::shim::alloc::{AllocError, Global};
+use crate::shim::str;
+
+/// The text of the character between quotes, if it is ASCII and stands for itself. It takes no memory.
+fn plain_character(c: char) -> Option<Symbol>
+{
+    if !c.is_ascii() || !stands_for_itself(c as u8, '\'') {
+        return None;
+    }
+    let end = [c as u8, b'\''];
+    let Ok(end) = str::from_utf8(&end) else {
+        return None;
+    };
+    let text = Symbol::joined("'", end)?;
+    Some(text)
+}
+
+/// The text of the character between quotes. Fails where memory runs out.
+fn between_quotes(alloc: Global, c: char) -> Result<Symbol, AllocError>
+{
+    if let Some(text) = plain_character(c) {
+        return Ok(text);
+    }
+    let mut builder = TextBuilder::new(alloc);
+    builder.push('\'')?;
+    builder.push_escaped('\'', c, "")?;
+    builder.push('\'')?;
+    let text = builder.finish(alloc)?;
+    Ok(text)
+}
 
 /// The literals of texts, characters and bytes.
 impl Literal {
@@ -33,12 +63,8 @@ impl Literal {
     /// `'\''`, for `"` it is `'"'`. Fails where memory runs out.
     pub fn character(alloc: Global, c: char) -> Result<Literal, AllocError>
     {
-        let mut builder = TextBuilder::new(alloc);
-        builder.push('\'')?;
-        builder.push_escaped('\'', c, "")?;
-        builder.push('\'')?;
         Ok(Literal {
-            text: builder.finish(alloc)?,
+            text: between_quotes(alloc, c)?,
             span: Span::call_site(),
         })
     }

@@ -4,11 +4,11 @@ use Rattle.std.specs.Int.{w64}
 use Rattle.std.proofs.lemmas.Int.{to_z-of_z}
 use Rattle.std.specs.Str.{chars}
 use Rattle.pm_token.proofs.IntegerLemmas.{chars_signed, fits_wide}
-use Rattle.pm_token.proofs.literals.integers.short_signed.Goals as goal
+use Rattle.pm_token.proofs.literals.integers.narrow_signed.Goals as goal
 
 pub returns : goal.returns
 returns c = record {
-  value = c.in_ok-text.ensures.value
+  value = c.in_ok-text.ensures.ok
       ∙ (ap chars (ap₂ (λ xs ys. xs ++ ys)
       (c.format.ensures.text ∙ ap signed_decimal (to_z-of_z w64 c.args.value c.ranges.value))
       c.name.ensures)
