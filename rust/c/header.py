@@ -4,7 +4,7 @@
 Usage: rust/c/header.py [--check [ARCHIVE]]
 
 The codes are those of src/codes.rt, the records those of src/records.rt, the faults of literals those of
-specs/Faults.antt, and the calls and their comments those of src/lib.rt. The codes that a call may answer are those of
+specs/Faults.antt, the reasons those of specs/Reasons.antt, and the calls and their comments those of src/lib.rt. The codes that a call may answer are those of
 its record in specs/Calls.antt. With --check nothing is written, and the status is 1 where pm_c.h is another, where
 tests.c has no row for some code, or where ARCHIVE, the static library, exports other calls.
 """
@@ -89,12 +89,20 @@ def codes() -> str:
     return "\n/* The codes. */\nenum {\n" + "\n".join(rows).rstrip(",") + "\n};\n"
 
 
+def numbered(said: str, name: str, file: str, function: str) -> str:
+    """An enum of the values that a function of specs/ numbers."""
+    found = re.findall(rf"{function} \w+\.(\w+) = (\d+)", (CRATE / "specs" / file).read_text())
+    rows = [f"    {name.upper()}_{snake(value).upper()} = {number}" for value, number in found]
+    return f"\n/* {said} */\nenum {name} {{\n" + ",\n".join(rows) + "\n};\n"
+
+
 def faults() -> str:
-    found = re.findall(r"fault_number faults\.(\w+) = (\d+)", (CRATE / "specs/Faults.antt").read_text())
-    rows = [f"    PM_ESCAPE_{snake(name).upper()} = {number}" for name, number in found]
-    return "\n/* The faults of a literal's content, in the order of EscapeError. */\nenum pm_escape {\n" + ",\n".join(
-        rows
-    ) + "\n};\n"
+    said = "The faults of a literal's content, in the order of EscapeError."
+    return numbered(said, "pm_escape", "Faults.antt", "fault_number")
+
+
+def reasons() -> str:
+    return numbered("Why a text doesn't parse.", "pm_reason", "Reasons.antt", "reason_number")
 
 
 def records() -> str:
@@ -155,7 +163,7 @@ def calls() -> tuple[str, list[str]]:
 
 def main() -> int:
     prototypes, names = calls()
-    header = FRONT % VERSION + codes() + faults() + records() + prototypes + BACK
+    header = FRONT % VERSION + codes() + faults() + reasons() + records() + prototypes + BACK
     if sys.argv[1:2] != ["--check"]:
         HEADER.write_text(header)
         return 0

@@ -106,6 +106,28 @@ enum pm_escape {
     PM_ESCAPE_MULTIPLE_SKIPPED_LINES_WARNING = 22
 };
 
+/* Why a text doesn't parse. */
+enum pm_reason {
+    PM_REASON_UNCLOSED_COMMENT = 1,
+    PM_REASON_UNCLOSED_STRING = 2,
+    PM_REASON_UNCLOSED_RAW_STRING = 3,
+    PM_REASON_TOO_MANY_HASHES = 4,
+    PM_REASON_HASHES_WITHOUT_QUOTE = 5,
+    PM_REASON_RESERVED_RAW_NAME = 6,
+    PM_REASON_UNCLOSED_CHARACTER = 7,
+    PM_REASON_DIGIT_LIFETIME = 8,
+    PM_REASON_HASH_AFTER_LIFETIME = 9,
+    PM_REASON_NO_DIGITS = 10,
+    PM_REASON_BAD_DIGIT = 11,
+    PM_REASON_BAD_NUMBER_END = 12,
+    PM_REASON_MISPLACED_MARK = 13,
+    PM_REASON_NO_TOKEN = 14,
+    PM_REASON_UNREAD = 15,
+    PM_REASON_STRAY_CLOSER = 16,
+    PM_REASON_MISMATCHED_CLOSER = 17,
+    PM_REASON_UNCLOSED_OPENER = 18
+};
+
 /* What a call answers. Where it isn't done only `code` is of use, and `number` where the code's line names it. */
 typedef struct pm_answer {
     /* How it went: a code. */
@@ -144,6 +166,24 @@ typedef struct pm_piece {
     /* How many bytes it has. */
     uint32_t count;
 } pm_piece;
+
+/* Why a text doesn't parse, and where. All places are in bytes of the text. */
+typedef struct pm_explanation {
+    /* How it went: a code. */
+    uint32_t code;
+    /* 0 where the text parses, and else one of the values of pm_reason. */
+    uint32_t reason;
+    /* Where the fault stands. */
+    size_t fault;
+    /* Where what is at fault begins: of a digit that is too large for its number, say, behind the fault. */
+    size_t start;
+    /* Where it ends. */
+    size_t end;
+    /* Where the innermost opener before the fault begins that no closer matches; 0 where there is none. */
+    size_t opener_start;
+    /* Where it ends; 0 where there is none. */
+    size_t opener_end;
+} pm_explanation;
 
 /* A line and a column. */
 typedef struct pm_line_column {
@@ -214,6 +254,10 @@ uint32_t pm_copy_trees(pm_session session, pm_session *back, pm_tree *into, size
 /* Copies the records of pm_pieces into a buffer of just their number. One of any other length isn't written. Codes:
  * PM_NO_ROOM. */
 uint32_t pm_copy_pieces(pm_session session, pm_session *back, pm_piece *into, size_t count);
+
+/* Says why a text doesn't parse, and where. It makes no file and needs no session, so any thread may call it. Codes:
+ * PM_MAP_FULL, PM_NO_MEMORY, PM_NOT_UTF8. */
+pm_explanation pm_explain(const uint8_t *text, size_t bytes);
 
 /* Whether the name is that of an identifier, a raw one or a plain one; it is given without `r#`. Any thread may call
  * it. Codes: PM_NAME_EMPTY, PM_NAME_NUMBER, PM_NAME_INVALID, PM_NAME_RESERVED, PM_NOT_UTF8, PM_NO_MEMORY. */

@@ -175,6 +175,42 @@ static void pieces(pm_session *s) {
     want("no pieces", pm_pieces(*s, s, TEXT("")).number, 0);
 }
 
+/* A text, its reason, and where it is told. */
+static void want_reason(const char *text, uint32_t reason, size_t fault, size_t start, size_t end) {
+    pm_explanation told = pm_explain((const uint8_t *)text, strlen(text));
+    want(text, told.code, PM_DONE);
+    want(text, told.reason, reason);
+    want("the fault", told.fault, fault);
+    want("it begins", told.start, start);
+    want("it ends", told.end, end);
+}
+
+/* Why texts don't parse. */
+static void reasons(void) {
+    want_reason("fn f() { 'x' }", 0, 0, 0, 0);
+    want_reason("a /* b", PM_REASON_UNCLOSED_COMMENT, 2, 2, 4);
+    want_reason("a \"b", PM_REASON_UNCLOSED_STRING, 2, 2, 3);
+    want_reason("r#\"a\"", PM_REASON_UNCLOSED_RAW_STRING, 0, 0, 3);
+    want_reason("r#~", PM_REASON_HASHES_WITHOUT_QUOTE, 0, 2, 3);
+    want_reason("r#self", PM_REASON_RESERVED_RAW_NAME, 0, 0, 6);
+    want_reason("'+", PM_REASON_UNCLOSED_CHARACTER, 0, 0, 1);
+    want_reason("'1a", PM_REASON_DIGIT_LIFETIME, 0, 0, 3);
+    want_reason("'a#", PM_REASON_HASH_AFTER_LIFETIME, 0, 2, 3);
+    want_reason("\xc3\xa9 0x", PM_REASON_NO_DIGITS, 3, 3, 5);
+    want_reason("0b12", PM_REASON_BAD_DIGIT, 0, 3, 4);
+    want_reason("a\xef\xbb\xbf", PM_REASON_MISPLACED_MARK, 1, 1, 4);
+    want_reason("a \x01", PM_REASON_NO_TOKEN, 2, 2, 3);
+    want_reason("a)", PM_REASON_STRAY_CLOSER, 1, 1, 2);
+    want_reason("{ (]", PM_REASON_MISMATCHED_CLOSER, 3, 3, 4);
+    want_reason("[a (b", PM_REASON_UNCLOSED_OPENER, 3, 3, 4);
+    pm_explanation told = pm_explain(TEXT("{ [ (]"));
+    want("the innermost opener", told.opener_start, 4);
+    want("its end", told.opener_end, 5);
+    told = pm_explain(TEXT("a)"));
+    want("no opener", told.opener_end, 0);
+    want("no text", pm_explain(TEXT("\xff")).code, PM_NOT_UTF8);
+}
+
 /* Names and literals. */
 static void literals(pm_session *s) {
     want("name", pm_ident_check(TEXT("abc"), false), PM_DONE);
@@ -259,6 +295,7 @@ static void long_text(pm_session *s) {
     want("parse", pm_parse(*s, s, text, bytes).code, PM_MAP_FULL);
     want("reprint", pm_reprint(*s, s, text, bytes - 1).code, PM_MAP_FULL);
     want("read_literal", pm_read_literal(*s, s, text, bytes).code, PM_MAP_FULL);
+    want("explain", pm_explain(text, bytes - 1).code, PM_MAP_FULL);
     munmap((void *)text, bytes);
 }
 
@@ -281,6 +318,7 @@ static uint32_t one_call(int number, pm_session *s, uint32_t stream) {
     case 13: return pm_cstr_value(*s, s, TEXT("c\"a text that has more than some bytes\"")).code;
     case 14: return pm_source_text(*s, s, 1, 3).code;
     case 15: return pm_file_name(*s, s, 1, 3).code;
+    case 16: return pm_explain(TEXT("((")).code;
     default: return pm_ident_check(TEXT("a_name_that_has_more_than_some_bytes"), false);
     }
 }
@@ -288,7 +326,7 @@ static uint32_t one_call(int number, pm_session *s, uint32_t stream) {
 /* Each call with no memory, with one block, and so on: it answers that memory ran out exactly where the heap refused,
  * its stream stays, and it is done once there is memory. */
 static void no_memory(void) {
-    for (int number = 0; number <= 16; number++) {
+    for (int number = 0; number <= 17; number++) {
         uint32_t code = PM_NO_MEMORY;
         for (long given = 0; code != PM_DONE && given < 100; given++) {
             pm_session s = {0};
@@ -321,6 +359,7 @@ int main(int count, char **words) {
     no_session();
     streams(&s);
     pieces(&s);
+    reasons();
     literals(&s);
     look_ups(&s);
     long_text(&s);

@@ -1,3 +1,4 @@
 mod AsBox
 mod ListingLemmas
 mod PieceLemmas
+mod ReasonLemmas

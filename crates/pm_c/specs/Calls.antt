@@ -5,6 +5,8 @@ use Rattle.std.specs.Char.{IsScalar}
 use Rattle.std.specs.String.{string_bytes}
 use Rattle.std.specs.Str.{chars, encode_utf8_all, IsUtf8}
 use Rattle.slab.specs.Slab.{get, SameValues, Updates}
+use Rattle.explain.specs.Explained.{IsExplained, Parses}
+use Rattle.explain.specs.declared.explained.Explained.{Explained}
 use Rattle.proc_macro2.specs.CString.{IsCStringText, has_no_zero}
 use Rattle.proc_macro2.specs.Escaped.{character_text, string_text}
 use Rattle.proc_macro2.specs.Extent.{Extent, nowhere}
@@ -26,11 +28,13 @@ use Rattle.proc_macro2.specs.declared.ParseError.TheVariants.{Lex, MapFull, Memo
 use Rattle.pm_c.specs.Faults.{fault_number}
 use Rattle.pm_c.specs.Listing.{IsTooLong, kept_text, records_from}
 use Rattle.pm_c.specs.Pieces.{ListsPieces}
+use Rattle.pm_c.specs.Reasons.{told_of}
 use Rattle.pm_c.specs.declared.codes.TheConstants.{DONE, FAULT, MAP_FULL, NO_MEMORY, NOT_UTF8, NO_STREAM, NO_ROOM}
 use Rattle.pm_c.specs.declared.codes.TheConstants.{TOO_LONG, NO_LITERAL, NOT_UNESCAPED, OTHER_KIND, NO_CHARACTER}
 use Rattle.pm_c.specs.declared.codes.TheConstants.{NAME_EMPTY, NAME_NUMBER, NAME_INVALID, NAME_RESERVED}
 use Rattle.pm_c.specs.declared.codes.TheConstants.{NOT_HELD, NOT_JOINED}
 use Rattle.pm_c.specs.declared.records.PmAnswer.{PmAnswer}
+use Rattle.pm_c.specs.declared.records.PmExplanation.{PmExplanation}
 use Rattle.pm_c.specs.declared.records.PmLineColumn.{PmLineColumn}
 use Rattle.pm_c.specs.declared.records.PmRange.{PmRange}
 use Rattle.pm_c.specs.declared.session.Session.{Session}
@@ -215,6 +219,22 @@ pub record CopyAnswer {T : Type 0} (lent old new : List T) (code : ℕ) : Type 0
   pub done : code ≡ DONE → new ≡ lent
   pub no_room : (code ≡ NO_ROOM) ↔ (length old ≢ length lent)
   pub unwritten : code ≡ NO_ROOM → new ≡ old
+
+-- ---- why a text doesn't parse
+
+-- the text doesn't parse, for the reason that is told, where it is told
+pub record TellsReason (bytes : List ℕ) (answer : PmExplanation) : Type 0 where
+  pub explained : Explained
+  pub holds : IsExplained (next_lo new_map) (chars bytes) explained
+  pub told : answer ≡ told_of explained
+
+-- `pm_explain`
+pub record ExplainAnswer (bytes : List ℕ) (answer : PmExplanation) : Type 0 where
+  pub codes : IsAmong (DONE ∷ MAP_FULL ∷ NO_MEMORY ∷ NOT_UTF8 ∷ []) answer.code
+  pub parses : answer.code ≡ DONE → answer.reason ≡ 0 → Parses (next_lo new_map) (chars bytes)
+  pub told : answer.code ≡ DONE → answer.reason ≢ 0 → TellsReason bytes answer
+  pub not_utf8 : (answer.code ≡ NOT_UTF8) ↔ (IsUtf8 bytes → ⊥)
+  pub map_full : (answer.code ≡ MAP_FULL) ↔ Overflows new_map bytes
 
 -- ---- identifiers and literals
 

@@ -4,3 +4,4 @@ pub mod Handle
 pub mod Held
 pub mod Listing
 pub mod Pieces
+pub mod Reasons

@@ -11,6 +11,7 @@ mod codes;
 mod handle;
 mod listing;
 mod piece_list;
+mod reasons;
 mod records;
 mod session;
 
@@ -25,6 +26,7 @@ ghost use Rattle.pm_c.specs.Calls.{
   CStringAnswer,
   CharacterAnswer,
   CopyAnswer,
+  ExplainAnswer,
   FileNameAnswer,
   FreeAnswer,
   HasBytesValue,
@@ -52,7 +54,7 @@ ghost use Rattle.pm_c.specs.declared.codes.TheConstants.{DONE, NO_MEMORY, NOT_LI
 
 use codes::{DONE, NO_MEMORY, NOT_LIVE};
 pub use handle::PmSession;
-pub use records::{PmAnswer, PmLineColumn, PmPiece, PmRange, PmTree};
+pub use records::{PmAnswer, PmExplanation, PmLineColumn, PmPiece, PmRange, PmTree};
 use session::Session;
 use std::alloc::Global;
 
@@ -235,6 +237,14 @@ pub extern "C" fn pm_copy_pieces(
     ensures unwritten { session.live ≡ false → into.new ≡ into.old }
 {
     on_session!(session, back, NOT_LIVE, |inside| inside.copy_pieces(into))
+}
+
+/// Says why a text doesn't parse, and where. It makes no file and needs no session, so any thread may call it.
+#[unsafe(no_mangle)]
+pub extern "C" fn pm_explain(alloc: Global, text: &[u8]) -> PmExplanation
+    ensures answer { ExplainAnswer text.now result }
+{
+    reasons::explain_text(alloc, text)
 }
 
 /// Whether the name is that of an identifier, a raw one or a plain one; it is given without `r#`. Any thread may call

@@ -73,6 +73,26 @@ pub struct PmPiece {
     pub count: u32,
 }
 
+/// Why a text doesn't parse, and where. All places are in bytes of the text.
+#[repr(C)]
+#[derive(Clone, Copy)]
+pub struct PmExplanation {
+    /// How it went: a code.
+    pub code: u32,
+    /// 0 where the text parses, and else one of the values of `pm_reason`.
+    pub reason: u32,
+    /// Where the fault stands.
+    pub fault: usize,
+    /// Where what is at fault begins: of a digit that is too large for its number, say, behind the fault.
+    pub start: usize,
+    /// Where it ends.
+    pub end: usize,
+    /// Where the innermost opener before the fault begins that no closer matches; 0 where there is none.
+    pub opener_start: usize,
+    /// Where it ends; 0 where there is none.
+    pub opener_end: usize,
+}
+
 /// A line and a column.
 #[repr(C)]
 #[derive(Clone, Copy)]
@@ -130,6 +150,24 @@ impl PmLineColumn {
             code,
             line: 0,
             column: 0,
+        }
+    }
+}
+
+impl PmExplanation {
+    /// That there is a code alone: the text parses, or it wasn't read.
+    pub(crate) fn without_reason(code: u32) -> PmExplanation
+        ensures code { result.code ≡ code }
+        ensures none { result.reason ≡ 0 }
+    {
+        PmExplanation {
+            code,
+            reason: 0,
+            fault: 0,
+            start: 0,
+            end: 0,
+            opener_start: 0,
+            opener_end: 0,
         }
     }
 }

@@ -1,0 +1,50 @@
+-- Why a text doesn't parse, as the codes of C number it.
+use Rattle.std.specs.Prelude.{ℕ, Option, None, Some}
+use Rattle.explain.specs.declared.explained.Explained.{Explained}
+use Rattle.explain.specs.declared.explained.Opener.{Opener}
+use Rattle.explain.specs.declared.reason.Reason.{Reason}
+use Rattle.explain.specs.declared.reason.Reason.TheVariants as reasons
+use Rattle.pm_c.specs.declared.codes.TheConstants.{DONE}
+use Rattle.pm_c.specs.declared.records.PmExplanation.{PmExplanation}
+
+-- reasons count from 1, in the order in which they are declared
+abbrev pub reason_number : Reason → ℕ
+reason_number reasons.UnclosedComment = 1
+reason_number reasons.UnclosedString = 2
+reason_number reasons.UnclosedRawString = 3
+reason_number reasons.TooManyHashes = 4
+reason_number reasons.HashesWithoutQuote = 5
+reason_number reasons.ReservedRawName = 6
+reason_number reasons.UnclosedCharacter = 7
+reason_number reasons.DigitLifetime = 8
+reason_number reasons.HashAfterLifetime = 9
+reason_number reasons.NoDigits = 10
+reason_number reasons.BadDigit = 11
+reason_number reasons.BadNumberEnd = 12
+reason_number reasons.MisplacedMark = 13
+reason_number reasons.NoToken = 14
+reason_number reasons.Unread = 15
+reason_number reasons.StrayCloser = 16
+reason_number reasons.MismatchedCloser = 17
+reason_number reasons.UnclosedOpener = 18
+
+-- where an opener begins and ends, and 0 of none
+abbrev pub opener_start : Option Opener → ℕ
+opener_start None = 0
+opener_start (Some opener) = opener.at.start
+
+abbrev pub opener_end : Option Opener → ℕ
+opener_end None = 0
+opener_end (Some opener) = opener.at.end
+
+-- what C is told of a text that doesn't parse
+abbrev pub told_of : Explained → PmExplanation
+told_of x = record {
+  code = DONE;
+  reason = reason_number x.reason;
+  fault = x.before.start;
+  start = x.at.start;
+  end = x.at.end;
+  opener_start = opener_start x.innermost;
+  opener_end = opener_end x.innermost;
+}
