@@ -4,11 +4,10 @@
 //! answers all the same.
 ghost use Rattle.std.specs.Prelude.{◌≡◌, ◌↔◌, ◌==◌, IsTrue, true};
 ghost use Rattle.std.specs.Str.{chars};
-ghost use Rattle.lexical.specs.Ascii.{all_ascii};
 ghost use Rattle.lexical.specs.Character.{single_quote};
 ghost use Rattle.lexical.specs.Mark.{quotable_fronts};
 ghost use Rattle.lexical.specs.Token.{Mark};
-ghost use Rattle.lexical.specs.Text.{begins_any, begins_with, first_passes};
+ghost use Rattle.lexical.specs.Text.{begins_any, first_passes};
 ghost use Rattle.pm_token.specs.Leaf.{mark_token};
 ghost use Rattle.pm_stream.specs.Forest.{IsBuilt};
 ghost use Rattle.pm_stream.specs.Trees.{forest};
@@ -19,6 +18,7 @@ ghost use Rattle.pm_stream.specs.WellSpaced.{fits, follows_joint, follows_quote,
 
 use crate::steps::{Step, Steps};
 use crate::stream::{TokenStream, TokenTree};
+use lexical::parts::begins;
 use pm_token::{Delimiter, Punct, Spacing};
 use std::alloc::Global;
 
@@ -155,14 +155,6 @@ fn is_quotable(text: &str) -> bool
         || begins(text, "r\"")
         || begins(text, "br\"")
         || begins(text, "cr\"")
-}
-
-// Whether the text begins with this ASCII text.
-fn begins(text: &str, front: &str) -> bool
-    requires { IsTrue (all_ascii front.now) }
-    ensures { result ≡ begins_with front.now (chars text.now) }
-{
-    text.starts_with(front)
 }
 
 // Whether a `'` stands at the front of the text.

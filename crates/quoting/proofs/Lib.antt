@@ -3,7 +3,7 @@ mod SpacingLemmas
 mod SearchLemmas
 mod FaultLemmas
 mod PartLemmas
-mod DraftLemmas
+mod RespacedListLemmas
 mod PushLemmas
 mod Examples
 mod FillLemmas

@@ -19,8 +19,8 @@ use std::marker::Model;
 pub(crate) fn respaced(alloc: Global, stream: &TokenStream) -> Result<TokenStream, AllocError>
     ensures { IfOk result (λ new. new ≡ respaced stream.now) }
 {
-    let mut outer: Vec<Draft<'_>> = Vec::new(alloc);
-    let mut here = Draft::new(stream);
+    let mut outer: Vec<RespacedList<'_>> = Vec::new(alloc);
+    let mut here = RespacedList::new(stream);
     loop {
         let Some((tree, after)) = here.next() else {
             let Some(mut around) = outer.pop() else {
@@ -32,7 +32,7 @@ pub(crate) fn respaced(alloc: Global, stream: &TokenStream) -> Result<TokenStrea
         };
         if let TokenTree::Group(group) = tree {
             outer.push(here)?;
-            here = Draft::new(group.stream_ref());
+            here = RespacedList::new(group.stream_ref());
         } else {
             here.step(alloc, tree, after)?;
         }
@@ -41,7 +41,7 @@ pub(crate) fn respaced(alloc: Global, stream: &TokenStream) -> Result<TokenStrea
 
 // The trees of one list, of which the first are respaced.
 #[derive(Drop)]
-struct Draft<'a> {
+struct RespacedList<'a> {
     // The list as it was.
     stream: &'a TokenStream,
     trees: &'a [TokenTree],
@@ -51,7 +51,7 @@ struct Draft<'a> {
     changed: Option<TokenStream>,
 }
 
-impl<'a> Model for Draft<'a> {
+impl<'a> Model for RespacedList<'a> {
     ghost use Rattle.quoting.specs.Part.{Part, coded_part, done_of};
     ghost use Rattle.std.specs.Prelude.{◌≡◌, ◌≤◌, All, drop, length};
     ghost use Rattle.proc_macro2.specs.Trees.{forest, GoesInside};
@@ -70,14 +70,14 @@ impl<'a> Model for Draft<'a> {
         × (forest draft.trees.now ≡ draft.stream.now) };
 }
 
-impl<'a> Draft<'a> {
+impl<'a> RespacedList<'a> {
     // A list of which nothing is done.
-    fn new(stream: &'a TokenStream) -> Draft<'a>
+    fn new(stream: &'a TokenStream) -> RespacedList<'a>
         ensures whole { result.whole ≡ stream.now }
         ensures done { result.done ≡ nil }
         ensures left { forest result.left ≡ stream.now }
     {
-        Draft {
+        RespacedList {
             stream,
             trees: stream.trees(),
             done: 0,
@@ -112,7 +112,7 @@ impl<'a> Draft<'a> {
     }
 
     // Puts the group of this list, all of which is done, in the place of the group that the list comes from.
-    fn close(&mut self, alloc: Global, inner: Draft<'_>) -> Result<(), AllocError>
+    fn close(&mut self, alloc: Global, inner: RespacedList<'_>) -> Result<(), AllocError>
         requires open { IsOpen self.old.left inner.whole }
         requires all_done { inner.left ≡ [] }
         ensures { OnOk result (Adds self.old (enclosed self.old.left inner.entry.done) self.new) }
@@ -123,7 +123,7 @@ impl<'a> Draft<'a> {
         let TokenTree::Group(group) = tree else {
             return Ok(());
         };
-        let Draft { changed, .. } = inner;
+        let RespacedList { changed, .. } = inner;
         match changed {
             None => self.keep(tree),
             Some(changed) => { self.replace(alloc, TokenTree::Group(regrouped(group, changed))) }
@@ -163,7 +163,7 @@ impl<'a> Draft<'a> {
         requires { self.left ≡ [] }
         ensures { IfOk result (λ stream. stream ≡ self.entry.done) }
     {
-        let Draft {
+        let RespacedList {
             stream,
             changed,
             ..

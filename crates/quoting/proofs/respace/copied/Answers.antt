@@ -1,4 +1,4 @@
-use Rattle.quoting.proofs.DraftLemmas.{copied_more}
+use Rattle.quoting.proofs.RespacedListLemmas.{copied_more}
 use Rattle.quoting.proofs.respace.copied.Goals as goal
 
 pub loop-tree-preserved : goal.loop-tree-preserved

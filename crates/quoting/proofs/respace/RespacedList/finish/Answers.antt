@@ -1,7 +1,7 @@
 use Rattle.std.proofs.Common.{◌∙◌, ap, sym, Option}
 use Rattle.proc_macro2.specs.Forest.{Forest}
-use Rattle.quoting.proofs.DraftLemmas.{finished, part_of}
-use Rattle.quoting.proofs.respace.Draft.finish.Goals as goal
+use Rattle.quoting.proofs.RespacedListLemmas.{finished, part_of}
+use Rattle.quoting.proofs.respace.RespacedList.finish.Goals as goal
 
 pub returns-in-None : goal.returns-in-None
 returns-in-None c =

@@ -2,9 +2,9 @@ use Rattle.std.proofs.Common.{◌∙◌, ◌+◌, ap, sym, subst, Option}
 use Rattle.proc_macro2.specs.Forest.{Forest, joined}
 use Rattle.proc_macro2.specs.Trees.{alone}
 use Rattle.quoting.specs.Part.{Adds, done_of}
-use Rattle.quoting.proofs.DraftLemmas.{adds_kept, adds_put, first_goes_inside, part_of}
-use Rattle.quoting.proofs.respace.Draft.keep.Goals as goal
-use Rattle.quoting.proofs.respace.Draft.keep.Goals.{in-Some+in_ok-clone+in_ok-put, in_default}
+use Rattle.quoting.proofs.RespacedListLemmas.{adds_kept, adds_put, first_goes_inside, part_of}
+use Rattle.quoting.proofs.respace.RespacedList.keep.Goals as goal
+use Rattle.quoting.proofs.respace.RespacedList.keep.Goals.{in-Some+in_ok-clone+in_ok-put, in_default}
 
 pub put-requires : goal.put-requires
 put-requires c =

@@ -2,9 +2,9 @@ use Rattle.std.proofs.Common.{◌∙◌, ap, sym, Option}
 use Rattle.proc_macro2.specs.Forest.{Forest}
 use Rattle.proc_macro2.specs.Trees.{alone}
 use Rattle.quoting.specs.Part.{done_of}
-use Rattle.quoting.proofs.DraftLemmas.{adds_put}
-use Rattle.quoting.proofs.respace.Draft.replace.Goals as goal
-use Rattle.quoting.proofs.respace.Draft.replace.Goals.{in-Some, in-None+in_ok-changed-in-None}
+use Rattle.quoting.proofs.RespacedListLemmas.{adds_put}
+use Rattle.quoting.proofs.respace.RespacedList.replace.Goals as goal
+use Rattle.quoting.proofs.respace.RespacedList.replace.Goals.{in-Some, in-None+in_ok-changed-in-None}
 
 pub returns : goal.returns
 returns c =
