@@ -15,7 +15,7 @@ use Rattle.pm_stream.specs.Building.{GivesAll, GivesAnItem, PutsIn, gathered, sp
 use Rattle.pm_stream.specs.Forest.{Forest, nil, leaf, group, joined, IsBuilt}
 use Rattle.pm_stream.specs.Trees.{alone, before, forest}
 use Rattle.pm_stream.specs.declared.stream.TokenTree.{TokenTree}
-use Rattle.pm_stream.specs.declared.stream.TokenTree.TheVariants.{Group, Ident, Punct, Literal}
+use Rattle.pm_stream.specs.declared.stream.TokenTree.TheVariants.{Punct, Literal}
 use Rattle.pm_stream.proofs.TreeLemmas.{IsBuilt-joined, joined-before}
 
 -- ---- forests one after another
@@ -50,14 +50,6 @@ pub forest_append : (old more : List TokenTree) → forest (old ++ more) ≡ joi
 forest_append [] more = refl
 forest_append (t ∷ old) more = ap (before t) (forest_append old more) ∙ sym (joined-before t (forest old) (forest more))
 
--- a tree that is no literal
-pub pushed_other : (old new : List TokenTree) (t : TokenTree) → new ≡ old ++ t ∷ []
-    → ((l : Text) → t ≡ Literal l → ⊥) → forest new ≡ joined (forest old) (split t)
-pushed_other old new (Group g) pushed other = ap forest pushed ∙ forest_append old (Group g ∷ [])
-pushed_other old new (Ident i) pushed other = ap forest pushed ∙ forest_append old (Ident i ∷ [])
-pushed_other old new (Punct p) pushed other = ap forest pushed ∙ forest_append old (Punct p ∷ [])
-pushed_other old new (Literal l) pushed other = absurd (other l refl)
-
 -- the mark and the rest of a literal, or no mark and the literal
 abbrev AreParts : Text → Option Mark → Text → Type 0
 AreParts l minus rest =
@@ -70,27 +62,27 @@ split_by l b is = ap (λ x. if x then before (Punct (minus_of l)) (alone (Litera
     is
 
 -- a literal without a sign
-pub pushed_plain : (old new : List TokenTree) (t : TokenTree) (l rest : Text) (minus : Option Mark)
-    → t ≡ Literal l → AreParts l minus rest → ((m : Mark) → minus ≡ Some m → ⊥)
-    → new ≡ old ++ Literal rest ∷ [] → forest new ≡ joined (forest old) (split t)
-pushed_plain old new t l rest (Some m) is parts other pushed = absurd (other m refl)
-pushed_plain old new t l rest None is parts other pushed =
-    ap forest pushed ∙ forest_append old (Literal rest ∷ [])
-    ∙ ap (joined (forest old)) (ap (λ (x : Text). alone (Literal x)) parts.1 ∙ sym (split_by l false parts.0)
-    ∙ ap split (sym is))
+pub split_plain : (l rest : Text) (minus : Option Mark) → AreParts l minus rest → minus ≡ None
+    → split (Literal l) ≡ alone (Literal rest)
+split_plain l rest minus parts none =
+    let known = subst (λ o. AreParts l o rest) none parts in
+    split_by l false known.0 ∙ ap (λ (x : Text). alone (Literal x)) (sym known.1)
 
 -- one with a sign
-pub pushed_negative : (old first new : List TokenTree) (t : TokenTree) (l rest : Text) (m : Mark) (minus : Option Mark)
-    → t ≡ Literal l → AreParts l minus rest → minus ≡ Some m
-    → first ≡ old ++ Punct m ∷ [] → new ≡ first ++ Literal rest ∷ [] → forest new ≡ joined (forest old) (split t)
-pushed_negative old first new t l rest m minus is parts some one two =
+pub split_negative : (l rest : Text) (m : Mark) (minus : Option Mark) → AreParts l minus rest → minus ≡ Some m
+    → split (Literal l) ≡ before (Punct m) (alone (Literal rest))
+split_negative l rest m minus parts some =
     let known = subst (λ o. AreParts l o rest) some parts in
-    let same : before (Punct m) (alone (Literal rest)) ≡ split (Literal l) =
-    ap₂ (λ (x : Mark) (y : Text). before (Punct x) (alone (Literal y))) known.1 known.2
-    ∙ sym (split_by l true known.0) in
+    split_by l true known.0
+    ∙ ap₂ (λ (x : Mark) (y : Text). before (Punct x) (alone (Literal y))) (sym known.1) (sym known.2)
+
+-- both trees of it, one after the other
+pub pushed_two : (old first new : List TokenTree) (m : Mark) (rest : Text)
+    → first ≡ old ++ Punct m ∷ [] → new ≡ first ++ Literal rest ∷ []
+    → forest new ≡ joined (forest old) (before (Punct m) (alone (Literal rest)))
+pushed_two old first new m rest one two =
     ap forest (two ∙ (ap (λ ts. ts ++ Literal rest ∷ []) one ∙ append_assoc old (Punct m ∷ []) (Literal rest ∷ [])))
     ∙ forest_append old (Punct m ∷ Literal rest ∷ [])
-    ∙ ap (joined (forest old)) (same ∙ ap split (sym is))
 
 -- a list and its copy
 pub clones_same : (old new : Vec TokenTree Global)

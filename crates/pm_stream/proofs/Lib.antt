@@ -3,6 +3,7 @@ pub mod DocLemmas
 pub mod PieceLemmas
 pub mod TreeLemmas
 pub mod BuildingLemmas
+pub mod TakenLemmas
 pub mod InOrderLemmas
 pub mod StepLemmas
 pub mod PrintLemmas

@@ -1,16 +1,14 @@
 -- Lists of trees and the forests that they make.
-use Rattle.std.proofs.Common.{All, Option, Some, None, ◌≡◌, ℕ, ◌+◌, ◌*◌, ◌<◌, ◌≤◌, get_or, arith, false, List, [], ◌∷◌}
-use Rattle.std.proofs.Common.{◌++◌, length, nat_eq, refl, sym, ap, subst, ◌∙◌, rules}
+use Rattle.std.proofs.Common.{All, ◌≡◌, ℕ, ◌+◌, ◌*◌, ◌<◌, ◌≤◌, get_or, arith, false, List, [], ◌∷◌}
+use Rattle.std.proofs.Common.{◌++◌, length, nat_eq, refl, sym, ap, ◌∙◌, rules}
 use Rattle.pm_stream.specs.Events.{Event, One, Opens, Closes}
 use Rattle.pm_stream.specs.Forest.{Forest, nil, leaf, group, flat_onto, flattening, joined, IsBuilt}
-use Rattle.std.proofs.lemmas.List.{append-nil}
 use Rattle.std.proofs.lemmas.List.Elements.{All-nil, All-cons}
-use Rattle.std.specs.Option.{option_to_list}
 use denote.Param.Weighed.{most, at_most}
 use Rattle.pm_stream.specs.InnerSize.{deep_le-before}
 use Rattle.pm_stream.specs.Size.{is_nil, count}
 use Rattle.pm_stream.specs.declared.stream.TokenStream.TheDeep.{size-TokenTree}
-use Rattle.pm_stream.specs.Trees.{before, forest, alone, inside, GoesInside, TakesLast}
+use Rattle.pm_stream.specs.Trees.{before, forest, alone, GoesInside}
 use Rattle.pm_stream.specs.declared.stream.Group.{Group as Grouped}
 use Rattle.pm_stream.specs.declared.stream.TokenTree.{TokenTree}
 use Rattle.pm_stream.specs.declared.stream.TokenTree.TheVariants.{Group, Ident, Punct, Literal}
@@ -74,7 +72,7 @@ pub flattening-joined : (f g : Forest) → flattening (joined f g) ≡ flattenin
 flattening-joined f g = flat_onto-joined f g [] ∙ sym (flat_onto-append f [] (flattening g))
 
 -- the measures of the trees of a list are below that of the stream
-most_size_le : (ts : List TokenTree) → most size-TokenTree ts ≤ 3 * count (forest ts) + 2
+pub most_size_le : (ts : List TokenTree) → most size-TokenTree ts ≤ 3 * count (forest ts) + 2
 most_size_le [] = omega arith
 most_size_le (t ∷ ts) = omega (arith, deep_le-before t (forest ts), most_size_le ts)
 
@@ -88,35 +86,10 @@ item_size_le ts i t f h is e = omega (
   ap count e,
 )
 
--- the last of a list
-pub takes_last : (own new : List TokenTree) (r : Option TokenTree) → own ≡ new ++ option_to_list r
-    → TakesLast (forest own) r (forest new)
-takes_last own new None p = ap forest (sym (p ∙ append-nil new))
-takes_last own new (Some t) p = ap forest p ∙ forest-push new t
-
 pub count-joined : (f g : Forest) → count (joined f g) ≡ count f + count g
 count-joined nil g = omega arith
 count-joined (leaf t lo hi f) g = omega (arith, count-joined f g)
 count-joined (group d lo hi f k) g = omega (arith, count-joined k g)
-
-pub count-alone : (t : TokenTree) → count (alone t) ≡ 1 + count (inside t)
-count-alone (Group g) = omega arith
-count-alone (Ident i) = omega arith
-count-alone (Punct p) = omega arith
-count-alone (Literal l) = omega arith
-
--- with the last tree away
-pub count-taken : (old new : Forest) (t : TokenTree) → old ≡ joined new (alone t)
-    → count old ≡ count new + 1 + count (inside t)
-count-taken old new t p = omega (arith, ap count p, count-joined new (alone t), count-alone t)
-
-pub IsBuilt-taken : (old new : Forest) (r : Option TokenTree) → TakesLast old r new → IsBuilt old → IsBuilt new
-IsBuilt-taken old new None p q = subst IsBuilt (sym p) q
-IsBuilt-taken old new (Some t) p q = IsBuilt-front new (alone t) (subst IsBuilt p q)
-
--- what a shared list holds is below the stream
-pub shared_size_le : (ts : List TokenTree) (f : Forest) → forest ts ≡ f → most size-TokenTree ts ≤ 3 * count f + 2
-shared_size_le ts f e = omega (arith, most_size_le ts, ap count e)
 
 -- the way back, where a group was
 pub count-put : (old new : Forest) (g : Grouped) → new ≡ joined old (alone (Group g))

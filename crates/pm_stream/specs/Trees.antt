@@ -5,6 +5,7 @@ use Rattle.std.specs.declared.rc.Rc.{Rc}
 use Rattle.lexical.specs.Literal.{IsLiteralToken}
 use Rattle.pm_token.specs.Leaf.{name_token, mark_token, text_token}
 use Rattle.pm_stream.specs.Forest.{Forest, nil, leaf, group, joined}
+use Rattle.pm_stream.specs.declared.stream.Group.{Group as Grouped}
 use Rattle.pm_stream.specs.declared.stream.TokenTree.{TokenTree}
 use Rattle.pm_stream.specs.declared.stream.TokenTree.TheVariants.{Group, Ident, Punct, Literal}
 
@@ -43,7 +44,7 @@ abbrev pub held : Option (Rc (Vec TokenTree Global) Global) → Forest
 held None = nil
 held (Some shared) = forest shared.value.items
 
--- the last of the trees is taken away, or none is
-abbrev pub TakesLast : Forest → Option TokenTree → Forest → Type 0
-TakesLast old None new = new ≡ old
-TakesLast old (Some tree) new = old ≡ joined new (alone tree)
+-- the last group is taken away with the trees after it, or the last trees are
+abbrev pub TakesGroup : Forest → Option Grouped → Forest → Type 0
+TakesGroup old None new = (rest : Forest) × old ≡ joined new rest
+TakesGroup old (Some g) new = (rest : Forest) × old ≡ joined new (before (Group g) rest)

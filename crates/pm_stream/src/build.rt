@@ -120,7 +120,7 @@ impl TokenStream {
             (PutsIn (λ group. split (GroupTree group))) groups self.old self.new) }
     {
         for group in groups {
-            self.put(TokenTree::Group(group))?;
+            self.put_group(group)?;
         }
         Ok(())
     }
@@ -140,7 +140,7 @@ impl TokenStream {
             (PutsIn (λ ident. split (IdentTree ident))) idents self.old self.new) }
     {
         for ident in idents {
-            self.put(TokenTree::Ident(ident))?;
+            self.put_ident(ident)?;
         }
         Ok(())
     }
@@ -160,7 +160,7 @@ impl TokenStream {
             (PutsIn (λ punct. split (PunctTree punct))) puncts self.old self.new) }
     {
         for punct in puncts {
-            self.put(TokenTree::Punct(punct))?;
+            self.put_punct(punct)?;
         }
         Ok(())
     }
@@ -181,7 +181,7 @@ impl TokenStream {
             (PutsIn (λ literal. split (LiteralTree literal))) literals self.old self.new) }
     {
         for literal in literals {
-            self.put(TokenTree::Literal(literal))?;
+            self.put_literal(literal)?;
         }
         Ok(())
     }

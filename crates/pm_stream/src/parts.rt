@@ -1,15 +1,18 @@
 //! What the crates above make streams of, and users don't.
-ghost use Rattle.std.specs.Prelude.{◌≡◌, ◌<◌, ◌+◌, ◌^◌, IfErr, IfOk, length};
+ghost use Rattle.std.specs.Prelude.{◌≡◌, ◌<◌, ◌+◌, ◌^◌, IfErr, IfOk, OnErr, OnOk, length};
 ghost use Rattle.std.specs.Str.{chars};
+ghost use Rattle.pm_stream.specs.Building.{split};
 ghost use Rattle.pm_stream.specs.Fault.{IsFault};
-ghost use Rattle.pm_stream.specs.Forest.{IsBuilt};
+ghost use Rattle.pm_stream.specs.Forest.{IsBuilt, joined};
 ghost use Rattle.pm_stream.specs.Trees.{forest};
 ghost use Rattle.pm_stream.specs.Parsing.{ParsesTo};
+ghost use Rattle.pm_stream.specs.declared.stream.TokenTree.TheVariants.{Group as GroupTree, Ident as IdentTree};
+ghost use Rattle.pm_stream.specs.declared.stream.TokenTree.TheVariants.{Punct as PunctTree, Literal as LiteralTree};
 
 use crate::parse::parse;
 use crate::stream::{Group, TokenStream, TokenTree};
 use pm_span::Span;
-use pm_token::{Delimiter, ParseError};
+use pm_token::{Delimiter, Ident, Literal, ParseError, Punct};
 use std::alloc::{AllocError, Global};
 
 /// The group of these parts.
@@ -25,6 +28,43 @@ pub fn stream(alloc: Global, trees: Vec<TokenTree>) -> Result<TokenStream, Alloc
     ensures ok { IfOk result (λ stream. stream ≡ forest trees.items) }
 {
     TokenStream::from_vec(alloc, trees)
+}
+
+/// Puts a group after the trees of a stream. Where memory runs out the stream stays as it was.
+#[inline(always)]
+pub fn put_group(stream: &mut TokenStream, group: Group) -> Result<(), AllocError>
+    ensures ok { OnOk result (stream.new ≡ joined stream.old (split (GroupTree group))) }
+    ensures err { OnErr result (stream.new ≡ stream.old) }
+{
+    stream.put_group(group)
+}
+
+/// Puts an identifier after the trees of a stream. Where memory runs out the stream stays as it was.
+#[inline(always)]
+pub fn put_ident(stream: &mut TokenStream, ident: Ident) -> Result<(), AllocError>
+    ensures ok { OnOk result (stream.new ≡ joined stream.old (split (IdentTree ident))) }
+    ensures err { OnErr result (stream.new ≡ stream.old) }
+{
+    stream.put_ident(ident)
+}
+
+/// Puts a mark after the trees of a stream. Where memory runs out the stream stays as it was.
+#[inline(always)]
+pub fn put_punct(stream: &mut TokenStream, punct: Punct) -> Result<(), AllocError>
+    ensures ok { OnOk result (stream.new ≡ joined stream.old (split (PunctTree punct))) }
+    ensures err { OnErr result (stream.new ≡ stream.old) }
+{
+    stream.put_punct(punct)
+}
+
+/// Puts a literal after the trees of a stream, a negative one as its `-` and the rest. Where memory runs out the
+/// stream stays as it was.
+#[inline(always)]
+pub fn put_literal(stream: &mut TokenStream, literal: Literal) -> Result<(), AllocError>
+    ensures ok { OnOk result (stream.new ≡ joined stream.old (split (LiteralTree literal))) }
+    ensures err { OnErr result (stream.new ≡ stream.old) }
+{
+    stream.put_literal(literal)
 }
 
 /// The token trees of a text that is no file of a map (`parses-to`). Spans count its characters from `base` on,

@@ -4,7 +4,7 @@ ghost use Rattle.pm_span.specs.Extent.{nowhere};
 ghost use Rattle.pm_span.specs.Files.{Files};
 ghost use Rattle.pm_stream.specs.Forest.{Forest, nil, joined, IsBuilt};
 ghost use Rattle.pm_stream.specs.HeldSpans.{HoldsAll, HoldsEach};
-ghost use Rattle.pm_stream.specs.Trees.{forest, held, alone, inside, GoesInside, TakesLast};
+ghost use Rattle.pm_stream.specs.Trees.{forest, held, alone, inside, GoesInside, TakesGroup};
 ghost use Rattle.pm_stream.specs.Size.{is_nil, count};
 ghost use Rattle.pm_stream.specs.TreeSpan.{extent_of, with_span};
 
@@ -73,7 +73,7 @@ pub struct Group {
     span: Span,
 }
 
-// A walk from the last tree to the first, into each group that has no other owner. The way back is
+// A walk from the last group to the first, into each that has no other owner. The way back is
 // kept in the lists themselves, where the group was that the walk went into: so a stream is
 // dropped in little stack and no memory, however deep its groups nest.
 impl Drop for TokenStream {
@@ -83,27 +83,24 @@ impl Drop for TokenStream {
         let Some(mut shared) = trees else {
             return;
         };
-        let Some(last) = take_last(&mut shared) else {
+        let Some(last) = take_group(&mut shared) else {
             return;
         };
         let mut here = TokenStream {
             alloc,
             trees: Some(shared),
         };
-        let mut outer = last.into_inside(alloc);
-        // A step takes a tree, or the way back that an earlier step left there. So there are at
-        // most two for each tree, and one that ends the walk: fewer than the bound, which no memory has
-        // trees for. It spares a measure of the walk; what it left would be dropped by other walks.
+        let mut outer = last.stream;
+        // A step takes a group, or the way back that an earlier step left there. So there are at
+        // most two for each group, and one that ends the walk: fewer than the bound, which no memory has
+        // groups for. It spares a measure of the walk; what it left would be dropped by other walks.
         for _ in 0..u64::MAX {
-            let Some(tree) = here.take_last() else {
-                let Some(way) = outer.take_last() else {
+            let Some(group) = here.take_group() else {
+                let Some(way) = outer.take_group() else {
                     return;
                 };
                 here = outer;
-                outer = way.into_inside(alloc);
-                continue;
-            };
-            let TokenTree::Group(group) = tree else {
+                outer = way.stream;
                 continue;
             };
             let inside = group.stream;
@@ -121,14 +118,31 @@ impl Drop for TokenStream {
     }
 }
 
-// The last tree of a list that has no other owner.
-fn take_last(shared: &mut Rc<Vec<TokenTree>>) -> Option<TokenTree>
-    ensures { TakesLast (forest shared.old.value.items) result (forest shared.new.value.items) }
+// The last group of a list that has no other owner. The tokens after it are dropped.
+#[inline(always)]
+fn take_group(shared: &mut Rc<Vec<TokenTree>>) -> Option<Group>
+    ensures { TakesGroup (forest shared.old.value.items) result (forest shared.new.value.items) }
 {
     match Rc::get_mut(shared) {
-        Some(own) => own.pop(),
+        Some(own) => pop_group(own),
         None => None,
     }
+}
+
+// The last group. The tokens after it are dropped.
+#[inline(always)]
+fn pop_group(trees: &mut Vec<TokenTree>) -> Option<Group>
+    ensures { TakesGroup (forest trees.old.items) result (forest trees.new.items) }
+{
+    while let Some(tree) = trees.pop() {
+        match tree {
+            TokenTree::Group(group) => return Some(group),
+            TokenTree::Ident(ident) => drop(ident),
+            TokenTree::Punct(punct) => drop(punct),
+            TokenTree::Literal(literal) => drop(literal),
+        }
+    }
+    None
 }
 
 // Puts a tree after the others, in a list that has no other owner.
@@ -189,14 +203,14 @@ impl TokenStream {
         listed(&self.trees)
     }
 
-    // The last tree, where the trees have no other owner.
-    fn take_last(&mut self) -> Option<TokenTree>
-        ensures { TakesLast self.old result self.new }
+    // The last group, where the trees have no other owner. The tokens after it are dropped.
+    fn take_group(&mut self) -> Option<Group>
+        ensures { TakesGroup self.old result self.new }
     {
         let Some(shared) = &mut self.trees else {
             return None;
         };
-        take_last(shared)
+        take_group(shared)
     }
 
     // Puts a group of the outer trees after its own, or gives them back.

@@ -4,7 +4,7 @@ use crate::map::{self, sure};
 use crate::print::{self, ShownStream};
 use crate::repr::{debug, Repr};
 use crate::{Group, Ident, LexError, Literal, Punct, TokenTree};
-use proved::pm_stream::{token_stream::IntoIter as OwnIter, TokenStream as Own, TokenTree as OwnTree};
+use proved::pm_stream::{parts, token_stream::IntoIter as OwnIter, TokenStream as Own, TokenTree as OwnTree};
 use proved::shim::alloc::Global;
 use std::fmt::{self, Debug, Display};
 use std::str::FromStr;
@@ -89,7 +89,9 @@ impl From<TokenStream> for proc_macro::TokenStream {
 impl From<TokenTree> for TokenStream {
     #[inline]
     fn from(tree: TokenTree) -> TokenStream {
-        TokenStream::from_iter([tree])
+        let mut stream = TokenStream::new();
+        stream.extend(Some(tree));
+        stream
     }
 }
 
@@ -116,7 +118,7 @@ impl Extend<TokenTree> for TokenStream {
         let trees = trees.into_iter();
         match &mut self.repr {
             Repr::Compiler(stream) => inside_alone(|| trees.for_each(|tree| stream.push(tree))),
-            Repr::Own(own) => sure(own.extend_trees(trees.map(into_own))),
+            Repr::Own(own) => trees.for_each(|tree| put(own, tree)),
         }
     }
 }
@@ -218,15 +220,16 @@ fn of_own(tree: OwnTree) -> TokenTree {
     }
 }
 
-/// The tree of the proved functions.
+/// Puts a tree after those of the proved functions. Each kind goes its own way, so that a tree of any kind need not be
+/// put together between.
 #[inline(always)]
-fn into_own(tree: TokenTree) -> OwnTree {
-    match tree {
-        TokenTree::Group(group) => OwnTree::Group(group.repr.into_own()),
-        TokenTree::Ident(ident) => OwnTree::Ident(ident.repr.into_own()),
-        TokenTree::Punct(punct) => OwnTree::Punct(punct.repr.into_own()),
-        TokenTree::Literal(literal) => OwnTree::Literal(literal.repr.into_own()),
-    }
+fn put(stream: &mut Own, tree: TokenTree) {
+    sure(match tree {
+        TokenTree::Group(group) => parts::put_group(stream, group.repr.into_own()),
+        TokenTree::Ident(ident) => parts::put_ident(stream, ident.repr.into_own()),
+        TokenTree::Punct(punct) => parts::put_punct(stream, punct.repr.into_own()),
+        TokenTree::Literal(literal) => parts::put_literal(stream, literal.repr.into_own()),
+    });
 }
 
 impl Debug for IntoIter {

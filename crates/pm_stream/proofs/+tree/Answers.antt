@@ -1,83 +1,87 @@
 use Rattle.std.proofs.Common.{rules, ◌<◌, arith, ap, sym, subst, ◌∙◌}
 use denote.Param.Weighed.{most}
 use Rattle.pm_stream.specs.Forest.{IsBuilt}
-use Rattle.pm_stream.specs.Trees.{held, inside}
+use Rattle.pm_stream.specs.Trees.{held}
 use Rattle.pm_stream.specs.Size.{count}
 use Rattle.pm_stream.specs.declared.stream.TokenStream.TheDeep.{size-TokenTree}
-use Rattle.pm_stream.proofs.TreeLemmas.{IsBuilt-taken, count-not_nil, count-taken, shared_size_le}
+use Rattle.pm_stream.proofs.TakenLemmas.{IsBuilt-taken, count-left, count-taken}
+use Rattle.pm_stream.proofs.TreeLemmas.{count-not_nil, most_size_le}
 use Rattle.pm_stream.proofs.+tree.Goals as goal
 use Rattle.pm_stream.proofs.+tree.Goals.{stream::TokenStream::drop-in-Ok, stream::TokenStream::drop-in-Err}
 
 pub stream::TokenStream::drop-drop-shared-requires : goal.stream::TokenStream::drop-drop-shared-requires
 stream::TokenStream::drop-drop-shared-requires t c κs =
-    let below : most size-TokenTree c.take_last.new.shared.value.items < t =
+    let below : most size-TokenTree c.take_group.new.shared.value.items < t =
     omega (
       arith,
-      shared_size_le c.take_last.new.shared.value.items _
-          (c.in_default-take_last.ensures ∙ ap held (sym c.in-Some.is) ∙ c.self.view_is),
+      most_size_le c.take_group.new.shared.value.items,
+      count-left _ _ c.in_default-take_group.ensures,
+      ap count (ap held (sym c.in-Some.is) ∙ c.self.view_is),
       c.decreases,
     ) in
     search (rules, below)
 
 pub stream::TokenStream::drop-invariant_of-here : goal.stream::TokenStream::drop-invariant_of-here
 stream::TokenStream::drop-invariant_of-here t c =
-    IsBuilt-taken _ _ c.take_last.result c.take_last.ensures (subst IsBuilt (ap held c.in-Some.is) c.self.invariant)
+    IsBuilt-taken _ _ c.take_group.result c.take_group.ensures (subst IsBuilt (ap held c.in-Some.is) c.self.invariant)
 
 pub stream::TokenStream::drop-loop-init : goal.stream::TokenStream::drop-loop-init
 stream::TokenStream::drop-loop-init t c =
     let same = ap count (ap held (sym c.in-Some.is) ∙ c.self.view_is) in
-    let taken = count-taken _ _ c.in-Some-take_last.last c.in-Some-take_last.ensures in
-    let into = ap count c.into_inside-outer.ensures in
+    let taken = count-taken _ _ c.in-Some-take_group.last c.in-Some-take_group.ensures in
     record {
-      here = omega (arith, same, taken, into);
-      outer = omega (arith, same, taken, into);
+      here = omega (arith, same, taken);
+      outer = omega (arith, same, taken);
       both =
-          omega (arith, same, taken, into);
+          omega (arith, same, taken);
     }
 
 pub stream::TokenStream::drop-drop-inside-requires : goal.stream::TokenStream::drop-drop-inside-requires
 stream::TokenStream::drop-drop-inside-requires t c =
-    let taken = count-taken _ _ c.in-Some-take_last-2.tree c.in-Some-take_last-2.ensures in
-    let into = ap (λ tree. count (inside tree)) c.in-Group.is in
-    (omega (arith, taken, into, c.loop.invariant.here, c.decreases), tt)
+    let taken = count-taken _ _ c.in-Some-take_group-2.group c.in-Some-take_group-2.ensures in
+    (omega (arith, taken, c.loop.invariant.here, c.decreases), tt)
 
 pub stream::TokenStream::drop-drop-inside-requires-in-Err-1 :
     goal.stream::TokenStream::drop-drop-inside-requires-in-Err-1
 stream::TokenStream::drop-drop-inside-requires-in-Err-1 t c =
-    let taken = count-taken _ _ c.in-Some-take_last-2.tree c.in-Some-take_last-2.ensures in
-    let into = ap (λ tree. count (inside tree)) c.in-Group.is in
-    (omega (arith, taken, into, c.loop.invariant.here, c.decreases), tt)
+    let taken = count-taken _ _ c.in-Some-take_group-2.group c.in-Some-take_group-2.ensures in
+    (omega (arith, taken, c.loop.invariant.here, c.decreases), tt)
+
+-- the walk ends
+pub stream::TokenStream::drop-drop-outer-requires : goal.stream::TokenStream::drop-drop-outer-requires
+stream::TokenStream::drop-drop-outer-requires t c =
+    let left = count-left _ _ c.in_default-take_group-3.ensures in
+    (omega (arith, left, c.loop.invariant.outer, c.decreases), tt)
+
+pub stream::TokenStream::drop-drop-here-requires : goal.stream::TokenStream::drop-drop-here-requires
+stream::TokenStream::drop-drop-here-requires t c =
+    let left = count-left _ _ c.in_default-take_group-2.ensures in
+    (omega (arith, left, c.loop.invariant.here, c.decreases), tt)
+
+-- or goes back
+pub stream::TokenStream::drop-drop-here-requires-in_default-take_group-2 :
+    goal.stream::TokenStream::drop-drop-here-requires-in_default-take_group-2
+stream::TokenStream::drop-drop-here-requires-in_default-take_group-2 t c =
+    let left = count-left _ _ c.in_default-take_group-2.ensures in
+    (omega (arith, left, c.loop.invariant.here, c.decreases), tt)
 
 -- the walk goes back to the group's list
-pub stream::TokenStream::drop-loop-preserved-in_default-take_last-2 :
-    goal.stream::TokenStream::drop-loop-preserved-in_default-take_last-2
-stream::TokenStream::drop-loop-preserved-in_default-take_last-2 t c =
+pub stream::TokenStream::drop-loop-preserved-in_default-take_group-2 :
+    goal.stream::TokenStream::drop-loop-preserved-in_default-take_group-2
+stream::TokenStream::drop-loop-preserved-in_default-take_group-2 t c =
     let was = c.loop.invariant in
-    let taken = count-taken _ _ c.in-Some-take_last-3.way c.in-Some-take_last-3.ensures in
-    let into = ap count c.into_inside-outer-in_default-take_last-2.ensures in
+    let taken = count-taken _ _ c.in-Some-take_group-3.way c.in-Some-take_group-3.ensures in
     record {
       here = omega (arith, was.outer, taken);
-      outer = omega (arith, was.outer, taken, into);
-      both = omega (arith, was.outer, taken, into);
-    }
-
--- the tree is a token
-pub stream::TokenStream::drop-loop-preserved-in_default-tree :
-    goal.stream::TokenStream::drop-loop-preserved-in_default-tree
-stream::TokenStream::drop-loop-preserved-in_default-tree t c =
-    let was = c.loop.invariant in
-    let taken = count-taken _ _ c.in-Some-take_last-2.tree c.in-Some-take_last-2.ensures in
-    record {
-      here = omega (arith, was.here, taken);
-      outer = omega (arith, was.outer);
-      both = omega (arith, was.both, taken);
+      outer = omega (arith, was.outer, taken);
+      both = omega (arith, was.outer, taken);
     }
 
 -- there is nothing inside the group
 pub stream::TokenStream::drop-loop-preserved-then-is_empty : goal.stream::TokenStream::drop-loop-preserved-then-is_empty
 stream::TokenStream::drop-loop-preserved-then-is_empty t c =
     let was = c.loop.invariant in
-    let taken = count-taken _ _ c.in-Some-take_last-2.tree c.in-Some-take_last-2.ensures in
+    let taken = count-taken _ _ c.in-Some-take_group-2.group c.in-Some-take_group-2.ensures in
     record {
       here = omega (arith, was.here, taken);
       outer = omega (arith, was.outer);
@@ -88,19 +92,18 @@ stream::TokenStream::drop-loop-preserved-then-is_empty t c =
 pub stream::TokenStream::drop-loop-preserved : goal.stream::TokenStream::drop-loop-preserved
 stream::TokenStream::drop-loop-preserved t c =
     let was = c.loop.invariant in
-    let taken = count-taken _ _ c.in-Some-take_last-2.tree c.in-Some-take_last-2.ensures in
+    let taken = count-taken _ _ c.in-Some-take_group-2.group c.in-Some-take_group-2.ensures in
     elim c.match-push_outer.branch [
       | stream::TokenStream::drop-in-Ok w ↦
-          let into = ap (λ tree. count (inside tree)) c.in-Group.is in
-          let some : 0 < count c.in-Group.group.stream =
+          let some : 0 < count c.in-Some-take_group-2.group.stream =
           count-not_nil _ (search (rules, c.is_empty.ensures, c.if-is_empty.false)) in
           let here = ap count w.here-is in
           let outer = ap count w.outer-is in
           let put = w.in-Ok.ensures.ok in
           record {
-            here = omega (arith, was.here, taken, into, here);
-            outer = omega (arith, was.both, taken, into, some, outer, put);
-            both = omega (arith, was.both, taken, into, here, outer, put);
+            here = omega (arith, was.here, taken, here);
+            outer = omega (arith, was.both, taken, some, outer, put);
+            both = omega (arith, was.both, taken, here, outer, put);
           }
       | stream::TokenStream::drop-in-Err w ↦
           let here = ap count (w.here-is ∙ w.in-Err.ensures.err.1) in

@@ -1,23 +1,85 @@
 //! How the list of a stream is changed, which other streams may share.
-ghost use Rattle.std.specs.Prelude.{◌≡◌, OnErr, OnOk};
+ghost use Rattle.std.specs.Prelude.{◌≡◌, [], IfOk, IsSome, OnErr, OnOk};
 ghost use Rattle.pm_stream.specs.Building.{split};
-ghost use Rattle.pm_stream.specs.Forest.{IsBuilt, joined};
-ghost use Rattle.pm_stream.specs.Trees.{forest, held};
+ghost use Rattle.pm_stream.specs.Forest.{joined};
+ghost use Rattle.pm_stream.specs.Trees.{alone, before, forest, held};
+ghost use Rattle.pm_stream.specs.declared.stream.TokenTree.TheVariants.{Group as GroupTree, Ident as IdentTree};
+ghost use Rattle.pm_stream.specs.declared.stream.TokenTree.TheVariants.{Punct as PunctTree, Literal as LiteralTree};
 
 use super::owned::unshared;
-use super::{TokenStream, TokenTree};
+use super::{Group, TokenStream, TokenTree};
 use pm_token::parts::split_minus;
+use pm_token::{Ident, Literal, Punct};
 use std::alloc::{AllocError, Global};
 use std::rc::Rc;
 
+/// How many trees the first list of a stream has room for.
+const FIRST_ROOM: usize = 4;
+
+// Each kind of tree is put in by a function of its own, down to its place in the list: a tree of any kind would
+// first be put together on the stack.
 impl TokenStream {
     /// Puts the tree after the others (`split`). Where memory runs out the stream stays as it was.
+    #[inline(always)]
     pub(crate) fn put(&mut self, tree: TokenTree) -> Result<(), AllocError>
         ensures ok { OnOk result (self.new ≡ joined self.old (split tree)) }
         ensures err { OnErr result (self.new ≡ self.old) }
     {
-        tree.built_parts();
-        put_shared(self.alloc, &mut self.trees, tree)
+        match tree {
+            TokenTree::Group(group) => self.put_group(group),
+            TokenTree::Ident(ident) => self.put_ident(ident),
+            TokenTree::Punct(punct) => self.put_punct(punct),
+            TokenTree::Literal(literal) => self.put_literal(literal),
+        }
+    }
+
+    /// Puts the group after the trees. Where memory runs out the stream stays as it was.
+    #[inline(always)]
+    pub(crate) fn put_group(&mut self, group: Group) -> Result<(), AllocError>
+        ensures ok { OnOk result (self.new ≡ joined self.old (split (GroupTree group))) }
+        ensures err { OnErr result (self.new ≡ self.old) }
+    {
+        // It computes nothing: proofs learn what is true of every group.
+        group.span();
+        push(self.alloc, &mut self.trees, TokenTree::Group(group))
+    }
+
+    /// Puts the identifier after the trees. Where memory runs out the stream stays as it was.
+    #[inline(always)]
+    pub(crate) fn put_ident(&mut self, ident: Ident) -> Result<(), AllocError>
+        ensures ok { OnOk result (self.new ≡ joined self.old (split (IdentTree ident))) }
+        ensures err { OnErr result (self.new ≡ self.old) }
+    {
+        // It computes nothing: proofs learn what is true of every identifier.
+        ident.span();
+        push(self.alloc, &mut self.trees, TokenTree::Ident(ident))
+    }
+
+    /// Puts the mark after the trees. Where memory runs out the stream stays as it was.
+    #[inline(always)]
+    pub(crate) fn put_punct(&mut self, punct: Punct) -> Result<(), AllocError>
+        ensures ok { OnOk result (self.new ≡ joined self.old (split (PunctTree punct))) }
+        ensures err { OnErr result (self.new ≡ self.old) }
+    {
+        // It computes nothing: proofs learn what is true of every mark.
+        punct.span();
+        push(self.alloc, &mut self.trees, TokenTree::Punct(punct))
+    }
+
+    /// Puts the literal after the trees, a negative one as its `-` and the rest. Where memory runs out the stream
+    /// stays as it was.
+    #[inline(always)]
+    pub(crate) fn put_literal(&mut self, literal: Literal) -> Result<(), AllocError>
+        ensures ok { OnOk result (self.new ≡ joined self.old (split (LiteralTree literal))) }
+        ensures err { OnErr result (self.new ≡ self.old) }
+    {
+        // It computes nothing: proofs learn what is true of every literal.
+        literal.span();
+        let (minus, literal) = split_minus(literal);
+        match minus {
+            None => push(self.alloc, &mut self.trees, TokenTree::Literal(literal)),
+            Some(minus) => push_negative(self.alloc, &mut self.trees, minus, literal),
+        }
     }
 
     /// Puts the trees of the other stream after its own, all of them or, where memory runs out, none.
@@ -33,56 +95,78 @@ impl TokenStream {
     }
 }
 
-impl TokenTree {
-    // What is true of the trees that stand in a stream for it. It computes nothing: it hands the
-    // invariants of the types to proofs.
-    #[tactic(auto, using(crate::proofs::BuildingLemmas::literal_built))]
-    fn built_parts(&self)
-        ensures { IsBuilt (split self.now) }
-    {
-        match self {
-            TokenTree::Group(group) => group.span(),
-            TokenTree::Ident(ident) => ident.span(),
-            TokenTree::Punct(punct) => punct.span(),
-            TokenTree::Literal(literal) => literal.span(),
-        };
-    }
-}
-
 // Puts the tree after those of a list, which is copied first where it is shared.
-fn put_shared(
+#[inline(always)]
+fn push(
     alloc: Global,
     trees: &mut Option<Rc<Vec<TokenTree>>>,
     tree: TokenTree,
 ) -> Result<(), AllocError>
-    ensures ok { OnOk result (held trees.new ≡ joined (held trees.old) (split tree)) }
+    ensures ok { OnOk result (held trees.new ≡ joined (held trees.old) (alone tree)) }
     ensures err { OnErr result (held trees.new ≡ held trees.old) }
 {
-    if let Some(shared) = trees {
-        return push_split(Rc::make_mut(shared)?, tree);
+    make_list(alloc, trees)?;
+    match trees {
+        Some(shared) => push_onto(Rc::make_mut(shared)?, tree),
+        None => unreachable!(),
     }
-    let mut own = Vec::new(alloc);
-    push_split(&mut own, tree)?;
-    *trees = Some(Rc::new(alloc, own)?);
+}
+
+// Puts both trees of a negative literal after those of a list, or none.
+#[inline(never)]
+fn push_negative(
+    alloc: Global,
+    trees: &mut Option<Rc<Vec<TokenTree>>>,
+    minus: Punct,
+    literal: Literal,
+) -> Result<(), AllocError>
+    ensures ok { OnOk result (held trees.new ≡ joined (held trees.old)
+        (before (PunctTree minus) (alone (LiteralTree literal)))) }
+    ensures err { OnErr result (held trees.new ≡ held trees.old) }
+{
+    make_list(alloc, trees)?;
+    match trees {
+        Some(shared) => push_two(Rc::make_mut(shared)?, minus, literal),
+        None => unreachable!(),
+    }
+}
+
+// Makes a list with no trees, where there is no list.
+#[inline(always)]
+fn make_list(alloc: Global, trees: &mut Option<Rc<Vec<TokenTree>>>) -> Result<(), AllocError>
+    ensures held { held trees.new ≡ held trees.old }
+    ensures some { OnOk result (IsSome trees.new) }
+{
+    if trees.is_none() {
+        *trees = Some(first_list(alloc)?);
+    }
     Ok(())
 }
 
-// Puts the tree after the others. Room for both halves of a negative literal is there before its first half
-// is put in.
-#[tactic(auto, using(crate::proofs::BuildingLemmas::pushed_other))]
-fn push_split(trees: &mut Vec<TokenTree>, tree: TokenTree) -> Result<(), AllocError>
-    ensures ok { OnOk result (forest trees.new.items ≡ joined (forest trees.old.items) (split tree)) }
+// A list with no trees.
+#[inline(never)]
+fn first_list(alloc: Global) -> Result<Rc<Vec<TokenTree>>, AllocError>
+    ensures { IfOk result (λ list. list.value.items ≡ []) }
+{
+    Ok(Rc::new(alloc, Vec::with_capacity(alloc, FIRST_ROOM)?)?)
+}
+
+// Puts the tree after the others.
+#[inline(always)]
+fn push_onto(trees: &mut Vec<TokenTree>, tree: TokenTree) -> Result<(), AllocError>
+    ensures ok { OnOk result (forest trees.new.items ≡ joined (forest trees.old.items) (alone tree)) }
     ensures err { OnErr result (forest trees.new.items ≡ forest trees.old.items) }
 {
-    let TokenTree::Literal(literal) = tree else {
-        trees.push(tree)?;
-        return Ok(());
-    };
-    let (minus, literal) = split_minus(literal);
-    let Some(minus) = minus else {
-        trees.push(TokenTree::Literal(literal))?;
-        return Ok(());
-    };
+    trees.push(tree)?;
+    Ok(())
+}
+
+// Puts both trees after the others, or none: room for both is there before the first is put in.
+fn push_two(trees: &mut Vec<TokenTree>, minus: Punct, literal: Literal) -> Result<(), AllocError>
+    ensures ok { OnOk result (forest trees.new.items
+        ≡ joined (forest trees.old.items) (before (PunctTree minus) (alone (LiteralTree literal)))) }
+    ensures err { OnErr result (forest trees.new.items ≡ forest trees.old.items) }
+{
     trees.reserve(2)?;
     trees.push(TokenTree::Punct(minus))?;
     trees.push(TokenTree::Literal(literal))?;

@@ -32,13 +32,14 @@ impl Clone for TokenStream {
 impl Clone for TokenTree {
     ghost is_clone = { λ tree copy. copy ≡ tree };
 
+    #[inline(always)]
     fn clone(&self) -> Result<TokenTree, AllocError> {
-        Ok(match self {
-            TokenTree::Group(group) => TokenTree::Group(group.clone()?),
-            TokenTree::Ident(ident) => TokenTree::Ident(ident.clone()?),
-            TokenTree::Punct(punct) => TokenTree::Punct(punct.clone()?),
-            TokenTree::Literal(literal) => TokenTree::Literal(literal.clone()?),
-        })
+        match self {
+            TokenTree::Group(group) => Ok(TokenTree::Group(group.clone()?)),
+            TokenTree::Ident(ident) => Ok(TokenTree::Ident(ident.clone()?)),
+            TokenTree::Punct(punct) => Ok(TokenTree::Punct(punct.clone()?)),
+            TokenTree::Literal(literal) => Ok(TokenTree::Literal(literal.clone()?)),
+        }
     }
 }
 

@@ -83,7 +83,7 @@ impl TokenStream {
     ) -> Result<(), AllocError>
     {
         for group in groups {
-            self.put(TokenTree::Group(group))?;
+            self.put_group(group)?;
         }
         Ok(())
     }
@@ -95,7 +95,7 @@ impl TokenStream {
     ) -> Result<(), AllocError>
     {
         for ident in idents {
-            self.put(TokenTree::Ident(ident))?;
+            self.put_ident(ident)?;
         }
         Ok(())
     }
@@ -107,7 +107,7 @@ impl TokenStream {
     ) -> Result<(), AllocError>
     {
         for punct in puncts {
-            self.put(TokenTree::Punct(punct))?;
+            self.put_punct(punct)?;
         }
         Ok(())
     }
@@ -120,7 +120,7 @@ impl TokenStream {
     ) -> Result<(), AllocError>
     {
         for literal in literals {
-            self.put(TokenTree::Literal(literal))?;
+            self.put_literal(literal)?;
         }
         Ok(())
     }

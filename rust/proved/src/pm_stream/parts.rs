@@ -6,7 +6,7 @@ use crate::shim::prelude::Vec;
 use crate::pm_stream::parse::parse;
 use crate::pm_stream::stream::{Group, TokenStream, TokenTree};
 use crate::pm_span::Span;
-use crate::pm_token::{Delimiter, ParseError};
+use crate::pm_token::{Delimiter, Ident, Literal, ParseError, Punct};
 use crate::shim::alloc::{AllocError, Global};
 
 /// The group of these parts.
@@ -19,6 +19,35 @@ pub fn group(delimiter: Delimiter, stream: TokenStream, span: Span) -> Group
 pub fn stream(alloc: Global, trees: Vec<TokenTree>) -> Result<TokenStream, AllocError>
 {
     TokenStream::from_vec(alloc, trees)
+}
+
+/// Puts a group after the trees of a stream. Where memory runs out the stream stays as it was.
+#[inline(always)]
+pub fn put_group(stream: &mut TokenStream, group: Group) -> Result<(), AllocError>
+{
+    stream.put_group(group)
+}
+
+/// Puts an identifier after the trees of a stream. Where memory runs out the stream stays as it was.
+#[inline(always)]
+pub fn put_ident(stream: &mut TokenStream, ident: Ident) -> Result<(), AllocError>
+{
+    stream.put_ident(ident)
+}
+
+/// Puts a mark after the trees of a stream. Where memory runs out the stream stays as it was.
+#[inline(always)]
+pub fn put_punct(stream: &mut TokenStream, punct: Punct) -> Result<(), AllocError>
+{
+    stream.put_punct(punct)
+}
+
+/// Puts a literal after the trees of a stream, a negative one as its `-` and the rest. Where memory runs out the
+/// stream stays as it was.
+#[inline(always)]
+pub fn put_literal(stream: &mut TokenStream, literal: Literal) -> Result<(), AllocError>
+{
+    stream.put_literal(literal)
 }
 
 /// The token trees of a text that is no file of a map (`parses-to`). Spans count its characters from `base` on,

@@ -39,7 +39,7 @@ pub struct Group {
     span: Span,
 }
 
-// A walk from the last tree to the first, into each group that has no other owner. The way back is
+// A walk from the last group to the first, into each that has no other owner. The way back is
 // kept in the lists themselves, where the group was that the walk went into: so a stream is
 // dropped in little stack and no memory, however deep its groups nest.
 impl Drop for TokenStream {
@@ -48,27 +48,24 @@ impl Drop for TokenStream {
         let Some(mut shared) = trees else {
             return;
         };
-        let Some(last) = take_last(&mut shared) else {
+        let Some(last) = take_group(&mut shared) else {
             return;
         };
         let mut here = TokenStream {
             alloc,
             trees: Some(shared),
         };
-        let mut outer = last.into_inside(alloc);
-        // A step takes a tree, or the way back that an earlier step left there. So there are at
-        // most two for each tree, and one that ends the walk: fewer than the bound, which no memory has
-        // trees for. It spares a measure of the walk; what it left would be dropped by other walks.
+        let mut outer = last.stream;
+        // A step takes a group, or the way back that an earlier step left there. So there are at
+        // most two for each group, and one that ends the walk: fewer than the bound, which no memory has
+        // groups for. It spares a measure of the walk; what it left would be dropped by other walks.
         for _ in 0..u64::MAX {
-            let Some(tree) = here.take_last() else {
-                let Some(way) = outer.take_last() else {
+            let Some(group) = here.take_group() else {
+                let Some(way) = outer.take_group() else {
                     return;
                 };
                 here = outer;
-                outer = way.into_inside(alloc);
-                continue;
-            };
-            let TokenTree::Group(group) = tree else {
+                outer = way.stream;
                 continue;
             };
             let inside = group.stream;
@@ -86,13 +83,29 @@ impl Drop for TokenStream {
     }
 }
 
-// The last tree of a list that has no other owner.
-fn take_last(shared: &mut Rc<Vec<TokenTree>>) -> Option<TokenTree>
+// The last group of a list that has no other owner. The tokens after it are dropped.
+#[inline(always)]
+fn take_group(shared: &mut Rc<Vec<TokenTree>>) -> Option<Group>
 {
     match Rc::get_mut(shared) {
-        Some(own) => own.pop(),
+        Some(own) => pop_group(own),
         None => None,
     }
+}
+
+// The last group. The tokens after it are dropped.
+#[inline(always)]
+fn pop_group(trees: &mut Vec<TokenTree>) -> Option<Group>
+{
+    while let Some(tree) = trees.pop() {
+        match tree {
+            TokenTree::Group(group) => return Some(group),
+            TokenTree::Ident(ident) => drop(ident),
+            TokenTree::Punct(punct) => drop(punct),
+            TokenTree::Literal(literal) => drop(literal),
+        }
+    }
+    None
 }
 
 // Puts a tree after the others, in a list that has no other owner.
@@ -141,13 +154,13 @@ impl TokenStream {
         listed(&self.trees)
     }
 
-    // The last tree, where the trees have no other owner.
-    fn take_last(&mut self) -> Option<TokenTree>
+    // The last group, where the trees have no other owner. The tokens after it are dropped.
+    fn take_group(&mut self) -> Option<Group>
     {
         let Some(shared) = &mut self.trees else {
             return None;
         };
-        take_last(shared)
+        take_group(shared)
     }
 
     // Puts a group of the outer trees after its own, or gives them back.

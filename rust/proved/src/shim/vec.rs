@@ -116,11 +116,12 @@ impl<T: Copy> Vec<T> {
 /// Contract: copies of the items, in order.
 impl<T: Clone> Clone for Vec<T> {
     fn clone(&self) -> Result<Vec<T>, AllocError> {
-        let mut copies = std::vec::Vec::with_capacity(self.0.len());
-        for item in &self.0 {
-            copies.push(item.clone()?);
-        }
-        Ok(Vec(copies))
+        // No copy fails, so that Rust knows how many there will be, and asks for room once.
+        let copies = self.0.iter().map(|item| {
+            let Ok(copy) = item.clone();
+            copy
+        });
+        Ok(Vec(copies.collect()))
     }
 }
 

@@ -4,17 +4,69 @@
 use crate::shim::prelude::Vec;
 
 use super::owned::unshared;
-use super::{TokenStream, TokenTree};
+use super::{Group, TokenStream, TokenTree};
 use crate::pm_token::parts::split_minus;
+use crate::pm_token::{Ident, Literal, Punct};
 use crate::shim::alloc::{AllocError, Global};
 use crate::shim::rc::Rc;
 
+/// How many trees the first list of a stream has room for.
+const FIRST_ROOM: usize = 4;
+
+// Each kind of tree is put in by a function of its own, down to its place in the list: a tree of any kind would
+// first be put together on the stack.
 impl TokenStream {
     /// Puts the tree after the others (`split`). Where memory runs out the stream stays as it was.
+    #[inline(always)]
     pub(crate) fn put(&mut self, tree: TokenTree) -> Result<(), AllocError>
     {
-        tree.built_parts();
-        put_shared(self.alloc, &mut self.trees, tree)
+        match tree {
+            TokenTree::Group(group) => self.put_group(group),
+            TokenTree::Ident(ident) => self.put_ident(ident),
+            TokenTree::Punct(punct) => self.put_punct(punct),
+            TokenTree::Literal(literal) => self.put_literal(literal),
+        }
+    }
+
+    /// Puts the group after the trees. Where memory runs out the stream stays as it was.
+    #[inline(always)]
+    pub(crate) fn put_group(&mut self, group: Group) -> Result<(), AllocError>
+    {
+        // It computes nothing: proofs learn what is true of every group.
+        group.span();
+        push(self.alloc, &mut self.trees, TokenTree::Group(group))
+    }
+
+    /// Puts the identifier after the trees. Where memory runs out the stream stays as it was.
+    #[inline(always)]
+    pub(crate) fn put_ident(&mut self, ident: Ident) -> Result<(), AllocError>
+    {
+        // It computes nothing: proofs learn what is true of every identifier.
+        ident.span();
+        push(self.alloc, &mut self.trees, TokenTree::Ident(ident))
+    }
+
+    /// Puts the mark after the trees. Where memory runs out the stream stays as it was.
+    #[inline(always)]
+    pub(crate) fn put_punct(&mut self, punct: Punct) -> Result<(), AllocError>
+    {
+        // It computes nothing: proofs learn what is true of every mark.
+        punct.span();
+        push(self.alloc, &mut self.trees, TokenTree::Punct(punct))
+    }
+
+    /// Puts the literal after the trees, a negative one as its `-` and the rest. Where memory runs out the stream
+    /// stays as it was.
+    #[inline(always)]
+    pub(crate) fn put_literal(&mut self, literal: Literal) -> Result<(), AllocError>
+    {
+        // It computes nothing: proofs learn what is true of every literal.
+        literal.span();
+        let (minus, literal) = split_minus(literal);
+        match minus {
+            None => push(self.alloc, &mut self.trees, TokenTree::Literal(literal)),
+            Some(minus) => push_negative(self.alloc, &mut self.trees, minus, literal),
+        }
     }
 
     /// Puts the trees of the other stream after its own, all of them or, where memory runs out, none.
@@ -28,49 +80,65 @@ impl TokenStream {
     }
 }
 
-impl TokenTree {
-    // What is true of the trees that stand in a stream for it. It computes nothing: it hands the
-    // invariants of the types to proofs.
-    fn built_parts(&self)
-    {
-        match self {
-            TokenTree::Group(group) => group.span(),
-            TokenTree::Ident(ident) => ident.span(),
-            TokenTree::Punct(punct) => punct.span(),
-            TokenTree::Literal(literal) => literal.span(),
-        };
-    }
-}
-
 // Puts the tree after those of a list, which is copied first where it is shared.
-fn put_shared(
+#[inline(always)]
+fn push(
     alloc: Global,
     trees: &mut Option<Rc<Vec<TokenTree>>>,
     tree: TokenTree,
 ) -> Result<(), AllocError>
 {
-    if let Some(shared) = trees {
-        return push_split(Rc::make_mut(shared)?, tree);
+    make_list(alloc, trees)?;
+    match trees {
+        Some(shared) => push_onto(Rc::make_mut(shared)?, tree),
+        None => unreachable!(),
     }
-    let mut own = Vec::new(alloc);
-    push_split(&mut own, tree)?;
-    *trees = Some(Rc::new(alloc, own)?);
+}
+
+// Puts both trees of a negative literal after those of a list, or none.
+#[inline(never)]
+fn push_negative(
+    alloc: Global,
+    trees: &mut Option<Rc<Vec<TokenTree>>>,
+    minus: Punct,
+    literal: Literal,
+) -> Result<(), AllocError>
+{
+    make_list(alloc, trees)?;
+    match trees {
+        Some(shared) => push_two(Rc::make_mut(shared)?, minus, literal),
+        None => unreachable!(),
+    }
+}
+
+// Makes a list with no trees, where there is no list.
+#[inline(always)]
+fn make_list(alloc: Global, trees: &mut Option<Rc<Vec<TokenTree>>>) -> Result<(), AllocError>
+{
+    if trees.is_none() {
+        *trees = Some(first_list(alloc)?);
+    }
     Ok(())
 }
 
-// Puts the tree after the others. Room for both halves of a negative literal is there before its first half
-// is put in.
-fn push_split(trees: &mut Vec<TokenTree>, tree: TokenTree) -> Result<(), AllocError>
+// A list with no trees.
+#[inline(never)]
+fn first_list(alloc: Global) -> Result<Rc<Vec<TokenTree>>, AllocError>
 {
-    let TokenTree::Literal(literal) = tree else {
-        trees.push(tree)?;
-        return Ok(());
-    };
-    let (minus, literal) = split_minus(literal);
-    let Some(minus) = minus else {
-        trees.push(TokenTree::Literal(literal))?;
-        return Ok(());
-    };
+    Ok(Rc::new(alloc, Vec::with_capacity(alloc, FIRST_ROOM)?)?)
+}
+
+// Puts the tree after the others.
+#[inline(always)]
+fn push_onto(trees: &mut Vec<TokenTree>, tree: TokenTree) -> Result<(), AllocError>
+{
+    trees.push(tree)?;
+    Ok(())
+}
+
+// Puts both trees after the others, or none: room for both is there before the first is put in.
+fn push_two(trees: &mut Vec<TokenTree>, minus: Punct, literal: Literal) -> Result<(), AllocError>
+{
     trees.reserve(2)?;
     trees.push(TokenTree::Punct(minus))?;
     trees.push(TokenTree::Literal(literal))?;

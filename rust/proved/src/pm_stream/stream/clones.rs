@@ -27,13 +27,14 @@ impl Clone for TokenStream {
 
 /// The same tree, with the same spans. Fails where memory for its text runs out.
 impl Clone for TokenTree {
+    #[inline(always)]
     fn clone(&self) -> Result<TokenTree, AllocError> {
-        Ok(match self {
-            TokenTree::Group(group) => TokenTree::Group(group.clone()?),
-            TokenTree::Ident(ident) => TokenTree::Ident(ident.clone()?),
-            TokenTree::Punct(punct) => TokenTree::Punct(punct.clone()?),
-            TokenTree::Literal(literal) => TokenTree::Literal(literal.clone()?),
-        })
+        match self {
+            TokenTree::Group(group) => Ok(TokenTree::Group(group.clone()?)),
+            TokenTree::Ident(ident) => Ok(TokenTree::Ident(ident.clone()?)),
+            TokenTree::Punct(punct) => Ok(TokenTree::Punct(punct.clone()?)),
+            TokenTree::Literal(literal) => Ok(TokenTree::Literal(literal.clone()?)),
+        }
     }
 }
 
