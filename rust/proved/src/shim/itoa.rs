@@ -48,20 +48,9 @@ impl Buffer {
     /// Contract: the number in decimal digits, without zeros at the front; 0 is `0`. A negative one has a `-` first.
     #[inline]
     pub fn format<I: Integer>(&mut self, number: I) -> &str {
-        let (negative, mut rest) = number.parts();
-        let mut at = self.digits.len();
-        while rest >= 100 {
-            let pair = (rest % 100) as usize * 2;
-            at -= 2;
-            self.digits[at..at + 2].copy_from_slice(&PAIRS[pair..pair + 2]);
-            rest /= 100;
-        }
-        at -= 1;
-        self.digits[at] = b'0' + (rest % 10) as u8;
-        if rest >= 10 {
-            at -= 1;
-            self.digits[at] = b'0' + (rest / 10) as u8;
-        }
+        let (negative, distance) = number.parts();
+        let end = self.digits.len();
+        let mut at = write_digits(distance, &mut self.digits, end);
         if negative {
             at -= 1;
             self.digits[at] = b'-';
@@ -71,6 +60,26 @@ impl Buffer {
             Err(_) => unreachable!("digits are ASCII"),
         }
     }
+}
+
+/// Contract: puts the number in decimal digits, as `Buffer` does, before `end`, and answers where they begin.
+#[inline]
+pub fn write_digits(number: u64, buffer: &mut [u8], end: usize) -> usize {
+    let mut rest = number;
+    let mut at = end;
+    while rest >= 100 {
+        let pair = (rest % 100) as usize * 2;
+        at -= 2;
+        buffer[at..at + 2].copy_from_slice(&PAIRS[pair..pair + 2]);
+        rest /= 100;
+    }
+    at -= 1;
+    buffer[at] = b'0' + (rest % 10) as u8;
+    if rest >= 10 {
+        at -= 1;
+        buffer[at] = b'0' + (rest / 10) as u8;
+    }
+    at
 }
 
 #[cfg(test)]
@@ -84,6 +93,9 @@ mod tests {
             assert_eq!(buffer.format(negative), negative.to_string());
         }
         assert_eq!(buffer.format(7usize), "7");
+        let mut bytes = *b"abcdefgh";
+        assert_eq!(super::write_digits(403, &mut bytes, 5), 2);
+        assert_eq!(&bytes, b"ab403fgh");
         assert_eq!(buffer.format(i64::MIN), i64::MIN.to_string());
     }
 }
