@@ -1,6 +1,7 @@
 -- Where the trees of a text stand: what was placed, with one step more, and how it ends.
 use Rattle.std.proofs.Common.{◌≡◌, ◌≢◌, ℕ, ◌+◌, ◌-◌, ◌<◌, ◌≤◌, Bool, true, false, cond, not, List, [], ◌∷◌, ◌++◌}
 use Rattle.std.proofs.Common.{length, take, map, reverse, refl, sym, ap, ap₂, ◌∙◌, subst, arith, append_assoc}
+use Rattle.std.proofs.Common.{◌==◌, eqb-true, true≢false}
 use Rattle.std.proofs.Common.{append-nil, length-append, Result, Ok, Err, IfOk, IfErr, inl, inr, ◌⊎◌}
 use Rattle.std.proofs.Math.ListN.{set}
 use Rattle.std.proofs.Math.Seq.{set-append_seam, take-append_seam}
@@ -8,17 +9,27 @@ use Rattle.std.proofs.lemmas.List.{map-append, reverse-append}
 use Rattle.std.proofs.lemmas.List.Sums.{sum_by-append, sum_by-cons, take_while-cons}
 use Rattle.std.specs.Prelude.{count_by, take_while}
 use Rattle.std.specs.Str.{chars, IsUtf8, IsCharBoundary, encode_utf8_all}
-use Rattle.lexical.specs.Piece.{HasNoPiece}
+use Rattle.lexical.specs.Piece.{HasNoPiece, IsPiece}
+use Rattle.lexical.specs.Class.{is_ident_continue}
+use Rattle.lexical.specs.Delimiter.{is_opener, is_closer}
+use Rattle.lexical.specs.Identifier.{Identifier}
+use Rattle.lexical.specs.Mark.{is_mark}
+use Rattle.lexical.specs.declared.piece.PieceKind.TheVariants as pieces
+use Rattle.lexical.proofs.ClassLemmas.{ident_continue_ascii}
+use Rattle.lexical.proofs.PieceFacts.{close_is, open_is, stands_mark, start_continues}
+use Rattle.grammar_laws.proofs.NameLemmas.{identifier_alone}
+use Rattle.pm_span.specs.Line.{is_one_line}
 use Rattle.lexical.specs.Found.{IsPieceAt, kind_of}
 use Rattle.lexical.specs.WhiteRun.{IsPastWhite}
-use Rattle.lexical.specs.Token.{Token}
+use Rattle.lexical.specs.Token.{Token, raw_front}
 use Rattle.lexical.specs.declared.piece.PieceKind.{PieceKind}
 use Rattle.lexical.specs.declared.piece.Piece.{Piece as Found}
 use Rattle.lexical.proofs.TextLemmas.{all_pass, encode_all_ascii}
 use Rattle.lexical.specs.Ascii.{all_ascii}
 use Rattle.lexical.specs.WhiteRun.{ascii_white}
 use Rattle.std.specs.List.{list_all}
-use Rattle.std.proofs.lemmas.Bool.{and_parts}
+use Rattle.std.proofs.lemmas.Bool.{and_from, and_parts, false_from_ne_true, not-true}
+use Rattle.std.proofs.lemmas.List.Folds.{list_all-append}
 use Rattle.pm_span.specs.CharOffset.{byte_offset, is_line_feed}
 use Rattle.pm_span.proofs.SeamLemmas.{boundary_at, front_at}
 use Rattle.pm_token.specs.declared.delimiters.Delimiter.{Delimiter}
@@ -27,10 +38,10 @@ use Rattle.pm_token.specs.declared.errors.ParseError.TheVariants.{Lex}
 use Rattle.pm_stream.specs.Events.{Event, One, Opens, Closes, doc_onto, events_onto}
 use Rattle.pm_stream.specs.Fault.{IsFault, IsFaultFor, IsOpenFault, IsStray}
 use Rattle.pm_stream.specs.Forest.{Forest, nil, leaf, group, flat_onto, flattening, joined}
-use Rattle.pm_stream.specs.InOrder.{in_order, in_order_onto, token_tree}
+use Rattle.pm_stream.specs.InOrder.{in_order, token_tree}
 use Rattle.pm_stream.specs.Parsing.{ParsesTo, HasNoFault}
 use Rattle.pm_stream.specs.OpenGroups.{Opened, unclosed_onto}
-use Rattle.pm_stream.specs.Places.{ArePlaced, listed, moved_past, next_place, place_at, place_of, placed, tree_kind}
+use Rattle.pm_stream.specs.Places.{ArePlaced, has_one_line, listed, moved_past, next_place, place_of, placed, tree_kind}
 use Rattle.pm_stream.specs.PlacerState.{IsPlacing, Places, PlacesEvents, PlacesMore, listed_open, open_groups, opener}
 use Rattle.pm_stream.specs.declared.placing.OpenGroup.{OpenGroup}
 use Rattle.pm_stream.specs.declared.placing.Place.{Place}
@@ -97,6 +108,74 @@ place_of-front base at source front rest whole e =
 moved_past-append : (place : Place) (p q : List ℕ) → moved_past place (p ++ q) ≡ moved_past (moved_past place p) q
 moved_past-append place [] q = refl
 moved_past-append place (c ∷ p) q = moved_past-append (next_place place c) p q
+
+-- ---- pieces on one line
+
+one_line_moves : (place : Place) (text : List ℕ) → is_one_line text ≡ true
+    → record { line = place.line; column = place.column + length text } ≡ moved_past place text
+one_line_moves place [] h = ap (λ n. record { line = place.line; column = n }) (omega arith)
+one_line_moves place (c ∷ text) h =
+    let parts = and_parts _ _ h in
+    let next : Place = record { line = place.line; column = place.column + 1 } in
+    let inside : next_place place c ≡ next =
+    ap (λ b. cond b (record { line = place.line + 1; column = 0 }) next) (not-true _ parts.0) in
+    let size : place.column + length (c ∷ text) ≡ place.column + 1 + length text = omega arith in
+    ap (λ n. record { line = place.line; column = n }) size
+    ∙ (one_line_moves next text parts.1 ∙ ap (λ p. moved_past p text) (sym inside))
+
+-- a line feed is not in the class
+no_feed : (class : ℕ → Bool) → class 10 ≡ false → (c : ℕ) → class c ≡ true → not (is_line_feed c) ≡ true
+no_feed class none c is =
+    ap not (false_from_ne_true (c == 10) (λ t. true≢false (sym is ∙ (ap class (eqb-true c 10 t) ∙ none))))
+
+one_character : (class : ℕ → Bool) → class 10 ≡ false → (c : ℕ) (text : List ℕ) → text ≡ c ∷ [] → class c ≡ true
+    → is_one_line text ≡ true
+one_character class none c text e is = ap is_one_line e ∙ and_from _ _ (no_feed class none c is) refl
+
+no_feed_goes_on : is_ident_continue 10 ≡ false
+no_feed_goes_on = ident_continue_ascii 10 (omega arith)
+
+one_line_name : (raw : Bool) (name rest text : List ℕ) → Identifier raw name rest → text ≡ raw_front raw ++ name
+    → is_one_line text ≡ true
+one_line_name raw name rest text h e =
+    let alone = (identifier_alone raw name rest h).0 in
+    let begin = alone.first in
+    let front : is_one_line (raw_front raw) ≡ true = elim raw as (λ b. is_one_line (raw_front b) ≡ true) [
+      | true ↦ refl
+      | false ↦ refl
+    ] in
+    let first : is_one_line alone.front ≡ true =
+    one_character is_ident_continue no_feed_goes_on begin.0 alone.front begin.1 (start_continues begin.0 begin.2) in
+    let back : is_one_line alone.back ≡ true =
+    all_pass _ _ (no_feed is_ident_continue no_feed_goes_on) alone.back alone.second.each in
+    let whole : is_one_line name ≡ true =
+    ap is_one_line alone.whole ∙ (list_all-append _ alone.front alone.back ∙ and_from _ _ first back) in
+    ap is_one_line e ∙ (list_all-append _ (raw_front raw) name ∙ and_from _ _ front whole)
+
+one_line_piece : (first : Bool) (kind : PieceKind) (front rest : List ℕ) → IsPiece first (kind_of kind front) front rest
+    → has_one_line kind ≡ true → is_one_line front ≡ true
+one_line_piece first pieces.FrontMark front rest h e = absurd (true≢false (sym e))
+one_line_piece first pieces.Gap front rest h e = absurd (true≢false (sym e))
+one_line_piece first (pieces.Doc inner text) front rest h e = absurd (true≢false (sym e))
+one_line_piece first (pieces.Opener c) front rest h e =
+    let is = open_is first c front rest h in
+    one_character is_opener refl c front is.0 is.1
+one_line_piece first (pieces.Closer c) front rest h e =
+    let is = close_is first c front rest h in
+    one_character is_closer refl c front is.0 is.1
+one_line_piece first pieces.Literal front rest h e = absurd (true≢false (sym e))
+one_line_piece first (pieces.Mark joint mark) front rest h e =
+    one_character is_mark refl mark front h.0 (stands_mark mark joint rest h.1)
+one_line_piece first (pieces.Name raw name) front rest h e =
+    one_line_name raw (chars name.now) rest front h.1 h.0
+
+-- the end of such a piece
+pub one_line_end : (first : Bool) (text : List ℕ) (start : Place) (piece : Found) → (found : IsPieceAt first text piece)
+    → has_one_line piece.kind ≡ true
+    → record { line = start.line; column = start.column + piece.chars } ≡ moved_past start found.front
+one_line_end first text start piece found e =
+    ap (λ n. record { line = start.line; column = start.column + n }) found.chars
+    ∙ one_line_moves start found.front (one_line_piece first piece.kind found.front found.rest found.stands e)
 
 -- ---- lists of trees
 

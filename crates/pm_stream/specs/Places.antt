@@ -1,12 +1,15 @@
 -- Where the trees of a text stand, by line and column.
-use Rattle.std.specs.Prelude.{ℕ, ◌≡◌, ◌+◌, ◌-◌, List, [], ◌∷◌, map, if◌then◌else◌}
+use Rattle.std.specs.Prelude.{ℕ, Bool, true, false, ◌≡◌, ◌+◌, ◌-◌, List, [], ◌∷◌, map, if◌then◌else◌}
+use Rattle.lexical.specs.declared.piece.PieceKind.{PieceKind}
+use Rattle.lexical.specs.declared.piece.PieceKind.TheVariants.{FrontMark, Gap, Doc, Opener, Closer, Mark, Name}
+use Rattle.lexical.specs.declared.piece.PieceKind.TheVariants.{Literal}
 use Rattle.pm_span.specs.CharOffset.{is_line_feed, line, column}
 use Rattle.pm_stream.specs.Forest.{Forest}
 use Rattle.pm_stream.specs.InOrder.{in_order}
 use Rattle.pm_stream.specs.Parsing.{ParsesTo}
 use Rattle.pm_stream.specs.TreeSpan.{extent_of}
 use Rattle.pm_stream.specs.declared.stream.TokenTree.{TokenTree}
-use Rattle.pm_stream.specs.declared.stream.TokenTree.TheVariants.{Group, Ident, Punct, Literal}
+use Rattle.pm_stream.specs.declared.stream.TokenTree.TheVariants as trees
 use Rattle.pm_stream.specs.declared.placing.Place.{Place}
 use Rattle.pm_stream.specs.declared.placing.PlacedTree.{PlacedTree}
 use Rattle.pm_stream.specs.declared.placing.TreeKind.{TreeKind}
@@ -31,12 +34,23 @@ abbrev pub moved_past : Place → List ℕ → Place
 moved_past place [] = place
 moved_past place (c ∷ text) = moved_past (next_place place c) text
 
+-- no piece that the lexer calls so has a line feed
+abbrev pub has_one_line : PieceKind → Bool
+has_one_line FrontMark = false
+has_one_line Gap = false
+has_one_line (Doc inner text) = false
+has_one_line (Opener c) = true
+has_one_line (Closer c) = true
+has_one_line Literal = false
+has_one_line (Mark joint mark) = true
+has_one_line (Name raw name) = true
+
 -- the kind of a tree
 abbrev pub tree_kind : TokenTree → TreeKind
-tree_kind (Group g) = kinds.Group
-tree_kind (Ident i) = kinds.Ident
-tree_kind (Punct p) = kinds.Punct
-tree_kind (Literal l) = kinds.Literal
+tree_kind (trees.Group g) = kinds.Group
+tree_kind (trees.Ident i) = kinds.Ident
+tree_kind (trees.Punct p) = kinds.Punct
+tree_kind (trees.Literal l) = kinds.Literal
 
 -- a tree with the places of the positions where it begins and ends
 abbrev pub placed : (ℕ → Place) → TokenTree → PlacedTree

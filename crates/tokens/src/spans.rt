@@ -1,5 +1,6 @@
 //! A line for each tree of a text: where it begins and ends, and its kind.
-ghost use Rattle.std.specs.Prelude.{◌≡◌, ◌+◌, ◌*◌, ◌≤◌, ◌++◌, ◌||◌, codes, decimal, drop, flat_map, is_err, length, OnOk, IfErr};
+ghost use Rattle.std.specs.Prelude.{◌≡◌, ◌+◌, ◌*◌, ◌≤◌, ◌++◌, ◌||◌, codes, decimal, drop, flat_map, is_err, length};
+ghost use Rattle.std.specs.Prelude.{OnOk, IfErr};
 ghost use Rattle.std.specs.Io.KnownBytes.{Appends};
 ghost use Rattle.tokens.specs.Known.{AppendsFront};
 ghost use Rattle.tokens.specs.Spans.{kind_word, place_text, tree_line};

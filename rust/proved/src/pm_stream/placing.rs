@@ -70,7 +70,7 @@ fn place_trees_at(alloc: Global, base: u32, text: &str) -> Result<Vec<PlacedTree
     let mut start = Place { line: 1, column: 0 };
     let mut first = true;
     while let Some(piece) = piece_at(rest, first) {
-        let end = past(start, &rest[..piece.bytes]);
+        let end = end_of(piece, rest, start);
         placer.take(piece, at, start, end)?;
         let tail = &rest[piece.bytes..];
         // White characters are gaps, which are no trees, and are passed over all at once.
@@ -81,6 +81,33 @@ fn place_trees_at(alloc: Global, base: u32, text: &str) -> Result<Vec<PlacedTree
         first = false;
     }
     placer.end(rest, at)
+}
+
+/// Where the piece at the front of the text ends, if it begins at this place.
+#[inline(always)]
+fn end_of(piece: Piece, text: &str, start: Place) -> Place
+{
+    // Most pieces are short and on one line, and aren't looked through again.
+    if has_one_line(piece.kind) {
+        return Place {
+            line: start.line,
+            column: start.column + piece.chars as u32,
+        };
+    }
+    past(start, &text[..piece.bytes])
+}
+
+/// Whether no piece of this kind has a line feed.
+#[inline(always)]
+fn has_one_line(kind: PieceKind) -> bool
+{
+    match kind {
+        PieceKind::Opener(_)
+        | PieceKind::Closer(_)
+        | PieceKind::Mark { .. }
+        | PieceKind::Name { .. } => true,
+        PieceKind::FrontMark | PieceKind::Gap | PieceKind::Doc { .. } | PieceKind::Literal => false,
+    }
 }
 
 /// The place after a text that begins at this one.

@@ -1,10 +1,10 @@
-use Rattle.std.proofs.Common.{◌≡◌, ◌+◌, ◌-◌, ◌^◌, length, length-append, take, refl, sym, ap, subst, ◌∙◌, arith}
+use Rattle.std.proofs.Common.{◌≡◌, ◌-◌, ◌^◌, length, length-append, take, refl, ap, ◌∙◌, arith}
 use Rattle.std.specs.Str.{chars}
 use Rattle.std.proofs.lemmas.Result.{err_from_is_err_and}
-use Rattle.lexical.proofs.PieceFacts.{piece_boundary, piece_front, piece_rest}
+use Rattle.lexical.proofs.PieceFacts.{piece_boundary, piece_rest}
 use Rattle.pm_stream.specs.Places.{moved_past}
 use Rattle.pm_stream.proofs.ParseLemmas.{left_shorter}
-use Rattle.pm_stream.proofs.PlaceLemmas.{IsPlacing-to, moved_past-within, placed_end, placed_none, placed_on}
+use Rattle.pm_stream.proofs.PlaceLemmas.{IsPlacing-to, placed_end, placed_none, placed_on}
 use Rattle.pm_stream.proofs.PlaceLemmas.{placed_ok, placed_refused, placed_room, placed_start, placed_stray, white_cut}
 use Rattle.pm_stream.proofs.PlaceLemmas.{white_room}
 use Rattle.pm_stream.proofs.placing.place_trees_at.Goals as goal
@@ -17,40 +17,33 @@ loop-piece-init c = record {
       c.in_ok-placer.ensures.trees;
 }
 
-pub range-requires-clause-end_boundary : goal.range-requires-clause-end_boundary
-range-requires-clause-end_boundary c =
-    piece_boundary _ c.loop-piece.rest.now c.in-Some.piece c.loop-piece.invariant.utf8 c.in-Some.ensures.found
+pub end_of-end-requires-clause-stands : goal.end_of-end-requires-clause-stands
+end_of-end-requires-clause-stands c = (_, c.in-Some.ensures.found)
 
-pub past-end-requires-clause-lines : goal.past-end-requires-clause-lines
-past-end-requires-clause-lines c =
+pub end_of-end-requires-clause-lines : goal.end_of-end-requires-clause-lines
+end_of-end-requires-clause-lines c =
     let found = c.in-Some.ensures.found in
     let room = placed_room c.loop-piece.invariant.placed c.requires.begins in
-    let all : c.in-Some.piece.bytes - 0 ≡ c.in-Some.piece.bytes = omega arith in
-    let front = ap chars (c.range.ensures.value ∙ ap (λ n. take n c.loop-piece.rest.now) all)
-    ∙ piece_front _ c.loop-piece.rest.now c.in-Some.piece c.loop-piece.invariant.utf8 found in
     omega (
       arith,
       room.0,
       c.loop-piece.invariant.left,
       c.requires.room,
-      ap length front,
+      found.chars,
       ap length found.whole,
       length-append found.front found.rest,
     )
 
-pub past-end-requires-clause-columns : goal.past-end-requires-clause-columns
-past-end-requires-clause-columns c =
+pub end_of-end-requires-clause-columns : goal.end_of-end-requires-clause-columns
+end_of-end-requires-clause-columns c =
     let found = c.in-Some.ensures.found in
     let room = placed_room c.loop-piece.invariant.placed c.requires.begins in
-    let all : c.in-Some.piece.bytes - 0 ≡ c.in-Some.piece.bytes = omega arith in
-    let front = ap chars (c.range.ensures.value ∙ ap (λ n. take n c.loop-piece.rest.now) all)
-    ∙ piece_front _ c.loop-piece.rest.now c.in-Some.piece c.loop-piece.invariant.utf8 found in
     omega (
       arith,
       room.1,
       c.loop-piece.invariant.left,
       c.requires.room,
-      ap length front,
+      found.chars,
       ap length found.whole,
       length-append found.front found.rest,
     )
@@ -69,8 +62,8 @@ pub range_from-tail-requires : goal.range_from-tail-requires
 range_from-tail-requires c =
     λ _. piece_boundary _ c.loop-piece.rest.now c.in-Some.piece c.loop-piece.invariant.utf8 c.in-Some.ensures.found
 
-pub range-requires-in-Some-clause-end_boundary : goal.range-requires-in-Some-clause-end_boundary
-range-requires-in-Some-clause-end_boundary c =
+pub range-requires-clause-end_boundary : goal.range-requires-clause-end_boundary
+range-requires-clause-end_boundary c =
     (white_cut c.range_from-tail.result.now c.past_white-white.result.0.now c.past_white-white.result.1
     c.range_from-tail.utf8 c.past_white-white.ensures.passed).0
 
@@ -80,12 +73,9 @@ past-start-requires-clause-lines c =
     let passed = c.past_white-white.ensures.passed in
     let tail = ap chars c.range_from-tail.ensures.value
     ∙ piece_rest _ c.loop-piece.rest.now c.in-Some.piece c.loop-piece.invariant.utf8 found in
-    let all : c.in-Some.piece.bytes - 0 ≡ c.in-Some.piece.bytes = omega arith in
-    let front = ap chars (c.range.ensures.value ∙ ap (λ n. take n c.loop-piece.rest.now) all)
-    ∙ piece_front _ c.loop-piece.rest.now c.in-Some.piece c.loop-piece.invariant.utf8 found in
-    let ends = c.past-end.ensures ∙ ap (moved_past c.loop-piece.start) front in
+    let ends = c.end_of-end.ensures _ found in
     let count : c.past_white-white.result.1 - 0 ≡ c.past_white-white.result.1 = omega arith in
-    let white = ap chars (c.range-in-Some.ensures.value ∙ ap (λ n. take n c.range_from-tail.result.now) count)
+    let white = ap chars (c.range.ensures.value ∙ ap (λ n. take n c.range_from-tail.result.now) count)
     ∙ (white_cut c.range_from-tail.result.now c.past_white-white.result.0.now c.past_white-white.result.1
     c.range_from-tail.utf8 passed).1 in
     let room = white_room (chars c.range_from-tail.result.now) _ _ (2 ^ 32) c.in-Some.piece
@@ -99,12 +89,9 @@ past-start-requires-clause-columns c =
     let passed = c.past_white-white.ensures.passed in
     let tail = ap chars c.range_from-tail.ensures.value
     ∙ piece_rest _ c.loop-piece.rest.now c.in-Some.piece c.loop-piece.invariant.utf8 found in
-    let all : c.in-Some.piece.bytes - 0 ≡ c.in-Some.piece.bytes = omega arith in
-    let front = ap chars (c.range.ensures.value ∙ ap (λ n. take n c.loop-piece.rest.now) all)
-    ∙ piece_front _ c.loop-piece.rest.now c.in-Some.piece c.loop-piece.invariant.utf8 found in
-    let ends = c.past-end.ensures ∙ ap (moved_past c.loop-piece.start) front in
+    let ends = c.end_of-end.ensures _ found in
     let count : c.past_white-white.result.1 - 0 ≡ c.past_white-white.result.1 = omega arith in
-    let white = ap chars (c.range-in-Some.ensures.value ∙ ap (λ n. take n c.range_from-tail.result.now) count)
+    let white = ap chars (c.range.ensures.value ∙ ap (λ n. take n c.range_from-tail.result.now) count)
     ∙ (white_cut c.range_from-tail.result.now c.past_white-white.result.0.now c.past_white-white.result.1
     c.range_from-tail.utf8 passed).1 in
     let room = white_room (chars c.range_from-tail.result.now) _ _ (2 ^ 32) c.in-Some.piece
@@ -148,16 +135,13 @@ loop-piece-preserved c =
     c.range_from-tail.ensures.value passed in
     let tail = ap chars c.range_from-tail.ensures.value
     ∙ piece_rest _ c.loop-piece.rest.now c.in-Some.piece c.loop-piece.invariant.utf8 found in
-    let all : c.in-Some.piece.bytes - 0 ≡ c.in-Some.piece.bytes = omega arith in
-    let front = ap chars (c.range.ensures.value ∙ ap (λ n. take n c.loop-piece.rest.now) all)
-    ∙ piece_front _ c.loop-piece.rest.now c.in-Some.piece c.loop-piece.invariant.utf8 found in
-    let ends = c.past-end.ensures ∙ ap (moved_past c.loop-piece.start) front in
+    let ends = c.end_of-end.ensures _ found in
     let cut = white_cut c.range_from-tail.result.now c.past_white-white.result.0.now c.past_white-white.result.1
     c.range_from-tail.utf8 passed in
     let count : c.past_white-white.result.1 - 0 ≡ c.past_white-white.result.1 = omega arith in
-    let white = ap chars (c.range-in-Some.ensures.value ∙ ap (λ n. take n c.range_from-tail.result.now) count)
+    let white = ap chars (c.range.ensures.value ∙ ap (λ n. take n c.range_from-tail.result.now) count)
     ∙ cut.1 in
-    let goes = c.past-start.ensures ∙ ap (moved_past c.past-end.result) white in
+    let goes = c.past-start.ensures ∙ ap (moved_past c.end_of-end.result) white in
     record {
       utf8 = c.past_white-white.ensures.utf8;
       left = omega (arith, c.loop-piece.invariant.left);

@@ -4,4 +4,5 @@ use Rattle.tokens.proofs.SpanLineLemmas.{placed_output}
 use Rattle.tokens.proofs.engine.placed.Goals as goal
 
 pub returns-clause-ok : goal.returns-clause-ok
-returns-clause-ok c = placed_output (chars c.args.text.now) c.in_ok-place_trees.field-0.items _ c.in_ok-place_trees.ensures.ok refl
+returns-clause-ok c =
+    placed_output (chars c.args.text.now) c.in_ok-place_trees.field-0.items _ c.in_ok-place_trees.ensures.ok refl
