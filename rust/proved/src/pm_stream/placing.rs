@@ -9,7 +9,9 @@ use crate::pm_span::parts::fits_new;
 use crate::pm_token::{Delimiter, ParseError};
 use crate::shim::alloc::{AllocError, Global};
 
-/// A line and a column of a text of fewer than 2³² characters: [`LineColumn`](pm_span::LineColumn) in half the memory.
+/// A line and a column of a text, as in [`LineColumn`](pm_span::LineColumn), in half the memory.
+///
+/// A text that fits a new map has no more lines or columns than 32 bits can tell.
 #[derive(Clone, Copy, Debug, PartialEq, Eq)]
 pub struct Place {
     /// The line, from 1 on.
@@ -44,9 +46,9 @@ pub struct PlacedTree {
 
 /// Where each tree of a text stands, in reading order: each group before those inside it.
 ///
-/// They are the places of the spans of [`TokenStream::walk`](crate::pm_stream::TokenStream::walk) over the stream that the
-/// text parses to, by line and column as a new map has them. Trees are not made, and no map: it takes 20 bytes for
-/// each tree, and a list of the groups that are open. Answers are those of
+/// They are the places of the spans of `TokenStream::walk` over the stream that the text parses to, by line and
+/// column as a new map has them. Trees are not made, and no map: it takes 20 bytes for each tree, with room for one
+/// for each four bytes of text, and a list of the groups that are open. Answers are those of
 /// [`parse_unmapped`](crate::pm_stream::TokenStream::parse_unmapped): `Lex` has the position of the fault, in
 /// characters from 1 on (`fault`), `MapFull` is answered exactly where the text would not fit a new map
 /// (`fits`), and `Memory` where a growth was refused.

@@ -14,8 +14,8 @@ use proved::shim::alloc::Global;
 
 /// Reads source text to its end, and writes its tokens as `mode` says.
 ///
-/// The whole output stands before its first byte is written. `Io` is answered where a read failed,
-/// and nothing is written then, or where a write failed or took nothing, and a beginning of the
+/// What is written is known, and all memory taken, before its first byte is written. `Io` is answered where a
+/// read failed, and nothing is written then, or where a write failed or took nothing, and a beginning of the
 /// output is. Each other refusal writes nothing: `NotUtf8`, `MapFull` and `Lex`, which has the
 /// line and column of the fault, are about the whole input, and `Memory` comes where a growth was refused.
 ///

@@ -19,8 +19,8 @@ returns-clause-ok c = λ place front starts ends.
     let hi = lo + length front in
     elim c.match-piece.branch [
       | in-Opener+in_ok-open-in-Opener w ↦
-          places_by place old _ _ _ _ _ lo front w.self-is (w.in_ok-open-in-Opener.ensures.ok place starts) w.in-Opener.is
-          (ap (λ d. Opens d lo ∷ []) w.delimiter.ensures)
+          places_by place old _ _ _ _ _ lo front w.self-is (w.in_ok-open-in-Opener.ensures.ok place starts)
+          w.in-Opener.is (ap (λ d. Opens d lo ∷ []) w.delimiter.ensures)
       | in-Closer+in_ok-close-in-Closer w ↦
           places_by place old _ _ _ _ _ lo front w.self-is (w.in_ok-close-in-Closer.ensures.ok place hi ends)
           w.in-Closer.is
