@@ -16,6 +16,7 @@ pub mod ParserLemmas
 pub mod ParseLemmas
 pub mod FaultLemmas
 pub mod ReprintLemmas
+pub mod PlaceLemmas
 pub mod SpanLemmas
 pub mod LineColumnLemmas
 pub mod LawLemmas

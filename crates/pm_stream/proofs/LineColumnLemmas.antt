@@ -4,7 +4,7 @@ use Rattle.std.specs.List.{AllByRecursion as Each}
 use Rattle.lexical.specs.Token.{Token, Name, Mark, Literal}
 use Rattle.pm_span.specs.Extent.{Extent}
 use Rattle.pm_span.specs.Files.{Files, Holds, IsFile, all_texts, new_map, next_lo, with_file}
-use Rattle.pm_span.specs.Lookup.{StartsAt, EndsAt}
+use Rattle.pm_span.specs.Lookup.{StartsAt}
 use Rattle.pm_span.specs.CharOffset.{line_column}
 use Rattle.pm_span.specs.declared.location.LineColumn.{LineColumn}
 use Rattle.pm_stream.specs.Forest.{Forest, nil, leaf, group}
@@ -26,12 +26,6 @@ pub starts_in_last : (map : Files) (source : List ℕ) (span : Extent) (start : 
     → next_lo map ≤ span.lo → span.hi ≤ next_lo map + length source → StartsAt (with_file map source) span start
     → start ≡ line_column source (span.lo - next_lo map)
 starts_in_last map source span start from to starts = starts source (next_lo map) (last_file map source) from to
-
--- where it ends
-pub ends_in_last : (map : Files) (source : List ℕ) (span : Extent) (end : LineColumn)
-    → next_lo map ≤ span.lo → span.hi ≤ next_lo map + length source → EndsAt (with_file map source) span end
-    → end ≡ line_column source (span.hi - next_lo map)
-ends_in_last map source span end from to ends = ends source (next_lo map) (last_file map source) from to
 
 -- the map holds the span of the tree, which starts at its line and column of the text, the first of a new map
 abbrev pub HasLineColumn : List ℕ → TokenTree → Type 0

@@ -24,6 +24,8 @@ pub mod Nesting
 pub mod ParserState
 pub mod PrinterState
 pub mod InOrder
+pub mod Places
+pub mod PlacerState
 pub mod DocGroup
 pub mod Steps
 pub mod StepsLeft

@@ -63,6 +63,7 @@ pub use Rattle.pm_stream.specs.HeldSpans
 pub use Rattle.pm_stream.specs.InOrder
 pub use Rattle.pm_stream.specs.Trees
 pub use Rattle.pm_stream.specs.Parsing
+pub use Rattle.pm_stream.specs.Places
 pub use Rattle.pm_stream.specs.PrintsText
 pub use Rattle.pm_stream.specs.Printed
 pub use Rattle.pm_stream.specs.PrintedTree

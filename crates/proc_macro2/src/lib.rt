@@ -9,6 +9,7 @@ pub mod laws;
 pub use lexical::{Piece, PieceKind, PieceWalk, PlacedPiece, pieces};
 pub use literal_escaper::{EscapeError, NonZeroChar, NonZeroU8};
 pub use pm_span::{LineColumn, SourceMap, Span};
+pub use pm_stream::placing::{Place, PlacedTree, TreeKind, place_trees};
 pub use pm_stream::reprinting::reprint;
 pub use pm_stream::{Group, TokenStream, TokenTree};
 pub use pm_token::{

@@ -1,5 +1,5 @@
 -- What is written for an input, and why it is refused.
-use Rattle.std.specs.Prelude.{ℕ, ◌+◌, ◌≡◌, List, ◌++◌, length, codes, flat_map}
+use Rattle.std.specs.Prelude.{ℕ, ◌+◌, ◌≡◌, List, ◌++◌, length, codes, flat_map, string_bytes}
 use Rattle.std.specs.Str.{chars, IsUtf8, encode_utf8_all}
 use Rattle.proc_macro2.specs.declared.LineColumn.{LineColumn}
 use Rattle.proc_macro2.specs.Files.{Fits, new_map, next_lo}
@@ -10,7 +10,9 @@ use Rattle.proc_macro2.specs.Parsing.{ParsesTo, FaultAt}
 use Rattle.proc_macro2.specs.Printed.{printed}
 use Rattle.tokens.specs.declared.mode.OutputMode.{OutputMode}
 use Rattle.tokens.specs.declared.mode.OutputMode.TheVariants.{Print, Spans}
-use Rattle.tokens.specs.Spans.{span_line}
+use Rattle.tokens.specs.declared.output.RunOutput.{RunOutput}
+use Rattle.tokens.specs.declared.output.RunOutput.TheVariants.{Text, Trees}
+use Rattle.tokens.specs.Spans.{span_line, tree_line}
 
 -- what is written of a stream that the source parses to, in bytes: for `print` its printed text and a line feed, for
 -- `spans` a line for each tree, each group before those inside it
@@ -24,6 +26,17 @@ pub record IsOutput (mode : OutputMode) (input bytes : List ℕ) : Type 0 where
   pub stream : Forest
   pub parses : ParsesTo (next_lo new_map) (chars input) stream
   pub writes : bytes ≡ written mode (chars input) stream
+
+-- the bytes of an output
+abbrev pub output_bytes : RunOutput → List ℕ
+output_bytes (Text text) = string_bytes text
+output_bytes (Trees trees) = flat_map tree_line trees.items
+
+-- the output is what is written of the stream that the source parses to
+pub record IsOutputOf (mode : OutputMode) (source : List ℕ) (output : RunOutput) : Type 0 where
+  pub stream : Forest
+  pub parses : ParsesTo (next_lo new_map) source stream
+  pub writes : output_bytes output ≡ written mode source stream
 
 -- the input is too long for a new map
 pub record IsTooLong (input : List ℕ) : Type 0 where

@@ -1,33 +1,29 @@
 //! A run: from the bytes of a source to the bytes of a sink.
-ghost use Rattle.std.specs.Prelude.{◌≡◌, ◌≢◌, ◌↔◌, ◌++◌, ℕ, List, IfOk, IsFalse, alloc_error, codes, flat_map, length};
-ghost use Rattle.std.specs.Prelude.{string_bytes};
+ghost use Rattle.std.specs.Prelude.{◌≡◌, ◌≢◌, ◌↔◌, IfErr, IfOk, IsFalse, alloc_error, length};
 ghost use Rattle.std.specs.Str.{IsUtf8, chars};
 ghost use Rattle.proc_macro2.specs.declared.LineColumn.{LineColumn};
 ghost use Rattle.proc_macro2.specs.Files.{Fits, Holds, new_map, next_lo};
 ghost use Rattle.proc_macro2.specs.Forest.{Forest};
-ghost use Rattle.proc_macro2.specs.HeldSpans.{HoldsAll};
 ghost use Rattle.proc_macro2.specs.Lookup.{StartsAt};
 ghost use Rattle.proc_macro2.specs.Outcome.{IfLex};
-ghost use Rattle.proc_macro2.specs.Parsing.{ParsesTo};
+ghost use Rattle.proc_macro2.specs.Parsing.{IsOnlyFault, ParsesTo};
 ghost use Rattle.tokens.specs.Answer.{is_io};
-ghost use Rattle.tokens.specs.Output.{IsOutput, IsReadable, IsTooLong, HasFaultAt, written};
+ghost use Rattle.tokens.specs.Output.{IsOutput, IsOutputOf, IsReadable, IsTooLong, HasFaultAt, output_bytes};
 ghost use Rattle.tokens.specs.Run.{Runs, seen_by};
-ghost use Rattle.tokens.specs.Spans.{HasRead};
 
 use crate::errors::RunError;
 use crate::mode::OutputMode;
+use crate::output::{RunOutput, write_output};
 use crate::reading::read_to_end;
 use crate::sinks::ByteSink;
 use crate::sources::ByteSource;
-use crate::spans::span_lines;
-use crate::writing::write_blocks;
-use proc_macro2::{ParseError, SourceMap, TokenStream, reprint};
-use std::alloc::{AllocError, Global};
+use proc_macro2::{ParseError, SourceMap, TokenStream, place_trees, reprint};
+use std::alloc::Global;
 
 /// Reads source text to its end, and writes its tokens as `mode` says.
 ///
-/// The whole output stands before its first byte is written. `Io` is answered where a read failed,
-/// and nothing is written then, or where a write failed or took nothing, and a beginning of the
+/// What is written is known, and all memory taken, before its first byte is written. `Io` is answered where a
+/// read failed, and nothing is written then, or where a write failed or took nothing, and a beginning of the
 /// output is. Each other refusal writes nothing: `NotUtf8`, `MapFull` and `Lex`, which has the
 /// line and column of the fault, are about the whole input, and `Memory` comes where a growth was refused.
 ///
@@ -44,12 +40,12 @@ pub fn run<R: ByteSource, W: ByteSink>(
 {
     let input = read_to_end(alloc, reader)?;
     let output = output_of(alloc, mode, input)?;
-    write_blocks(writer, output.as_slice())
+    write_output(writer, &output)
 }
 
-// What is written for the input, in blocks.
-fn output_of(alloc: Global, mode: OutputMode, input: Vec<u8>) -> Result<Vec<String>, RunError>
-    ensures ok { IfOk result (λ output. IsOutput mode input.items (flat_map string_bytes output.items)) }
+// What is written for the input.
+fn output_of(alloc: Global, mode: OutputMode, input: Vec<u8>) -> Result<RunOutput, RunError>
+    ensures ok { IfOk result (λ output. IsOutput mode input.items (output_bytes output)) }
     ensures io { IsFalse (is_io result) }
     ensures not_utf8 { (result ≡ Err RunError.NotUtf8) ↔ (¬ IsUtf8 input.items) }
     ensures map_full { (result ≡ Err RunError.MapFull) ↔ IsTooLong input.items }
@@ -62,21 +58,26 @@ fn output_of(alloc: Global, mode: OutputMode, input: Vec<u8>) -> Result<Vec<Stri
     let Ok(text) = String::from_utf8(input) else {
         return Err(RunError::NotUtf8);
     };
+    match output_of_text(alloc, mode, text.as_str()) {
+        Ok(output) => Ok(output),
+        // Trees and a map are made only now, for line and column of the fault.
+        Err(ParseError::Lex(_)) => Err(refusal_of(alloc, text.as_str())),
+        Err(ParseError::MapFull) => Err(RunError::MapFull),
+        Err(ParseError::Memory(error)) => Err(RunError::Memory(error)),
+    }
+}
+
+// What is written for the text.
+fn output_of_text(alloc: Global, mode: OutputMode, text: &str) -> Result<RunOutput, ParseError>
+    ensures ok { IfOk result (IsOutputOf mode (chars text.now)) }
+    ensures only { IfErr result (λ error. IfLex error (λ fault.
+        IsOnlyFault (next_lo new_map) (chars text.now) fault.lo)) }
+    ensures map_full { (result ≡ Err ParseError.MapFull)
+        ↔ (Fits new_map (length (chars text.now)) → ⊥) }
+{
     match mode {
-        // What is printed has no positions, so trees and a map are wanted only for line and column of a fault.
-        OutputMode::Print => match reprint(alloc, text.as_str()) {
-            Ok(printed) => Ok(ended(alloc, printed)?),
-            Err(ParseError::Lex(_)) => Err(refusal_of(alloc, text.as_str())),
-            Err(ParseError::MapFull) => Err(RunError::MapFull),
-            Err(ParseError::Memory(error)) => Err(RunError::Memory(error)),
-        },
-        OutputMode::Spans => {
-            let mut map = SourceMap::new(alloc);
-            match TokenStream::from_str(text.as_str(), &mut map) {
-                Ok(stream) => Ok(lines(alloc, text, stream, &map)?),
-                Err(error) => Err(refusal(error, &map)),
-            }
-        }
+        OutputMode::Print => printed(alloc, text),
+        OutputMode::Spans => placed(alloc, text),
     }
 }
 
@@ -111,29 +112,26 @@ fn refusal(error: ParseError, map: &SourceMap) -> RunError
     }
 }
 
-// A line for each tree of the stream that the text parses to, which alone was read into the map. The map has the
-// text too.
-fn lines(
-    alloc: Global,
-    text: String,
-    stream: TokenStream,
-    map: &SourceMap,
-) -> Result<Vec<String>, AllocError>
-    requires { HoldsAll map.now stream }
-    ensures { IfOk result (λ blocks. (source : List ℕ) → HasRead map.now source stream
-        → flat_map string_bytes blocks.items ≡ written OutputMode.Spans source stream) }
+// The printed text and a line feed.
+fn printed(alloc: Global, text: &str) -> Result<RunOutput, ParseError>
+    ensures ok { IfOk result (IsOutputOf OutputMode.Print (chars text.now)) }
+    ensures only { IfErr result (λ error. IfLex error (λ fault.
+        IsOnlyFault (next_lo new_map) (chars text.now) fault.lo)) }
+    ensures map_full { (result ≡ Err ParseError.MapFull)
+        ↔ (Fits new_map (length (chars text.now)) → ⊥) }
 {
-    let bytes = text.len();
-    drop(text);
-    span_lines(alloc, bytes, stream, map)
+    let mut printed = reprint(alloc, text)?;
+    printed.push_str("\n")?;
+    Ok(RunOutput::Text(printed))
 }
 
-// The text and a line feed, as one block.
-fn ended(alloc: Global, mut text: String) -> Result<Vec<String>, AllocError>
-    ensures { IfOk result (λ blocks. flat_map string_bytes blocks.items ≡ string_bytes text ++ codes "\n") }
+// A line for each tree.
+fn placed(alloc: Global, text: &str) -> Result<RunOutput, ParseError>
+    ensures ok { IfOk result (IsOutputOf OutputMode.Spans (chars text.now)) }
+    ensures only { IfErr result (λ error. IfLex error (λ fault.
+        IsOnlyFault (next_lo new_map) (chars text.now) fault.lo)) }
+    ensures map_full { (result ≡ Err ParseError.MapFull)
+        ↔ (Fits new_map (length (chars text.now)) → ⊥) }
 {
-    text.push_str("\n")?;
-    let mut blocks = Vec::new(alloc);
-    blocks.push(text)?;
-    Ok(blocks)
+    Ok(RunOutput::Trees(place_trees(alloc, text)?))
 }

@@ -11,6 +11,7 @@ mod errors;
 mod failing;
 mod messages;
 mod mode;
+mod output;
 mod reading;
 mod sinks;
 mod sources;

@@ -1,150 +1,103 @@
-//! A line for each tree of a stream: where it begins and ends, and its kind.
-ghost use Rattle.std.specs.Prelude.{◌≡◌, ◌++◌, ℕ, List, All, IfOk, OnOk, codes, flat_map, map, string_bytes};
-ghost use Rattle.proc_macro2.specs.Files.{Holds, new_map, with_file};
-ghost use Rattle.proc_macro2.specs.HeldSpans.{HoldsAll};
-ghost use Rattle.proc_macro2.specs.InOrder.{in_order};
-ghost use Rattle.tokens.specs.Spans.{HasRead, IsInSource, kind_of, kind_word, line_column_text, line_in, line_of};
-ghost use Rattle.tokens.specs.Spans.{line_text};
-ghost use Rattle.tokens.specs.Spans.{span_line};
+//! A line for each tree of a text: where it begins and ends, and its kind.
+ghost use Rattle.std.specs.Prelude.{◌≡◌, ◌+◌, ◌*◌, ◌≤◌, ◌++◌, ◌||◌, codes, decimal, drop, flat_map, is_err, length};
+ghost use Rattle.std.specs.Prelude.{OnOk, IfErr};
+ghost use Rattle.std.specs.Io.KnownBytes.{Appends};
+ghost use Rattle.tokens.specs.Known.{AppendsFront};
+ghost use Rattle.tokens.specs.Spans.{kind_word, place_text, tree_line};
 
-use itoa::Buffer;
-use proc_macro2::{LineColumn, SourceMap, Span, TokenStream, TokenTree};
-use std::alloc::{AllocError, Global};
+use crate::errors::RunError;
+use crate::sinks::ByteSink;
+use crate::writing::write_all;
+use itoa::write_digits;
+use proc_macro2::{Place, PlacedTree, TreeKind};
 
-// How many bytes a block of the text has at least, but for the last.
-const BLOCK: usize = 16 * 1024;
+// How many lines are written at once, at most.
+const LINES: usize = 512;
 
-// No line is longer.
-const LONGEST_LINE: usize = 128;
+// No line has more bytes: four numbers of at most ten digits, and some twelve more.
+const LONGEST_LINE: usize = 64;
 
-// How many bytes of usual source there are for each tree, a little fewer than were seen.
-const SOURCE_BYTES_PER_TREE: usize = 4;
-
-// What a line is about: a tree's span and kind.
-#[derive(Clone, Copy)]
-struct Line {
-    span: Span,
-    kind: TreeKind,
-}
-
-// The kind of a tree.
-#[derive(Clone, Copy)]
-enum TreeKind {
-    Group,
-    Ident,
-    Punct,
-    Literal,
-}
-
-/// A line for each tree of the stream, each group before those inside it.
+/// Writes a line for each of the trees.
 ///
 /// A line has line and column where the tree begins and ends, lines from 1 on and columns in characters
 /// from 0 on, and its kind. Of `a (b)` they are `1:0-1:1 ident`, `1:2-1:5 group` and
-/// `1:3-1:4 ident`. By the number of `bytes` of the source it guesses how many they are. They come
-/// in blocks of whole lines, and the stream's memory is given back before the first is made.
-pub fn span_lines(
-    alloc: Global,
-    bytes: usize,
-    stream: TokenStream,
-    map: &SourceMap,
-) -> Result<Vec<String>, AllocError>
-    requires { HoldsAll map.now stream }
-    ensures { IfOk result (λ blocks. (source : List ℕ) → HasRead map.now source stream
-        → flat_map string_bytes blocks.items ≡ flat_map (span_line source) (in_order stream)) }
+/// `1:3-1:4 ident`. It takes no memory, and writes many lines at once. It answers `Io` where a write failed
+/// or took nothing, and a beginning of the lines is written then.
+pub fn write_lines<W: ByteSink>(writer: &mut W, trees: &[PlacedTree]) -> Result<(), RunError>
+    ensures ok { OnOk result (Appends (W.held writer.old) (W.held writer.new)
+        (flat_map tree_line trees.now)) }
+    ensures io { IfErr result (λ e. e ≡ RunError.Io) }
+    ensures front { AppendsFront (W.held writer.old) (W.held writer.new)
+        (flat_map tree_line trees.now) }
+    ensures flag { W.has_failed writer.new ≡ (W.has_failed writer.old || is_err result) }
 {
-    let lines = lines_of(alloc, bytes, &stream)?;
-    drop(stream);
-    text_of(alloc, lines.as_slice(), map)
-}
-
-// A line for each tree of the stream, each group before those inside it.
-fn lines_of(alloc: Global, bytes: usize, stream: &TokenStream) -> Result<Vec<Line>, AllocError>
-    ensures { IfOk result (λ lines. lines.items ≡ map line_of (in_order stream.now)) }
-{
-    let mut lines = Vec::new(alloc);
-    lines.reserve(bytes / SOURCE_BYTES_PER_TREE)?;
-    let mut walk = stream.walk();
-    while let Some(tree) = walk.next()? {
-        lines.push(Line {
-            span: tree.span(),
-            kind: kind_of(tree),
-        })?;
+    let mut buffer = [0; LINES * LONGEST_LINE];
+    let mut rest = trees;
+    while !rest.is_empty() {
+        let (next, after) = rest.split_at(rest.len().min(LINES));
+        let start = put_lines(&mut buffer, next);
+        write_all(writer, &buffer[start..])?;
+        rest = after;
     }
-    Ok(lines)
+    Ok(())
 }
 
-// The text of the lines, in blocks of whole lines. They are small, so that they take the memory
-// which the stream gave back.
-fn text_of(alloc: Global, lines: &[Line], map: &SourceMap) -> Result<Vec<String>, AllocError>
-    requires { All (λ line. Holds map.now line.span) lines.now }
-    ensures { IfOk result (λ blocks. (source : List ℕ) → map.now ≡ with_file new_map source
-        → All (IsInSource source) lines.now
-        → flat_map string_bytes blocks.items ≡ flat_map (line_in source) lines.now) }
+// Puts the lines of the trees at the end of the buffer, the last of them first, and answers where they begin.
+fn put_lines(buffer: &mut [u8], trees: &[PlacedTree]) -> usize
+    requires { length trees.now * 64 ≤ length buffer.old }
+    ensures within { result ≤ length buffer.new }
+    ensures written { drop result buffer.new ≡ flat_map tree_line trees.now }
 {
-    let mut blocks = Vec::new(alloc);
-    let mut block = String::new(alloc);
-    for line in lines {
-        push_line(
-            &mut block,
-            line.span.start(map),
-            line.span.end(map),
-            line.kind,
-        )?;
-        block = next_block(alloc, &mut blocks, block)?;
+    let mut start = buffer.len();
+    let mut rest = trees;
+    while let Some((tree, before)) = rest.split_last() {
+        start = put_line(buffer, start, *tree);
+        rest = before;
     }
-    blocks.push(block)?;
-    Ok(blocks)
+    start
 }
 
-// The block to write on after this one: a new one, once this is long enough to go after the others.
-fn next_block(alloc: Global, blocks: &mut Vec<String>, block: String) -> Result<String, AllocError>
-    ensures { IfOk result (λ next. flat_map string_bytes blocks.new.items ++ string_bytes next
-        ≡ flat_map string_bytes blocks.old.items ++ string_bytes block) }
+// Puts the line of a tree before `end`, and answers where it begins.
+fn put_line(buffer: &mut [u8], end: usize, tree: PlacedTree) -> usize
+    requires { (LONGEST_LINE ≤ end) × (end ≤ length buffer.old) }
+    ensures start { (result ≤ end) × (end ≤ result + LONGEST_LINE) }
+    ensures written { drop result buffer.new ≡ tree_line tree ++ drop end buffer.old }
 {
-    if block.len() < BLOCK {
-        return Ok(block);
-    }
-    blocks.push(block)?;
-    String::with_capacity(alloc, BLOCK + LONGEST_LINE)
+    let end = put(buffer, end, line_end(tree.kind));
+    let end = put_place(buffer, end, tree.end);
+    let end = put(buffer, end, "-");
+    put_place(buffer, end, tree.start)
 }
 
-// The kind of a tree.
-fn kind_of(tree: &TokenTree) -> TreeKind
-    ensures { result ≡ kind_of tree.now }
+// Puts a line and a column, as `1:0`, before `end`, and answers where they begin.
+fn put_place(buffer: &mut [u8], end: usize, place: Place) -> usize
+    requires { (21 ≤ end) × (end ≤ length buffer.old) }
+    ensures start { (result ≤ end) × (end ≤ result + 21) }
+    ensures written { drop result buffer.new ≡ place_text place ++ drop end buffer.old }
 {
-    match tree {
-        TokenTree::Group(_) => TreeKind::Group,
-        TokenTree::Ident(_) => TreeKind::Ident,
-        TokenTree::Punct(_) => TreeKind::Punct,
-        TokenTree::Literal(_) => TreeKind::Literal,
-    }
+    let end = put_number(buffer, end, place.column);
+    let end = put(buffer, end, ":");
+    put_number(buffer, end, place.line)
 }
 
-// Adds the line of a tree of this kind between two lines and columns.
-fn push_line(
-    text: &mut String,
-    start: LineColumn,
-    end: LineColumn,
-    kind: TreeKind,
-) -> Result<(), AllocError>
-    ensures { OnOk result (string_bytes text.new
-        ≡ string_bytes text.old ++ line_text start end (kind_word kind)) }
+// Puts a number in decimal digits before `end`, and answers where it begins.
+fn put_number(buffer: &mut [u8], end: usize, number: u32) -> usize
+    requires { (10 ≤ end) × (end ≤ length buffer.old) }
+    ensures start { (result ≤ end) × (end ≤ result + 10) }
+    ensures written { drop result buffer.new ≡ decimal number ++ drop end buffer.old }
 {
-    push_line_column(text, start)?;
-    text.push_str("-")?;
-    push_line_column(text, end)?;
-    text.push_str(line_end(kind))
+    write_digits(number as u64, buffer, end)
 }
 
-// Adds a line and a column, as `1:0`.
-fn push_line_column(text: &mut String, at: LineColumn) -> Result<(), AllocError>
-    ensures { OnOk result (string_bytes text.new
-        ≡ string_bytes text.old ++ line_column_text at) }
+// Puts a text before `end`, and answers where it begins.
+fn put(buffer: &mut [u8], end: usize, text: &str) -> usize
+    requires { (length text.now ≤ end) × (end ≤ length buffer.old) }
+    ensures start { result + length text.now ≡ end }
+    ensures written { drop result buffer.new ≡ text.now ++ drop end buffer.old }
 {
-    let mut digits = Buffer::new();
-    text.push_str(digits.format(at.line))?;
-    text.push_str(":")?;
-    text.push_str(digits.format(at.column))
+    let start = end - text.len();
+    buffer[start..end].copy_from_slice(text.as_bytes());
+    start
 }
 
 // A space, the word for a kind, and the line's end.

@@ -1,29 +1,10 @@
 //! Writes bytes to a sink.
-ghost use Rattle.std.specs.Prelude.{◌≡◌, ◌||◌, is_err, flat_map, string_bytes, OnOk, IfErr};
+ghost use Rattle.std.specs.Prelude.{◌≡◌, ◌||◌, is_err, OnOk, IfErr};
 ghost use Rattle.std.specs.Io.KnownBytes.{Appends};
 ghost use Rattle.tokens.specs.Known.{AppendsFront};
 
 use crate::errors::RunError;
 use crate::sinks::ByteSink;
-
-/// Writes the blocks of a text, one after another.
-///
-/// It answers `Io` where a write failed or took nothing. A beginning of the text is written then.
-pub fn write_blocks<W: ByteSink>(writer: &mut W, blocks: &[String]) -> Result<(), RunError>
-    ensures ok { OnOk result (Appends (W.held writer.old) (W.held writer.new)
-        (flat_map string_bytes blocks.now)) }
-    ensures io { IfErr result (λ e. e ≡ RunError.Io) }
-    ensures front { AppendsFront (W.held writer.old) (W.held writer.new)
-        (flat_map string_bytes blocks.now) }
-    ensures flag { W.has_failed writer.new ≡ (W.has_failed writer.old || is_err result) }
-{
-    let mut rest = blocks;
-    while let Some((block, after)) = rest.split_first() {
-        write_all(writer, block.as_bytes())?;
-        rest = after;
-    }
-    Ok(())
-}
 
 /// Writes all the bytes, in as many calls as the sink wants.
 ///

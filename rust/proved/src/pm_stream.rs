@@ -12,6 +12,7 @@ pub mod extra;
 pub mod laws;
 mod parse;
 pub mod parts;
+pub mod placing;
 pub mod reprinting;
 mod same;
 mod steps;

@@ -9,6 +9,7 @@ pub mod laws;
 pub use crate::lexical::{Piece, PieceKind, PieceWalk, PlacedPiece, pieces};
 pub use crate::literal_escaper::{EscapeError, NonZeroChar, NonZeroU8};
 pub use crate::pm_span::{LineColumn, SourceMap, Span};
+pub use crate::pm_stream::placing::{Place, PlacedTree, TreeKind, place_trees};
 pub use crate::pm_stream::reprinting::reprint;
 pub use crate::pm_stream::{Group, TokenStream, TokenTree};
 pub use crate::pm_token::{

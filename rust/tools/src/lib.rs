@@ -21,6 +21,7 @@ pub mod tokens {
     mod errors;
     mod messages;
     mod mode;
+    mod output;
     mod reading;
     pub mod sinks;
     pub mod sources;

@@ -18,9 +18,9 @@ pub trait Integer: Copy {
     fn write(self, room: &mut [u8; ROOM]) -> usize;
 }
 
-/// Writes the digits of a number before a place in the room, and answers where they begin.
+/// Contract: writes the number in decimal digits, as [`Buffer`] does, before `end`, and answers where they begin.
 #[inline(always)]
-fn write_digits(number: u64, room: &mut [u8; ROOM], end: usize) -> usize {
+pub fn write_digits(number: u64, room: &mut [u8], end: usize) -> usize {
     let (mut rest, mut at) = (number, end);
     while rest >= 100 {
         let pair = (rest % 100) as usize * 2;
@@ -137,6 +137,9 @@ mod tests {
         }
         assert_eq!(buffer.format(i128::MIN), i128::MIN.to_string());
         assert_eq!(buffer.format(7usize), "7");
+        let mut bytes = *b"abcdefgh";
+        assert_eq!(super::write_digits(403, &mut bytes, 5), 2);
+        assert_eq!(&bytes, b"ab403fgh");
         assert_eq!(buffer.format(i64::MIN), i64::MIN.to_string());
     }
 }

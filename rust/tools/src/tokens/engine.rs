@@ -5,18 +5,17 @@ use proved::shim::prelude::{String, Vec};
 
 use crate::tokens::errors::RunError;
 use crate::tokens::mode::OutputMode;
+use crate::tokens::output::{RunOutput, write_output};
 use crate::tokens::reading::read_to_end;
 use crate::tokens::sinks::ByteSink;
 use crate::tokens::sources::ByteSource;
-use crate::tokens::spans::span_lines;
-use crate::tokens::writing::write_blocks;
-use proved::proc_macro2::{ParseError, SourceMap, TokenStream, reprint};
-use proved::shim::alloc::{AllocError, Global};
+use proved::proc_macro2::{ParseError, SourceMap, TokenStream, place_trees, reprint};
+use proved::shim::alloc::Global;
 
 /// Reads source text to its end, and writes its tokens as `mode` says.
 ///
-/// The whole output stands before its first byte is written. `Io` is answered where a read failed,
-/// and nothing is written then, or where a write failed or took nothing, and a beginning of the
+/// What is written is known, and all memory taken, before its first byte is written. `Io` is answered where a
+/// read failed, and nothing is written then, or where a write failed or took nothing, and a beginning of the
 /// output is. Each other refusal writes nothing: `NotUtf8`, `MapFull` and `Lex`, which has the
 /// line and column of the fault, are about the whole input, and `Memory` comes where a growth was refused.
 ///
@@ -31,32 +30,32 @@ pub fn run<R: ByteSource, W: ByteSink>(
 {
     let input = read_to_end(alloc, reader)?;
     let output = output_of(alloc, mode, input)?;
-    write_blocks(writer, output.as_slice())
+    write_output(writer, &output)
 }
 
-// What is written for the input, in blocks.
-fn output_of(alloc: Global, mode: OutputMode, input: Vec<u8>) -> Result<Vec<String>, RunError>
+// What is written for the input.
+fn output_of(alloc: Global, mode: OutputMode, input: Vec<u8>) -> Result<RunOutput, RunError>
 
     // That a growth was refused can't be stated, only which inputs may come so far.
 {
     let Ok(text) = String::from_utf8(input) else {
         return Err(RunError::NotUtf8);
     };
+    match output_of_text(alloc, mode, text.as_str()) {
+        Ok(output) => Ok(output),
+        // Trees and a map are made only now, for line and column of the fault.
+        Err(ParseError::Lex(_)) => Err(refusal_of(alloc, text.as_str())),
+        Err(ParseError::MapFull) => Err(RunError::MapFull),
+        Err(ParseError::Memory(error)) => Err(RunError::Memory(error)),
+    }
+}
+
+// What is written for the text.
+fn output_of_text(alloc: Global, mode: OutputMode, text: &str) -> Result<RunOutput, ParseError>
+{
     match mode {
-        // What is printed has no positions, so trees and a map are wanted only for line and column of a fault.
-        OutputMode::Print => match reprint(alloc, text.as_str()) {
-            Ok(printed) => Ok(ended(alloc, printed)?),
-            Err(ParseError::Lex(_)) => Err(refusal_of(alloc, text.as_str())),
-            Err(ParseError::MapFull) => Err(RunError::MapFull),
-            Err(ParseError::Memory(error)) => Err(RunError::Memory(error)),
-        },
-        OutputMode::Spans => {
-            let mut map = SourceMap::new(alloc);
-            match TokenStream::from_str(text.as_str(), &mut map) {
-                Ok(stream) => Ok(lines(alloc, text, stream, &map)?),
-                Err(error) => Err(refusal(error, &map)),
-            }
-        }
+        OutputMode::Print => printed(alloc, text),
+        OutputMode::Spans => placed(alloc, text),
     }
 }
 
@@ -81,25 +80,16 @@ fn refusal(error: ParseError, map: &SourceMap) -> RunError
     }
 }
 
-// A line for each tree of the stream that the text parses to, which alone was read into the map. The map has the
-// text too.
-fn lines(
-    alloc: Global,
-    text: String,
-    stream: TokenStream,
-    map: &SourceMap,
-) -> Result<Vec<String>, AllocError>
+// The printed text and a line feed.
+fn printed(alloc: Global, text: &str) -> Result<RunOutput, ParseError>
 {
-    let bytes = text.len();
-    drop(text);
-    span_lines(alloc, bytes, stream, map)
+    let mut printed = reprint(alloc, text)?;
+    printed.push_str("\n")?;
+    Ok(RunOutput::Text(printed))
 }
 
-// The text and a line feed, as one block.
-fn ended(alloc: Global, mut text: String) -> Result<Vec<String>, AllocError>
+// A line for each tree.
+fn placed(alloc: Global, text: &str) -> Result<RunOutput, ParseError>
 {
-    text.push_str("\n")?;
-    let mut blocks = Vec::new(alloc);
-    blocks.push(text)?;
-    Ok(blocks)
+    Ok(RunOutput::Trees(place_trees(alloc, text)?))
 }

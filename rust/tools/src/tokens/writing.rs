@@ -1,23 +1,8 @@
 // Made from crates/tokens/src/writing.rt by rust/erase: change that file, not this one.
 //! Writes bytes to a sink.
 
-use proved::shim::prelude::String;
-
 use crate::tokens::errors::RunError;
 use crate::tokens::sinks::ByteSink;
-
-/// Writes the blocks of a text, one after another.
-///
-/// It answers `Io` where a write failed or took nothing. A beginning of the text is written then.
-pub fn write_blocks<W: ByteSink>(writer: &mut W, blocks: &[String]) -> Result<(), RunError>
-{
-    let mut rest = blocks;
-    while let Some((block, after)) = rest.split_first() {
-        write_all(writer, block.as_bytes())?;
-        rest = after;
-    }
-    Ok(())
-}
 
 /// Writes all the bytes, in as many calls as the sink wants.
 ///

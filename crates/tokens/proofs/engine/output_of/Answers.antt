@@ -1,9 +1,7 @@
-use Rattle.std.proofs.Common.{◌≡◌, ◌∙◌, ap, subst, sym}
+use Rattle.std.proofs.Common.{◌≡◌, ◌∙◌, subst, sym}
 use Rattle.std.specs.Str.{chars}
 use Rattle.proc_macro2.specs.Files.{new_map, next_lo}
 use Rattle.proc_macro2.specs.Parsing.{IsOnlyFault}
-use Rattle.tokens.specs.Output.{HasFaultAt}
-use Rattle.tokens.proofs.OutputLemmas.{HasFaultAt-refused}
 use Rattle.tokens.proofs.engine.output_of.Goals as goal
 
 pub refusal_of-requires : goal.refusal_of-requires
@@ -13,12 +11,3 @@ refusal_of-requires c =
     let only : IsOnlyFault (next_lo new_map) (chars c.as_str.result.now) c.in-Err-Lex.field-0-0.lo
     = rw c.in-Err-Lex.field-0-is at c.in-Err-Lex.ensures.only in
     (subst (λ text. IsOnlyFault (next_lo new_map) (chars text) c.in-Err-Lex.field-0-0.lo) same only).0
-
-pub returns-clause-lex : goal.returns-clause-lex
-returns-clause-lex c = λ start starts.
-    let same : c.as_str-in-Spans.result.now ≡ c.args.input.items
-    = c.as_str-in-Spans.ensures.value ∙ ap (λ bytes. bytes.items) c.in-Ok.ensures.ok in
-    subst (λ bytes. HasFaultAt bytes start) same
-    (HasFaultAt-refused _ _ c.in-Err.error _ start c.as_str-in-Spans.utf8 (rw c.new-map.ensures at c.in-Err.ensures.lex)
-    (rw c.new-map.ensures at c.in-Err.ensures.kept)
-    c.refusal.ensures.lex c.refusal.ensures.map_full c.refusal.ensures.memory cc)

@@ -1,0 +1,68 @@
+-- Where the trees of a text stand, by line and column.
+use Rattle.std.specs.Prelude.{ℕ, Bool, true, false, ◌≡◌, ◌+◌, ◌-◌, List, [], ◌∷◌, map, if◌then◌else◌}
+use Rattle.lexical.specs.declared.piece.PieceKind.{PieceKind}
+use Rattle.lexical.specs.declared.piece.PieceKind.TheVariants.{FrontMark, Gap, Doc, Opener, Closer, Mark, Name}
+use Rattle.lexical.specs.declared.piece.PieceKind.TheVariants.{Literal}
+use Rattle.pm_span.specs.CharOffset.{is_line_feed, line, column}
+use Rattle.pm_stream.specs.Forest.{Forest}
+use Rattle.pm_stream.specs.InOrder.{in_order}
+use Rattle.pm_stream.specs.Parsing.{ParsesTo}
+use Rattle.pm_stream.specs.TreeSpan.{extent_of}
+use Rattle.pm_stream.specs.declared.stream.TokenTree.{TokenTree}
+use Rattle.pm_stream.specs.declared.stream.TokenTree.TheVariants as trees
+use Rattle.pm_stream.specs.declared.placing.Place.{Place}
+use Rattle.pm_stream.specs.declared.placing.PlacedTree.{PlacedTree}
+use Rattle.pm_stream.specs.declared.placing.TreeKind.{TreeKind}
+use Rattle.pm_stream.specs.declared.placing.TreeKind.TheVariants as kinds
+
+-- `line`, `column`: those of an offset
+abbrev pub place_at : List ℕ → ℕ → Place
+place_at text k = record { line = line text k; column = column text k }
+
+-- those of a position of a text that begins at base
+abbrev pub place_of : ℕ → List ℕ → ℕ → Place
+place_of base source position = place_at source (position - base)
+
+-- the place after a character that stands at this one
+abbrev pub next_place : Place → ℕ → Place
+next_place place c =
+    if is_line_feed c then record { line = place.line + 1; column = 0 }
+    else record { line = place.line; column = place.column + 1 }
+
+-- the place after a text that begins at this one
+abbrev pub moved_past : Place → List ℕ → Place
+moved_past place [] = place
+moved_past place (c ∷ text) = moved_past (next_place place c) text
+
+-- no piece that the lexer calls so has a line feed
+abbrev pub has_one_line : PieceKind → Bool
+has_one_line FrontMark = false
+has_one_line Gap = false
+has_one_line (Doc inner text) = false
+has_one_line (Opener c) = true
+has_one_line (Closer c) = true
+has_one_line Literal = false
+has_one_line (Mark joint mark) = true
+has_one_line (Name raw name) = true
+
+-- the kind of a tree
+abbrev pub tree_kind : TokenTree → TreeKind
+tree_kind (trees.Group g) = kinds.Group
+tree_kind (trees.Ident i) = kinds.Ident
+tree_kind (trees.Punct p) = kinds.Punct
+tree_kind (trees.Literal l) = kinds.Literal
+
+-- a tree with the places of the positions where it begins and ends
+abbrev pub placed : (ℕ → Place) → TokenTree → PlacedTree
+placed place tree =
+    record { start = place (extent_of tree).lo; end = place (extent_of tree).hi; kind = tree_kind tree }
+
+-- the trees of a stream in reading order
+abbrev pub listed : (ℕ → Place) → Forest → List PlacedTree
+listed place trees = map (placed place) (in_order trees)
+
+-- they are those of the stream that the source parses to
+pub record ArePlaced (base : ℕ) (source : List ℕ) (trees : List PlacedTree) : Type 0 where
+  pub stream : Forest
+  pub parses : ParsesTo base source stream
+  pub places : trees ≡ listed (place_of base source) stream
