@@ -18,7 +18,7 @@ HERE = pathlib.Path(__file__).resolve().parent
 CRATE = HERE.parent.parent / "crates/pm_c"
 HEADER = HERE / "pm_c.h"
 # Rises with each change that a caller sees.
-VERSION = 2
+VERSION = 3
 TYPES = {"u8": "uint8_t", "u32": "uint32_t", "usize": "size_t", "bool": "bool"}
 FRONT = """\
 /* Token streams of Rust, read, listed, printed, made and looked up by a proved library. rust/c/header.py makes this
@@ -91,7 +91,7 @@ def codes() -> str:
 
 def numbered(said: str, name: str, file: str, function: str) -> str:
     """An enum of the values that a function of specs/ numbers."""
-    found = re.findall(rf"{function} \w+\.(\w+) = (\d+)", (CRATE / "specs" / file).read_text())
+    found = re.findall(rf"{function} \(?\w+\.(\w+)(?: \w+\))? = (\d+)", (CRATE / "specs" / file).read_text())
     rows = [f"    {name.upper()}_{snake(value).upper()} = {number}" for value, number in found]
     return f"\n/* {said} */\nenum {name} {{\n" + ",\n".join(rows) + "\n};\n"
 

@@ -25,7 +25,7 @@
 #include <stdint.h>
 
 /* Rises with each change that a caller sees. */
-#define PM_VERSION 2
+#define PM_VERSION 3
 
 #ifdef __cplusplus
 extern "C" {
@@ -109,23 +109,24 @@ enum pm_escape {
 /* Why a text doesn't parse. */
 enum pm_reason {
     PM_REASON_UNCLOSED_COMMENT = 1,
-    PM_REASON_UNCLOSED_STRING = 2,
-    PM_REASON_UNCLOSED_RAW_STRING = 3,
-    PM_REASON_TOO_MANY_HASHES = 4,
-    PM_REASON_HASHES_WITHOUT_QUOTE = 5,
-    PM_REASON_RESERVED_RAW_NAME = 6,
-    PM_REASON_UNCLOSED_CHARACTER = 7,
-    PM_REASON_DIGIT_LIFETIME = 8,
-    PM_REASON_HASH_AFTER_LIFETIME = 9,
-    PM_REASON_NO_DIGITS = 10,
-    PM_REASON_BAD_DIGIT = 11,
-    PM_REASON_BAD_NUMBER_END = 12,
-    PM_REASON_MISPLACED_MARK = 13,
-    PM_REASON_NO_TOKEN = 14,
-    PM_REASON_UNREAD = 15,
-    PM_REASON_STRAY_CLOSER = 16,
-    PM_REASON_MISMATCHED_CLOSER = 17,
-    PM_REASON_UNCLOSED_OPENER = 18
+    PM_REASON_BARE_RETURN_IN_DOC = 2,
+    PM_REASON_UNCLOSED_STRING = 3,
+    PM_REASON_UNCLOSED_RAW_STRING = 4,
+    PM_REASON_TOO_MANY_HASHES = 5,
+    PM_REASON_HASHES_WITHOUT_QUOTE = 6,
+    PM_REASON_RESERVED_RAW_NAME = 7,
+    PM_REASON_UNCLOSED_CHARACTER = 8,
+    PM_REASON_CONTENT = 9,
+    PM_REASON_DIGIT_LIFETIME = 10,
+    PM_REASON_HASH_AFTER_LIFETIME = 11,
+    PM_REASON_NO_DIGITS = 12,
+    PM_REASON_BAD_DIGIT = 13,
+    PM_REASON_BAD_NUMBER_END = 14,
+    PM_REASON_MISPLACED_MARK = 15,
+    PM_REASON_NO_TOKEN = 16,
+    PM_REASON_STRAY_CLOSER = 17,
+    PM_REASON_MISMATCHED_CLOSER = 18,
+    PM_REASON_UNCLOSED_OPENER = 19
 };
 
 /* What a call answers. Where it isn't done only `code` is of use, and `number` where the code's line names it. */
@@ -173,6 +174,8 @@ typedef struct pm_explanation {
     uint32_t code;
     /* 0 where the text parses, and else one of the values of pm_reason. */
     uint32_t reason;
+    /* Of the content of a literal its fault, one of the values of pm_escape; else 0. */
+    uint32_t detail;
     /* Where the fault stands. */
     size_t fault;
     /* Where what is at fault begins: of a digit that is too large for its number, say, behind the fault. */

@@ -189,6 +189,7 @@ static void want_reason(const char *text, uint32_t reason, size_t fault, size_t 
 static void reasons(void) {
     want_reason("fn f() { 'x' }", 0, 0, 0, 0);
     want_reason("a /* b", PM_REASON_UNCLOSED_COMMENT, 2, 2, 4);
+    want_reason("/// a\rb", PM_REASON_BARE_RETURN_IN_DOC, 0, 5, 6);
     want_reason("a \"b", PM_REASON_UNCLOSED_STRING, 2, 2, 3);
     want_reason("r#\"a\"", PM_REASON_UNCLOSED_RAW_STRING, 0, 0, 3);
     want_reason("r#~", PM_REASON_HASHES_WITHOUT_QUOTE, 0, 2, 3);
@@ -203,6 +204,8 @@ static void reasons(void) {
     want_reason("a)", PM_REASON_STRAY_CLOSER, 1, 1, 2);
     want_reason("{ (]", PM_REASON_MISMATCHED_CLOSER, 3, 3, 4);
     want_reason("[a (b", PM_REASON_UNCLOSED_OPENER, 3, 3, 4);
+    want_reason("\"a\\q\"", PM_REASON_CONTENT, 0, 2, 4);
+    want("the content's fault", pm_explain(TEXT("\"a\\q\"")).detail, PM_ESCAPE_INVALID_ESCAPE);
     pm_explanation told = pm_explain(TEXT("{ [ (]"));
     want("the innermost opener", told.opener_start, 4);
     want("its end", told.opener_end, 5);

@@ -1,5 +1,5 @@
 -- What C is told of a text that doesn't parse.
-use Rattle.std.proofs.Common.{◌≡◌, ℕ, ◌+◌, List, length, sym, subst, ◌∙◌, refl, ap, arith, inl, Ok, Err, Result}
+use Rattle.std.proofs.Common.{◌≡◌, ℕ, List, length, sym, subst, refl, arith, inl}
 use Rattle.std.specs.Str.{chars, IsUtf8}
 use Rattle.explain.specs.Explained.{IsExplained}
 use Rattle.explain.specs.declared.explained.Explained.{Explained}
@@ -13,12 +13,14 @@ use Rattle.pm_c.specs.declared.records.PmExplanation.{PmExplanation}
 -- no reason has the number of none
 positive : (reason : Reason) → reason_number reason ≡ 0 → ⊥
 positive reasons.UnclosedComment e = omega (arith, e)
+positive reasons.BareReturnInDoc e = omega (arith, e)
 positive reasons.UnclosedString e = omega (arith, e)
 positive reasons.UnclosedRawString e = omega (arith, e)
 positive reasons.TooManyHashes e = omega (arith, e)
 positive reasons.HashesWithoutQuote e = omega (arith, e)
 positive reasons.ReservedRawName e = omega (arith, e)
 positive reasons.UnclosedCharacter e = omega (arith, e)
+positive (reasons.Content error) e = omega (arith, e)
 positive reasons.DigitLifetime e = omega (arith, e)
 positive reasons.HashAfterLifetime e = omega (arith, e)
 positive reasons.NoDigits e = omega (arith, e)
@@ -26,7 +28,6 @@ positive reasons.BadDigit e = omega (arith, e)
 positive reasons.BadNumberEnd e = omega (arith, e)
 positive reasons.MisplacedMark e = omega (arith, e)
 positive reasons.NoToken e = omega (arith, e)
-positive reasons.Unread e = omega (arith, e)
 positive reasons.StrayCloser e = omega (arith, e)
 positive reasons.MismatchedCloser e = omega (arith, e)
 positive reasons.UnclosedOpener e = omega (arith, e)

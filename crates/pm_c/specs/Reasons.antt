@@ -4,29 +4,36 @@ use Rattle.explain.specs.declared.explained.Explained.{Explained}
 use Rattle.explain.specs.declared.explained.Opener.{Opener}
 use Rattle.explain.specs.declared.reason.Reason.{Reason}
 use Rattle.explain.specs.declared.reason.Reason.TheVariants as reasons
+use Rattle.pm_c.specs.Faults.{fault_number}
 use Rattle.pm_c.specs.declared.codes.TheConstants.{DONE}
 use Rattle.pm_c.specs.declared.records.PmExplanation.{PmExplanation}
 
 -- reasons count from 1, in the order in which they are declared
 abbrev pub reason_number : Reason → ℕ
 reason_number reasons.UnclosedComment = 1
-reason_number reasons.UnclosedString = 2
-reason_number reasons.UnclosedRawString = 3
-reason_number reasons.TooManyHashes = 4
-reason_number reasons.HashesWithoutQuote = 5
-reason_number reasons.ReservedRawName = 6
-reason_number reasons.UnclosedCharacter = 7
-reason_number reasons.DigitLifetime = 8
-reason_number reasons.HashAfterLifetime = 9
-reason_number reasons.NoDigits = 10
-reason_number reasons.BadDigit = 11
-reason_number reasons.BadNumberEnd = 12
-reason_number reasons.MisplacedMark = 13
-reason_number reasons.NoToken = 14
-reason_number reasons.Unread = 15
-reason_number reasons.StrayCloser = 16
-reason_number reasons.MismatchedCloser = 17
-reason_number reasons.UnclosedOpener = 18
+reason_number reasons.BareReturnInDoc = 2
+reason_number reasons.UnclosedString = 3
+reason_number reasons.UnclosedRawString = 4
+reason_number reasons.TooManyHashes = 5
+reason_number reasons.HashesWithoutQuote = 6
+reason_number reasons.ReservedRawName = 7
+reason_number reasons.UnclosedCharacter = 8
+reason_number (reasons.Content error) = 9
+reason_number reasons.DigitLifetime = 10
+reason_number reasons.HashAfterLifetime = 11
+reason_number reasons.NoDigits = 12
+reason_number reasons.BadDigit = 13
+reason_number reasons.BadNumberEnd = 14
+reason_number reasons.MisplacedMark = 15
+reason_number reasons.NoToken = 16
+reason_number reasons.StrayCloser = 17
+reason_number reasons.MismatchedCloser = 18
+reason_number reasons.UnclosedOpener = 19
+
+-- of the content of a literal its fault, and of all else 0
+abbrev pub detail_number : Reason → ℕ
+detail_number (reasons.Content error) = fault_number error
+detail_number other = 0
 
 -- where an opener begins and ends, and 0 of none
 abbrev pub opener_start : Option Opener → ℕ
@@ -42,6 +49,7 @@ abbrev pub told_of : Explained → PmExplanation
 told_of x = record {
   code = DONE;
   reason = reason_number x.reason;
+  detail = detail_number x.reason;
   fault = x.before.start;
   start = x.at.start;
   end = x.at.end;

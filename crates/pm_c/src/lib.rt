@@ -8,6 +8,7 @@
 
 mod checks;
 mod codes;
+mod faults;
 mod handle;
 mod listing;
 mod piece_list;

@@ -1,9 +1,10 @@
 //! Why a text doesn't parse.
 ghost use Rattle.std.specs.Prelude.{◌≡◌};
 ghost use Rattle.pm_c.specs.Calls.{ExplainAnswer};
-ghost use Rattle.pm_c.specs.Reasons.{reason_number, told_of};
+ghost use Rattle.pm_c.specs.Reasons.{detail_number, reason_number, told_of};
 
 use crate::codes::{DONE, MAP_FULL, NO_MEMORY, NOT_UTF8};
+use crate::faults::fault_number;
 use crate::records::PmExplanation;
 use explain::{ExplainError, Explained, Reason, explain};
 use std::alloc::Global;
@@ -35,6 +36,7 @@ fn told_of(explained: &Explained) -> PmExplanation
     PmExplanation {
         code: DONE,
         reason: reason_number(&explained.reason),
+        detail: detail_number(&explained.reason),
         fault: explained.before.start,
         start: explained.at.start,
         end: explained.at.end,
@@ -49,22 +51,33 @@ fn reason_number(reason: &Reason) -> u32
 {
     match reason {
         Reason::UnclosedComment => 1,
-        Reason::UnclosedString => 2,
-        Reason::UnclosedRawString => 3,
-        Reason::TooManyHashes => 4,
-        Reason::HashesWithoutQuote => 5,
-        Reason::ReservedRawName => 6,
-        Reason::UnclosedCharacter => 7,
-        Reason::DigitLifetime => 8,
-        Reason::HashAfterLifetime => 9,
-        Reason::NoDigits => 10,
-        Reason::BadDigit => 11,
-        Reason::BadNumberEnd => 12,
-        Reason::MisplacedMark => 13,
-        Reason::NoToken => 14,
-        Reason::Unread => 15,
-        Reason::StrayCloser => 16,
-        Reason::MismatchedCloser => 17,
-        Reason::UnclosedOpener => 18,
+        Reason::BareReturnInDoc => 2,
+        Reason::UnclosedString => 3,
+        Reason::UnclosedRawString => 4,
+        Reason::TooManyHashes => 5,
+        Reason::HashesWithoutQuote => 6,
+        Reason::ReservedRawName => 7,
+        Reason::UnclosedCharacter => 8,
+        Reason::Content(_) => 9,
+        Reason::DigitLifetime => 10,
+        Reason::HashAfterLifetime => 11,
+        Reason::NoDigits => 12,
+        Reason::BadDigit => 13,
+        Reason::BadNumberEnd => 14,
+        Reason::MisplacedMark => 15,
+        Reason::NoToken => 16,
+        Reason::StrayCloser => 17,
+        Reason::MismatchedCloser => 18,
+        Reason::UnclosedOpener => 19,
+    }
+}
+
+/// Of the content of a literal the number of its fault, and of all else 0.
+fn detail_number(reason: &Reason) -> u32
+    ensures { result ≡ detail_number reason.now }
+{
+    match reason {
+        Reason::Content(fault) => fault_number(fault),
+        _ => 0,
     }
 }

@@ -81,6 +81,8 @@ pub struct PmExplanation {
     pub code: u32,
     /// 0 where the text parses, and else one of the values of `pm_reason`.
     pub reason: u32,
+    /// Of the content of a literal its fault, one of the values of `pm_escape`; else 0.
+    pub detail: u32,
     /// Where the fault stands.
     pub fault: usize,
     /// Where what is at fault begins: of a digit that is too large for its number, say, behind the fault.
@@ -163,6 +165,7 @@ impl PmExplanation {
         PmExplanation {
             code,
             reason: 0,
+            detail: 0,
             fault: 0,
             start: 0,
             end: 0,

@@ -14,14 +14,14 @@ ghost use Rattle.pm_c.specs.Calls.{
   KeepsAllButText,
   ValueAnswer,
 };
-ghost use Rattle.pm_c.specs.Faults.{fault_number};
 ghost use Rattle.pm_c.specs.declared.codes.TheConstants.{DONE, NO_LITERAL, NO_MEMORY, NOT_UTF8};
 ghost use Rattle.pm_c.specs.declared.codes.TheConstants.{NOT_UNESCAPED, OTHER_KIND};
 
 use crate::codes::{NO_LITERAL, NO_MEMORY, NOT_UNESCAPED, NOT_UTF8, OTHER_KIND};
+use crate::faults::fault_number;
 use crate::records::PmAnswer;
 use crate::session::Session;
-use proc_macro2::{ConversionErrorKind, EscapeError, Literal};
+use proc_macro2::{ConversionErrorKind, Literal};
 use std::alloc::Global;
 use std::str;
 
@@ -119,36 +119,5 @@ fn refusal(error: ConversionErrorKind) -> PmAnswer
             bytes: 0,
         },
         ConversionErrorKind::Memory(_) => PmAnswer::refused(NO_MEMORY),
-    }
-}
-
-/// The number of a fault: the faults count from 0 in the order in which they are declared.
-fn fault_number(fault: &EscapeError) -> u32
-    ensures { result ≡ fault_number fault.now }
-{
-    match fault {
-        EscapeError::ZeroChars => 0,
-        EscapeError::MoreThanOneChar => 1,
-        EscapeError::LoneSlash => 2,
-        EscapeError::InvalidEscape => 3,
-        EscapeError::BareCarriageReturn => 4,
-        EscapeError::BareCarriageReturnInRawString => 5,
-        EscapeError::EscapeOnlyChar => 6,
-        EscapeError::TooShortHexEscape => 7,
-        EscapeError::InvalidCharInHexEscape => 8,
-        EscapeError::OutOfRangeHexEscape => 9,
-        EscapeError::NoBraceInUnicodeEscape => 10,
-        EscapeError::InvalidCharInUnicodeEscape => 11,
-        EscapeError::EmptyUnicodeEscape => 12,
-        EscapeError::UnclosedUnicodeEscape => 13,
-        EscapeError::LeadingUnderscoreUnicodeEscape => 14,
-        EscapeError::OverlongUnicodeEscape => 15,
-        EscapeError::LoneSurrogateUnicodeEscape => 16,
-        EscapeError::OutOfRangeUnicodeEscape => 17,
-        EscapeError::UnicodeEscapeInByte => 18,
-        EscapeError::NonAsciiCharInByte => 19,
-        EscapeError::NulInCStr => 20,
-        EscapeError::UnskippedWhitespaceWarning => 21,
-        EscapeError::MultipleSkippedLinesWarning => 22,
     }
 }
