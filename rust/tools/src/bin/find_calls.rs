@@ -1,5 +1,5 @@
-//! Finds the calls of a function or a macro by its name: `find_calls NAME FILE..` writes a line `FILE:L:C` for each. The
-//! file `-` is standard input.
+//! Finds the calls of a function or a macro by its name: `find_calls NAME [FILE..]` writes a line `FILE:L:C` for
+//! each. Standard input is the file `-`.
 #![forbid(unsafe_code)]
 
 use proved::shim::env;
@@ -9,7 +9,7 @@ use std::io::Write;
 use tools::find_calls::answer::{print_calls, status};
 use tools::messages::{conclude, read_text, say, words, Failure};
 
-const USAGE: &str = "find_calls NAME FILE..";
+const USAGE: &str = "find_calls NAME [FILE..]";
 
 fn main() -> ExitCode {
     let rt = HostRuntime;
@@ -21,13 +21,13 @@ fn main() -> ExitCode {
 
 // Searches what the words after the program's name ask for, and answers the status.
 fn run(rt: &HostRuntime) -> Result<u8, Failure> {
-    let words = words(rt.alloc(), env::args(rt), USAGE)?;
+    let mut words = words(rt.alloc(), env::args(rt), USAGE)?;
+    if words.len() == 1 && words.push(String::from_str(rt.alloc(), "-")?).is_err() {
+        return Err(Failure::Memory);
+    }
     let Some((name, paths)) = words.as_slice().split_first() else {
         return Err(Failure::Usage(USAGE));
     };
-    if paths.is_empty() {
-        return Err(Failure::Usage(USAGE));
-    }
     let mut writer = rt.stdout();
     let mut found = false;
     let mut failed = false;
