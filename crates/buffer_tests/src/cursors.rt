@@ -1,6 +1,7 @@
 // What cursors answer on texts by hand, each call once at least.
 
 use pm_span::parts::bounds;
+use pm_stream::TokenStream;
 use pm_token::{Delimiter, Spacing};
 use std::test::Fail;
 use token_buffer::{LiteralText, TokenBuffer, TokenText};
@@ -51,5 +52,21 @@ fn a_doc_comment_is_its_tokens(rt: HostRuntime) -> Result<(), Fail> {
             Some((TokenText::Literal(LiteralText::Doc(" d")), _))
         )
     );
+    Ok(())
+}
+
+#[test]
+fn what_is_left_is_a_stream(rt: HostRuntime) -> Result<(), Fail> {
+    let text = "a (b + [c]) //! d\n'x 1.0";
+    let buffer = TokenBuffer::new(rt.alloc(), text)?;
+    let rest = buffer.begin().skip().ok_or("a name")?;
+    let stream = rest.to_stream(rt.alloc())?;
+    assert_eq!(rt;
+        stream.to_string(rt.alloc())?.as_str(),
+        "(b + [c]) # ! [doc = \" d\"] 'x 1.0"
+    );
+    let parsed = TokenStream::parse_unmapped(rt.alloc(), text)?;
+    let whole = buffer.begin().to_stream(rt.alloc())?;
+    assert!(rt; whole.same_tokens(&parsed));
     Ok(())
 }

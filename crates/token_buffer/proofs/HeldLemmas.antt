@@ -86,7 +86,7 @@ holds-group text inner d lo hi n f h size = record {
 
 -- ---- a flattening spells the trees that it came from
 
-joined_nil : (f : Forest) → joined f nil ≡ f
+pub joined_nil : (f : Forest) → joined f nil ≡ f
 joined_nil nil = refl
 joined_nil (leaf t lo hi f) = ap (leaf t lo hi) (joined_nil f)
 joined_nil (group d lo hi f k) = ap (group d lo hi f) (joined_nil k)

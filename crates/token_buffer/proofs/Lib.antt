@@ -4,3 +4,5 @@ pub mod CutLemmas
 pub mod BuiltLemmas
 pub mod FilledLemmas
 pub mod LifetimeLemmas
+mod MerelyBuiltLemmas
+mod MadeLemmas

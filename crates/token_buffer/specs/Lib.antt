@@ -7,3 +7,4 @@ pub mod Refused
 pub mod Many
 pub mod Message
 pub mod Reads
+pub mod Made

@@ -10,6 +10,7 @@ mod cursor;
 mod entry;
 pub mod errors;
 mod filling;
+mod trees;
 
 pub use buffer::TokenBuffer;
 pub use cursor::{Cursor, LiteralText, Name, TokenText};

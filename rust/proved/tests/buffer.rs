@@ -69,7 +69,12 @@ fn every_source_is_walked() {
         let text = fs::read_to_string(path).expect("it is read");
         let stream = TokenStream::parse_unmapped(Global, &text);
         match TokenBuffer::new(Global, &text) {
-            Ok(buffer) => count += compare(buffer.begin(), stream.expect("it parses").trees()),
+            Ok(buffer) => {
+                let stream = stream.expect("it parses");
+                let made = buffer.begin().to_stream(Global).expect("there is memory");
+                assert_eq!(format!("{made:?}"), format!("{stream:?}"));
+                count += compare(buffer.begin(), stream.trees());
+            }
             Err(BufferError::Parse(error)) => {
                 assert_eq!(format!("{error:?}"), format!("{:?}", stream.expect_err("it has a fault")));
             }

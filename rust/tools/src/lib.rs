@@ -1,4 +1,4 @@
-//! What the programs `tokens` and `highlight` call.
+//! What the programs `tokens`, `highlight` and `find_calls` call.
 //!
 //! Each module is a crate of `crates/`, made into plain Rust by `rust/erase` as those of [`proved`] are. A program's
 //! `main` is by hand, in `src/bin`: what `main.rt` of its crate does, over the streams and words of
@@ -39,4 +39,11 @@ pub mod highlight {
     mod page;
     mod style;
     mod writing;
+}
+
+/// The program `find_calls`, but for its `main`.
+#[allow(dead_code, unreachable_code, unused_imports, clippy::complexity, clippy::style)]
+pub mod find_calls {
+    pub mod answer;
+    mod calls;
 }

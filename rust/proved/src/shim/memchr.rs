@@ -27,6 +27,24 @@ pub fn memchr3(a: u8, b: u8, c: u8, bytes: &[u8]) -> Option<usize> {
     )
 }
 
+/// Searches for several bytes one after another.
+pub mod memmem {
+    /// Contract: the first index at which the needle's bytes stand, or `None`.
+    pub fn find(haystack: &[u8], needle: &[u8]) -> Option<usize> {
+        let Some((first, rest)) = needle.split_first() else {
+            return Some(0);
+        };
+        let mut index = 0;
+        loop {
+            index += super::memchr(*first, &haystack[index..])?;
+            if haystack[index + 1..].starts_with(rest) {
+                return Some(index);
+            }
+            index += 1;
+        }
+    }
+}
+
 /// The highest bit of each byte of the word that is this one. A byte after the lowest of them may be marked wrongly.
 #[inline(always)]
 fn hits(word: u64, byte: u8) -> u64 {
@@ -74,6 +92,10 @@ mod tests {
             let first = |stops: &[u8]| text.iter().position(|byte| stops.contains(byte));
             for a in [0x00, 0x22, 0x80] {
                 assert_eq!(memchr(a, &text), first(&[a]), "{text:?}");
+            }
+            for needle in [&text[..text.len().min(2)], &[0x22, 0x01]] {
+                let found = (0..=text.len()).find(|index| text[*index..].starts_with(needle));
+                assert_eq!(memmem::find(&text, needle), found, "{needle:?} in {text:?}");
             }
             assert_eq!(memchr2(0x22, 0x01, &text), first(&[0x22, 0x01]), "{text:?}");
             assert_eq!(memchr3(0x22, 0x7F, 0x00, &text), first(&[0x22, 0x7F, 0x00]), "{text:?}");

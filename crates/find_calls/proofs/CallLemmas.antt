@@ -1,0 +1,107 @@
+-- What is left to find of the calls.
+use Rattle.std.proofs.Common.{◌≡◌, ℕ, zero, suc, ◌+◌, ◌*◌, ◌<◌, ◌≤◌, Bool, true, false, not, ◌&&◌, List, [], ◌∷◌, ◌++◌, drop, length}
+use Rattle.std.proofs.Common.{Option, Some, None, refl, sym, ap, ap₂, ◌∙◌, arith, get_or, ◌==◌, ne_eqb, if◌then◌else◌}
+use Rattle.std.proofs.Math.Seq.{drop-cons}
+use Rattle.std.proofs.KnownBytes.{Appends-nil}
+use Rattle.std.specs.Io.KnownBytes.{Appends}
+use Rattle.std.specs.List.{AllByRecursion as Each}
+use Rattle.std.specs.Option.{option_to_list}
+use Rattle.lexical.specs.Token.{Token, Name, Mark, Literal}
+use Rattle.pm_span.specs.Extent.{Extent}
+use Rattle.pm_span.specs.Files.{Holds, new_map, next_lo, with_file}
+use Rattle.pm_stream.specs.Forest.{Forest, nil, leaf, group}
+use Rattle.pm_stream.specs.InOrder.{token_tree, in_order}
+use Rattle.pm_stream.specs.Parsing.{ParsesTo}
+use Rattle.pm_stream.specs.Size.{count}
+use Rattle.pm_stream.specs.TreeSpan.{extent_of}
+use Rattle.pm_stream.proofs.InOrderLemmas.{each_parts}
+use Rattle.pm_stream.proofs.LineColumnLemmas.{parsed_line_columns}
+use Rattle.token_buffer.specs.Reads.{left}
+use Rattle.token_buffer.specs.declared.cursor.Cursor.{Cursor}
+use Rattle.find_calls.specs.Answer.{StartsIn, are_some, lines}
+use Rattle.find_calls.specs.Calls.{calls, calls_onto, is_called, is_fn, is_named}
+
+-- the calls after the open groups, the innermost group first
+abbrev pub rests : List ℕ → List Cursor → List Extent
+rests name [] = []
+rests name (after ∷ outer) = calls_onto name false (left after) (rests name outer)
+
+-- how many steps are left there: one for each token, two for each group, and one for each that is open
+abbrev pub rests_steps : List Cursor → ℕ
+rests_steps [] = 0
+rests_steps (after ∷ outer) = 1 + 2 * count (left after) + rests_steps outer
+
+-- the calls that were found and those that are left are all
+abbrev pub AreAll : List ℕ → List Extent → Bool → Forest → List Cursor → List Extent → Type 0
+AreAll name found defined here outer all = found ++ calls_onto name defined here (rests name outer) ≡ all
+
+-- ---- where they start
+
+-- the spans of calls are spans of trees
+module _ (P : Extent → Type 0) where
+  token_extent : (token : Token) (lo hi : ℕ) → P (extent_of (token_tree token lo hi)) → P (record { lo = lo; hi = hi })
+  token_extent (Name raw name) lo hi h = h
+  token_extent (Mark c joint) lo hi h = h
+  token_extent (Literal text) lo hi h = h
+
+  each_put : (is : Bool) (span : Extent) (spans : List Extent) → P span → Each P spans
+      → Each P (option_to_list (if is then Some span else None) ++ spans)
+  each_put true span spans h all = (h, all)
+  each_put false span spans h all = all
+
+  each_call : (name : List ℕ) (defined : Bool) (f : Forest) (more : List Extent)
+      → Each (λ tree. P (extent_of tree)) (in_order f) → Each P more → Each P (calls_onto name defined f more)
+  each_call name defined nil more h all = all
+  each_call name defined (leaf token lo hi f) more h all =
+      each_put (is_named name token && (not defined && is_called f)) (record { lo = lo; hi = hi }) _
+      (token_extent token lo hi h.0) (each_call name (is_fn token) f more h.1 all)
+  each_call name defined (group d lo hi f k) more h all =
+      let parts = each_parts (λ tree. P (extent_of tree)) f (in_order k) h.1 in
+      each_call name false f (calls_onto name false k more) parts.0 (each_call name false k more parts.1 all)
+
+-- the map of the text alone holds the span, and it starts at its line and column
+abbrev pub IsHeld : List ℕ → Extent → Type 0
+IsHeld text span = Holds (with_file new_map text) span × StartsIn (with_file new_map text) text span
+
+pub calls_held : (name text : List ℕ) (stream : Forest) → ParsesTo (next_lo new_map) text stream
+    → Each (IsHeld text) (calls name stream)
+calls_held name text stream parses =
+    each_call (IsHeld text) name false stream [] (parsed_line_columns text stream parses) tt
+
+each_both : (A B : Extent → Type 0) (spans : List Extent) → Each (λ s. A s × B s) spans → Each A spans × Each B spans
+each_both A B [] h = (tt, tt)
+each_both A B (span ∷ spans) h = let more = each_both A B spans h.1 in ((h.0.0, more.0), (h.0.1, more.1))
+
+pub both_held : (name text : List ℕ) (stream : Forest) → ParsesTo (next_lo new_map) text stream
+    → Each (Holds (with_file new_map text)) (calls name stream)
+    × Each (StartsIn (with_file new_map text) text) (calls name stream)
+both_held name text stream parses =
+    each_both (Holds (with_file new_map text)) (StartsIn (with_file new_map text) text) (calls name stream)
+    (calls_held name text stream parses)
+
+-- ---- what is written
+
+pub drop_first : (spans : List Extent) (n : ℕ) (span : Extent) → n < length spans → span ≡ get_or spans n span
+    → drop n spans ≡ span ∷ drop (n + 1) spans
+drop_first spans n span fits is =
+    let next : suc n ≡ n + 1 = omega arith in
+    drop-cons spans n span fits ∙ ap₂ (λ x k. x ∷ drop k spans) (sym is) next
+
+drop_past : (spans : List Extent) (n : ℕ) → length spans ≤ n → drop n spans ≡ []
+drop_past [] zero past = refl
+drop_past [] (suc n) past = refl
+drop_past (span ∷ spans) zero past = absurd (omega (arith, past))
+drop_past (span ∷ spans) (suc n) past = drop_past spans n (omega (arith, past))
+
+-- no more is written where no call is left
+pub written_nothing : (old new : Option (List ℕ)) (path text : List ℕ) (spans : List Extent) (n : ℕ)
+    → length spans ≤ n
+    → ((end : Option (List ℕ)) → Appends new end (lines path text (drop n spans)) → Appends old end (lines path text spans))
+    → Appends old new (lines path text spans)
+written_nothing old new path text spans n past h =
+    h new (rw (drop_past spans n past) (Appends-nil new))
+
+pub some_if : (spans : List Extent) (empty : Bool) → empty ≡ (length spans == 0) → not empty ≡ are_some spans
+some_if [] empty is = ap not is
+some_if (span ∷ spans) empty is =
+    ap not (is ∙ ne_eqb (length (span ∷ spans)) 0 (λ clash. omega (arith, clash)))

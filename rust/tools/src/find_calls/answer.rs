@@ -1,0 +1,84 @@
+// Made from crates/find_calls/src/answer.rt by rust/erase: change that file, not this one.
+//! What the program writes for a text, and its status.
+
+use crate::find_calls::calls::calls;
+use proved::shim::memchr::memmem;
+use crate::messages::Failure;
+use proved::pm_span::Span;
+use proved::pm_span::parts::{add_file, fits};
+use proved::proc_macro2::{SourceMap, TokenStream};
+use proved::shim::alloc::Global;
+use proved::shim::io;
+use proved::shim::io::Write;
+use proved::token_buffer::{BufferError, TokenBuffer};
+
+/// Writes a line `PATH:L:C` for each call of this name in the text, in reading order, and answers whether there are
+/// any. A text in which the name's bytes don't stand has none.
+///
+/// Fails with `Fault`, which has line and column, and `MapFull` before anything is written, and with `Memory` and
+/// `Write`; then a beginning of the lines stands. Of ` f(1)` at the path `a.rs` and the name `f` the line is `a.rs:1:2`.
+pub fn print_calls<W: Write>(
+    alloc: Global,
+    path: &str,
+    name: &str,
+    text: &str,
+    writer: &mut W,
+) -> Result<bool, Failure>
+{
+    if memmem::find(text.as_bytes(), name.as_bytes()).is_none() {
+        return Ok(false);
+    }
+    let mut map = SourceMap::new(alloc);
+    if fits(&map, text).is_none() {
+        return Err(Failure::MapFull);
+    }
+    let buffer = match TokenBuffer::new(alloc, text) {
+        Ok(buffer) => buffer,
+        Err(BufferError::TooLong) => return Err(Failure::MapFull),
+        Err(BufferError::Parse(_)) => return Err(unread(alloc, text)),
+    };
+    let spans = calls(alloc, name, buffer.begin())?;
+    add_file(&mut map, text)?;
+    print_lines(path, spans.as_slice(), &map, writer)?;
+    Ok(!spans.is_empty())
+}
+
+// Writes the lines of calls whose names have these spans, which the map holds.
+fn print_lines<W: Write>(
+    path: &str,
+    spans: &[Span],
+    map: &SourceMap,
+    writer: &mut W,
+) -> io::Result<()>
+{
+    for span in spans {
+        let start = span.start(map);
+        let line = start.line;
+        // As wide as the sum needs.
+        let column = start.column as u128 + 1;
+        writeln!(writer, "{path}:{line}:{column}")?;
+    }
+    Ok(())
+}
+
+// Why no buffer was made of the text: its fault, or that it is too long. Where it has neither, memory ran out.
+fn unread(alloc: Global, text: &str) -> Failure
+{
+    let mut map = SourceMap::new(alloc);
+    match TokenStream::from_str(text, &mut map) {
+        Ok(_) => Failure::Memory,
+        Err(error) => Failure::unparsed(error, &map),
+    }
+}
+
+/// The status of the program: 2 where a file failed, else 0 where a call was found, and 1 where none was.
+pub fn status(found: bool, failed: bool) -> u8
+{
+    if failed {
+        2
+    } else if found {
+        0
+    } else {
+        1
+    }
+}
