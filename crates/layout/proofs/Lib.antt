@@ -1,4 +1,5 @@
 mod TokenLemmas
 mod CoverLemmas
 mod PrintedLemmas
+mod WritingLemmas
 mod Examples

@@ -22,12 +22,15 @@ parts_name c = is_ident_continue c || list_any (λ d. d == c) (codes "\"#'")
 abbrev pub parts_number : ℕ → Bool
 parts_number c = is_ident_continue c || ((c == 46) || is_sign c)
 
--- whether it would go on with the token: with a mark that is Alone another mark, and with a literal between quotes
--- a suffix
+-- whether it would go on with a literal: with one between quotes as its suffix
+abbrev pub parts_literal : List ℕ → ℕ → Bool
+parts_literal text = if first_passes is_ascii_digit text then parts_number else is_ident_continue
+
+-- whether it would go on with the token: with a mark that is Alone another mark
 abbrev pub parts_from : Token → ℕ → Bool
 parts_from (Name raw name) = parts_name
 parts_from (Mark c joint) = is_mark
-parts_from (Literal text) = if first_passes is_ascii_digit text then parts_number else is_ident_continue
+parts_from (Literal text) = parts_literal text
 
 -- what a token, an opener and a closer are written as
 abbrev pub event_text : Event → List ℕ
@@ -35,11 +38,15 @@ event_text (One token lo hi) = token_text token
 event_text (Opens d lo) = opening d
 event_text (Closes d hi) = closing d
 
+-- whether the text would go on with it
+abbrev pub goes_on : Event → List ℕ → Bool
+goes_on (One token lo hi) text = first_passes (parts_from token) text
+goes_on (Opens d lo) text = false
+goes_on (Closes d hi) text = false
+
 -- `must-part`: whether white space has to stand between the two
 abbrev pub must_part : Event → Event → Bool
-must_part (One token lo hi) next = first_passes (parts_from token) (event_text next)
-must_part (Opens d lo) next = false
-must_part (Closes d hi) next = false
+must_part before next = goes_on before (event_text next)
 
 abbrev pub is_joint : Event → Bool
 is_joint (One (Name raw name) lo hi) = false
