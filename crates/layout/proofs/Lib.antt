@@ -1,4 +1,5 @@
 mod TokenLemmas
+mod RangeLemmas
 mod CoverLemmas
 mod PrintedLemmas
 mod WritingLemmas

@@ -44,10 +44,6 @@ goes_on (One token lo hi) text = first_passes (parts_from token) text
 goes_on (Opens d lo) text = false
 goes_on (Closes d hi) text = false
 
--- `must-part`: whether white space has to stand between the two
-abbrev pub must_part : Event → Event → Bool
-must_part before next = goes_on before (event_text next)
-
 abbrev pub is_joint : Event → Bool
 is_joint (One (Name raw name) lo hi) = false
 is_joint (One (Mark c joint) lo hi) = joint
@@ -55,10 +51,39 @@ is_joint (One (Literal text) lo hi) = false
 is_joint (Opens d lo) = false
 is_joint (Closes d hi) = false
 
--- whether the gap may stand between the two: none after a Joint mark, and some where white space has to part them
-abbrev pub may_part : Event → List ℕ → Event → Bool
-may_part before [] next = is_joint before || not (must_part before next)
-may_part before (c ∷ gap) next = not (is_joint before)
+-- the mark `.`
+abbrev pub is_dot : Event → Bool
+is_dot (One (Name raw name) lo hi) = false
+is_dot (One (Mark c joint) lo hi) = c == 46
+is_dot (One (Literal text) lo hi) = false
+is_dot (Opens d lo) = false
+is_dot (Closes d hi) = false
+
+abbrev pub begins_with_dot : List Event → Bool
+begins_with_dot [] = false
+begins_with_dot (event ∷ events) = is_dot event
+
+-- whether the two dots of a range stand there, `.` Joint and `.`
+abbrev pub begins_range : Event → List Event → Bool
+begins_range event events = is_joint event && (is_dot event && begins_with_dot events)
+
+-- a literal of letters, digits and `_` alone, which no range goes on with
+abbrev pub is_plain : Event → Bool
+is_plain (One (Name raw name) lo hi) = false
+is_plain (One (Mark c joint) lo hi) = false
+is_plain (One (Literal text) lo hi) = list_all is_ident_continue text
+is_plain (Opens d lo) = false
+is_plain (Closes d hi) = false
+
+-- `must-part`: whether white space has to stand between the two, of which the second comes before these
+abbrev pub must_part : Event → Event → List Event → Bool
+must_part before next later = goes_on before (event_text next) && not (is_plain before && begins_range next later)
+
+-- whether the gap may stand between the two, of which the second comes before these: none after a Joint mark, and some
+-- where white space has to part them
+abbrev pub may_part : Event → List ℕ → Event → List Event → Bool
+may_part before [] next later = is_joint before || not (must_part before next later)
+may_part before (c ∷ gap) next later = not (is_joint before)
 
 -- ---- layouts
 
@@ -88,7 +113,7 @@ AreGaps (x ∷ xs) = IsGap x.0 × AreGaps xs
 -- whether the gap before the first may stand after this one
 abbrev pub may_follow : Event → List Laid → Bool
 may_follow before [] = true
-may_follow before (x ∷ xs) = may_part before x.0 x.1
+may_follow before (x ∷ xs) = may_part before x.0 x.1 (events_of xs)
 
 -- whether each gap may stand where it does
 abbrev pub keeps_apart : List Laid → Bool

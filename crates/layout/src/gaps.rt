@@ -3,8 +3,13 @@ ghost use Rattle.std.specs.Prelude.{◌≡◌, ◌++◌, OnOk};
 ghost use Rattle.std.specs.Str.{chars};
 ghost use Rattle.std.specs.Char.{is_ascii_digit};
 ghost use Rattle.lexical.specs.Text.{first_passes};
-ghost use Rattle.layout.specs.Writing.{event_of, before_of, fitting, some, gap_text, spaces};
-ghost use Rattle.layout.specs.Layout.{goes_on, is_joint, parts_literal, parts_name};
+ghost use Rattle.layout.specs.Writing.{before_of, event_of, fitting, gap_text, is_dot_token, is_joint_dot, some};
+ghost use Rattle.layout.specs.Writing.{spaces, steps_range};
+ghost use Rattle.layout.specs.Layout.{goes_on, is_joint, is_plain, parts_literal, parts_name};
+ghost use Rattle.std.specs.List.{list_all};
+ghost use Rattle.lexical.specs.Class.{is_ident_continue};
+ghost use Rattle.pm_stream.specs.Trees.{forest};
+ghost use Rattle.pm_stream.specs.WellSpaced.{next_token};
 ghost use Rattle.pm_stream.specs.Steps.{step_of};
 
 use pm_stream::{Step, TokenTree};
@@ -42,9 +47,9 @@ pub trait Chooser {
 }
 
 // The gap that is written where this one is chosen: none after a Joint mark, and a space where none is chosen and
-// the text that comes would go on with what stands before it.
-pub(crate) fn fitting(before: Option<Step<'_>>, chosen: Gap, text: &str) -> Gap
-    ensures { result ≡ fitting (before_of before.entry) chosen (chars text.now) }
+// the text that comes with the next step would go on with what stands before it.
+pub(crate) fn fitting(before: Option<Step<'_>>, chosen: Gap, text: &str, next: Step<'_>) -> Gap
+    ensures { result ≡ fitting (before_of before.entry) chosen (chars text.now) (steps_range (step_of next.entry)) }
 {
     let Some(step) = before else {
         return chosen;
@@ -52,10 +57,57 @@ pub(crate) fn fitting(before: Option<Step<'_>>, chosen: Gap, text: &str) -> Gap
     if is_joint(step) {
         return Gap::Nothing;
     }
-    if goes_on(step, text) {
+    if goes_on(step, text) && !(is_plain(step) && begins_range(next)) {
         return some(chosen);
     }
     chosen
+}
+
+// Whether the step is past a literal of letters, digits and `_` alone.
+fn is_plain(step: Step<'_>) -> bool
+    ensures { result ≡ is_plain (event_of (step_of step.entry)) }
+{
+    match step {
+        Step::Token(TokenTree::Literal(literal), _) => is_all_continue(literal.text()),
+        _ => false,
+    }
+}
+
+// Whether an identifier may go on with each character.
+fn is_all_continue(text: &str) -> bool
+    ensures { result ≡ list_all is_ident_continue (chars text.now) }
+{
+    text.chars().all(|c| unicode_ident::is_xid_continue(c))
+}
+
+// Whether the step is past the first of the two dots of a range.
+fn begins_range(step: Step<'_>) -> bool
+    ensures { result ≡ steps_range (step_of step.entry) }
+{
+    match step {
+        Step::Token(tree, after) => is_joint_dot(tree) && is_dot_next(after),
+        _ => false,
+    }
+}
+
+// Whether the tree is `.` Joint.
+fn is_joint_dot(tree: &TokenTree) -> bool
+    ensures { result ≡ is_joint_dot tree.now }
+{
+    match tree {
+        TokenTree::Punct(punct) => punct.spacing() == Spacing::Joint && punct.as_char() == '.',
+        _ => false,
+    }
+}
+
+// Whether the first of the trees is `.`.
+fn is_dot_next(trees: &[TokenTree]) -> bool
+    ensures { result ≡ is_dot_token (next_token (forest trees.now)) }
+{
+    match trees.first() {
+        Some(TokenTree::Punct(punct)) => punct.as_char() == '.',
+        _ => false,
+    }
 }
 
 // A space in place of nothing.

@@ -64,7 +64,7 @@ fn laid_out<C: Chooser>(
         };
         let chosen = chooser.gap(place);
         set_front(&mut front, step)?;
-        push_gap(&mut text, fitting(before, chosen, front.as_str()))?;
+        push_gap(&mut text, fitting(before, chosen, front.as_str(), step))?;
         text.push_text(front.as_str())?;
         if let Step::Enter(..) = step {
             depth = depth.saturating_add(1);
