@@ -35,7 +35,7 @@ use Rattle.layout.specs.Layout.{IsLayout}
 use Rattle.layout.specs.Writing.{event_of, tree_event, fitting, gap_text, some, spaces, is_dot_token, is_joint_dot}
 use Rattle.layout.specs.Writing.{steps_range}
 use Rattle.layout.specs.declared.gaps.Gap.{Gap}
-use Rattle.layout.specs.declared.gaps.Gap.TheVariants.{Nothing, Space, Line}
+use Rattle.layout.specs.declared.gaps.Gap.TheVariants.{Nothing, Space, Line, Blank}
 
 -- ---- what the steps write
 
@@ -72,6 +72,7 @@ gap_white : (gap : Gap) → IsGap (gap_text gap)
 gap_white Nothing = refl
 gap_white Space = refl
 gap_white (Line n) = and_from (is_white 10) _ refl (spaces_white n)
+gap_white (Blank n) = and_from (is_white 10) _ refl (and_from (is_white 10) _ refl (spaces_white n))
 
 -- whether the gap may stand between what was written before it, if anything was, and what comes
 abbrev pub may_stand : Option Event → List ℕ → Event → List Event → Bool
@@ -107,6 +108,10 @@ fitting_may (Some before) chosen e later range comes =
     by_cases b (Line n) false true true true j g p comes = not_from_false (is_joint b) j
     by_cases b (Line n) false true true false j g p comes = not_from_false (is_joint b) j
     by_cases b (Line n) false true false range j g p comes = not_from_false (is_joint b) j
+    by_cases b (Blank n) false false plain range j g p comes = not_from_false (is_joint b) j
+    by_cases b (Blank n) false true true true j g p comes = not_from_false (is_joint b) j
+    by_cases b (Blank n) false true true false j g p comes = not_from_false (is_joint b) j
+    by_cases b (Blank n) false true false range j g p comes = not_from_false (is_joint b) j
 
 -- the range comes that a step says
 dot_first : (after : Forest) (later : List Step) → is_dot_token (next_token after) ≡ true

@@ -17,7 +17,7 @@ use Rattle.pm_stream.specs.declared.stream.TokenTree.TheVariants.{Group, Ident, 
 use Rattle.proc_macro2.specs.Laws.{Gives}
 use Rattle.layout.specs.Layout.{goes_on, is_joint, is_plain, IsLayout}
 use Rattle.layout.specs.declared.gaps.Gap.{Gap}
-use Rattle.layout.specs.declared.gaps.Gap.TheVariants.{Nothing, Space, Line}
+use Rattle.layout.specs.declared.gaps.Gap.TheVariants.{Nothing, Space, Line, Blank}
 
 -- ---- gaps
 
@@ -31,12 +31,14 @@ abbrev pub gap_text : Gap → List ℕ
 gap_text Nothing = []
 gap_text Space = codes " "
 gap_text (Line columns) = 10 ∷ spaces columns
+gap_text (Blank columns) = 10 ∷ 10 ∷ spaces columns
 
 -- a space in place of nothing
 abbrev pub some : Gap → Gap
 some Nothing = Space
 some Space = Space
 some (Line columns) = Line columns
+some (Blank columns) = Blank columns
 
 -- ---- what is written
 

@@ -26,6 +26,8 @@ pub enum Gap {
     Space,
     /// A line's end, and so many spaces.
     Line(usize),
+    /// A line's end, an empty line, and so many spaces.
+    Blank(usize),
 }
 
 /// Where a gap is wanted.
@@ -181,6 +183,11 @@ pub(crate) fn push_gap(text: &mut TextBuilder, gap: Gap) -> Result<(), AllocErro
         Gap::Nothing => Ok(()),
         Gap::Space => text.push(' '),
         Gap::Line(columns) => {
+            text.push('\n')?;
+            push_spaces(text, columns)
+        }
+        Gap::Blank(columns) => {
+            text.push('\n')?;
             text.push('\n')?;
             push_spaces(text, columns)
         }

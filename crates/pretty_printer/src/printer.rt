@@ -178,7 +178,7 @@ impl<'a> Printer<'a> {
         match gap {
             Gap::Nothing => {}
             Gap::Space => self.column = self.column.saturating_add(1),
-            Gap::Line(columns) => {
+            Gap::Line(columns) | Gap::Blank(columns) => {
                 self.column = columns;
                 self.indent = columns;
             }
@@ -334,7 +334,7 @@ impl<'a> Printer<'a> {
         if begins_expression(&previous) && !own.is_keyword() {
             self.break_operators(&mut list, index);
             let used = match gap {
-                Gap::Line(_) => 0,
+                Gap::Line(_) | Gap::Blank(_) => 0,
                 _ => column.saturating_sub(indent),
             };
             self.break_chain(&mut list, index, used);
@@ -380,6 +380,7 @@ impl<'a> Printer<'a> {
         }
         let joins = number > list.mixed && !has_use && !list.has_use && self.fit(index, end, 2);
         let first = list.group == NO_GROUP && number == 0;
+        let blank = number > 0 && self.parts_items(list, index, end);
         list.parts = number.saturating_add(1);
         list.has_use = has_use;
         list.start = index;
@@ -395,9 +396,40 @@ impl<'a> Printer<'a> {
             Gap::Space
         } else if first {
             Gap::Nothing
+        } else if blank {
+            Gap::Blank(list.lines)
         } else {
             Gap::Line(list.lines)
         }
+    }
+
+    // Whether an empty line stands between the part that ended and the one from `index` to `end`: between two items, if
+    // one of them has several lines or the second has an attribute.
+    fn parts_items(&self, list: &Frame, index: usize, end: usize) -> bool {
+        if !self.is_item(list.start, list.part_end) {
+            return false;
+        }
+        if self.atom(index).is_mark('#') {
+            return true;
+        }
+        self.is_item(index, end)
+            && (self.is_tall(list.start, list.part_end) || self.is_tall(index, end))
+    }
+
+    // Whether the part is an item.
+    fn is_item(&self, start: usize, end: usize) -> bool {
+        let first = self.atom(start);
+        let last = before(self.atoms.as_slice(), start, end);
+        let word = first.is_keyword()
+            && !(first.is_word(Word::Let)
+                || first.is_word(Word::If)
+                || first.is_word(Word::For)
+                || first.is_word(Word::While)
+                || first.is_word(Word::Loop)
+                || first.is_word(Word::Match)
+                || first.is_word(Word::Return)
+                || first.is_word(Word::Break));
+        word && (last.is_mark(';') || last.is_brace())
     }
 
     // The gap before another atom of a part.
@@ -485,7 +517,14 @@ impl<'a> Printer<'a> {
 
     // Whether a group is on one line.
     fn stays_flat(&self, list: &Frame, index: usize, own: &Atom<'a>, previous: &Atom<'a>) -> bool {
-        if own.tall || !self.fits(own.width.saturating_add(self.tail(list, index))) {
+        if own.tall {
+            return false;
+        }
+        if own.role == Role::Attribute && own.end.saturating_sub(own.first) == 3 {
+            // A name and a value, as of a doc comment.
+            return true;
+        }
+        if !self.fits(own.width.saturating_add(self.tail(list, index))) {
             return false;
         }
         let called =
@@ -642,7 +681,10 @@ impl<'a> Printer<'a> {
             if !ends {
                 continue;
             }
-            if bar > index && column.saturating_add(self.width(start, later)) > WIDTH {
+            // After the last comes the arm.
+            let more = if later == stop { 5 } else { 0 };
+            let wide = self.width(start, later).saturating_add(more);
+            if bar > index && column.saturating_add(wide) > WIDTH {
                 self.set_break(bar, Break::Operator(list.indent));
                 start = bar;
             }
