@@ -1,11 +1,11 @@
 -- A layout of a well spaced stream, as a cover of its text.
 use Rattle.std.proofs.Common.{◌≡◌, ℕ, Bool, true, false, not, ◌&&◌, ◌==◌, List, [], ◌∷◌, ◌++◌}
-use Rattle.std.proofs.Common.{refl, sym, ap, ◌∙◌, subst, inl, inr, append-nil, eqb-true}
+use Rattle.std.proofs.Common.{refl, sym, ap, ap₂, ◌∙◌, subst, inl, inr, append-nil, eqb-true}
 use Rattle.std.specs.Prelude.{if◌then◌else◌}
 use Rattle.std.specs.List.{list_all}
 use Rattle.std.proofs.lemmas.Bool.{both_ways, cond-true, cond-false, and_parts, and_from, cases_Bool, not-true}
-use Rattle.std.proofs.lemmas.Bool.{eqb-false, or_cases}
-use Rattle.lexical.specs.Class.{is_white}
+use Rattle.std.proofs.lemmas.Bool.{and_left, eqb-false, or_cases}
+use Rattle.lexical.specs.Class.{is_white, is_ident_continue}
 use Rattle.lexical.specs.Text.{begins_any, first_passes}
 use Rattle.lexical.specs.Token.{Token, Name, Mark, Literal, token_text}
 use Rattle.lexical.specs.Mark.{is_mark, comment_fronts, bars_quote, FollowsQuote}
@@ -28,7 +28,9 @@ use Rattle.proc_macro2.proofs.EventSpans.{bare, said, same_from_said}
 use Rattle.proc_macro2.proofs.PrintedCover.{opener_of, closer_of, open_piece, close_piece, token_piece, stand_open}
 use Rattle.proc_macro2.proofs.PrintedCover.{stand_close, said_open, said_close, tick_stands}
 use Rattle.proc_macro2.proofs.Returns.{next_event, spaced, spaced-flat}
-use Rattle.layout.specs.Layout.{parts_name, parts_from, event_text, must_part, is_joint, may_part, Laid, laid_onto}
+use Rattle.layout.specs.Layout.{parts_name, parts_from, event_text, goes_on, must_part, is_joint, may_part, Laid, laid_onto}
+use Rattle.layout.specs.Layout.{begins_range, is_dot, is_plain}
+use Rattle.layout.proofs.RangeLemmas.{range_stands}
 use Rattle.layout.specs.Layout.{events_of, IsGap, AreGaps, may_follow, keeps_apart, IsLayout}
 use Rattle.layout.proofs.TokenLemmas.{bars_parts, name_stands, alone_stands, literal_stands, white_parts}
 
@@ -127,25 +129,92 @@ first_of_front : (class : ℕ → Bool) (p r : List ℕ) → is_some p ≡ true 
 first_of_front class [] r some none = absurd (both_ways false refl some)
 first_of_front class (c ∷ p) r some none = none
 
--- after a token that isn't Joint no character follows that would go on with it
+-- whether the first two of these are the dots of a range, which the literal doesn't go on with
+abbrev ranges : Event → List Laid → Bool
+ranges before [] = false
+ranges before (x ∷ xs) = is_plain before && begins_range x.1 (events_of xs)
+
+no_range : (token : Token) (lo hi : ℕ) (xs : List Laid) → is_plain (One token lo hi) ≡ false
+    → ranges (One token lo hi) xs ≡ false
+no_range token lo hi [] other = refl
+no_range token lo hi (x ∷ xs) other = and_left (is_plain (One token lo hi)) _ other
+
+-- after a token that isn't Joint, and no literal before a range, no character follows that would go on with it
 calm_after : (token : Token) (lo hi : ℕ) (xs : List Laid) (last : List ℕ) → is_joint (One token lo hi) ≡ false
+    → ranges (One token lo hi) xs ≡ false
     → AreWritten (events_of xs) → AreGaps xs → IsGap last → may_follow (One token lo hi) xs ≡ true
     → first_passes (parts_from token) (onto (laid_pieces xs last) []) ≡ false
-calm_after token lo hi [] last alone written gaps end kept =
+calm_after token lo hi [] last alone other written gaps end kept =
     out_gap (parts_from token) (white_parts token) last [] end (λ none. refl)
-calm_after token lo hi (x ∷ xs) last alone written gaps end kept =
+calm_after token lo hi (x ∷ xs) last alone other written gaps end kept =
     out_gap (parts_from token) (white_parts token) x.0 (event_piece x.1 ∷ laid_pieces xs last) gaps.0
     (λ none. ap (λ t. first_passes (parts_from token) (t ++ onto (laid_pieces xs last) [])) (event_is x.1)
     ∙ first_of_front (parts_from token) (event_text x.1) (onto (laid_pieces xs last) []) (event_some x.1 written.0)
-    (not_parted (One token lo hi) x.0 x.1 none alone kept))
+    (not_parted (One token lo hi) x.0 x.1 (events_of xs) none alone other kept))
   where
-    not_parted : (before : Event) (gap : List ℕ) (next : Event) → gap ≡ [] → is_joint before ≡ false
-        → may_part before gap next ≡ true → must_part before next ≡ false
-    not_parted before [] next none alone kept = elim (or_cases (is_joint before) (not (must_part before next)) kept) [
-      | inl joint ↦ absurd (both_ways _ alone joint)
-      | inr free ↦ not-true (must_part before next) free
+    by_range : (goes range : Bool) → range ≡ false → (goes && not range) ≡ false → goes ≡ false
+    by_range false range other free = refl
+    by_range true false other free = free
+    by_range true true other free = other
+
+    not_parted : (before : Event) (gap : List ℕ) (next : Event) (later : List Event) → gap ≡ []
+        → is_joint before ≡ false → (is_plain before && begins_range next later) ≡ false
+        → may_part before gap next later ≡ true → goes_on before (event_text next) ≡ false
+    not_parted before [] next later none alone other kept =
+        elim (or_cases (is_joint before) (not (must_part before next later)) kept) [
+          | inl joint ↦ absurd (both_ways _ alone joint)
+          | inr free ↦ by_range _ _ other (not-true (must_part before next later) free)
+        ]
+    not_parted before (c ∷ gap) next later none alone other kept = absurd (cc)
+
+-- the dots of a range, the first of which is Joint
+dots_text : (e : Event) (xs : List Laid) (last : List ℕ) → begins_range e (events_of xs) ≡ true
+    → may_follow e xs ≡ true → (r : List ℕ) × (onto (event_piece e ∷ laid_pieces xs last) [] ≡ 46 ∷ 46 ∷ r)
+dots_text (One (Name raw name) lo hi) xs last range next = absurd (both_ways false refl range)
+dots_text (One (Mark c false) lo hi) xs last range next = absurd (both_ways false refl range)
+dots_text (One (Mark c true) lo hi) [] last range next =
+    absurd (both_ways false refl (and_parts (c == 46) false range).1)
+dots_text (One (Mark c true) lo hi) (x ∷ xs) last range next = by_gap x.0 x.1 range next
+  where
+    by_gap : (gap : List ℕ) (f : Event) → ((c == 46) && is_dot f) ≡ true
+        → may_part (One (Mark c true) lo hi) gap f (events_of xs) ≡ true
+        → (r : List ℕ) × ((c ∷ onto (gap_pieces gap (event_piece f ∷ laid_pieces xs last)) []) ≡ 46 ∷ 46 ∷ r)
+    by_gap (w ∷ gap) f range next = absurd (both_ways false refl next)
+    by_gap [] (One (Mark d joint) a b) range next =
+        let both = and_parts (c == 46) (d == 46) range in (
+          onto (laid_pieces xs last) [],
+          ap₂ (λ x y. x ∷ y ∷ onto (laid_pieces xs last) []) (eqb-true c 46 both.0) (eqb-true d 46 both.1),
+        )
+    by_gap [] (One (Name raw name) a b) range next = absurd (both_ways false refl (and_parts (c == 46) false range).1)
+    by_gap [] (One (Literal text) a b) range next = absurd (both_ways false refl (and_parts (c == 46) false range).1)
+    by_gap [] (Opens d a) range next = absurd (both_ways false refl (and_parts (c == 46) false range).1)
+    by_gap [] (Closes d b) range next = absurd (both_ways false refl (and_parts (c == 46) false range).1)
+dots_text (One (Literal text) lo hi) xs last range next = absurd (both_ways false refl range)
+dots_text (Opens d lo) xs last range next = absurd (both_ways false refl range)
+dots_text (Closes d hi) xs last range next = absurd (both_ways false refl range)
+
+-- a literal stands before what may follow it
+literal_there : (text : List ℕ) (lo hi : ℕ) (xs : List Laid) (last : List ℕ) → IsBuiltToken (Literal text)
+    → AreWritten (events_of xs) → AreGaps xs → IsGap last → may_follow (One (Literal text) lo hi) xs ≡ true
+    → keeps_apart xs ≡ true → Stands (Literal text) (onto (laid_pieces xs last) [])
+literal_there text lo hi [] last built written gaps end next kept =
+    literal_stands text _ built (calm_after (Literal text) lo hi [] last refl refl written gaps end next)
+literal_there text lo hi (x ∷ xs) last built written gaps end next kept =
+    elim (cases_Bool (is_plain (One (Literal text) lo hi) && begins_range x.1 (events_of xs))) [
+      | inl range ↦
+          let both = and_parts (list_all is_ident_continue text) (begins_range x.1 (events_of xs)) range in
+          by_gap x.0 x.1 gaps.0 both.0 both.1 (and_parts (may_follow x.1 xs) (keeps_apart xs) kept).0
+      | inr other ↦
+          literal_stands text _ built (calm_after (Literal text) lo hi (x ∷ xs) last refl other written gaps end next)
     ]
-    not_parted before (c ∷ gap) next none alone kept = absurd (cc)
+  where
+    by_gap : (gap : List ℕ) (e : Event) → IsGap gap → list_all is_ident_continue text ≡ true
+        → begins_range e (events_of xs) ≡ true → may_follow e xs ≡ true
+        → Stands (Literal text) (onto (gap_pieces gap (event_piece e ∷ laid_pieces xs last)) [])
+    by_gap [] e white plain range follow =
+        let dots = dots_text e xs last range follow in range_stands text dots.0 _ built plain dots.1
+    by_gap (c ∷ gap) e white plain range follow =
+        literal_stands text _ built (white_parts (Literal text) c (and_parts (is_white c) (list_all is_white gap) white).0)
 
 -- ---- each piece stands
 
@@ -192,7 +261,7 @@ quoted (One (Name true name) lo hi) xs last written gaps end kept fit h = record
   named = h.1.0;
   unbarred =
       stops_within (bars_quote true) parts_name (bars_parts true) (onto (laid_pieces xs last) [])
-      (calm_after (Name true name) lo hi xs last refl written gaps end kept);
+      (calm_after (Name true name) lo hi xs last refl (no_range (Name true name) lo hi xs refl) written gaps end kept);
 }
 quoted (One (Name false name) lo hi) xs last written gaps end kept fit h = record {
   raw = false;
@@ -202,7 +271,7 @@ quoted (One (Name false name) lo hi) xs last written gaps end kept fit h = recor
   named = h.1.0;
   unbarred =
       stops_within (bars_quote false) parts_name (bars_parts false) (onto (laid_pieces xs last) [])
-      (calm_after (Name false name) lo hi xs last refl written gaps end kept);
+      (calm_after (Name false name) lo hi xs last refl (no_range (Name false name) lo hi xs refl) written gaps end kept);
 }
 quoted (One (Mark d joint) lo hi) xs last written gaps end kept fit h = absurd (both_ways false refl fit)
 quoted (One (Literal text) lo hi) xs last written gaps end kept fit h =
@@ -239,7 +308,7 @@ joint_fits c lo hi [] last m fit written gaps end next kept h = absurd (nothing_
 joint_fits c lo hi (x ∷ xs) last m fit written gaps end next kept h =
     by_gap x.0 x.1 next fit written (and_parts (may_follow x.1 xs) (keeps_apart xs) kept).0 h
   where
-    by_gap : (gap : List ℕ) (e : Event) → may_part (One (Mark c true) lo hi) gap e ≡ true
+    by_gap : (gap : List ℕ) (e : Event) → may_part (One (Mark c true) lo hi) gap e (events_of xs) ≡ true
         → fits (Mark c true) (next_event (e ∷ events_of xs)) ≡ true → AreWritten (e ∷ events_of xs)
         → may_follow e xs ≡ true
         → StandBefore false (gap_pieces gap (event_piece e ∷ laid_pieces xs last)) []
@@ -260,19 +329,22 @@ stand_event : (b : Bool) (e : Event) (xs : List Laid) (last : List ℕ) → AreW
     → AreGaps xs → IsGap last → spaced (e ∷ events_of xs) ≡ true
     → may_follow e xs ≡ true → keeps_apart xs ≡ true → StandBefore false (laid_pieces xs last) []
     → IsPiece b (event_piece e).0 (event_piece e).1 (onto (laid_pieces xs last) [])
-stand_event b (One (Name raw name) lo hi) xs last written gaps end w next kept h =
-    (refl, name_stands raw name _ written.0 (calm_after (Name raw name) lo hi xs last refl written.1 gaps end next))
+stand_event b (One (Name raw name) lo hi) xs last written gaps end w next kept h = (
+  refl,
+  name_stands raw name _ written.0
+      (calm_after (Name raw name) lo hi xs last refl (no_range (Name raw name) lo hi xs refl) written.1 gaps end next),
+)
 stand_event b (One (Mark c false) lo hi) xs last written gaps end w next kept h =
     let fit = (and_parts (fits (Mark c false) (next_event (events_of xs))) (spaced (events_of xs)) w).0 in (
       refl,
       alone_stands c _ written.0 (eqb-false c 39 (not-true (c == 39) fit))
-          (calm_after (Mark c false) lo hi xs last refl written.1 gaps end next),
+          (calm_after (Mark c false) lo hi xs last refl (no_range (Mark c false) lo hi xs refl) written.1 gaps end next),
     )
 stand_event b (One (Mark c true) lo hi) xs last written gaps end w next kept h =
     let fit = (and_parts (fits (Mark c true) (next_event (events_of xs))) (spaced (events_of xs)) w).0 in
     (refl, joint_fits c lo hi xs last written.0 fit written.1 gaps end next kept h)
 stand_event b (One (Literal text) lo hi) xs last written gaps end w next kept h =
-    (refl, literal_stands text _ written.0 (calm_after (Literal text) lo hi xs last refl written.1 gaps end next))
+    (refl, literal_there text lo hi xs last written.0 written.1 gaps end next kept)
 stand_event b (Opens d lo) xs last written gaps end w next kept h =
     stand_open d b (onto (laid_pieces xs last) []) written.0 (λ round. plain_inside xs last gaps end h)
 stand_event b (Closes d hi) xs last written gaps end w next kept h =

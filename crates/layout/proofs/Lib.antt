@@ -1,4 +1,6 @@
 mod TokenLemmas
+mod RangeLemmas
 mod CoverLemmas
 mod PrintedLemmas
+mod WritingLemmas
 mod Examples

@@ -3,7 +3,7 @@ use Rattle.std.proofs.Common.{◌≡◌, ℕ, Bool, true, false, ◌&&◌, ◌==
 use Rattle.std.proofs.Common.{refl, sym, ap, ◌∙◌, append_assoc, append-nil}
 use Rattle.std.specs.Prelude.{if◌then◌else◌}
 use Rattle.std.specs.Char.{is_ascii_digit}
-use Rattle.std.proofs.lemmas.Bool.{both_ways, and_parts, and_from, or_right, not_from_false}
+use Rattle.std.proofs.lemmas.Bool.{and_left, both_ways, and_parts, and_from, or_right, not_from_false}
 use Rattle.std.proofs.Common.{None as Nothing}
 use Rattle.unicode_ident.proofs.Computing.{unicode_ident}
 use Rattle.lexical.specs.Class.{is_ident_continue}
@@ -98,13 +98,13 @@ no_joint_last c fit = by_quote (c == 39) fit
 abbrev MayEnd : List Laid → Type 0
 MayEnd xs = (before : Event) → is_joint before ≡ false → may_follow before xs ≡ true
 
-closer_may : (before : Event) (gap : Bool) (d : Delimiter) (hi : ℕ) → is_joint before ≡ false
-    → may_part before (space gap) (Closes d hi) ≡ true
-closer_may before true d hi alone = not_from_false (is_joint before) alone
-closer_may (One token lo hi) false d end alone =
-    or_right (is_joint (One token lo hi)) _ (not_from_false _ (closer_parts token d))
-closer_may (Opens c lo) false d hi alone = refl
-closer_may (Closes c lo) false d hi alone = refl
+closer_may : (before : Event) (gap : Bool) (d : Delimiter) (hi : ℕ) (later : List Event) → is_joint before ≡ false
+    → may_part before (space gap) (Closes d hi) later ≡ true
+closer_may before true d hi later alone = not_from_false (is_joint before) alone
+closer_may (One token lo hi) false d end later alone =
+    or_right (is_joint (One token lo hi)) _ (not_from_false _ (and_left _ _ (closer_parts token d)))
+closer_may (Opens c lo) false d hi later alone = refl
+closer_may (Closes c lo) false d hi later alone = refl
 
 -- after a token comes the gap that is printed there
 token_may : (token : Token) (lo hi : ℕ) (f : Forest) (xs : List Laid) → fits token (next_token f) ≡ true → MayEnd xs
@@ -124,15 +124,16 @@ token_may (Literal text) lo hi (group d a b f k) xs fit more = refl
 
 -- after a delimiter any gap may
 delimiter_may : (before : Event) (gap : Bool) (f : Forest) (xs : List Laid)
-    → ((next : Event) → must_part before next ≡ false) → is_joint before ≡ false
+    → ((next : Event) (later : List Event) → must_part before next later ≡ false) → is_joint before ≡ false
     → may_follow before xs ≡ true → may_follow before (laid_after gap f xs) ≡ true
 delimiter_may before gap nil xs free alone more = more
 delimiter_may before true (leaf t a b f) xs free alone more = not_from_false (is_joint before) alone
 delimiter_may before false (leaf t a b f) xs free alone more =
-    or_right (is_joint before) _ (not_from_false _ (free (One t a b)))
+    or_right (is_joint before) _ (not_from_false _ (free (One t a b) (events_of (laid_after (parts t) f xs))))
 delimiter_may before true (group d a b f k) xs free alone more = not_from_false (is_joint before) alone
 delimiter_may before false (group d a b f k) xs free alone more =
-    or_right (is_joint before) _ (not_from_false _ (free (Opens d a)))
+    or_right (is_joint before) _ (not_from_false _ (free (Opens d a)
+    (events_of (laid_after (is_brace d) f ((space (is_brace d), Closes d b) ∷ laid_after true k xs)))))
 
 laid_apart : (gap : Bool) (f : Forest) (xs : List Laid) → well_spaced f ≡ true → MayEnd xs → keeps_apart xs ≡ true
     → keeps_apart (laid_after gap f xs) ≡ true
@@ -145,10 +146,10 @@ laid_apart gap (group d lo hi f k) xs w more kept =
     let deep = and_parts (well_spaced f) (well_spaced k) both.1 in
     let rest = laid_after true k xs in
     let close = (space (is_brace d), Closes d hi) ∷ rest in
-    let later = delimiter_may (Closes d hi) true k xs (λ next. refl) refl (more (Closes d hi) refl) in
+    let later = delimiter_may (Closes d hi) true k xs (λ next later. refl) refl (more (Closes d hi) refl) in
     let closed : keeps_apart close ≡ true = and_from _ _ later (laid_apart true k xs deep.1 more kept) in
-    let ends : MayEnd close = λ before alone. closer_may before (is_brace d) d hi alone in
-    and_from _ _ (delimiter_may (Opens d lo) (is_brace d) f close (λ next. refl) refl (ends (Opens d lo) refl))
+    let ends : MayEnd close = λ before alone. closer_may before (is_brace d) d hi (events_of rest) alone in
+    and_from _ _ (delimiter_may (Opens d lo) (is_brace d) f close (λ next later. refl) refl (ends (Opens d lo) refl))
     (laid_apart (is_brace d) f close deep.0 ends closed)
 
 pub printed_layout : (stream : Forest) → IsWellSpaced stream → IsLayout stream (printed stream)

@@ -22,12 +22,15 @@ parts_name c = is_ident_continue c || list_any (λ d. d == c) (codes "\"#'")
 abbrev pub parts_number : ℕ → Bool
 parts_number c = is_ident_continue c || ((c == 46) || is_sign c)
 
--- whether it would go on with the token: with a mark that is Alone another mark, and with a literal between quotes
--- a suffix
+-- whether it would go on with a literal: with one between quotes as its suffix
+abbrev pub parts_literal : List ℕ → ℕ → Bool
+parts_literal text = if first_passes is_ascii_digit text then parts_number else is_ident_continue
+
+-- whether it would go on with the token: with a mark that is Alone another mark
 abbrev pub parts_from : Token → ℕ → Bool
 parts_from (Name raw name) = parts_name
 parts_from (Mark c joint) = is_mark
-parts_from (Literal text) = if first_passes is_ascii_digit text then parts_number else is_ident_continue
+parts_from (Literal text) = parts_literal text
 
 -- what a token, an opener and a closer are written as
 abbrev pub event_text : Event → List ℕ
@@ -35,11 +38,11 @@ event_text (One token lo hi) = token_text token
 event_text (Opens d lo) = opening d
 event_text (Closes d hi) = closing d
 
--- `must-part`: whether white space has to stand between the two
-abbrev pub must_part : Event → Event → Bool
-must_part (One token lo hi) next = first_passes (parts_from token) (event_text next)
-must_part (Opens d lo) next = false
-must_part (Closes d hi) next = false
+-- whether the text would go on with it
+abbrev pub goes_on : Event → List ℕ → Bool
+goes_on (One token lo hi) text = first_passes (parts_from token) text
+goes_on (Opens d lo) text = false
+goes_on (Closes d hi) text = false
 
 abbrev pub is_joint : Event → Bool
 is_joint (One (Name raw name) lo hi) = false
@@ -48,10 +51,39 @@ is_joint (One (Literal text) lo hi) = false
 is_joint (Opens d lo) = false
 is_joint (Closes d hi) = false
 
--- whether the gap may stand between the two: none after a Joint mark, and some where white space has to part them
-abbrev pub may_part : Event → List ℕ → Event → Bool
-may_part before [] next = is_joint before || not (must_part before next)
-may_part before (c ∷ gap) next = not (is_joint before)
+-- the mark `.`
+abbrev pub is_dot : Event → Bool
+is_dot (One (Name raw name) lo hi) = false
+is_dot (One (Mark c joint) lo hi) = c == 46
+is_dot (One (Literal text) lo hi) = false
+is_dot (Opens d lo) = false
+is_dot (Closes d hi) = false
+
+abbrev pub begins_with_dot : List Event → Bool
+begins_with_dot [] = false
+begins_with_dot (event ∷ events) = is_dot event
+
+-- whether the two dots of a range stand there, `.` Joint and `.`
+abbrev pub begins_range : Event → List Event → Bool
+begins_range event events = is_joint event && (is_dot event && begins_with_dot events)
+
+-- a literal of letters, digits and `_` alone, which no range goes on with
+abbrev pub is_plain : Event → Bool
+is_plain (One (Name raw name) lo hi) = false
+is_plain (One (Mark c joint) lo hi) = false
+is_plain (One (Literal text) lo hi) = list_all is_ident_continue text
+is_plain (Opens d lo) = false
+is_plain (Closes d hi) = false
+
+-- `must-part`: whether white space has to stand between the two, of which the second comes before these
+abbrev pub must_part : Event → Event → List Event → Bool
+must_part before next later = goes_on before (event_text next) && not (is_plain before && begins_range next later)
+
+-- whether the gap may stand between the two, of which the second comes before these: none after a Joint mark, and some
+-- where white space has to part them
+abbrev pub may_part : Event → List ℕ → Event → List Event → Bool
+may_part before [] next later = is_joint before || not (must_part before next later)
+may_part before (c ∷ gap) next later = not (is_joint before)
 
 -- ---- layouts
 
@@ -81,7 +113,7 @@ AreGaps (x ∷ xs) = IsGap x.0 × AreGaps xs
 -- whether the gap before the first may stand after this one
 abbrev pub may_follow : Event → List Laid → Bool
 may_follow before [] = true
-may_follow before (x ∷ xs) = may_part before x.0 x.1
+may_follow before (x ∷ xs) = may_part before x.0 x.1 (events_of xs)
 
 -- whether each gap may stand where it does
 abbrev pub keeps_apart : List Laid → Bool

@@ -1,0 +1,251 @@
+-- A layout that is written step by step.
+use Rattle.std.specs.Prelude.{not, ◌&&◌, ◌==◌}
+use Rattle.std.proofs.Common.{◌≡◌, ℕ, Bool, true, false, List, [], ◌∷◌, ◌++◌, Option, Some, None}
+use Rattle.std.proofs.Common.{refl, sym, ap, ◌∙◌, subst, zero, suc, append_assoc, append-nil, OnOk, arith, MatchOption}
+use Rattle.std.specs.Prelude.{Result, Ok, Err, is_ok, String, string_bytes}
+use Rattle.std.specs.Str.{chars, encode_utf8_all}
+use Rattle.std.proofs.lemmas.Str.{IsUtf8-string_bytes, chars-encodes, encodes-chars, encodes_same}
+use Rattle.std.specs.Prelude.{if◌then◌else◌}
+use Rattle.std.proofs.lemmas.Bool.{and_from, and_left, and_right, and_parts, both_ways, or_left, or_right}
+use Rattle.std.proofs.lemmas.Bool.{not_from_false}
+use Rattle.lexical.specs.Token as tokens
+use Rattle.lexical.specs.Token.{Token, Name, Mark, token_text}
+use Rattle.pm_token.specs.Built.{IsBuiltToken}
+use Rattle.pm_token.specs.Text.{IsText}
+use Rattle.pm_token.specs.declared.delimiters.Delimiter.{Delimiter}
+use Rattle.pm_token.specs.declared.delimiters.Delimiter.TheVariants as delimiters
+use Rattle.pm_token.specs.declared.delimiters.Delimiter.TheVariants.{Parenthesis, Brace, Bracket}
+use Rattle.pm_stream.specs.Delimited.{opening, closing}
+use Rattle.proc_macro2.proofs.BuiltLemmas.{printed_text}
+use Rattle.lexical.specs.Class.{is_white}
+use Rattle.pm_stream.specs.Events.{Event, One, Opens, Closes}
+use Rattle.pm_stream.specs.Forest.{Forest, nil, leaf, group, flat_onto, flattening}
+use Rattle.pm_stream.specs.InOrder.{token_tree}
+use Rattle.pm_stream.specs.Steps.{Step, Enter, Leave, Token as Past, FollowedBy, step_of, steps, steps_onto}
+use Rattle.pm_stream.specs.declared.steps.Step.{Step as Given}
+use Rattle.pm_stream.specs.WellSpaced.{next_token}
+use Rattle.pm_stream.specs.declared.stream.Group.{Group as Grouped}
+use Rattle.pm_stream.specs.declared.stream.TokenTree.{TokenTree}
+use Rattle.pm_stream.specs.declared.stream.TokenTree.TheVariants as trees
+use Rattle.pm_stream.specs.declared.stream.TokenTree.TheVariants.{Group, Ident, Punct}
+use Rattle.pm_token.specs.Leaf.{is_joint as spacing_joint}
+use Rattle.layout.specs.Layout.{event_text, goes_on, is_joint, must_part, may_part, Laid, laid_onto, events_of, IsGap}
+use Rattle.layout.specs.Layout.{AreGaps, begins_range, begins_with_dot, is_dot, is_plain, may_follow, keeps_apart}
+use Rattle.layout.specs.Layout.{IsLayout}
+use Rattle.layout.specs.Writing.{event_of, tree_event, fitting, gap_text, some, spaces, is_dot_token, is_joint_dot}
+use Rattle.layout.specs.Writing.{steps_range}
+use Rattle.layout.specs.declared.gaps.Gap.{Gap}
+use Rattle.layout.specs.declared.gaps.Gap.TheVariants.{Nothing, Space, Line, Blank}
+
+-- ---- what the steps write
+
+abbrev pub events_left : List Step → List Event
+events_left [] = []
+events_left (step ∷ steps) = event_of step ∷ events_left steps
+
+token_event : (token : Token) (lo hi : ℕ) → tree_event (token_tree token lo hi) ≡ One token lo hi
+token_event (Name raw name) lo hi = refl
+token_event (Mark c true) lo hi = refl
+token_event (Mark c false) lo hi = refl
+token_event (tokens.Literal text) lo hi = refl
+
+events_left-onto : (f : Forest) (more : List Step) → events_left (steps_onto f more) ≡ flat_onto f (events_left more)
+events_left-onto nil more = refl
+events_left-onto (leaf token lo hi rest) more =
+    rw (token_event token lo hi) (ap (λ es. One token lo hi ∷ es) (events_left-onto rest more))
+events_left-onto (group d lo hi inside rest) more =
+    let whole : Grouped = record { delimiter = d; stream = inside; span = record { lo = lo; hi = hi } } in
+    ap (λ es. Opens d lo ∷ es)
+    (events_left-onto inside (Leave whole rest ∷ steps_onto rest more)
+    ∙ ap (λ es. flat_onto inside (Closes d hi ∷ es)) (events_left-onto rest more))
+
+pub events_left-steps : (f : Forest) → events_left (steps f) ≡ flattening f
+events_left-steps f = events_left-onto f []
+
+-- ---- gaps
+
+spaces_white : (n : ℕ) → IsGap (spaces n)
+spaces_white zero = refl
+spaces_white (suc n) = and_from (is_white 32) _ refl (spaces_white n)
+
+gap_white : (gap : Gap) → IsGap (gap_text gap)
+gap_white Nothing = refl
+gap_white Space = refl
+gap_white (Line n) = and_from (is_white 10) _ refl (spaces_white n)
+gap_white (Blank n) = and_from (is_white 10) _ refl (and_from (is_white 10) _ refl (spaces_white n))
+
+-- whether the gap may stand between what was written before it, if anything was, and what comes
+abbrev pub may_stand : Option Event → List ℕ → Event → List Event → Bool
+may_stand None gap next later = true
+may_stand (Some before) gap next later = may_part before gap next later
+
+-- the gap that is written may, where the range that it counts on comes
+fitting_may : (before : Option Event) (chosen : Gap) (e : Event) (later : List Event) (range : Bool)
+    → (range ≡ true → begins_range e later ≡ true)
+    → may_stand before (gap_text (fitting before chosen (event_text e) range)) e later ≡ true
+fitting_may None chosen e later range comes = refl
+fitting_may (Some before) chosen e later range comes =
+    by_cases before chosen (is_joint before) (goes_on before (event_text e)) (is_plain before) range refl refl refl comes
+  where
+    by_cases : (b : Event) (chosen : Gap) (joint goes plain range : Bool)
+        → is_joint b ≡ joint → goes_on b (event_text e) ≡ goes → is_plain b ≡ plain
+        → (range ≡ true → begins_range e later ≡ true)
+        → may_part b (gap_text (if joint then Nothing else (if goes && not (plain && range) then some chosen else chosen)))
+        e later ≡ true
+    by_cases b chosen true goes plain range j g p comes = or_left (is_joint b) _ j
+    by_cases b Nothing false false plain range j g p comes =
+        or_right (is_joint b) _ (not_from_false (must_part b e later) (and_left (goes_on b (event_text e)) _ g))
+    by_cases b Nothing false true true true j g p comes =
+        or_right (is_joint b) _ (not_from_false (must_part b e later) (and_right (goes_on b (event_text e)) _
+        (ap not (and_from (is_plain b) (begins_range e later) p (comes refl)))))
+    by_cases b Nothing false true true false j g p comes = not_from_false (is_joint b) j
+    by_cases b Nothing false true false range j g p comes = not_from_false (is_joint b) j
+    by_cases b Space false false plain range j g p comes = not_from_false (is_joint b) j
+    by_cases b Space false true true true j g p comes = not_from_false (is_joint b) j
+    by_cases b Space false true true false j g p comes = not_from_false (is_joint b) j
+    by_cases b Space false true false range j g p comes = not_from_false (is_joint b) j
+    by_cases b (Line n) false false plain range j g p comes = not_from_false (is_joint b) j
+    by_cases b (Line n) false true true true j g p comes = not_from_false (is_joint b) j
+    by_cases b (Line n) false true true false j g p comes = not_from_false (is_joint b) j
+    by_cases b (Line n) false true false range j g p comes = not_from_false (is_joint b) j
+    by_cases b (Blank n) false false plain range j g p comes = not_from_false (is_joint b) j
+    by_cases b (Blank n) false true true true j g p comes = not_from_false (is_joint b) j
+    by_cases b (Blank n) false true true false j g p comes = not_from_false (is_joint b) j
+    by_cases b (Blank n) false true false range j g p comes = not_from_false (is_joint b) j
+
+-- the range comes that a step says
+dot_first : (after : Forest) (later : List Step) → is_dot_token (next_token after) ≡ true
+    → begins_with_dot (events_left (steps_onto after later)) ≡ true
+dot_first nil later is = absurd (both_ways false refl is)
+dot_first (leaf token lo hi rest) later is = rw (token_event token lo hi) (by_token token is)
+  where
+    by_token : (token : Token) → is_dot_token (Some token) ≡ true → is_dot (One token lo hi) ≡ true
+    by_token (Name raw name) is = absurd (both_ways false refl is)
+    by_token (Mark c joint) is = is
+    by_token (tokens.Literal text) is = absurd (both_ways false refl is)
+dot_first (group d lo hi inside rest) later is = absurd (both_ways false refl is)
+
+joint_dot : (tree : TokenTree) → is_joint_dot tree ≡ true
+    → (is_joint (tree_event tree) ≡ true) × (is_dot (tree_event tree) ≡ true)
+joint_dot (Group g) is = absurd (both_ways false refl is)
+joint_dot (Ident i) is = absurd (both_ways false refl is)
+joint_dot (Punct p) is = and_parts (spacing_joint p.spacing) (p.mark == 46) is
+joint_dot (trees.Literal l) is = absurd (both_ways false refl is)
+
+pub range_comes : (step : Step) (new : List Step) → FollowedBy step new → steps_range step ≡ true
+    → begins_range (event_of step) (events_left new) ≡ true
+range_comes (Enter g after) new follows is = absurd (both_ways false refl is)
+range_comes (Leave g after) new follows is = absurd (both_ways false refl is)
+range_comes (Past tree after) new follows is =
+    let both = and_parts (is_joint_dot tree) (is_dot_token (next_token after)) is in
+    let dot = joint_dot tree both.0 in
+    and_from (is_joint (tree_event tree)) _ dot.0
+    (and_from (is_dot (tree_event tree)) _ dot.1
+    (ap (λ steps. begins_with_dot (events_left steps)) follows.1 ∙ dot_first after follows.0 both.1))
+
+-- ---- what was written so far
+
+-- whether these may come after what was written, if anything was
+abbrev pub may_begin : Option Event → List Laid → Bool
+may_begin None xs = true
+may_begin (Some before) xs = may_follow before xs
+
+-- whatever layout of the events that are left follows, the whole is a layout of the stream
+abbrev pub LeadsOn : Forest → List ℕ → Option Event → List Event → Type 0
+LeadsOn stream done before left =
+    (xs : List Laid) (last : List ℕ) → events_of xs ≡ left → AreGaps xs → IsGap last → may_begin before xs ≡ true
+    → keeps_apart xs ≡ true → IsLayout stream (done ++ laid_onto xs last)
+
+-- before the first
+pub leads_first : (stream : Forest) → LeadsOn stream [] None (flattening stream)
+leads_first stream = λ xs last events gaps end may kept. record {
+  laid = xs;
+  last = last;
+  whole = refl;
+  events = events;
+  gaps = gaps;
+  end = end;
+  apart = kept;
+}
+
+pub leads_start : (stream : Forest) (text : List ℕ) (all : List Step) → text ≡ [] → all ≡ steps stream
+    → LeadsOn stream text None (events_left all)
+leads_start stream text all none is = rw (none, is, events_left-steps stream) (leads_first stream)
+
+-- no step is left
+pub none_taken : (next : Option Given) (old new : List Step) → next ≡ None
+    → MatchOption next ((old ≡ []) × (new ≡ [])) (λ s. old ≡ step_of s ∷ new) → old ≡ []
+none_taken next old new is h = (rw is at h).0
+
+-- after one more
+pub leads_next : (stream : Forest) (done now front : List ℕ) (before after : Option Event) (chosen : Gap) (step : Step)
+    (left new : List Step)
+    → LeadsOn stream done before (events_left left) → left ≡ step ∷ new → FollowedBy step new
+    → after ≡ Some (event_of step) → front ≡ event_text (event_of step)
+    → now ≡ (done ++ gap_text (fitting before chosen front (steps_range step))) ++ front
+    → LeadsOn stream now after (events_left new)
+leads_next stream done now front before after chosen step left new h first follows is written text =
+    rw (is, text, written) (λ xs last events gaps end may kept.
+    let e = event_of step in
+    let gap = fitting before chosen (event_text e) (steps_range step) in
+    subst (IsLayout stream) (simp append_assoc refl)
+    (h ((gap_text gap, e) ∷ xs) last
+    (ap (λ es. e ∷ es) events ∙ sym (ap events_left first)) (gap_white gap, gaps) end
+    (begins before (gap_text gap) e xs
+    (ap (may_stand before (gap_text gap) e) events
+    ∙ fitting_may before chosen e (events_left new) (steps_range step) (range_comes step new follows)))
+    (and_from (may_follow e xs) (keeps_apart xs) may kept)))
+  where
+    begins : (before : Option Event) (gap : List ℕ) (e : Event) (xs : List Laid)
+        → may_stand before gap e (events_of xs) ≡ true → may_begin before ((gap, e) ∷ xs) ≡ true
+    begins None gap e xs may = refl
+    begins (Some b) gap e xs may = may
+
+-- after the last
+pub leads_last : (stream : Forest) (done now : List ℕ) (before : Option Event) (last : Gap) (left : List Event)
+    → LeadsOn stream done before left → left ≡ [] → now ≡ done ++ gap_text last → IsLayout stream now
+leads_last stream done now before last left h none text =
+    rw text (h [] (gap_text last) (sym none) tt (gap_white last) (begins before) refl)
+  where
+    begins : (before : Option Event) → may_begin before [] ≡ true
+    begins None = refl
+    begins (Some b) = refl
+
+-- ---- what the calls write
+
+-- a text was put into an empty one
+pub set_text : {E : Type 0} (r : Result (Unit {0}) E) (new old text front : List ℕ) → old ≡ []
+    → new ≡ (if is_ok r then old ++ text else old) → chars text ≡ front → OnOk r (chars new ≡ front)
+set_text (Ok v) new old text front none e is = ap chars e ∙ (ap (λ x. chars (x ++ text)) none ∙ is)
+set_text (Err v) new old text front none e is = tt
+
+pub set_written : {E : Type 0} (r : Result (Unit {0}) E) (new old text : List ℕ) → old ≡ [] → IsText text
+    → OnOk r (new ≡ old ++ encode_utf8_all text) → OnOk r (chars new ≡ text)
+set_written (Ok v) new old text none is e =
+    ap chars e ∙ (ap (λ x. chars (x ++ encode_utf8_all text)) none ∙ chars-encodes text is)
+set_written (Err v) new old text none is e = tt
+
+pub opening_chars : (d : Delimiter) → chars (opening d) ≡ opening d
+unfolding chars
+opening_chars Parenthesis = refl
+opening_chars Brace = refl
+opening_chars Bracket = refl
+opening_chars delimiters.None = refl
+
+pub closing_chars : (d : Delimiter) → chars (closing d) ≡ closing d
+unfolding chars
+closing_chars Parenthesis = refl
+closing_chars Brace = refl
+closing_chars Bracket = refl
+closing_chars delimiters.None = refl
+
+-- a token is a text
+pub token_is_text : (token : Token) → IsBuiltToken token → IsText (token_text token)
+token_is_text token built =
+    subst (IsText) (append-nil (token_text token)) (printed_text (leaf token 0 0 nil) (built, omega arith, tt))
+
+-- what a text is, once it is a string
+pub string_chars : {Z : Type 0} (s : String Z) (text : List ℕ) → string_bytes s ≡ encode_utf8_all text
+    → chars (string_bytes s) ≡ text
+string_chars s text e =
+    encodes_same _ _ (encodes-chars (string_bytes s) (IsUtf8-string_bytes s) ∙ e)

@@ -1,0 +1,101 @@
+-- How a stream is written with chosen gaps.
+use Rattle.std.specs.Prelude.{Bool, false, not, ◌&&◌, ◌==◌}
+use Rattle.std.specs.Prelude.{ℕ, List, [], ◌∷◌, codes, Option, Some, None, zero, suc}
+use Rattle.std.specs.Prelude.{if◌then◌else◌}
+use Rattle.std.specs.Io.KnownBytes.{Appends}
+use Rattle.std.specs.Str.{encode_utf8_all}
+use Rattle.lexical.specs.Token as tokens
+use Rattle.pm_token.specs.Leaf.{name_token, mark_token, text_token}
+use Rattle.pm_token.specs.Leaf.{is_joint as spacing_joint}
+use Rattle.pm_stream.specs.Events.{Event, One, Opens, Closes}
+use Rattle.pm_stream.specs.Forest.{Forest}
+use Rattle.pm_stream.specs.Steps.{Step, Enter, Leave, Token, step_of}
+use Rattle.pm_stream.specs.WellSpaced.{next_token}
+use Rattle.pm_stream.specs.declared.steps.Step.{Step as Given}
+use Rattle.pm_stream.specs.declared.stream.TokenTree.{TokenTree}
+use Rattle.pm_stream.specs.declared.stream.TokenTree.TheVariants.{Group, Ident, Punct, Literal}
+use Rattle.proc_macro2.specs.Laws.{Gives}
+use Rattle.layout.specs.Layout.{goes_on, is_joint, is_plain, IsLayout}
+use Rattle.layout.specs.declared.gaps.Gap.{Gap}
+use Rattle.layout.specs.declared.gaps.Gap.TheVariants.{Nothing, Space, Line, Blank}
+
+-- ---- gaps
+
+-- so many spaces
+abbrev pub spaces : ℕ → List ℕ
+spaces zero = []
+spaces (suc n) = 32 ∷ spaces n
+
+-- what a gap is written as
+abbrev pub gap_text : Gap → List ℕ
+gap_text Nothing = []
+gap_text Space = codes " "
+gap_text (Line columns) = 10 ∷ spaces columns
+gap_text (Blank columns) = 10 ∷ 10 ∷ spaces columns
+
+-- a space in place of nothing
+abbrev pub some : Gap → Gap
+some Nothing = Space
+some Space = Space
+some (Line columns) = Line columns
+some (Blank columns) = Blank columns
+
+-- ---- what is written
+
+-- a token, or the opener of a group
+abbrev pub tree_event : TokenTree → Event
+tree_event (Group g) = Opens g.delimiter g.span.lo
+tree_event (Ident i) = One (name_token i) i.span.lo i.span.hi
+tree_event (Punct p) = One (mark_token p) p.span.lo p.span.hi
+tree_event (Literal l) = One (text_token l) l.span.lo l.span.hi
+
+-- the token, opener or closer that a step writes
+abbrev pub event_of : Step → Event
+event_of (Enter g after) = Opens g.delimiter g.span.lo
+event_of (Leave g after) = Closes g.delimiter g.span.hi
+event_of (Token tree after) = tree_event tree
+
+-- what stands before a gap
+abbrev pub before_of : Option Given → Option Event
+before_of None = None
+before_of (Some step) = Some (event_of (step_of step))
+
+-- whether a token, if it is one, is the mark `.`
+abbrev pub is_dot_token : Option tokens.Token → Bool
+is_dot_token None = false
+is_dot_token (Some (tokens.Name raw name)) = false
+is_dot_token (Some (tokens.Mark c joint)) = c == 46
+is_dot_token (Some (tokens.Literal text)) = false
+
+-- whether the tree is `.` Joint
+abbrev pub is_joint_dot : TokenTree → Bool
+is_joint_dot (Group g) = false
+is_joint_dot (Ident i) = false
+is_joint_dot (Punct p) = spacing_joint p.spacing && (p.mark == 46)
+is_joint_dot (Literal l) = false
+
+-- whether the two dots of a range come
+abbrev pub steps_range : Step → Bool
+steps_range (Enter g after) = false
+steps_range (Leave g after) = false
+steps_range (Token tree after) = is_joint_dot tree && is_dot_token (next_token after)
+
+-- the gap that is written where one is chosen, before this text and perhaps the dots of a range
+abbrev pub fitting : Option Event → Gap → List ℕ → Bool → Gap
+fitting None chosen text range = chosen
+fitting (Some before) chosen text range =
+    if is_joint before then Nothing
+    else (if goes_on before text && not (is_plain before && range) then some chosen else chosen)
+
+-- ---- what holds of it
+
+-- the text reads back to the stream, up to spans, wherever it stands
+abbrev pub ReadsBack : Forest → List ℕ → Type 0
+ReadsBack stream text = (base : ℕ) → Gives base text stream
+
+-- what is written is a layout of the stream, which reads back to it
+pub record WritesLayout (stream : Forest) (old new : Option (List ℕ)) : Type 0 where
+  pub text : List ℕ
+  pub layout : IsLayout stream text
+  pub back : ReadsBack stream text
+  pub appends : Appends old new (encode_utf8_all text)

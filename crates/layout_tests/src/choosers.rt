@@ -1,0 +1,100 @@
+// Choosers, and the texts that they make.
+use layout::{Chooser, Gap, LayoutError, Place, text_with, write_with};
+use proc_macro2::{SourceMap, Spacing, TokenStream};
+use std::process::Abort;
+use std::test::Fail;
+
+/// The same gap everywhere.
+#[derive(Drop)]
+pub struct Always(pub Gap);
+
+impl Chooser for Always {
+    fn gap(&mut self, _place: Place<'_>) -> Gap {
+        self.0
+    }
+}
+
+/// A line for each token, as far in as groups are open, and what was told of the places.
+#[derive(Drop)]
+struct Lines {
+    asked: usize,
+    ends: usize,
+}
+
+impl Chooser for Lines {
+    fn gap(&mut self, place: Place<'_>) -> Gap {
+        self.asked = self.asked.saturating_add(1);
+        if place.before.is_none() || place.after.is_none() {
+            self.ends = self.ends.saturating_add(1);
+            return Gap::Nothing;
+        }
+        Gap::Line(place.depth)
+    }
+}
+
+/// The stream that a text parses to.
+pub fn stream_of(rt: &(impl Abort + AllocGlobal), text: &str) -> Result<TokenStream, Fail> {
+    Ok(TokenStream::from_str(text, &mut SourceMap::new(rt.alloc()))?)
+}
+
+/// The stream's text with the chooser's gaps. It is well spaced.
+pub fn laid_out<C: Chooser>(
+    rt: &(impl Abort + AllocGlobal),
+    stream: &TokenStream,
+    chooser: &mut C,
+) -> Result<String, Fail> {
+    match text_with(stream, chooser, rt.alloc()) {
+        Ok(text) => Ok(text),
+        Err(error) => {
+            assert!(rt; false, "{error:?}");
+            Ok(String::new(rt.alloc()))
+        }
+    }
+}
+
+#[test]
+fn the_chosen_gap_is_written(rt: HostRuntime) -> Result<(), Fail> {
+    let stream = stream_of(&rt, "a+=b(c)")?;
+    let tight = laid_out(&rt, &stream, &mut Always(Gap::Nothing))?;
+    assert_eq!(rt; tight.as_str(), "a+=b(c)");
+    let spaces = laid_out(&rt, &stream, &mut Always(Gap::Space))?;
+    assert_eq!(rt; spaces.as_str(), " a += b ( c ) ");
+    let lines = laid_out(&rt, &stream, &mut Always(Gap::Line(2)))?;
+    assert_eq!(rt; lines.as_str(), "\n  a\n  +=\n  b\n  (\n  c\n  )\n  ");
+    Ok(())
+}
+
+#[test]
+fn places_are_told_in_order(rt: HostRuntime) -> Result<(), Fail> {
+    let stream = stream_of(&rt, "a{b(c)}d")?;
+    let mut lines = Lines { asked: 0, ends: 0 };
+    let text = laid_out(&rt, &stream, &mut lines)?;
+    assert_eq!(rt; text.as_str(), "a\n{\n b\n (\n  c\n )\n}\nd");
+    assert_eq!(rt; lines.asked, 9);
+    assert_eq!(rt; lines.ends, 2);
+    Ok(())
+}
+
+#[test]
+fn a_stream_that_is_not_well_spaced_is_refused(rt: HostRuntime) -> Result<(), Fail> {
+    assert!(rt; proc_macro2::Punct::is_punct_char('+'));
+    let mark = proc_macro2::Punct::new('+', Spacing::Joint);
+    let stream = TokenStream::from_tree(rt.alloc(), proc_macro2::TokenTree::Punct(mark))?;
+    let mut written = Vec::new(rt.alloc());
+    let text = text_with(&stream, &mut Always(Gap::Space), rt.alloc());
+    assert!(rt; matches!(&text, Err(LayoutError::NotWellSpaced)));
+    let answer = write_with(&stream, &mut Always(Gap::Space), rt.alloc(), &mut written);
+    assert!(rt; matches!(&answer, Err(LayoutError::NotWellSpaced)));
+    assert!(rt; written.is_empty());
+    Ok(())
+}
+
+#[test]
+fn a_stream_is_written(rt: HostRuntime) -> Result<(), Fail> {
+    let stream = stream_of(&rt, "fn f")?;
+    let mut written = Vec::new(rt.alloc());
+    let answer = write_with(&stream, &mut Always(Gap::Nothing), rt.alloc(), &mut written);
+    assert!(rt; answer.is_ok());
+    assert_eq!(rt; written.as_slice(), b"fn f".as_slice());
+    Ok(())
+}

@@ -1,0 +1,100 @@
+// Random streams, each with the tightest, the loosest and random gaps: all its texts come back.
+ghost use Rattle.std.specs.Prelude.{◌<◌, length};
+
+use crate::choosers::{Always, laid_out, stream_of};
+use layout::{Chooser, Gap, Place};
+use proc_macro2::{SourceMap, TokenStream};
+use std::alloc::{AllocError, Global};
+use std::process::Abort;
+use std::test::Fail;
+
+/// How many texts are made, and how many of them parse.
+const TEXTS: u32 = 4000;
+
+const PARSED: u32 = 2080;
+
+/// What texts are made of.
+const PIECES: &[&str] = &[
+    "a", "r", "b", "br", "cr", "_", "e5", "fn", "\u{e9}", "r#a", "'a", "'r", "0", "12u8", "0x1F",
+    "1.0", "2.", "1e3", "0e", "'a'", "b'a'", "\"\"", "\"a\"s", "b\"\"", "r\"\"", "r#\"\"#",
+    "c\"\"", "+", "-", "=", ".", "..", "::", "/", "*", "#", "!", "&", "<", ">", ":", ",", "(", ")",
+    "[", "]", "{", "}", " ", " ", " ", "\n",
+];
+
+/// A source of random numbers, which chooses gaps at random.
+#[derive(Drop)]
+struct Random {
+    /// The last number, which isn't 0.
+    state: u64,
+}
+
+impl Random {
+    /// A text of up to 12 pieces.
+    fn text(&mut self, alloc: Global) -> Result<String, AllocError> {
+        let mut text = String::new(alloc);
+        for _ in 0..self.below(13) {
+            text.push_str(self.one_of(PIECES))?;
+        }
+        Ok(text)
+    }
+
+    /// One of these values, of which there are some.
+    fn one_of<T: Copy>(&mut self, values: &[T]) -> T
+        requires { 0 < length values.now }
+    {
+        values[self.below(values.len() as u64) as usize]
+    }
+
+    /// A number below the bound, which isn't 0.
+    fn below(&mut self, bound: u64) -> u64
+        requires { 0 < bound }
+        ensures { result < bound }
+    {
+        self.state ^= self.state << 13;
+        self.state ^= self.state >> 7;
+        self.state ^= self.state << 17;
+        self.state % bound
+    }
+}
+
+impl Chooser for Random {
+    fn gap(&mut self, _place: Place<'_>) -> Gap {
+        match self.below(4) {
+            0..=1 => Gap::Nothing,
+            2 => Gap::Space,
+            _ => Gap::Line(self.below(3) as usize),
+        }
+    }
+}
+
+/// Asserts that the stream comes back from its text with the chooser's gaps.
+fn check<C: Chooser>(
+    rt: &(impl Abort + AllocGlobal),
+    stream: &TokenStream,
+    chooser: &mut C,
+) -> Result<(), Fail> {
+    let text = laid_out(rt, stream, chooser)?;
+    let back = stream_of(rt, text.as_str())?;
+    assert!(rt; stream.same_tokens(&back), "{text}");
+    Ok(())
+}
+
+#[test]
+fn random_streams_come_back_from_random_gaps(rt: HostRuntime) -> Result<(), Fail> {
+    let mut random = Random { state: 7 };
+    let mut parsed: u32 = 0;
+    for _ in 0..TEXTS {
+        let text = random.text(rt.alloc())?;
+        let Ok(stream) = TokenStream::from_str(text.as_str(), &mut SourceMap::new(rt.alloc()))
+        else {
+            continue;
+        };
+        parsed = parsed.saturating_add(1);
+        check(&rt, &stream, &mut Always(Gap::Nothing))?;
+        check(&rt, &stream, &mut Always(Gap::Line(1)))?;
+        check(&rt, &stream, &mut random)?;
+        check(&rt, &stream, &mut random)?;
+    }
+    assert_eq!(rt; parsed, PARSED);
+    Ok(())
+}

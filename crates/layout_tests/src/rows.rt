@@ -1,0 +1,52 @@
+// The tightest texts of short streams: where neighbours have to stay apart, and where they may touch.
+use crate::choosers::{Always, laid_out, stream_of};
+use layout::Gap;
+use std::test::Fail;
+
+/// A source, and its text with no gap but where one has to stand.
+const TIGHTEST: &[(&str, &str)] = &[
+    ("fn f ( ) { }", "fn f(){}"),
+    ("a . b", "a.b"),
+    ("a + b", "a+b"),
+    ("+ =", "+ ="),
+    ("+=", "+="),
+    ("/ /", "/ /"),
+    ("/ *", "/ *"),
+    ("r \"\"", "r \"\""),
+    ("r #", "r #"),
+    ("b 'a'", "b 'a'"),
+    ("x \"\"", "x \"\""),
+    ("\"\" a", "\"\" a"),
+    ("\"\" 1", "\"\" 1"),
+    ("\"\" \"\"", "\"\"\"\""),
+    ("'a 'b'", "'a 'b'"),
+    ("'a #", "'a #"),
+    ("'r #", "'r #"),
+    ("1 a", "1 a"),
+    ("1 . a", "1 .a"),
+    ("1 .", "1 ."),
+    ("1 . 2", "1 .2"),
+    ("1 .. 2", "1..2"),
+    ("1 ..= 2", "1..=2"),
+    ("0x1f .. x", "0x1f..x"),
+    ("1. .. 2", "1. ..2"),
+    ("1.5 .. 2", "1.5 ..2"),
+    ("1e5 .. 2", "1e5..2"),
+    ("0e + 1", "0e +1"),
+    ("x . 0", "x.0"),
+    ("x . 0 . 1", "x.0 .1"),
+    (". 0", ".0"),
+    ("a /// b\n c", "a #[doc=\" b\"]c"),
+];
+
+#[test]
+fn tightest_texts(rt: HostRuntime) -> Result<(), Fail> {
+    for (source, want) in TIGHTEST {
+        let stream = stream_of(&rt, source)?;
+        let text = laid_out(&rt, &stream, &mut Always(Gap::Nothing))?;
+        assert_eq!(rt; text.as_str(), *want, "of {source}");
+        let back = stream_of(&rt, text.as_str())?;
+        assert!(rt; stream.same_tokens(&back), "of {source}");
+    }
+    Ok(())
+}
