@@ -1,1 +1,4 @@
 pub mod Place
+pub mod Hidden
+pub mod Shown
+pub mod Message

@@ -1,7 +1,7 @@
 //! Where a place of a text stands.
 ghost use Rattle.std.specs.Prelude.{◌≡◌, ◌+◌, ℕ, drop, length, take};
 ghost use Rattle.std.specs.Str.{IsUtf8, chars};
-ghost use Rattle.rust_check.specs.Place.{last_line, last_number};
+ghost use Rattle.rust_check.specs.Place.{first_line, last_line, last_number};
 
 use lexical::parts::before;
 
@@ -45,4 +45,19 @@ pub fn split_chars(text: &str, count: u32) -> (&str, &str)
     }
     let after = rest.as_str();
     (before(text, after), after)
+}
+
+/// What stands on the first line of the text, which ends at a line feed or at CR.
+pub fn first_line(text: &str) -> &str
+    ensures { chars result.now ≡ first_line (chars text.now) }
+{
+    let mut rest = text.chars();
+    let mut left = text;
+    while let Some(c) = rest.next() {
+        if c == '\n' || c == '\r' {
+            return before(text, left);
+        }
+        left = rest.as_str();
+    }
+    text
 }
