@@ -1,2 +1,3 @@
 pub mod PlaceLemmas
 pub mod ShownLemmas
+pub mod FilesLemmas

@@ -2,3 +2,6 @@ pub mod Place
 pub mod Hidden
 pub mod Shown
 pub mod Message
+pub mod Words
+pub mod Answer
+pub mod Files

@@ -1,42 +1,104 @@
--- What is written for a finding: what it is named, what it says, and where it stands.
-use Rattle.std.specs.Prelude.{ℕ, ◌+◌, List, ◌++◌, codes, decimal, length}
-use Rattle.std.specs.Str.{chars}
+-- What is written of a finding: what it is named, what it says, and where it stands.
+use Rattle.std.specs.Prelude.{ℕ, ◌+◌, ◌-◌, ◌==◌, List, [], ◌∷◌, ◌++◌, codes, decimal, encode_utf8, length, nat_lt}
+use Rattle.std.specs.Prelude.{if◌then◌else◌}
+use Rattle.std.specs.Str.{chars, encode_utf8_all}
 use Rattle.rust_check.specs.Place.{first_line, last_line, last_number}
 use Rattle.rust_check.specs.Shown.{carets, each, filled, shown, times}
 use Rattle.rust_check.specs.declared.finding.Finding.{Finding}
+use Rattle.rust_check.specs.declared.options.Form.{Form}
+use Rattle.rust_check.specs.declared.options.Form.TheVariants.{Short, Long, Json}
+
+-- the bytes of its name and of what it says, and the characters before it, those of it, and those from it on
+pub record Found : Type 0 where
+  pub name : List ℕ
+  pub says : List ℕ
+  pub before : List ℕ
+  pub here : List ℕ
+  pub rest : List ℕ
+
+-- it in the program
+abbrev pub seen : Finding → Found
+seen x = record {
+  name = x.name.now;
+  says = x.says.now;
+  before = chars x.before.now;
+  here = chars x.here.now;
+  rest = chars x.rest.now;
+}
 
 -- its line, and its column in characters, both from 1
-abbrev pub line_of : Finding → ℕ
-line_of x = last_number (chars x.before.now)
+abbrev pub line_of : Found → ℕ
+line_of x = last_number x.before
 
-abbrev pub column_of : Finding → ℕ
-column_of x = length (last_line (chars x.before.now)) + 1
+abbrev pub column_of : Found → ℕ
+column_of x = length (last_line x.before) + 1
+
+-- the bytes of the text before it, and before its end
+abbrev pub begin_of : Found → ℕ
+begin_of x = length (encode_utf8_all x.before)
+
+abbrev pub end_of : Found → ℕ
+end_of x = length (encode_utf8_all x.before) + length (encode_utf8_all x.here)
 
 -- `FILE:L:C: error: what`
-abbrev pub short : List ℕ → Finding → List ℕ
+abbrev pub short : List ℕ → Found → List ℕ
 short path x =
     path ++ (codes ":" ++ (decimal (line_of x) ++ (codes ":" ++ (decimal (column_of x) ++ (codes ": error: "
-    ++ (x.says.now ++ codes "\n"))))))
+    ++ (x.says ++ codes "\n"))))))
 
 -- the line of the source, as it is shown
-abbrev pub source_line : Finding → List ℕ
-source_line x = each shown (last_line (chars x.before.now)) ++ each shown (first_line (chars x.rest.now))
+abbrev pub source_line : Found → List ℕ
+source_line x = each shown (last_line x.before) ++ each shown (first_line x.rest)
 
 -- the carets below it
-abbrev pub underline : Finding → List ℕ
-underline x = filled (codes " ") (last_line (chars x.before.now)) ++ carets (first_line (chars x.at.now))
+abbrev pub underline : Found → List ℕ
+underline x = filled (codes " ") (last_line x.before) ++ carets (first_line x.here)
 
 -- the space that the number of the line takes
-abbrev pub gutter : Finding → List ℕ
+abbrev pub gutter : Found → List ℕ
 gutter x = times (length (decimal (line_of x))) (codes " ")
 
 -- where it stands, with its line of the source and carets below
-abbrev pub excerpt : List ℕ → Finding → List ℕ
+abbrev pub excerpt : List ℕ → Found → List ℕ
 excerpt path x =
     gutter x ++ (codes "--> " ++ (path ++ (codes ":" ++ (decimal (line_of x) ++ (codes ":" ++ (decimal (column_of x)
     ++ (codes "\n" ++ (gutter x ++ (codes " |\n" ++ (decimal (line_of x) ++ (codes " | " ++ (source_line x
     ++ (codes "\n" ++ (gutter x ++ (codes " | " ++ (underline x ++ codes "\n"))))))))))))))))
 
 -- what is wrong, and where
-abbrev pub long : List ℕ → Finding → List ℕ
-long path x = codes "error[" ++ (x.name.now ++ (codes "]: " ++ (x.says.now ++ (codes "\n" ++ excerpt path x))))
+abbrev pub long : List ℕ → Found → List ℕ
+long path x = codes "error[" ++ (x.name ++ (codes "]: " ++ (x.says ++ (codes "\n" ++ excerpt path x))))
+
+-- a digit of a number to the base 16
+abbrev pub hex : ℕ → List ℕ
+hex n = if nat_lt n 10 then (48 + n) ∷ [] else (87 + n) ∷ []
+
+-- a character in a string of JSON: `"` (34), the backslash (92) and the controls are escaped
+abbrev pub escape : ℕ → List ℕ
+escape c =
+    if c == 34 then codes "\\\""
+    else (if c == 92 then codes "\\\\"
+    else (if nat_lt c 16 then codes "\\u000" ++ hex c
+    else (if nat_lt c 32 then codes "\\u001" ++ hex (c - 16) else encode_utf8 c)))
+
+abbrev pub escaped : List ℕ → List ℕ
+escaped text = each escape (chars text)
+
+-- an object of JSON on a line: the file and what is wrong, and then where
+abbrev pub json_what : List ℕ → Found → List ℕ
+json_what path x =
+    codes "{\"file\":\"" ++ (escaped path ++ (codes "\",\"reason\":\"" ++ (x.name ++ (codes "\",\"message\":\""
+    ++ (escaped x.says ++ codes "\",")))))
+
+abbrev pub json_where : Found → List ℕ
+json_where x =
+    codes "\"line\":" ++ (decimal (line_of x) ++ (codes ",\"column\":" ++ (decimal (column_of x)
+    ++ (codes ",\"begin\":" ++ (decimal (begin_of x) ++ (codes ",\"end\":" ++ (decimal (end_of x) ++ codes "}\n")))))))
+
+abbrev pub json : List ℕ → Found → List ℕ
+json path x = json_what path x ++ json_where x
+
+abbrev pub message : Form → List ℕ → Found → List ℕ
+message Short path x = short path x
+message Long path x = long path x
+message Json path x = json path x

@@ -9,8 +9,8 @@ pub struct Finding<'a> {
     pub says: &'static str,
     /// The text before the place.
     pub before: &'a str,
-    /// What stands there.
-    pub at: &'a str,
+    /// What stands at the place.
+    pub here: &'a str,
     /// The text from the place on.
     pub rest: &'a str,
 }

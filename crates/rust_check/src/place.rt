@@ -1,6 +1,6 @@
 //! Where a place of a text stands.
-ghost use Rattle.std.specs.Prelude.{◌≡◌, ◌+◌, ℕ, drop, length, take};
-ghost use Rattle.std.specs.Str.{IsUtf8, chars};
+ghost use Rattle.std.specs.Prelude.{◌≡◌, drop, length, take};
+ghost use Rattle.std.specs.Str.{chars, encode_utf8_all};
 ghost use Rattle.rust_check.specs.Place.{first_line, last_line, last_number};
 
 use lexical::parts::before;
@@ -60,4 +60,11 @@ pub fn first_line(text: &str) -> &str
         left = rest.as_str();
     }
     text
+}
+
+/// How many bytes the text has.
+pub fn byte_count(text: &str) -> usize
+    ensures { result ≡ length (encode_utf8_all (chars text.now)) }
+{
+    text.len()
 }
