@@ -2,17 +2,21 @@
 use Rattle.std.specs.Prelude.{ℕ, ◌+◌, ◌-◌, ◌==◌, List, [], ◌∷◌, ◌++◌, codes, decimal, encode_utf8, length, nat_lt}
 use Rattle.std.specs.Prelude.{if◌then◌else◌}
 use Rattle.std.specs.Str.{chars, encode_utf8_all}
-use Rattle.rust_check.specs.Place.{first_line, last_line, last_number}
+use Rattle.rust_check.specs.Place.{first_line}
 use Rattle.rust_check.specs.Shown.{carets, each, filled, shown, times}
 use Rattle.rust_check.specs.declared.finding.Finding.{Finding}
 use Rattle.rust_check.specs.declared.options.Form.{Form}
 use Rattle.rust_check.specs.declared.options.Form.TheVariants.{Short, Long, Json}
 
--- the bytes of its name and of what it says, and the characters before it, those of it, and those from it on
+-- its name and what it says, and where it stands: its line, from 1, how many characters stand before it on that, and how
+-- many bytes before it in the text; and the characters before it on its line, those of it, and those from it on
 pub record Found : Type 0 where
   pub name : List ℕ
   pub says : List ℕ
-  pub before : List ℕ
+  pub line : ℕ
+  pub column : ℕ
+  pub begin : ℕ
+  pub front : List ℕ
   pub here : List ℕ
   pub rest : List ℕ
 
@@ -21,53 +25,49 @@ abbrev pub seen : Finding → Found
 seen x = record {
   name = x.name.now;
   says = x.says.now;
-  before = chars x.before.now;
+  line = x.place.line;
+  column = x.place.column;
+  begin = x.place.begin;
+  front = chars x.front.now;
   here = chars x.here.now;
   rest = chars x.rest.now;
 }
 
--- its line, and its column in characters, both from 1
-abbrev pub line_of : Found → ℕ
-line_of x = last_number x.before
-
-abbrev pub column_of : Found → ℕ
-column_of x = length (last_line x.before) + 1
-
--- the bytes of the text before it, and before its end
-abbrev pub begin_of : Found → ℕ
-begin_of x = length (encode_utf8_all x.before)
-
+-- so many bytes of the text stand before its end
 abbrev pub end_of : Found → ℕ
-end_of x = length (encode_utf8_all x.before) + length (encode_utf8_all x.here)
+end_of x = x.begin + length (encode_utf8_all x.here)
 
 -- `FILE:L:C: error: what`
 abbrev pub short : List ℕ → Found → List ℕ
 short path x =
-    path ++ (codes ":" ++ (decimal (line_of x) ++ (codes ":" ++ (decimal (column_of x) ++ (codes ": error: "
+    path ++ (codes ":" ++ (decimal x.line ++ (codes ":" ++ (decimal (x.column + 1) ++ (codes ": error: "
     ++ (x.says ++ codes "\n"))))))
 
 -- the line of the source, as it is shown
 abbrev pub source_line : Found → List ℕ
-source_line x = each shown (last_line x.before) ++ each shown (first_line x.rest)
+source_line x = each shown x.front ++ each shown (first_line x.rest)
 
 -- the carets below it
 abbrev pub underline : Found → List ℕ
-underline x = filled (codes " ") (last_line x.before) ++ carets (first_line x.here)
+underline x = filled (codes " ") x.front ++ carets (first_line x.here)
 
 -- the space that the number of the line takes
 abbrev pub gutter : Found → List ℕ
-gutter x = times (length (decimal (line_of x))) (codes " ")
+gutter x = times (length (decimal x.line)) (codes " ")
 
 -- where it stands, with its line of the source and carets below
 abbrev pub excerpt : List ℕ → Found → List ℕ
 excerpt path x =
-    gutter x ++ (codes "--> " ++ (path ++ (codes ":" ++ (decimal (line_of x) ++ (codes ":" ++ (decimal (column_of x)
-    ++ (codes "\n" ++ (gutter x ++ (codes " |\n" ++ (decimal (line_of x) ++ (codes " | " ++ (source_line x
+    gutter x ++ (codes "--> " ++ (path ++ (codes ":" ++ (decimal x.line ++ (codes ":" ++ (decimal (x.column + 1)
+    ++ (codes "\n" ++ (gutter x ++ (codes " |\n" ++ (decimal x.line ++ (codes " | " ++ (source_line x
     ++ (codes "\n" ++ (gutter x ++ (codes " | " ++ (underline x ++ codes "\n"))))))))))))))))
 
 -- what is wrong, and where
+abbrev pub headline : Found → List ℕ
+headline x = codes "error[" ++ (x.name ++ (codes "]: " ++ (x.says ++ codes "\n")))
+
 abbrev pub long : List ℕ → Found → List ℕ
-long path x = codes "error[" ++ (x.name ++ (codes "]: " ++ (x.says ++ (codes "\n" ++ excerpt path x))))
+long path x = headline x ++ excerpt path x
 
 -- a digit of a number to the base 16
 abbrev pub hex : ℕ → List ℕ
@@ -92,11 +92,16 @@ json_what path x =
 
 abbrev pub json_where : Found → List ℕ
 json_where x =
-    codes "\"line\":" ++ (decimal (line_of x) ++ (codes ",\"column\":" ++ (decimal (column_of x)
-    ++ (codes ",\"begin\":" ++ (decimal (begin_of x) ++ (codes ",\"end\":" ++ (decimal (end_of x) ++ codes "}\n")))))))
+    codes "\"line\":" ++ (decimal x.line ++ (codes ",\"column\":" ++ (decimal (x.column + 1)
+    ++ (codes ",\"begin\":" ++ (decimal x.begin ++ (codes ",\"end\":" ++ (decimal (end_of x) ++ codes "}\n")))))))
 
 abbrev pub json : List ℕ → Found → List ℕ
 json path x = json_what path x ++ json_where x
+
+-- on one line, whichever it is
+abbrev pub line_message : Form → List ℕ → Found → List ℕ
+line_message Json path x = json path x
+line_message _ path x = short path x
 
 abbrev pub message : Form → List ℕ → Found → List ℕ
 message Short path x = short path x

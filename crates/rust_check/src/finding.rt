@@ -1,5 +1,16 @@
 //! What is found in a text.
 
+/// Where something stands in a text.
+#[derive(Clone, Copy, Debug, PartialEq, Eq)]
+pub struct Place {
+    /// Its line, from 1.
+    pub line: usize,
+    /// How many characters stand before it on its line.
+    pub column: usize,
+    /// How many bytes stand before it in the text.
+    pub begin: usize,
+}
+
 /// What is found at a place of a text.
 #[derive(Clone, Copy)]
 pub struct Finding<'a> {
@@ -7,8 +18,10 @@ pub struct Finding<'a> {
     pub name: &'static str,
     /// What it is, in a few words.
     pub says: &'static str,
-    /// The text before the place.
-    pub before: &'a str,
+    /// Where it stands.
+    pub place: Place,
+    /// What stands before it on its line.
+    pub front: &'a str,
     /// What stands at the place.
     pub here: &'a str,
     /// The text from the place on.

@@ -1,14 +1,13 @@
 //! What is written for a finding.
 ghost use Rattle.std.specs.Prelude.{OnOk};
 ghost use Rattle.std.specs.Io.KnownBytes.{Appends};
-ghost use Rattle.rust_check.specs.Message.{json, json_what, json_where, long, message, seen, short};
+ghost use Rattle.rust_check.specs.Message.{excerpt, headline, json, json_what, json_where, line_message, long, message, seen, short};
 
-use crate::finding::Finding;
+use crate::finding::{Finding, Place};
 use crate::json::escaped;
 use crate::options::Form;
-use crate::place::{byte_count, first_line, last_line};
+use crate::place::{byte_count, first_line};
 use crate::shown::{shown_line, spaces, underline};
-use pm_span::parts::char_count;
 use std::alloc::Global;
 use std::io;
 use std::io::Write;
@@ -31,17 +30,33 @@ pub fn write_message<W: Write>(
     }
 }
 
+/// Writes what is found in the file at this path on one line, whichever form it has.
+pub fn write_line<W: Write>(
+    alloc: Global,
+    form: Form,
+    path: &str,
+    finding: &Finding<'_>,
+    writer: &mut W,
+) -> io::Result<()>
+    ensures { OnOk result (Appends (W.contents writer.old) (W.contents writer.new)
+        (line_message form path.now (seen finding.now))) }
+{
+    match form {
+        Form::Json => write_json(alloc, path, finding, writer),
+        _ => write_short(path, finding, writer),
+    }
+}
+
 // Writes what is found in the file at this path in one line: `FILE:L:C: error: what`, line and column from 1, the
 // column in characters.
 fn write_short<W: Write>(path: &str, finding: &Finding<'_>, writer: &mut W) -> io::Result<()>
     ensures { OnOk result (Appends (W.contents writer.old) (W.contents writer.new) (short path.now (seen finding.now))) }
 {
-    let line = last_line(finding.before);
-    let number = line.number;
+    let line = finding.place.line;
     // As wide as the sum needs.
-    let column = char_count(line.text) as u128 + 1;
+    let column = finding.place.column as u128 + 1;
     let says = finding.says;
-    writeln!(writer, "{path}:{number}:{column}: error: {says}")
+    writeln!(writer, "{path}:{line}:{column}: error: {says}")
 }
 
 // Writes what is found in the file at this path, with its line of the source and carets below.
@@ -53,18 +68,37 @@ fn write_long<W: Write>(
 ) -> io::Result<()>
     ensures { OnOk result (Appends (W.contents writer.old) (W.contents writer.new) (long path.now (seen finding.now))) }
 {
-    let line = last_line(finding.before);
-    let number = line.number.to_string(alloc)?;
-    // As wide as the sum needs.
-    let column = char_count(line.text) as u128 + 1;
-    let gutter = spaces(alloc, number.len())?;
-    let source = shown_line(alloc, line.text, first_line(finding.rest))?;
-    let carets = underline(alloc, line.text, first_line(finding.here))?;
+    write_headline(finding, writer)?;
+    write_excerpt(alloc, path, finding, writer)
+}
+
+// Writes what is wrong.
+fn write_headline<W: Write>(finding: &Finding<'_>, writer: &mut W) -> io::Result<()>
+    ensures { OnOk result (Appends (W.contents writer.old) (W.contents writer.new) (headline (seen finding.now))) }
+{
     let name = finding.name;
     let says = finding.says;
+    writeln!(writer, "error[{name}]: {says}")
+}
+
+/// Writes where it is found in the file at this path, with its line of the source and carets below.
+pub fn write_excerpt<W: Write>(
+    alloc: Global,
+    path: &str,
+    finding: &Finding<'_>,
+    writer: &mut W,
+) -> io::Result<()>
+    ensures { OnOk result (Appends (W.contents writer.old) (W.contents writer.new) (excerpt path.now (seen finding.now))) }
+{
+    let number = finding.place.line.to_string(alloc)?;
+    // As wide as the sum needs.
+    let column = finding.place.column as u128 + 1;
+    let gutter = spaces(alloc, number.len())?;
+    let source = shown_line(alloc, finding.front, first_line(finding.rest))?;
+    let carets = underline(alloc, finding.front, first_line(finding.here))?;
     write!(
         writer,
-        "error[{name}]: {says}\n{gutter}--> {path}:{number}:{column}\n{gutter} |\n{number} | {source}\n{gutter} | {carets}\n"
+        "{gutter}--> {path}:{number}:{column}\n{gutter} |\n{number} | {source}\n{gutter} | {carets}\n"
     )
 }
 
@@ -104,14 +138,16 @@ fn write_json_what<W: Write>(
 fn write_json_where<W: Write>(finding: &Finding<'_>, writer: &mut W) -> io::Result<()>
     ensures { OnOk result (Appends (W.contents writer.old) (W.contents writer.new) (json_where (seen finding.now))) }
 {
-    let line = last_line(finding.before);
-    let number = line.number;
+    let Place {
+        line,
+        column,
+        begin,
+    } = finding.place;
     // As wide as the sums need.
-    let column = char_count(line.text) as u128 + 1;
-    let begin = byte_count(finding.before);
+    let column = column as u128 + 1;
     let end = begin as u128 + byte_count(finding.here) as u128;
     write!(
         writer,
-        "\"line\":{number},\"column\":{column},\"begin\":{begin},\"end\":{end}}}\n"
+        "\"line\":{line},\"column\":{column},\"begin\":{begin},\"end\":{end}}}\n"
     )
 }
