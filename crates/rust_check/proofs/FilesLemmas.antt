@@ -4,42 +4,42 @@ use Rattle.std.proofs.Common.{drop, get_or, length, map, IfOk, string_bytes, Str
 use Rattle.std.specs.declared.alloc.Global.{Global}
 use Rattle.std.proofs.Math.Seq.{drop-cons}
 use Rattle.std.proofs.Math.ListN.{drop_of_length-le}
-use Rattle.rust_check.specs.Answer.{Tells}
+use Rattle.rust_check.specs.Answer.{TellsAll}
 use Rattle.rust_check.specs.Files.{AllTold, Outcome, counted}
 use Rattle.rust_check.specs.declared.options.Form.{Form}
 use Rattle.rust_check.specs.declared.tally.Tally.{Tally}
 
 -- what an outcome says of a file
-abbrev pub Told : Form → List ℕ → Outcome → Option (List ℕ) → Option (List ℕ) → Type 0
-Told form path outcome old new = IfOk outcome (λ faulty. (text : List ℕ) × Tells form path text old new faulty)
+abbrev pub Told : Form → Bool → List ℕ → Outcome → Option (List ℕ) → Option (List ℕ) → Type 0
+Told form hidden path outcome old new = IfOk outcome (λ faulty. (text : List ℕ) × TellsAll form hidden path text old new faulty)
 
-told_cons : (form : Form) (path : List ℕ) (paths : List (List ℕ)) (outcome : Outcome) (more : List Outcome)
+told_cons : (form : Form) (hidden : Bool) (path : List ℕ) (paths : List (List ℕ)) (outcome : Outcome) (more : List Outcome)
     (old between new : Option (List ℕ))
-    → Told form path outcome old between → AllTold form paths more between new
-    → AllTold form (path ∷ paths) (outcome ∷ more) old new
-told_cons form path paths (Ok faulty) more old between new told rest = (told.0, between, told.1, rest)
-told_cons form path paths (Err failure) more old between new told rest = (between, rest)
+    → Told form hidden path outcome old between → AllTold form hidden paths more between new
+    → AllTold form hidden (path ∷ paths) (outcome ∷ more) old new
+told_cons form hidden path paths (Ok faulty) more old between new told rest = (told.0, between, told.1, rest)
+told_cons form hidden path paths (Err failure) more old between new told rest = (between, rest)
 
 -- a file before those that are left
-pub told_one : (form : Form) (paths : List (String Global)) (k : ℕ) (path : String Global) (outcome : Outcome)
+pub told_one : (form : Form) (hidden : Bool) (paths : List (String Global)) (k : ℕ) (path : String Global) (outcome : Outcome)
     (more : List Outcome) (old between new : Option (List ℕ))
     → k < length paths → path ≡ get_or paths k path
-    → Told form (string_bytes path) outcome old between
-    → AllTold form (map string_bytes (drop (k + 1) paths)) more between new
-    → AllTold form (map string_bytes (drop k paths)) (outcome ∷ more) old new
-told_one form paths k path outcome more old between new within is told rest =
+    → Told form hidden (string_bytes path) outcome old between
+    → AllTold form hidden (map string_bytes (drop (k + 1) paths)) more between new
+    → AllTold form hidden (map string_bytes (drop k paths)) (outcome ∷ more) old new
+told_one form hidden paths k path outcome more old between new within is told rest =
     let next : suc k ≡ k + 1 = omega arith in
     let split : drop k paths ≡ path ∷ drop (k + 1) paths =
     drop-cons paths k path within ∙ (ap (λ x. x ∷ drop (suc k) paths) (sym is)
     ∙ ap (λ n. path ∷ drop n paths) next) in
-    subst (λ l. AllTold form (map string_bytes l) (outcome ∷ more) old new) (sym split)
-    (told_cons form (string_bytes path) _ outcome more old between new told rest)
+    subst (λ l. AllTold form hidden (map string_bytes l) (outcome ∷ more) old new) (sym split)
+    (told_cons form hidden (string_bytes path) _ outcome more old between new told rest)
 
 -- no file is left
-pub told_none : (form : Form) (paths : List (String Global)) (k : ℕ) (known : Option (List ℕ))
-    → length paths ≤ k → AllTold form (map string_bytes (drop k paths)) [] known known
-told_none form paths k known past =
-    subst (λ l. AllTold form (map string_bytes l) [] known known) (sym (drop_of_length-le paths past)) refl
+pub told_none : (form : Form) (hidden : Bool) (paths : List (String Global)) (k : ℕ) (known : Option (List ℕ))
+    → length paths ≤ k → AllTold form hidden (map string_bytes (drop k paths)) [] known known
+told_none form hidden paths k known past =
+    subst (λ l. AllTold form hidden (map string_bytes l) [] known known) (sym (drop_of_length-le paths past)) refl
 
 -- one outcome counts once at most
 pub counted_most : (tally : Tally) (outcome : Outcome) (most : ℕ) → tally.faulty ≤ most → tally.unread ≤ most

@@ -1,5 +1,5 @@
 -- What the program writes for a text.
-use Rattle.std.specs.Prelude.{ℕ, ◌≡◌, ◌-◌, Bool, List, [], ◌++◌, Option, Some, None, MatchOption, codes, drop, is_some, length}
+use Rattle.std.specs.Prelude.{ℕ, ◌≡◌, ◌-◌, ◌||◌, Bool, true, false, List, [], ◌++◌, Option, Some, None, MatchOption, codes, drop, is_some, length}
 use Rattle.std.specs.Prelude.{take}
 use Rattle.std.specs.Str.{encode_utf8_all}
 use Rattle.std.specs.Io.KnownBytes.{Appends}
@@ -11,6 +11,7 @@ use Rattle.explain.specs.declared.reason.Reason.TheVariants.{MismatchedCloser}
 use Rattle.pm_span.specs.Files.{new_map, next_lo}
 use Rattle.rust_check.specs.Message.{Found, excerpt, message}
 use Rattle.rust_check.specs.Place.{last_line, last_number}
+use Rattle.rust_check.specs.Told.{TellsHidden}
 use Rattle.rust_check.specs.Words.{name_of, sentence_of}
 use Rattle.rust_check.specs.declared.options.Form.{Form}
 use Rattle.rust_check.specs.declared.options.Form.TheVariants.{Long}
@@ -66,3 +67,10 @@ abbrev pub Tells : Form → List ℕ → List ℕ → Option (List ℕ) → Opti
 Tells form path text old new faulty =
     (answer : Option Explained) × MatchOption answer (Parses first text) (IsExplained first text)
     × (faulty ≡ is_some answer) × Appends old new (said form path text answer)
+
+-- what is found in the text: its fault, and then its hidden characters, where they are asked for
+abbrev pub TellsAll : Form → Bool → List ℕ → List ℕ → Option (List ℕ) → Option (List ℕ) → Bool → Type 0
+TellsAll form false path text old new found = Tells form path text old new found
+TellsAll form true path text old new found =
+    (faulty : Bool) × (told : Bool) × (between : Option (List ℕ)) × Tells form path text old between faulty
+    × TellsHidden form path text between new told × (found ≡ (faulty || told))

@@ -2,7 +2,7 @@
 use Rattle.std.specs.Prelude.{ℕ, ◌≡◌, ◌+◌, ◌==◌, Bool, true, false, List, [], ◌∷◌, ◌++◌, Option, Result, Ok, Err, codes, decimal}
 use Rattle.std.specs.Prelude.{if◌then◌else◌}
 use Rattle.messages.specs.declared.errors.Failure.{Failure}
-use Rattle.rust_check.specs.Answer.{Tells}
+use Rattle.rust_check.specs.Answer.{TellsAll}
 use Rattle.rust_check.specs.declared.options.Form.{Form}
 use Rattle.rust_check.specs.declared.tally.Tally.{Tally}
 
@@ -11,15 +11,15 @@ abbrev pub Outcome : Type 0
 Outcome = Result Bool Failure
 
 -- these files are checked one after the other, with these outcomes: of each that was read all is written
-abbrev pub AllTold : Form → List (List ℕ) → List Outcome → Option (List ℕ) → Option (List ℕ) → Type 0
-AllTold form [] [] old new = old ≡ new
-AllTold form [] (outcome ∷ outcomes) old new = ⊥
-AllTold form (path ∷ paths) [] old new = ⊥
-AllTold form (path ∷ paths) (Ok faulty ∷ outcomes) old new =
-    (text : List ℕ) × (between : Option (List ℕ)) × Tells form path text old between faulty
-    × AllTold form paths outcomes between new
-AllTold form (path ∷ paths) (Err failure ∷ outcomes) old new =
-    (between : Option (List ℕ)) × AllTold form paths outcomes between new
+abbrev pub AllTold : Form → Bool → List (List ℕ) → List Outcome → Option (List ℕ) → Option (List ℕ) → Type 0
+AllTold form hidden [] [] old new = old ≡ new
+AllTold form hidden [] (outcome ∷ outcomes) old new = ⊥
+AllTold form hidden (path ∷ paths) [] old new = ⊥
+AllTold form hidden (path ∷ paths) (Ok faulty ∷ outcomes) old new =
+    (text : List ℕ) × (between : Option (List ℕ)) × TellsAll form hidden path text old between faulty
+    × AllTold form hidden paths outcomes between new
+AllTold form hidden (path ∷ paths) (Err failure ∷ outcomes) old new =
+    (between : Option (List ℕ)) × AllTold form hidden paths outcomes between new
 
 -- one outcome more
 abbrev pub counted : Tally → Outcome → Tally

@@ -2,12 +2,13 @@
 ghost use Rattle.std.specs.Prelude.{◌≡◌, ◌++◌, IfOk, OnOk, Some, codes};
 ghost use Rattle.std.specs.Io.KnownBytes.{Appends};
 ghost use Rattle.std.specs.Str.{chars};
-ghost use Rattle.rust_check.specs.Answer.{Tells, fault, found_at, note, said};
+ghost use Rattle.rust_check.specs.Answer.{Tells, TellsAll, fault, found_at, note, said};
 ghost use Rattle.rust_check.specs.Message.{excerpt, seen};
 
 use crate::finding::{Finding, Place};
 use crate::options::Form;
 use crate::place::{byte_count, last_line, split_chars};
+use crate::told::tell_hidden;
 use crate::words::{name_of, sentence_of};
 use crate::writing::{write_excerpt, write_message};
 use explain::{ExplainError, Explained, Reason, explain};
@@ -18,9 +19,30 @@ use std::alloc::Global;
 use std::io;
 use std::io::Write;
 
-/// Writes why the text of the file at this path doesn't parse, and answers whether it has a fault. Nothing is written
-/// for a text that parses.
-pub fn check_text<W: Write>(
+/// Writes why the text of the file at this path doesn't parse, and then where its hidden characters stand, if `hidden`
+/// asks for them, and answers whether something was found.
+pub fn check_all<W: Write>(
+    alloc: Global,
+    form: Form,
+    hidden: bool,
+    path: &str,
+    text: &str,
+    writer: &mut W,
+) -> Result<bool, Failure>
+    ensures { IfOk result (λ found. TellsAll form hidden path.now (chars text.now) (W.contents writer.old)
+        (W.contents writer.new) found) }
+{
+    let faulty = check_text(alloc, form, path, text, writer)?;
+    if !hidden {
+        return Ok(faulty);
+    }
+    let told = tell_hidden(alloc, form, path, text, writer)?;
+    Ok(faulty || told)
+}
+
+// Writes why the text of the file at this path doesn't parse, and answers whether it has a fault. Nothing is written
+// for a text that parses.
+fn check_text<W: Write>(
     alloc: Global,
     form: Form,
     path: &str,

@@ -9,15 +9,15 @@ pub fn is_hidden(c: char) -> bool
     is_direction(c) || is_invisible(c) || is_control(c)
 }
 
-// Whether the character controls the text's direction.
-fn is_direction(c: char) -> bool
+/// Whether the character controls the text's direction.
+pub fn is_direction(c: char) -> bool
     ensures { result ≡ is_direction c }
 {
     matches!(c, '\u{202A}'..='\u{202E}' | '\u{2066}'..='\u{2069}')
 }
 
-// Whether the character takes no room: the soft hyphen, the spaces of no width, joiners and marks of direction.
-fn is_invisible(c: char) -> bool
+/// Whether the character takes no room: the soft hyphen, the spaces of no width, joiners and marks of direction.
+pub fn is_invisible(c: char) -> bool
     ensures { result ≡ is_invisible c }
 {
     matches!(c, '\u{AD}' | '\u{200B}'..='\u{200F}' | '\u{2060}'..='\u{2064}' | '\u{FEFF}')

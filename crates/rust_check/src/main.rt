@@ -14,6 +14,7 @@ mod options;
 mod place;
 mod shown;
 mod tally;
+mod told;
 mod words;
 mod writing;
 
@@ -45,7 +46,7 @@ fn run(rt: &HostRuntime) -> Result<u8, Failure> {
 fn check(rt: &HostRuntime, options: &Options) -> Result<u8, Failure> {
     let mut writer = BufWriter::new(rt.alloc(), rt.stdout())?;
     let paths = options.paths.as_slice();
-    let tally = check_files(rt, options.form, paths, &mut writer, &mut rt.stderr())?;
+    let tally = check_files(rt, options, &mut writer, &mut rt.stderr())?;
     if options.form == Form::Long && paths.len() > 1 {
         tally.write_summary(paths.len(), &mut writer)?;
     }
@@ -64,11 +65,12 @@ const VERSION: &str = "rust_check 1.0.0\n";
 
 const HELP: &str = "Tells why Rust files don't parse.
 
-usage: rust_check [--short|--json] [FILE..]
+usage: rust_check [--short|--json] [--hidden] [FILE..]
 
   FILE       a file, or - for standard input, which is read where there is no file
   --short    each fault in one line: FILE:L:C: error: what
   --json     each fault as an object of JSON on a line
+  --hidden   tells hidden characters too: controls of direction, invisible characters, control characters
   --version  writes the version
 
 The status is 0 where all texts parse, 1 where one has a fault, and 2 where a file is not read.

@@ -4,7 +4,7 @@ use messages::Failure;
 use std::alloc::{AllocError, Global};
 
 /// How the program is called.
-pub const USAGE: &str = "rust_check [--short|--json] [FILE..]";
+pub const USAGE: &str = "rust_check [--short|--json] [--hidden] [FILE..]";
 
 /// How a finding is written.
 #[derive(Clone, Copy, Debug, PartialEq, Eq)]
@@ -22,6 +22,8 @@ pub enum Form {
 pub struct Options {
     /// How a finding is written.
     pub form: Form,
+    /// Whether hidden characters are told too.
+    pub hidden: bool,
     /// The paths of the files, `-` for standard input.
     pub paths: Vec<String>,
 }
@@ -43,12 +45,14 @@ pub enum Request {
 pub fn request_of(alloc: Global, words: &[String]) -> Result<Request, Failure> {
     let mut options = Options {
         form: Form::Long,
+        hidden: false,
         paths: Vec::new(alloc),
     };
     for word in words {
         match word.as_str() {
             "--short" => options.form = Form::Short,
             "--json" => options.form = Form::Json,
+            "--hidden" => options.hidden = true,
             "--help" => return Ok(Request::Help),
             "--version" => return Ok(Request::Version),
             path if path.starts_with('-') && path != "-" => return Err(Failure::Usage(USAGE)),

@@ -10,7 +10,7 @@ invariant-loop-path g l =
       faulty : l.tally.faulty ≤ l.path-index;
       unread : l.tally.unread ≤ l.path-index;
       told : (more : List Outcome) (new : Option (List ℕ))
-          → AllTold l.form (map string_bytes (drop l.path-index l.paths)) more (bytes l.writer) new
-          → (all : List Outcome) × AllTold l.form (map string_bytes l.paths) all (bytes l.initial.writer) new
+          → AllTold l.fn.options.form l.fn.options.hidden (map string_bytes (drop l.path-index l.fn.options.paths.items)) more (bytes l.writer) new
+          → (all : List Outcome) × AllTold l.fn.options.form l.fn.options.hidden (map string_bytes l.fn.options.paths.items) all (bytes l.initial.writer) new
           × (all_counted l.tally more ≡ all_counted nothing all);
     }
