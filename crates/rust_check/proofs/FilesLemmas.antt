@@ -1,5 +1,6 @@
 -- Several files, one after the other.
-use Rattle.std.proofs.Common.{◌≡◌, ◌∙◌, ℕ, suc, ◌+◌, ◌<◌, ◌≤◌, Bool, true, false, List, [], ◌∷◌, Option, Result, Ok, Err, refl, ap, arith, subst, sym}
+use Rattle.std.proofs.Common.{◌≡◌, ◌∙◌, ℕ, suc, ◌+◌, ◌<◌, ◌≤◌, Bool, true, false, List, [], ◌∷◌, Option}
+use Rattle.std.proofs.Common.{Ok, Err, refl, ap, arith, subst, sym}
 use Rattle.std.proofs.Common.{drop, get_or, length, map, IfOk, string_bytes, String}
 use Rattle.std.specs.declared.alloc.Global.{Global}
 use Rattle.std.proofs.Math.Seq.{drop-cons}
@@ -11,18 +12,19 @@ use Rattle.rust_check.specs.declared.tally.Tally.{Tally}
 
 -- what an outcome says of a file
 abbrev pub Told : Form → Bool → List ℕ → Outcome → Option (List ℕ) → Option (List ℕ) → Type 0
-Told form hidden path outcome old new = IfOk outcome (λ faulty. (text : List ℕ) × TellsAll form hidden path text old new faulty)
+Told form hidden path outcome old new =
+    IfOk outcome (λ faulty. (text : List ℕ) × TellsAll form hidden path text old new faulty)
 
-told_cons : (form : Form) (hidden : Bool) (path : List ℕ) (paths : List (List ℕ)) (outcome : Outcome) (more : List Outcome)
-    (old between new : Option (List ℕ))
+told_cons : (form : Form) (hidden : Bool) (path : List ℕ) (paths : List (List ℕ)) (outcome : Outcome)
+    (more : List Outcome) (old between new : Option (List ℕ))
     → Told form hidden path outcome old between → AllTold form hidden paths more between new
     → AllTold form hidden (path ∷ paths) (outcome ∷ more) old new
 told_cons form hidden path paths (Ok faulty) more old between new told rest = (told.0, between, told.1, rest)
 told_cons form hidden path paths (Err failure) more old between new told rest = (between, rest)
 
 -- a file before those that are left
-pub told_one : (form : Form) (hidden : Bool) (paths : List (String Global)) (k : ℕ) (path : String Global) (outcome : Outcome)
-    (more : List Outcome) (old between new : Option (List ℕ))
+pub told_one : (form : Form) (hidden : Bool) (paths : List (String Global)) (k : ℕ) (path : String Global)
+    (outcome : Outcome) (more : List Outcome) (old between new : Option (List ℕ))
     → k < length paths → path ≡ get_or paths k path
     → Told form hidden (string_bytes path) outcome old between
     → AllTold form hidden (map string_bytes (drop (k + 1) paths)) more between new

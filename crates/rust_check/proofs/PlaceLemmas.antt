@@ -76,8 +76,7 @@ pub at_end : (text front rest : List ℕ) (number : ℕ) → IsAt text front res
     → (number ≡ last_number (chars text)) × (chars front ≡ last_line (chars text))
 at_end text front rest number at none =
     let nil : chars rest ≡ [] = ap chars (nil_from_length rest none) ∙ chars-nil in
-    let whole : chars text ≡ at.done = at.whole ∙ (ap (λ l. at.done ++ l) nil ∙ append-nil at.done) in
-    (
+    let whole : chars text ≡ at.done = at.whole ∙ (ap (λ l. at.done ++ l) nil ∙ append-nil at.done) in (
       at.counted ∙ ap last_number (sym whole),
       at.line ∙ (ap (λ l. last_line at.done ++ l) nil ∙ (append-nil (last_line at.done) ∙ ap last_line (sym whole))),
     )
@@ -122,15 +121,15 @@ within_one text left rest more c at split goes =
     }
   where
     goes_on : (c : ℕ) (more : List ℕ) → ends_line c ≡ false → first_line (c ∷ more) ≡ c ∷ first_line more
-    goes_on c more goes = take_while-cons (λ d. not (ends_line d)) c more ∙ ap (λ b. cond (not b) (c ∷ first_line more) []) goes
+    goes_on c more goes =
+        take_while-cons (λ d. not (ends_line d)) c more ∙ ap (λ b. cond (not b) (c ∷ first_line more) []) goes
 
 -- where the line ends
 pub within_stop : (text left rest more : List ℕ) (c : ℕ) → IsWithin text left rest
     → rest ≡ encode_utf8 c ++ more → ends_line c ≡ true
     → (front : List ℕ) × (chars text ≡ front ++ chars left) × (first_line (chars text) ≡ front)
 within_stop text left rest more c at split ends =
-    let next : chars rest ≡ c ∷ chars more = chars_past_char rest more c at.utf8 split in
-    (
+    let next : chars rest ≡ c ∷ chars more = chars_past_char rest more c at.utf8 split in (
       at.done,
       at.whole ∙ ap (λ l. at.done ++ l) (sym at.same),
       at.line ∙ (ap (λ l. at.done ++ first_line l) next
@@ -138,7 +137,8 @@ within_stop text left rest more c at split ends =
     )
   where
     stops : (c : ℕ) (more : List ℕ) → ends_line c ≡ true → first_line (c ∷ more) ≡ []
-    stops c more ends = take_while-cons (λ d. not (ends_line d)) c more ∙ ap (λ b. cond (not b) (c ∷ first_line more) []) ends
+    stops c more ends =
+        take_while-cons (λ d. not (ends_line d)) c more ∙ ap (λ b. cond (not b) (c ∷ first_line more) []) ends
 
 pub within_end : (text left rest : List ℕ) → IsWithin text left rest → length rest ≡ 0
     → chars text ≡ first_line (chars text)

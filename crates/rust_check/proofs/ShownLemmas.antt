@@ -1,6 +1,7 @@
 -- What is shown, one character after the other.
-use Rattle.std.proofs.Common.{◌≡◌, ◌∙◌, ◌++◌, ◌+◌, ℕ, suc, zero, List, [], ◌∷◌, refl, sym, ap, append_assoc, append-nil, encode_utf8, arith}
-use Rattle.std.proofs.Common.{length, ◌==◌}
+use Rattle.std.proofs.Common.{◌≡◌, ◌∙◌, ◌++◌, ◌+◌, ℕ, suc, zero, List, [], ◌∷◌, refl, sym, ap, append_assoc}
+use Rattle.std.proofs.Common.{append-nil, encode_utf8, arith}
+use Rattle.std.proofs.Common.{length}
 use Rattle.std.specs.Str.{chars, IsUtf8}
 use Rattle.std.proofs.lemmas.List.{nil_from_length}
 use Rattle.std.proofs.lemmas.Str.{chars-nil, chars_past_char, IsUtf8-past_char}

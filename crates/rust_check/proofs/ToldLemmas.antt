@@ -1,5 +1,6 @@
 -- Hidden characters, one after the other.
-use Rattle.std.proofs.Common.{◌≡◌, ◌∙◌, ◌+◌, ◌<◌, ◌≤◌, ◌||◌, ◌++◌, ℕ, Bool, true, false, List, [], ◌∷◌, Option, refl, sym, ap, subst, arith, append_assoc, encode_utf8}
+use Rattle.std.proofs.Common.{◌≡◌, ◌∙◌, ◌+◌, ◌<◌, ◌≤◌, ◌||◌, ◌++◌, ℕ, Bool, true, false, List, [], ◌∷◌, Option}
+use Rattle.std.proofs.Common.{refl, sym, ap, subst, arith, encode_utf8}
 use Rattle.std.proofs.Common.{length, length-append, ◌^◌, ◌==◌, if◌then◌else◌}
 use Rattle.std.specs.Io.KnownBytes.{Appends}
 use Rattle.std.proofs.KnownBytes.{Appends-nil, Appends-trans}
@@ -75,8 +76,7 @@ pub far_end : (form : Form) (path text rest : List ℕ) (place : Place) (found :
     → IsSoFar form path text rest place found first old → length rest ≡ 0
     → (found ≡ any_told front (chars text)) × Appends first old (messages_of form path front (chars text))
 far_end form path text rest place found first old so none =
-    let nil : chars rest ≡ [] = ap chars (nil_from_length rest none) ∙ chars-nil in
-    (
+    let nil : chars rest ≡ [] = ap chars (nil_from_length rest none) ∙ chars-nil in (
       or_false found ∙ (ap (λ l. found || any_told place l) (sym nil) ∙ so.any),
       so.told old (subst (λ l. Appends old old (messages_of form path place l)) (sym nil) (Appends-nil _)),
     )
@@ -93,8 +93,7 @@ pub room_for : (form : Form) (path text rest more : List ℕ) (place : Place) (f
 room_for form path text rest more place found first old c so split room =
     let sizes : length rest ≡ length (encode_utf8 c) + length more =
     ap length split ∙ length-append (encode_utf8 c) more in
-    let one : 1 ≤ length (encode_utf8 c) = omega (arith, length-encode c, len_utf8_bounds c) in
-    (
+    let one : 1 ≤ length (encode_utf8 c) = omega (arith, length-encode c, len_utf8_bounds c) in (
       omega (arith, so.line, so.bytes, sizes, one, room),
       (omega (arith, so.column, so.bytes, sizes, one, room), omega (arith, so.bytes, sizes, room)),
     )

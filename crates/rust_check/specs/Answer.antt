@@ -1,5 +1,6 @@
 -- What the program writes for a text.
-use Rattle.std.specs.Prelude.{ℕ, ◌≡◌, ◌-◌, ◌||◌, Bool, true, false, List, [], ◌++◌, Option, Some, None, MatchOption, codes, drop, is_some, length}
+use Rattle.std.specs.Prelude.{ℕ, ◌≡◌, ◌-◌, ◌||◌, Bool, true, false, List, [], ◌++◌, Option, Some, None}
+use Rattle.std.specs.Prelude.{MatchOption, codes, drop, is_some, length}
 use Rattle.std.specs.Prelude.{take}
 use Rattle.std.specs.Str.{encode_utf8_all}
 use Rattle.std.specs.Io.KnownBytes.{Appends}

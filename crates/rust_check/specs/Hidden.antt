@@ -1,5 +1,5 @@
 -- The characters that nobody sees, or that change how what stands around them is seen.
-use Rattle.std.specs.Prelude.{ℕ, Bool, false, not, ◌&&◌, ◌||◌, ◌==◌, List, [], ◌∷◌, ◌++◌, length, if◌then◌else◌}
+use Rattle.std.specs.Prelude.{ℕ, Bool, ◌||◌, ◌==◌}
 use Rattle.std.specs.Int.{is_in_range}
 
 -- the controls of the text's direction

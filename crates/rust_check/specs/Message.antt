@@ -8,8 +8,8 @@ use Rattle.rust_check.specs.declared.finding.Finding.{Finding}
 use Rattle.rust_check.specs.declared.options.Form.{Form}
 use Rattle.rust_check.specs.declared.options.Form.TheVariants.{Short, Long, Json}
 
--- its name and what it says, and where it stands: its line, from 1, how many characters stand before it on that, and how
--- many bytes before it in the text; and the characters before it on its line, those of it, and those from it on
+-- its name and what it says, and where it stands: its line, from 1, how many characters stand before it on that, and
+-- how many bytes before it in the text; and the characters before it on its line, those of it, and those from it on
 pub record Found : Type 0 where
   pub name : List ℕ
   pub says : List ℕ

@@ -1,5 +1,6 @@
 -- How a line is shown on a terminal, and in which columns.
-use Rattle.std.specs.Prelude.{ℕ, zero, suc, false, ◌==◌, ◌||◌, List, [], ◌∷◌, ◌++◌, Option, Some, None, codes, encode_utf8, length}
+use Rattle.std.specs.Prelude.{ℕ, zero, suc, false, ◌==◌, ◌||◌, List, [], ◌∷◌, ◌++◌, Option, Some, None, codes}
+use Rattle.std.specs.Prelude.{encode_utf8, length}
 use Rattle.std.specs.Prelude.{if◌then◌else◌}
 use Rattle.unicode_width.specs.Width.{char_width}
 use Rattle.rust_check.specs.Hidden.{is_hidden}

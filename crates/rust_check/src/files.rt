@@ -10,8 +10,8 @@ use messages::{Failure, read_text, say};
 use std::alloc::Global;
 use std::io::Write;
 
-/// Checks the files that the options name one after the other, and writes what is found in them. Of a file that can't be read
-/// or isn't UTF-8, and of a text that is too long, `errors` says so, and the others are checked still.
+/// Checks the files that the options name one after the other, and writes what is found in them. Of a file that can't
+/// be read or isn't UTF-8, and of a text that is too long, `errors` says so, and the others are checked still.
 ///
 /// Fails where a write fails.
 pub fn check_files<W: Write, E: Write>(
@@ -21,7 +21,8 @@ pub fn check_files<W: Write, E: Write>(
     errors: &mut E,
 ) -> Result<Tally, Failure>
     ensures { IfOk result (λ tally. (outcomes : List Outcome)
-        × AllTold options.now.form options.now.hidden (map string_bytes options.now.paths.items) outcomes (W.contents writer.old) (W.contents writer.new)
+        × AllTold options.now.form options.now.hidden (map string_bytes options.now.paths.items) outcomes
+        (W.contents writer.old) (W.contents writer.new)
         × (tally ≡ all_counted nothing outcomes)) }
 {
     let mut tally = Tally::new();
@@ -41,7 +42,8 @@ fn check_file<W: Write>(
     writer: &mut W,
 ) -> Result<bool, Failure>
     ensures { IfOk result (λ faulty. (text : List ℕ)
-        × TellsAll options.now.form options.now.hidden path.now text (W.contents writer.old) (W.contents writer.new) faulty) }
+        × TellsAll options.now.form options.now.hidden path.now text (W.contents writer.old)
+        (W.contents writer.new) faulty) }
 {
     let text = read_text(rt, path)?;
     check_all(
@@ -65,7 +67,12 @@ fn unless_writing_failed(outcome: Result<bool, Failure>) -> Result<Result<bool, 
 }
 
 // Says why the file at this path wasn't read. A message that can't be written changes nothing.
-fn say_unread<E: Write>(alloc: Global, path: &str, outcome: &Result<bool, Failure>, errors: &mut E) {
+fn say_unread<E: Write>(
+    alloc: Global,
+    path: &str,
+    outcome: &Result<bool, Failure>,
+    errors: &mut E,
+) {
     if let Err(failure) = outcome {
         let _ = say(alloc, path, failure, errors);
     }

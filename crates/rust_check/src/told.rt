@@ -53,7 +53,13 @@ fn tell_character<W: Write>(
         return Ok(false);
     }
     let mut bytes = [0; 4];
-    write_line(alloc, form, path, &finding(place, c, c.encode_utf8(&mut bytes)), writer)?;
+    write_line(
+        alloc,
+        form,
+        path,
+        &finding(place, c, c.encode_utf8(&mut bytes)),
+        writer,
+    )?;
     Ok(true)
 }
 

@@ -1,7 +1,8 @@
 //! What is written for a finding.
 ghost use Rattle.std.specs.Prelude.{OnOk};
 ghost use Rattle.std.specs.Io.KnownBytes.{Appends};
-ghost use Rattle.rust_check.specs.Message.{excerpt, headline, json, json_what, json_where, line_message, long, message, seen, short};
+ghost use Rattle.rust_check.specs.Message.{excerpt, headline, json, json_what, json_where, line_message, long, message};
+ghost use Rattle.rust_check.specs.Message.{seen, short};
 
 use crate::finding::{Finding, Place};
 use crate::json::escaped;
@@ -50,7 +51,8 @@ pub fn write_line<W: Write>(
 // Writes what is found in the file at this path in one line: `FILE:L:C: error: what`, line and column from 1, the
 // column in characters.
 fn write_short<W: Write>(path: &str, finding: &Finding<'_>, writer: &mut W) -> io::Result<()>
-    ensures { OnOk result (Appends (W.contents writer.old) (W.contents writer.new) (short path.now (seen finding.now))) }
+    ensures { OnOk result (Appends (W.contents writer.old) (W.contents writer.new)
+        (short path.now (seen finding.now))) }
 {
     let line = finding.place.line;
     // As wide as the sum needs.
@@ -88,7 +90,8 @@ pub fn write_excerpt<W: Write>(
     finding: &Finding<'_>,
     writer: &mut W,
 ) -> io::Result<()>
-    ensures { OnOk result (Appends (W.contents writer.old) (W.contents writer.new) (excerpt path.now (seen finding.now))) }
+    ensures { OnOk result (Appends (W.contents writer.old) (W.contents writer.new)
+        (excerpt path.now (seen finding.now))) }
 {
     let number = finding.place.line.to_string(alloc)?;
     // As wide as the sum needs.

@@ -15,7 +15,8 @@ loop-path-preserved g c =
       told = λ more new rest.
           let all = c.loop-path.invariant.told (outcome ∷ more) new
           (told_one c.args.options.now.form c.args.options.now.hidden c.args.options.now.paths.items
-          c.loop-path.path-index c.path-item.result outcome more _ (g.W.Write.contents c.check_file.new.writer) new (rw paths at c.loop-path-test.true)
+          c.loop-path.path-index c.path-item.result outcome more _
+          (g.W.Write.contents c.check_file.new.writer) new (rw paths at c.loop-path-test.true)
           (rw paths at c.path-item.is)
           (rw (c.in_ok-outcome.ensures, ← c.as_str.ensures.value) c.check_file.ensures) rest) in
           (all.0, all.1, ap (λ tally. all_counted tally more) c.with-tally.ensures ∙ all.2);

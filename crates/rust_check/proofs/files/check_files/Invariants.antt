@@ -6,11 +6,13 @@ use Rattle.rust_check.proofs.files.check_files.Given as goal
 abbrev pub invariant-loop-path : goal.invariant-loop-path
 invariant-loop-path g l =
     let bytes = g.W.Write.contents in
+    let told = AllTold l.fn.options.form l.fn.options.hidden in
+    let paths = l.fn.options.paths.items in
     record {
       faulty : l.tally.faulty ≤ l.path-index;
       unread : l.tally.unread ≤ l.path-index;
       told : (more : List Outcome) (new : Option (List ℕ))
-          → AllTold l.fn.options.form l.fn.options.hidden (map string_bytes (drop l.path-index l.fn.options.paths.items)) more (bytes l.writer) new
-          → (all : List Outcome) × AllTold l.fn.options.form l.fn.options.hidden (map string_bytes l.fn.options.paths.items) all (bytes l.initial.writer) new
+          → told (map string_bytes (drop l.path-index paths)) more (bytes l.writer) new
+          → (all : List Outcome) × told (map string_bytes paths) all (bytes l.initial.writer) new
           × (all_counted l.tally more ≡ all_counted nothing all);
     }

@@ -1,4 +1,4 @@
-use Rattle.std.proofs.Common.{◌∙◌, ◌++◌, ap, string_bytes}
+use Rattle.std.proofs.Common.{◌∙◌, ◌++◌, ap}
 use Rattle.rust_check.specs.Message.{escape, escaped}
 use Rattle.rust_check.proofs.ShownLemmas.{each_end, each_one}
 use Rattle.rust_check.proofs.json.escaped.Goals as goal

@@ -1,5 +1,5 @@
-use Rattle.std.proofs.Common.{arith, eq-eqb, ne_eqb, rules, subst}
-use Rattle.rust_check.proofs.PlaceLemmas.{IsAt, at_end, at_feed, at_other, at_start, few_lines}
+use Rattle.std.proofs.Common.{eq-eqb, ne_eqb, rules}
+use Rattle.rust_check.proofs.PlaceLemmas.{at_end, at_feed, at_other, at_start, few_lines}
 use Rattle.rust_check.proofs.place.last_line.Goals as goal
 
 pub loop-c-init : goal.loop-c-init

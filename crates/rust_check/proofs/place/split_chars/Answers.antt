@@ -16,8 +16,10 @@ pub before-requires : goal.before-requires
 before-requires c =
     let text = chars c.args.text.now in
     let left : chars c.as_str-after.result.now ≡ drop c.loop.counter text =
-    ap chars c.as_str-after.ensures ∙ c.loop.invariant.left in
-    (take c.loop.counter text, sym (ap (λ l. take c.loop.counter text ++ l) left ∙ take-append-drop c.loop.counter text))
+    ap chars c.as_str-after.ensures ∙ c.loop.invariant.left in (
+      take c.loop.counter text,
+      sym (ap (λ l. take c.loop.counter text ++ l) left ∙ take-append-drop c.loop.counter text),
+    )
 
 pub returns-clause-front : goal.returns-clause-front
 returns-clause-front c =
