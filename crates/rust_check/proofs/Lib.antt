@@ -1,0 +1,4 @@
+pub mod PlaceLemmas
+pub mod ShownLemmas
+pub mod FilesLemmas
+pub mod ToldLemmas

@@ -1,0 +1,30 @@
+use Rattle.std.proofs.Common.{[], ◌∷◌, ◌∙◌, ap}
+use Rattle.rust_check.specs.Files.{all_counted}
+use Rattle.rust_check.proofs.FilesLemmas.{counted_most, told_none, told_one}
+use Rattle.rust_check.proofs.files.check_files.Goals as goal
+
+pub loop-path-preserved : goal.loop-path-preserved
+loop-path-preserved g c =
+    let paths = c.as_slice-path-items.ensures.value in
+    let outcome = c.in_ok-outcome.outcome in
+    let most = counted_most c.loop-path.tally outcome c.loop-path.path-index
+    c.loop-path.invariant.faulty c.loop-path.invariant.unread in
+    record {
+      faulty = rw c.with-tally.ensures most.0;
+      unread = rw c.with-tally.ensures most.1;
+      told = λ more new rest.
+          let all = c.loop-path.invariant.told (outcome ∷ more) new
+          (told_one c.args.options.now.form c.args.options.now.hidden c.args.options.now.paths.items
+          c.loop-path.path-index c.path-item.result outcome more _
+          (g.W.Write.contents c.check_file.new.writer) new (rw paths at c.loop-path-test.true)
+          (rw paths at c.path-item.is)
+          (rw (c.in_ok-outcome.ensures, ← c.as_str.ensures.value) c.check_file.ensures) rest) in
+          (all.0, all.1, ap (λ tally. all_counted tally more) c.with-tally.ensures ∙ all.2);
+    }
+
+pub returns : goal.returns
+returns g c =
+    c.loop-path.invariant.told [] (g.W.Write.contents c.loop-path.writer)
+    (told_none c.args.options.now.form c.args.options.now.hidden c.args.options.now.paths.items
+    c.loop-path.path-index _
+    (rw c.as_slice-path-items.ensures.value at c.loop-path-test.false))

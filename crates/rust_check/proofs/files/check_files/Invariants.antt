@@ -1,0 +1,18 @@
+use Rattle.std.proofs.Common.{◌≡◌, ℕ, ◌≤◌, List, Option, drop, map, string_bytes}
+use Rattle.rust_check.specs.Files.{AllTold, Outcome, all_counted, nothing}
+use Rattle.rust_check.proofs.files.check_files.Given as goal
+
+-- with the files that are left, it is all
+abbrev pub invariant-loop-path : goal.invariant-loop-path
+invariant-loop-path g l =
+    let bytes = g.W.Write.contents in
+    let told = AllTold l.fn.options.form l.fn.options.hidden in
+    let paths = l.fn.options.paths.items in
+    record {
+      faulty : l.tally.faulty ≤ l.path-index;
+      unread : l.tally.unread ≤ l.path-index;
+      told : (more : List Outcome) (new : Option (List ℕ))
+          → told (map string_bytes (drop l.path-index paths)) more (bytes l.writer) new
+          → (all : List Outcome) × told (map string_bytes paths) all (bytes l.initial.writer) new
+          × (all_counted l.tally more ≡ all_counted nothing all);
+    }

@@ -1,0 +1,77 @@
+-- What the program writes for a text.
+use Rattle.std.specs.Prelude.{ℕ, ◌≡◌, ◌-◌, ◌||◌, Bool, true, false, List, [], ◌++◌, Option, Some, None}
+use Rattle.std.specs.Prelude.{MatchOption, codes, drop, is_some, length}
+use Rattle.std.specs.Prelude.{take}
+use Rattle.std.specs.Str.{encode_utf8_all}
+use Rattle.std.specs.Io.KnownBytes.{Appends}
+use Rattle.explain.specs.Explained.{IsExplained, Parses}
+use Rattle.explain.specs.declared.explained.Explained.{Explained}
+use Rattle.explain.specs.declared.explained.Opener.{Opener}
+use Rattle.explain.specs.declared.reason.Reason.{Reason}
+use Rattle.explain.specs.declared.reason.Reason.TheVariants.{MismatchedCloser}
+use Rattle.pm_span.specs.Files.{new_map, next_lo}
+use Rattle.rust_check.specs.Message.{Found, excerpt, message}
+use Rattle.rust_check.specs.Place.{last_line, last_number}
+use Rattle.rust_check.specs.Told.{TellsHidden}
+use Rattle.rust_check.specs.Words.{name_of, sentence_of}
+use Rattle.rust_check.specs.declared.options.Form.{Form}
+use Rattle.rust_check.specs.declared.options.Form.TheVariants.{Long}
+
+-- the position of the text's first character
+abbrev pub first : ℕ
+first = next_lo new_map
+
+-- so it is found where these characters of the text stand before it and these from it on
+abbrev pub found_between : List ℕ → List ℕ → List ℕ → List ℕ → ℕ → Found
+found_between name says before rest size = record {
+  name = name;
+  says = says;
+  line = last_number before;
+  column = length (last_line before);
+  begin = length (encode_utf8_all before);
+  front = last_line before;
+  here = take size rest;
+  rest = rest;
+}
+
+-- where the span from one position to another says
+abbrev pub found_at : List ℕ → List ℕ → List ℕ → ℕ → ℕ → Found
+found_at name says text lo hi =
+    found_between name says (take (lo - first) text) (drop (lo - first) text) (hi - lo)
+
+-- the text's fault
+abbrev pub fault : List ℕ → Explained → Found
+fault text x = found_at (name_of x.reason) (sentence_of x.reason) text x.at.span.lo x.at.span.hi
+
+-- the opener that waits for another closer than the one that stands there
+abbrev pub waiting_note : List ℕ → List ℕ → Option Opener → List ℕ
+waiting_note path text None = []
+waiting_note path text (Some opener) =
+    codes "note: this opener waits\n" ++ excerpt path (found_at [] [] text opener.at.span.lo opener.at.span.hi)
+
+abbrev pub note_of : Reason → List ℕ → List ℕ → Option Opener → List ℕ
+note_of MismatchedCloser path text innermost = waiting_note path text innermost
+note_of _ path text innermost = []
+
+-- what is written below the fault
+abbrev pub note : Form → List ℕ → List ℕ → Explained → List ℕ
+note Long path text x = note_of x.reason path text x.innermost
+note _ path text x = []
+
+-- what is said of it, and nothing of a text that parses
+abbrev pub said : Form → List ℕ → List ℕ → Option Explained → List ℕ
+said form path text None = []
+said form path text (Some x) = message form path (fault text x) ++ note form path text x
+
+-- the text is explained, and whether it has a fault is answered, of which all is written
+abbrev pub Tells : Form → List ℕ → List ℕ → Option (List ℕ) → Option (List ℕ) → Bool → Type 0
+Tells form path text old new faulty =
+    (answer : Option Explained) × MatchOption answer (Parses first text) (IsExplained first text)
+    × (faulty ≡ is_some answer) × Appends old new (said form path text answer)
+
+-- what is found in the text: its fault, and then its hidden characters, where they are asked for
+abbrev pub TellsAll : Form → Bool → List ℕ → List ℕ → Option (List ℕ) → Option (List ℕ) → Bool → Type 0
+TellsAll form false path text old new found = Tells form path text old new found
+TellsAll form true path text old new found =
+    (faulty : Bool) × (told : Bool) × (between : Option (List ℕ)) × Tells form path text old between faulty
+    × TellsHidden form path text between new told × (found ≡ (faulty || told))

@@ -1,0 +1,109 @@
+-- What is written of a finding: what it is named, what it says, and where it stands.
+use Rattle.std.specs.Prelude.{ℕ, ◌+◌, ◌-◌, ◌==◌, List, [], ◌∷◌, ◌++◌, codes, decimal, encode_utf8, length, nat_lt}
+use Rattle.std.specs.Prelude.{if◌then◌else◌}
+use Rattle.std.specs.Str.{chars, encode_utf8_all}
+use Rattle.rust_check.specs.Place.{first_line}
+use Rattle.rust_check.specs.Shown.{carets, each, filled, shown, times}
+use Rattle.rust_check.specs.declared.finding.Finding.{Finding}
+use Rattle.rust_check.specs.declared.options.Form.{Form}
+use Rattle.rust_check.specs.declared.options.Form.TheVariants.{Short, Long, Json}
+
+-- its name and what it says, and where it stands: its line, from 1, how many characters stand before it on that, and
+-- how many bytes before it in the text; and the characters before it on its line, those of it, and those from it on
+pub record Found : Type 0 where
+  pub name : List ℕ
+  pub says : List ℕ
+  pub line : ℕ
+  pub column : ℕ
+  pub begin : ℕ
+  pub front : List ℕ
+  pub here : List ℕ
+  pub rest : List ℕ
+
+-- it in the program
+abbrev pub seen : Finding → Found
+seen x = record {
+  name = x.name.now;
+  says = x.says.now;
+  line = x.place.line;
+  column = x.place.column;
+  begin = x.place.begin;
+  front = chars x.front.now;
+  here = chars x.here.now;
+  rest = chars x.rest.now;
+}
+
+-- so many bytes of the text stand before its end
+abbrev pub end_of : Found → ℕ
+end_of x = x.begin + length (encode_utf8_all x.here)
+
+-- `FILE:L:C: error: what`
+abbrev pub short : List ℕ → Found → List ℕ
+short path x =
+    path ++ (codes ":" ++ (decimal x.line ++ (codes ":" ++ (decimal (x.column + 1) ++ (codes ": error: "
+    ++ (x.says ++ codes "\n"))))))
+
+-- the line of the source, as it is shown
+abbrev pub source_line : Found → List ℕ
+source_line x = each shown x.front ++ each shown (first_line x.rest)
+
+-- the carets below it
+abbrev pub underline : Found → List ℕ
+underline x = filled (codes " ") x.front ++ carets (first_line x.here)
+
+-- the space that the number of the line takes
+abbrev pub gutter : Found → List ℕ
+gutter x = times (length (decimal x.line)) (codes " ")
+
+-- where it stands, with its line of the source and carets below
+abbrev pub excerpt : List ℕ → Found → List ℕ
+excerpt path x =
+    gutter x ++ (codes "--> " ++ (path ++ (codes ":" ++ (decimal x.line ++ (codes ":" ++ (decimal (x.column + 1)
+    ++ (codes "\n" ++ (gutter x ++ (codes " |\n" ++ (decimal x.line ++ (codes " | " ++ (source_line x
+    ++ (codes "\n" ++ (gutter x ++ (codes " | " ++ (underline x ++ codes "\n"))))))))))))))))
+
+-- what is wrong, and where
+abbrev pub headline : Found → List ℕ
+headline x = codes "error[" ++ (x.name ++ (codes "]: " ++ (x.says ++ codes "\n")))
+
+abbrev pub long : List ℕ → Found → List ℕ
+long path x = headline x ++ excerpt path x
+
+-- a digit of a number to the base 16
+abbrev pub hex : ℕ → List ℕ
+hex n = if nat_lt n 10 then (48 + n) ∷ [] else (87 + n) ∷ []
+
+-- a character in a string of JSON: `"` (34), the backslash (92) and the controls are escaped
+abbrev pub escape : ℕ → List ℕ
+escape c =
+    if c == 34 then codes "\\\""
+    else (if c == 92 then codes "\\\\"
+    else (if nat_lt c 16 then codes "\\u000" ++ hex c
+    else (if nat_lt c 32 then codes "\\u001" ++ hex (c - 16) else encode_utf8 c)))
+
+abbrev pub escaped : List ℕ → List ℕ
+escaped text = each escape (chars text)
+
+-- an object of JSON on a line: the file and what is wrong, and then where
+abbrev pub json_what : List ℕ → Found → List ℕ
+json_what path x =
+    codes "{\"file\":\"" ++ (escaped path ++ (codes "\",\"reason\":\"" ++ (x.name ++ (codes "\",\"message\":\""
+    ++ (escaped x.says ++ codes "\",")))))
+
+abbrev pub json_where : Found → List ℕ
+json_where x =
+    codes "\"line\":" ++ (decimal x.line ++ (codes ",\"column\":" ++ (decimal (x.column + 1)
+    ++ (codes ",\"begin\":" ++ (decimal x.begin ++ (codes ",\"end\":" ++ (decimal (end_of x) ++ codes "}\n")))))))
+
+abbrev pub json : List ℕ → Found → List ℕ
+json path x = json_what path x ++ json_where x
+
+-- on one line, whichever it is
+abbrev pub line_message : Form → List ℕ → Found → List ℕ
+line_message Json path x = json path x
+line_message _ path x = short path x
+
+abbrev pub message : Form → List ℕ → Found → List ℕ
+message Short path x = short path x
+message Long path x = long path x
+message Json path x = json path x

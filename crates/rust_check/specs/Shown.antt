@@ -1,0 +1,37 @@
+-- How a line is shown on a terminal, and in which columns.
+use Rattle.std.specs.Prelude.{ℕ, zero, suc, false, ◌==◌, ◌||◌, List, [], ◌∷◌, ◌++◌, Option, Some, None, codes}
+use Rattle.std.specs.Prelude.{encode_utf8, length}
+use Rattle.std.specs.Prelude.{if◌then◌else◌}
+use Rattle.unicode_width.specs.Width.{char_width}
+use Rattle.rust_check.specs.Hidden.{is_hidden}
+
+-- what each character gives, one after the other
+abbrev pub each : (ℕ → List ℕ) → List ℕ → List ℕ
+each give [] = []
+each give (c ∷ text) = give c ++ each give text
+
+-- so many times the text
+abbrev pub times : ℕ → List ℕ → List ℕ
+times zero text = []
+times (suc n) text = text ++ times n text
+
+-- a character: tab as four spaces, CR and what is hidden as U+FFFD
+abbrev pub shown : ℕ → List ℕ
+shown c =
+    if c == 9 then codes "    " else (if (c == 13) || is_hidden c then encode_utf8 0xFFFD else encode_utf8 c)
+
+abbrev pub or_none : Option ℕ → ℕ
+or_none (Some width) = width
+or_none None = 0
+
+-- the columns that it takes
+abbrev pub columns : ℕ → ℕ
+columns c = if c == 9 then 4 else (if (c == 13) || is_hidden c then 1 else or_none (char_width false c))
+
+-- so much of this for each column of the text
+abbrev pub filled : List ℕ → List ℕ → List ℕ
+filled fill text = each (λ c. times (columns c) fill) text
+
+-- a caret below each column, and one at least
+abbrev pub carets : List ℕ → List ℕ
+carets text = if length (filled (codes "^") text) == 0 then codes "^" else filled (codes "^") text

@@ -1,0 +1,79 @@
+//! Checks files one after the other.
+ghost use Rattle.std.specs.Prelude.{◌≡◌, ℕ, List, IfOk, map, string_bytes};
+ghost use Rattle.rust_check.specs.Answer.{TellsAll};
+ghost use Rattle.rust_check.specs.Files.{AllTold, Outcome, all_counted, nothing};
+
+use crate::answer::check_all;
+use crate::options::Options;
+use crate::tally::Tally;
+use messages::{Failure, read_text, say};
+use std::alloc::Global;
+use std::io::Write;
+
+/// Checks the files that the options name one after the other, and writes what is found in them. Of a file that can't
+/// be read or isn't UTF-8, and of a text that is too long, `errors` says so, and the others are checked still.
+///
+/// Fails where a write fails.
+pub fn check_files<W: Write, E: Write>(
+    rt: &HostRuntime,
+    options: &Options,
+    writer: &mut W,
+    errors: &mut E,
+) -> Result<Tally, Failure>
+    ensures { IfOk result (λ tally. (outcomes : List Outcome)
+        × AllTold options.now.form options.now.hidden (map string_bytes options.now.paths.items) outcomes
+        (W.contents writer.old) (W.contents writer.new)
+        × (tally ≡ all_counted nothing outcomes)) }
+{
+    let mut tally = Tally::new();
+    for path in options.paths.as_slice() {
+        let outcome = unless_writing_failed(check_file(rt, options, path.as_str(), writer))?;
+        say_unread(rt.alloc(), path.as_str(), &outcome, errors);
+        tally = tally.with(&outcome);
+    }
+    Ok(tally)
+}
+
+// Checks the file at this path, and answers whether its text has a fault.
+fn check_file<W: Write>(
+    rt: &HostRuntime,
+    options: &Options,
+    path: &str,
+    writer: &mut W,
+) -> Result<bool, Failure>
+    ensures { IfOk result (λ faulty. (text : List ℕ)
+        × TellsAll options.now.form options.now.hidden path.now text (W.contents writer.old)
+        (W.contents writer.new) faulty) }
+{
+    let text = read_text(rt, path)?;
+    check_all(
+        rt.alloc(),
+        options.form,
+        options.hidden,
+        path,
+        text.as_str(),
+        writer,
+    )
+}
+
+// The outcome again, where it isn't that a write failed.
+fn unless_writing_failed(outcome: Result<bool, Failure>) -> Result<Result<bool, Failure>, Failure>
+    ensures { IfOk result (λ same. same ≡ outcome) }
+{
+    match outcome {
+        Err(Failure::Write(error)) => Err(Failure::Write(error)),
+        outcome => Ok(outcome),
+    }
+}
+
+// Says why the file at this path wasn't read. A message that can't be written changes nothing.
+fn say_unread<E: Write>(
+    alloc: Global,
+    path: &str,
+    outcome: &Result<bool, Failure>,
+    errors: &mut E,
+) {
+    if let Err(failure) = outcome {
+        let _ = say(alloc, path, failure, errors);
+    }
+}

@@ -1,0 +1,77 @@
+//! Tells why Rust files don't parse: each fault with its reason, where it stands, and its line of the source.
+//!
+//! `rust_check FILE..` reads the files, and `-` or no file standard input. The status is 0 where all texts parse, 1
+//! where one has a fault, and 2 where the words ask for nothing, a read or a write failed, a text isn't UTF-8 or too
+//! long, or memory ran out. A line on standard error says why, but nothing where nobody reads the output any more.
+#![tactic(auto)]
+
+mod answer;
+mod files;
+mod finding;
+mod hidden;
+mod json;
+mod options;
+mod place;
+mod shown;
+mod tally;
+mod told;
+mod words;
+mod writing;
+
+use files::check_files;
+use messages::{Failure, conclude, words};
+use options::{Form, Options, Request, USAGE, request_of};
+use std::env;
+use std::io::{BufWriter, Write};
+use std::process::ExitCode;
+
+fn main(rt: HostRuntime) -> ExitCode {
+    match run(&rt) {
+        Ok(status) => ExitCode::from(status),
+        Err(failure) => conclude(rt.alloc(), "-", Err(failure), &mut rt.stderr()),
+    }
+}
+
+// Does what the words after the program's name ask for, and answers the status.
+fn run(rt: &HostRuntime) -> Result<u8, Failure> {
+    let words = words(rt.alloc(), env::args(rt), USAGE)?;
+    match request_of(rt.alloc(), words.as_slice())? {
+        Request::Check(options) => check(rt, &options),
+        Request::Help => print(rt, HELP),
+        Request::Version => print(rt, VERSION),
+    }
+}
+
+// Checks the files, and answers the status.
+fn check(rt: &HostRuntime, options: &Options) -> Result<u8, Failure> {
+    let mut writer = BufWriter::new(rt.alloc(), rt.stdout())?;
+    let paths = options.paths.as_slice();
+    let tally = check_files(rt, options, &mut writer, &mut rt.stderr())?;
+    if options.form == Form::Long && paths.len() > 1 {
+        tally.write_summary(paths.len(), &mut writer)?;
+    }
+    writer.flush()?;
+    Ok(tally.status())
+}
+
+// Writes a text.
+fn print(rt: &HostRuntime, text: &str) -> Result<u8, Failure> {
+    let mut writer = rt.stdout();
+    write!(writer, "{text}")?;
+    Ok(0)
+}
+
+const VERSION: &str = "rust_check 1.0.0\n";
+
+const HELP: &str = "Tells why Rust files don't parse.
+
+usage: rust_check [--short|--json] [--hidden] [FILE..]
+
+  FILE       a file, or - for standard input, which is read where there is no file
+  --short    each fault in one line: FILE:L:C: error: what
+  --json     each fault as an object of JSON on a line
+  --hidden   tells hidden characters too: controls of direction, invisible characters, control characters
+  --version  writes the version
+
+The status is 0 where all texts parse, 1 where one has a fault, and 2 where a file is not read.
+";

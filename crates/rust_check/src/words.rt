@@ -1,0 +1,59 @@
+//! What each reason is named, and what is said of it.
+ghost use Rattle.std.specs.Prelude.{◌≡◌};
+ghost use Rattle.rust_check.specs.Words.{name_of, sentence_of};
+
+use explain::Reason;
+
+/// The short name of a reason.
+#[tactic(auto, unfolding(crate::specs::Words::name_of))]
+pub fn name_of(reason: &Reason) -> &'static str
+    ensures { result.now ≡ name_of reason.now }
+{
+    match reason {
+        Reason::UnclosedComment => "unclosed-comment",
+        Reason::UnclosedString => "unclosed-string",
+        Reason::UnclosedRawString => "unclosed-raw-string",
+        Reason::TooManyHashes => "too-many-hashes",
+        Reason::HashesWithoutQuote => "hashes-without-quote",
+        Reason::ReservedRawName => "reserved-raw-name",
+        Reason::UnclosedCharacter => "unclosed-character",
+        Reason::DigitLifetime => "digit-lifetime",
+        Reason::HashAfterLifetime => "hash-after-lifetime",
+        Reason::NoDigits => "no-digits",
+        Reason::BadDigit => "bad-digit",
+        Reason::BadNumberEnd => "bad-number-end",
+        Reason::MisplacedMark => "misplaced-mark",
+        Reason::NoToken => "no-token",
+        Reason::Unread => "unread",
+        Reason::StrayCloser => "stray-closer",
+        Reason::MismatchedCloser => "mismatched-closer",
+        Reason::UnclosedOpener => "unclosed-opener",
+    }
+}
+
+/// What is said of a reason.
+#[tactic(auto, unfolding(crate::specs::Words::sentence_of))]
+pub fn sentence_of(reason: &Reason) -> &'static str
+    ensures { result.now ≡ sentence_of reason.now }
+{
+    match reason {
+        Reason::UnclosedComment => "unclosed block comment",
+        Reason::UnclosedString => "unclosed string",
+        Reason::UnclosedRawString => "unclosed raw string",
+        Reason::TooManyHashes => "more than 255 hash signs before a raw string",
+        Reason::HashesWithoutQuote => "neither a quote nor a name follows the hash signs",
+        Reason::ReservedRawName => "this name is never raw",
+        Reason::UnclosedCharacter => "unclosed character",
+        Reason::DigitLifetime => "a lifetime begins with no digit",
+        Reason::HashAfterLifetime => "a hash sign right after a lifetime",
+        Reason::NoDigits => "no digit follows the prefix of the number",
+        Reason::BadDigit => "this digit is too large for its number's base",
+        Reason::BadNumberEnd => "this character is no part of the number before it",
+        Reason::MisplacedMark => "U+FEFF that is not at the front of the text",
+        Reason::NoToken => "no token begins with this character",
+        Reason::Unread => "no token stands here",
+        Reason::StrayCloser => "no opener waits for this closer",
+        Reason::MismatchedCloser => "the innermost opener waits for another closer",
+        Reason::UnclosedOpener => "no closer matches this opener",
+    }
+}

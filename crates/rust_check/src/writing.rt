@@ -1,0 +1,156 @@
+//! What is written for a finding.
+ghost use Rattle.std.specs.Prelude.{OnOk};
+ghost use Rattle.std.specs.Io.KnownBytes.{Appends};
+ghost use Rattle.rust_check.specs.Message.{excerpt, headline, json, json_what, json_where, line_message, long, message};
+ghost use Rattle.rust_check.specs.Message.{seen, short};
+
+use crate::finding::{Finding, Place};
+use crate::json::escaped;
+use crate::options::Form;
+use crate::place::{byte_count, first_line};
+use crate::shown::{shown_line, spaces, underline};
+use std::alloc::Global;
+use std::io;
+use std::io::Write;
+
+/// Writes what is found in the file at this path, in this form.
+pub fn write_message<W: Write>(
+    alloc: Global,
+    form: Form,
+    path: &str,
+    finding: &Finding<'_>,
+    writer: &mut W,
+) -> io::Result<()>
+    ensures { OnOk result (Appends (W.contents writer.old) (W.contents writer.new)
+        (message form path.now (seen finding.now))) }
+{
+    match form {
+        Form::Short => write_short(path, finding, writer),
+        Form::Long => write_long(alloc, path, finding, writer),
+        Form::Json => write_json(alloc, path, finding, writer),
+    }
+}
+
+/// Writes what is found in the file at this path on one line, whichever form it has.
+pub fn write_line<W: Write>(
+    alloc: Global,
+    form: Form,
+    path: &str,
+    finding: &Finding<'_>,
+    writer: &mut W,
+) -> io::Result<()>
+    ensures { OnOk result (Appends (W.contents writer.old) (W.contents writer.new)
+        (line_message form path.now (seen finding.now))) }
+{
+    match form {
+        Form::Json => write_json(alloc, path, finding, writer),
+        _ => write_short(path, finding, writer),
+    }
+}
+
+// Writes what is found in the file at this path in one line: `FILE:L:C: error: what`, line and column from 1, the
+// column in characters.
+fn write_short<W: Write>(path: &str, finding: &Finding<'_>, writer: &mut W) -> io::Result<()>
+    ensures { OnOk result (Appends (W.contents writer.old) (W.contents writer.new)
+        (short path.now (seen finding.now))) }
+{
+    let line = finding.place.line;
+    // As wide as the sum needs.
+    let column = finding.place.column as u128 + 1;
+    let says = finding.says;
+    writeln!(writer, "{path}:{line}:{column}: error: {says}")
+}
+
+// Writes what is found in the file at this path, with its line of the source and carets below.
+fn write_long<W: Write>(
+    alloc: Global,
+    path: &str,
+    finding: &Finding<'_>,
+    writer: &mut W,
+) -> io::Result<()>
+    ensures { OnOk result (Appends (W.contents writer.old) (W.contents writer.new) (long path.now (seen finding.now))) }
+{
+    write_headline(finding, writer)?;
+    write_excerpt(alloc, path, finding, writer)
+}
+
+// Writes what is wrong.
+fn write_headline<W: Write>(finding: &Finding<'_>, writer: &mut W) -> io::Result<()>
+    ensures { OnOk result (Appends (W.contents writer.old) (W.contents writer.new) (headline (seen finding.now))) }
+{
+    let name = finding.name;
+    let says = finding.says;
+    writeln!(writer, "error[{name}]: {says}")
+}
+
+/// Writes where it is found in the file at this path, with its line of the source and carets below.
+pub fn write_excerpt<W: Write>(
+    alloc: Global,
+    path: &str,
+    finding: &Finding<'_>,
+    writer: &mut W,
+) -> io::Result<()>
+    ensures { OnOk result (Appends (W.contents writer.old) (W.contents writer.new)
+        (excerpt path.now (seen finding.now))) }
+{
+    let number = finding.place.line.to_string(alloc)?;
+    // As wide as the sum needs.
+    let column = finding.place.column as u128 + 1;
+    let gutter = spaces(alloc, number.len())?;
+    let source = shown_line(alloc, finding.front, first_line(finding.rest))?;
+    let carets = underline(alloc, finding.front, first_line(finding.here))?;
+    write!(
+        writer,
+        "{gutter}--> {path}:{number}:{column}\n{gutter} |\n{number} | {source}\n{gutter} | {carets}\n"
+    )
+}
+
+// Writes what is found in the file at this path as an object of JSON on a line.
+fn write_json<W: Write>(
+    alloc: Global,
+    path: &str,
+    finding: &Finding<'_>,
+    writer: &mut W,
+) -> io::Result<()>
+    ensures { OnOk result (Appends (W.contents writer.old) (W.contents writer.new) (json path.now (seen finding.now))) }
+{
+    write_json_what(alloc, path, finding, writer)?;
+    write_json_where(finding, writer)
+}
+
+// Writes the front of an object of JSON: the file and what is wrong.
+fn write_json_what<W: Write>(
+    alloc: Global,
+    path: &str,
+    finding: &Finding<'_>,
+    writer: &mut W,
+) -> io::Result<()>
+    ensures { OnOk result (Appends (W.contents writer.old) (W.contents writer.new)
+        (json_what path.now (seen finding.now))) }
+{
+    let file = escaped(alloc, path)?;
+    let name = finding.name;
+    let says = escaped(alloc, finding.says)?;
+    write!(
+        writer,
+        "{{\"file\":\"{file}\",\"reason\":\"{name}\",\"message\":\"{says}\","
+    )
+}
+
+// Writes its rest: where it stands.
+fn write_json_where<W: Write>(finding: &Finding<'_>, writer: &mut W) -> io::Result<()>
+    ensures { OnOk result (Appends (W.contents writer.old) (W.contents writer.new) (json_where (seen finding.now))) }
+{
+    let Place {
+        line,
+        column,
+        begin,
+    } = finding.place;
+    // As wide as the sums need.
+    let column = column as u128 + 1;
+    let end = begin as u128 + byte_count(finding.here) as u128;
+    write!(
+        writer,
+        "\"line\":{line},\"column\":{column},\"begin\":{begin},\"end\":{end}}}\n"
+    )
+}
