@@ -6,6 +6,7 @@
 
 use crate::pm_stream::steps::{Step, Steps};
 use crate::pm_stream::stream::{TokenStream, TokenTree};
+use crate::lexical::parts::begins;
 use crate::pm_token::{Delimiter, Punct, Spacing};
 use crate::shim::alloc::Global;
 
@@ -131,12 +132,6 @@ fn is_quotable(text: &str) -> bool
         || begins(text, "r\"")
         || begins(text, "br\"")
         || begins(text, "cr\"")
-}
-
-// Whether the text begins with this ASCII text.
-fn begins(text: &str, front: &str) -> bool
-{
-    text.starts_with(front)
 }
 
 // Whether a `'` stands at the front of the text.

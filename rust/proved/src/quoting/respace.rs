@@ -13,8 +13,8 @@ use crate::shim::alloc::{AllocError, Global};
 /// The stream with its marks respaced, at any depth. Fails where memory runs out.
 pub(crate) fn respaced(alloc: Global, stream: &TokenStream) -> Result<TokenStream, AllocError>
 {
-    let mut outer: Vec<Draft<'_>> = Vec::new(alloc);
-    let mut here = Draft::new(stream);
+    let mut outer: Vec<RespacedList<'_>> = Vec::new(alloc);
+    let mut here = RespacedList::new(stream);
     loop {
         let Some((tree, after)) = here.next() else {
             let Some(mut around) = outer.pop() else {
@@ -26,7 +26,7 @@ pub(crate) fn respaced(alloc: Global, stream: &TokenStream) -> Result<TokenStrea
         };
         if let TokenTree::Group(group) = tree {
             outer.push(here)?;
-            here = Draft::new(group.stream_ref());
+            here = RespacedList::new(group.stream_ref());
         } else {
             here.step(alloc, tree, after)?;
         }
@@ -34,7 +34,7 @@ pub(crate) fn respaced(alloc: Global, stream: &TokenStream) -> Result<TokenStrea
 }
 
 // The trees of one list, of which the first are respaced.
-struct Draft<'a> {
+struct RespacedList<'a> {
     // The list as it was.
     stream: &'a TokenStream,
     trees: &'a [TokenTree],
@@ -44,11 +44,11 @@ struct Draft<'a> {
     changed: Option<TokenStream>,
 }
 
-impl<'a> Draft<'a> {
+impl<'a> RespacedList<'a> {
     // A list of which nothing is done.
-    fn new(stream: &'a TokenStream) -> Draft<'a>
+    fn new(stream: &'a TokenStream) -> RespacedList<'a>
     {
-        Draft {
+        RespacedList {
             stream,
             trees: stream.trees(),
             done: 0,
@@ -80,7 +80,7 @@ impl<'a> Draft<'a> {
     }
 
     // Puts the group of this list, all of which is done, in the place of the group that the list comes from.
-    fn close(&mut self, alloc: Global, inner: Draft<'_>) -> Result<(), AllocError>
+    fn close(&mut self, alloc: Global, inner: RespacedList<'_>) -> Result<(), AllocError>
     {
         let Some((tree, _)) = self.next() else {
             return Ok(());
@@ -88,7 +88,7 @@ impl<'a> Draft<'a> {
         let TokenTree::Group(group) = tree else {
             return Ok(());
         };
-        let Draft { changed, .. } = inner;
+        let RespacedList { changed, .. } = inner;
         match changed {
             None => self.keep(tree),
             Some(changed) => { self.replace(alloc, TokenTree::Group(regrouped(group, changed))) }
@@ -121,7 +121,7 @@ impl<'a> Draft<'a> {
     // The list, all of which is done.
     fn finish(self) -> Result<TokenStream, AllocError>
     {
-        let Draft {
+        let RespacedList {
             stream,
             changed,
             ..
