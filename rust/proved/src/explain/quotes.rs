@@ -2,9 +2,18 @@
 //! Why nothing stands where a single quote does.
 
 use crate::explain::reason::Reason;
+use crate::explain::single_contents::single_content;
 use crate::explain::trouble::Trouble;
-use crate::lexical::is_reserved;
-use crate::lexical::parts::{Class, Cursor, before, begins, name, one, one_that, skip};
+use crate::lexical::parts::{Class, Cursor, begins, name, one, one_that, skip};
+
+/// What stands between single quotes.
+#[derive(Clone, Copy)]
+pub enum SingleKind {
+    /// A character.
+    Character,
+    /// A byte.
+    Byte,
+}
 
 /// Whether a pair of a character may be the character alone.
 fn stands_alone(c: char) -> bool
@@ -57,70 +66,77 @@ fn past_single(inside: Cursor<'_>) -> Option<Cursor<'_>>
 }
 
 /// Why no character or byte stands at the cursor, which what opens one leads `inside`.
-pub fn single<'a>(at: Cursor<'a>, inside: Cursor<'a>) -> Option<Trouble<'a>>
+pub fn single<'a>(at: Cursor<'a>, inside: Cursor<'a>, kind: SingleKind) -> Trouble<'a>
 {
     match past_single(inside) {
-        Some(_) => None,
-        None => Some(Trouble {
+        Some(end) => single_content(at, inside, end, kind),
+        None => Trouble {
             reason: Reason::UnclosedCharacter,
             at,
             after: inside,
-        }),
+        },
     }
 }
 
-/// The reserved raw lifetime that stands at the cursor, if its name is reserved and no `'` follows. `inner` is after
-/// `'r#`, and `end` after the name.
-fn reserved<'a>(at: Cursor<'a>, inner: Cursor<'a>, end: Cursor<'a>) -> Option<Trouble<'a>>
+/// Why no raw lifetime stands at the cursor. `inside` is after the `'`, `inner` after `'r#`, and `end` after the name.
+fn raw_lifetime<'a>(
+    at: Cursor<'a>,
+    inside: Cursor<'a>,
+    inner: Cursor<'a>,
+    end: Cursor<'a>,
+) -> Trouble<'a>
 {
-    if !is_reserved(before(inner.rest, end.rest)) {
-        return None;
-    }
     match end.past("'") {
-        Some(_) => None,
-        None => Some(Trouble {
+        Some(after) => single_content(at, inside, after, SingleKind::Character),
+        None => Trouble {
             reason: Reason::ReservedRawName,
             at,
             after: end,
-        }),
+        },
     }
 }
 
-/// Why no lifetime of this name stands at the cursor, before a `#`. `inside` is after the `'`, and `end` after the
-/// name.
-fn lifetime<'a>(at: Cursor<'a>, inside: Cursor<'a>, end: Cursor<'a>) -> Option<Trouble<'a>>
+/// Why no lifetime of this name stands at the cursor. `inside` is after the `'`, and `end` after the name.
+fn lifetime<'a>(at: Cursor<'a>, inside: Cursor<'a>, end: Cursor<'a>) -> Trouble<'a>
 {
-    let after = end.past("#")?;
-    Some(Trouble {
+    if let Some(after) = end.past("'") {
+        return single_content(at, inside, after, SingleKind::Character);
+    }
+    let Some(after) = end.past("#") else {
+        unreachable!()
+    };
+    Trouble {
         reason: Reason::HashAfterLifetime,
         at: end,
         after,
-    })
+    }
 }
 
 /// Why no lifetime stands at the cursor that begins with a digit. `inside` is after the `'`, and `first` after the
 /// digit.
-fn digit_lifetime<'a>(at: Cursor<'a>, inside: Cursor<'a>, first: Cursor<'a>) -> Option<Trouble<'a>>
+fn digit_lifetime<'a>(at: Cursor<'a>, inside: Cursor<'a>, first: Cursor<'a>) -> Trouble<'a>
 {
     let end = skip(first, Class::IdentifierContinue);
     match end.past("'") {
-        Some(_) => None,
-        None => Some(Trouble {
+        Some(after) => single_content(at, inside, after, SingleKind::Character),
+        None => Trouble {
             reason: Reason::DigitLifetime,
             at,
             after: end,
-        }),
+        },
     }
 }
 
 /// Why nothing stands at the cursor, where a `'` does. `inside` is after it.
-pub fn quote<'a>(at: Cursor<'a>, inside: Cursor<'a>) -> Option<Trouble<'a>>
+pub fn quote<'a>(at: Cursor<'a>, inside: Cursor<'a>) -> Trouble<'a>
 {
     if let Some(inner) = at.past("'r#") {
         if let Some(end) = name(inner) {
-            return reserved(at, inner, end);
+            return raw_lifetime(at, inside, inner, end);
         }
-        let end = name(inside)?;
+        let Some(end) = name(inside) else {
+            unreachable!()
+        };
         return lifetime(at, inside, end);
     }
     if let Some(end) = name(inside) {
@@ -128,6 +144,6 @@ pub fn quote<'a>(at: Cursor<'a>, inside: Cursor<'a>) -> Option<Trouble<'a>>
     }
     match one(inside, Class::Digit) {
         Some(first) => digit_lifetime(at, inside, first),
-        None => single(at, inside),
+        None => single(at, inside, SingleKind::Character),
     }
 }

@@ -1,10 +1,12 @@
 // Made from crates/explain/src/strings.rt by rust/erase: change that file, not this one.
 //! Why no string stands where what opens one does.
 
+use crate::explain::contents::string_content;
+use crate::explain::raw_contents::raw_content;
 use crate::explain::reason::Reason;
 use crate::explain::trouble::Trouble;
 use crate::lexical::parts::{
-    Class, Cursor, StringKind, before, begins, one, one_that, skip, skip_to, skip_to_either,
+    Class, Cursor, StringKind, before, begins, one_that, skip, skip_to, skip_to_either,
 };
 
 /// Whether a pair may be the character alone.
@@ -53,57 +55,62 @@ fn past_raw_quote<'a>(inside: Cursor<'a>, hashes: &str) -> Option<Cursor<'a>>
 }
 
 /// Why no string of the kind stands at the cursor, which what opens one leads `inside`.
-pub fn string<'a>(at: Cursor<'a>, inside: Cursor<'a>, kind: StringKind) -> Option<Trouble<'a>>
+pub fn string<'a>(at: Cursor<'a>, inside: Cursor<'a>, kind: StringKind) -> Trouble<'a>
 {
     match past_quote(inside) {
-        Some(_) => None,
-        None => Some(Trouble {
+        Some(end) => string_content(at, inside, end, kind),
+        None => Trouble {
             reason: Reason::UnclosedString,
             at,
             after: inside,
-        }),
+        },
     }
 }
 
 /// Why no raw string of the kind stands at the cursor, which the letters that open one lead `inside`.
-pub fn raw_string<'a>(at: Cursor<'a>, inside: Cursor<'a>, kind: StringKind) -> Option<Trouble<'a>>
+pub fn raw_string<'a>(at: Cursor<'a>, inside: Cursor<'a>, kind: StringKind) -> Trouble<'a>
 {
     let quote = skip(inside, Class::Hash);
     let Some(body) = quote.past("\"") else {
-        return without_quote(at, inside, kind);
+        return without_quote(at, inside, quote, kind);
     };
     let hashes = before(inside.rest, quote.rest);
-    let Some(_) = past_raw_quote(body, hashes) else {
-        return Some(Trouble {
+    let Some(end) = past_raw_quote(body, hashes) else {
+        return Trouble {
             reason: Reason::UnclosedRawString,
             at,
             after: body,
-        });
+        };
     };
     if hashes.len() > MOST_HASHES {
-        return Some(Trouble {
+        return Trouble {
             reason: Reason::TooManyHashes,
             at,
             after: body,
-        });
+        };
     }
-    None
+    raw_content(at, inside, quote, body, end, hashes, kind)
 }
 
 /// How many hash signs a raw string may have at most.
 const MOST_HASHES: usize = 255;
 
-/// That no quote follows the hash signs at `inside`, if there are any.
-fn without_quote<'a>(at: Cursor<'a>, inside: Cursor<'a>, kind: StringKind) -> Option<Trouble<'a>>
+/// That no quote follows the hash signs at `inside`, up to `end`.
+fn without_quote<'a>(
+    at: Cursor<'a>,
+    inside: Cursor<'a>,
+    end: Cursor<'a>,
+    kind: StringKind,
+) -> Trouble<'a>
 {
-    let first = one(inside, Class::Hash)?;
-    let end = skip(first, Class::Hash);
-    let after = past_other(end)?;
-    Some(Trouble {
+    let Some(after) = past_other(end) else {
+        unreachable!()
+    };
+    Trouble {
         reason: Reason::HashesWithoutQuote,
         at: end,
         after,
-    })
+    }
 }
 
 /// The cursor after a character but `"`, or the cursor itself at the end of the text.

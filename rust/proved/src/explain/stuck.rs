@@ -7,58 +7,75 @@ use crate::explain::quotes::quote;
 use crate::explain::reason::Reason;
 use crate::explain::strings::string;
 use crate::explain::trouble::Trouble;
-use crate::lexical::parts::{Cursor, PieceStart, StringKind, piece_start_of, skip_comment};
+use crate::lexical::parts::{
+    Cursor, PieceStart, StringKind, begins, piece_start_of, skip_comment, skip_to,
+};
 
-/// Why no comment stands at the cursor.
-fn comment(at: Cursor<'_>) -> Option<Trouble<'_>>
+/// The first CR at the cursor or after it that no LF follows, and the cursor after it.
+fn bare_return(inside: Cursor<'_>) -> Option<(Cursor<'_>, Cursor<'_>)>
 {
-    match skip_comment(at) {
-        Some(_) => None,
-        None => {
-            let after = at.past("/*")?;
-            Some(Trouble {
-                reason: Reason::UnclosedComment,
-                at,
-                after,
-            })
+    let mut at = skip_to(inside, b'\r');
+    while let Some((_, after)) = at.advance() {
+        if !begins(after.rest, "\n") {
+            return Some((at, after));
         }
+        at = skip_to(after, b'\r');
+    }
+    None
+}
+
+/// How many bytes open a doc comment.
+const DOC_FRONT: usize = 3;
+
+/// Why no comment stands at the cursor, where one begins.
+fn comment(at: Cursor<'_>) -> Trouble<'_>
+{
+    let Some(_) = skip_comment(at) else {
+        let Some(after) = at.past("/*") else {
+            unreachable!()
+        };
+        return Trouble {
+            reason: Reason::UnclosedComment,
+            at,
+            after,
+        };
+    };
+    let Some((at, after)) = bare_return(at.after_bytes(DOC_FRONT)) else {
+        unreachable!()
+    };
+    Trouble {
+        reason: Reason::BareReturnInDoc,
+        at,
+        after,
     }
 }
 
-/// Why no piece stands at the cursor, as far as it is told apart. `first` says whether that is byte offset 0 of a
-/// source.
-fn trouble_at(at: Cursor<'_>, first: bool) -> Option<Trouble<'_>>
+/// Why no piece stands at the cursor, which isn't at the end of the text. `first` says whether that is byte offset 0 of
+/// a source.
+pub fn reason_at(at: Cursor<'_>, first: bool) -> Trouble<'_>
 {
-    let (c, after) = at.advance()?;
+    let Some((c, after)) = at.advance() else {
+        unreachable!()
+    };
     match piece_start_of(c) {
-        PieceStart::Digit => Some(number(at)),
+        PieceStart::Digit => number(at),
         PieceStart::Slash => comment(at),
         PieceStart::Quote => quote(at, after),
         PieceStart::DoubleQuote => string(at, after, StringKind::Plain),
         PieceStart::Letter => letter(at),
-        PieceStart::FrontMark => Some(Trouble {
+        PieceStart::FrontMark => Trouble {
             reason: Reason::MisplacedMark,
             at,
             after,
-        }),
-        PieceStart::Other => Some(Trouble {
+        },
+        PieceStart::Other => Trouble {
             reason: Reason::NoToken,
             at,
             after,
-        }),
-        _ => None,
-    }
-}
-
-/// Why no piece stands at the cursor. `first` says whether that is byte offset 0 of a source.
-pub fn reason_at(at: Cursor<'_>, first: bool) -> Trouble<'_>
-{
-    match trouble_at(at, first) {
-        Some(trouble) => trouble,
-        None => Trouble {
-            reason: Reason::Unread,
-            at,
-            after: at,
         },
+        PieceStart::White => unreachable!(),
+        PieceStart::Opener => unreachable!(),
+        PieceStart::Closer => unreachable!(),
+        PieceStart::Mark => unreachable!(),
     }
 }

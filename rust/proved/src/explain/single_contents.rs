@@ -1,0 +1,55 @@
+// Made from crates/explain/src/single_contents.rt by rust/erase: change that file, not this one.
+//! What is wrong with the content of a character or a byte that ends.
+
+use crate::explain::contents::{content, faulty};
+use crate::explain::quotes::SingleKind;
+use crate::explain::reason::Reason;
+use crate::explain::trouble::Trouble;
+use crate::lexical::parts::Cursor;
+use crate::literal_escaper::{EscapeError, Mode, check_for_errors};
+
+/// The kind of literal, as the escaper calls it.
+fn mode_of(kind: SingleKind) -> Mode
+{
+    match kind {
+        SingleKind::Character => Mode::Char,
+        SingleKind::Byte => Mode::Byte,
+    }
+}
+
+/// What is wrong with the content, if something is, and how many bytes were read for it.
+fn fault_of(content: &str, kind: SingleKind) -> Option<(usize, EscapeError)>
+{
+    let (range, error) = check_for_errors(content, mode_of(kind)).next()?;
+    Some((range.end, error))
+}
+
+/// Whether all of the literal is at fault.
+fn is_of_literal(error: &EscapeError) -> bool
+{
+    matches!(error, EscapeError::ZeroChars | EscapeError::MoreThanOneChar)
+}
+
+/// What is wrong with the content of a character or a byte that ends at `end` and isn't one. What opens it leads
+/// `inside`.
+pub fn single_content<'a>(
+    at: Cursor<'a>,
+    inside: Cursor<'a>,
+    end: Cursor<'a>,
+    kind: SingleKind,
+) -> Trouble<'a>
+{
+    match fault_of(content(inside, end), kind) {
+        Some((size, error)) => {
+            if is_of_literal(&error) {
+                return Trouble {
+                    reason: Reason::Content(error),
+                    at,
+                    after: end,
+                };
+            }
+            faulty(inside, inside.after_bytes(size), error)
+        }
+        None => unreachable!(),
+    }
+}
