@@ -1,16 +1,15 @@
 -- A CR in a doc comment that no LF follows.
-use Rattle.std.proofs.Common.{◌≡◌, ℕ, ◌+◌, ◌-◌, ◌≤◌, ◌<◌, Bool, true, false, not, ◌&&◌, ◌||◌, ◌==◌, List, [], ◌∷◌, ◌++◌}
-use Rattle.std.proofs.Common.{codes, drop, take, length, Option, Some, None, inl, inr, refl, sym, ap, ◌∙◌, subst}
-use Rattle.std.proofs.Common.{append_assoc, append-nil, arith, eqb-true, length-append}
+use Rattle.std.proofs.Common.{◌≡◌, ℕ, ◌+◌, Bool, true, false, not, ◌&&◌, ◌==◌, List, [], ◌∷◌, ◌++◌}
+use Rattle.std.proofs.Common.{codes, drop, take, length, Option, Some, None, refl, sym, ap, ◌∙◌, subst}
+use Rattle.std.proofs.Common.{append_assoc, append-nil, arith, eqb-true}
 use Rattle.std.specs.Prelude.{cond}
 use Rattle.std.specs.List.{list_all}
 use Rattle.std.specs.Str.{IsCharBoundary, chars, encode_utf8_all}
-use Rattle.std.proofs.lemmas.Bool.{and_parts, both_ways, cond_both, cond-false, cond-true, false_from_ne_true, not-false, not-true}
-use Rattle.std.proofs.lemmas.Bool.{or_cases, or_from, or_parts}
-use Rattle.std.proofs.lemmas.List.{append_cancel_left}
+use Rattle.std.proofs.lemmas.Bool.{and_parts, both_ways, cond_both, cond-true, false_from_ne_true, not-false}
+use Rattle.std.proofs.lemmas.Bool.{or_from, or_parts}
 use Rattle.std.proofs.lemmas.Str.{IsUtf8-had}
 use Rattle.lexical.specs.Character.{carriage_return}
-use Rattle.lexical.specs.Comment.{Comment, block_comment, closing, comment, has_bare_return, is_doc, line_comment}
+use Rattle.lexical.specs.Comment.{Comment, closing, comment, has_bare_return, is_doc}
 use Rattle.lexical.specs.CommentKind.{comment_kind, doc_text}
 use Rattle.lexical.specs.Finder.{Answer, and_find, find_run}
 use Rattle.lexical.specs.Mark.{comment_fronts}
@@ -20,11 +19,9 @@ use Rattle.lexical.specs.Rule.{Exactly, Run, find}
 use Rattle.lexical.specs.Step.{Passes}
 use Rattle.lexical.specs.Text.{begins_any, begins_with, ends_with, first_passes}
 use Rattle.lexical.specs.declared.cursor.Cursor.{Cursor}
-use Rattle.lexical.proofs.CommentKindLemmas.{clear_comment, closing_block, closing_none, doc_back, doc_front, finds_comment}
-use Rattle.lexical.proofs.FinderLemmas.{found_is}
+use Rattle.lexical.proofs.CommentKindLemmas.{clear_comment, closing_block, closing_none, doc_back, doc_front}
 use Rattle.lexical.proofs.RuleSteps.{lacks_text, passed}
 use Rattle.lexical.proofs.TextLemmas.{begins_more, seam_boundary, seam_drop, seam_take}
-use Rattle.explain.specs.Content.{IsBareReturn}
 use Rattle.explain.specs.Trouble.{IsTrouble}
 use Rattle.explain.specs.Walk.{IsFirstBare, IsPast}
 use Rattle.explain.specs.declared.reason.Reason.TheVariants.{BareReturnInDoc}

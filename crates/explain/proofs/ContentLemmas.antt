@@ -1,26 +1,25 @@
 -- The walk over the content of a literal.
-use Rattle.std.proofs.Common.{◌≡◌, ℕ, ◌+◌, ◌-◌, ◌<◌, ◌≤◌, Bool, true, false, not, ◌&&◌, ◌||◌, ◌==◌, List, [], ◌∷◌, ◌++◌}
-use Rattle.std.proofs.Common.{codes, drop, take, length, Option, Some, None, Result, Ok, Err, inl, inr, refl, sym, ap, ap₂}
-use Rattle.std.proofs.Common.{◌∙◌, subst, append_assoc, append-nil, arith, eqb-true, length-append}
+use Rattle.std.proofs.Common.{◌≡◌, ℕ, ◌+◌, ◌-◌, ◌<◌, ◌≤◌, true, false, not, ◌&&◌, ◌==◌, List, [], ◌∷◌, ◌++◌}
+use Rattle.std.proofs.Common.{codes, drop, take, length, Some, None, Result, Ok, Err, inl, inr, refl, sym, ap, ap₂}
+use Rattle.std.proofs.Common.{◌∙◌, subst, append_assoc, arith, eqb-true, length-append}
 use Rattle.std.specs.Prelude.{cond}
-use Rattle.std.specs.List.{concat, list_all}
-use Rattle.std.specs.Str.{IsCharBoundary, IsUtf8, chars, encode_utf8_all}
+use Rattle.std.specs.List.{list_all}
+use Rattle.std.specs.Str.{IsCharBoundary, chars, encode_utf8_all}
 use Rattle.std.specs.declared.ops.Range.{Range}
 use Rattle.std.proofs.lemmas.Bool.{and_from, and_parts, both_ways, cond_both, cond-false, false_from_ne_true, lt-ltb}
 use Rattle.std.proofs.lemmas.Bool.{or_from, or_parts}
 use Rattle.std.proofs.lemmas.Str.{IsUtf8-had, encodes-append}
 use Rattle.lexical.specs.Character.{double_quote}
-use Rattle.lexical.specs.Form.{Each, Form, Many}
-use Rattle.lexical.specs.Quoted.{close, cooked, body, unit, front as string_front, suffix}
-use Rattle.lexical.specs.Rule.{Rule, Exactly, Then, UpTo, Stands, find, nothing}
-use Rattle.lexical.specs.Step.{Leads, Passes}
+use Rattle.lexical.specs.Quoted.{unit}
+use Rattle.lexical.specs.Rule.{Stands, find}
+use Rattle.lexical.specs.Step.{Passes}
 use Rattle.lexical.specs.Text.{begins_any, begins_with}
 use Rattle.lexical.specs.declared.cursor.Cursor.{Cursor}
 use Rattle.lexical.specs.declared.quoted.StringKind.{StringKind}
 use Rattle.lexical.specs.declared.quoted.StringKind.TheVariants as kinds
 use Rattle.lexical.proofs.QuotedFinderLemmas.{clear_body}
-use Rattle.lexical.proofs.RuleLemmas.{Clear, exact}
-use Rattle.lexical.proofs.RuleSteps.{find_either, lacks_text, passed, past_text}
+use Rattle.lexical.proofs.RuleLemmas.{exact}
+use Rattle.lexical.proofs.RuleSteps.{find_either, lacks_text, passed}
 use Rattle.lexical.proofs.TextLemmas.{ascii_bytes, begins_more, front_len, seam_boundary, seam_drop, seam_take}
 use Rattle.literal_escaper.specs.declared.errors.EscapeError.{EscapeError}
 use Rattle.literal_escaper.specs.declared.errors.EscapeError.TheVariants as errors
@@ -30,10 +29,9 @@ use Rattle.literal_escaper.specs.Kind.{Kind, byte_kind, c_kind, string_kind}
 use Rattle.literal_escaper.specs.Text.{bytes, first_is}
 use Rattle.literal_escaper.proofs.FrontLemmas.{unit_end}
 use Rattle.literal_escaper.proofs.ItemLemmas.{items_end, items_past}
-use Rattle.explain.specs.Content.{GivesFault, StringFault, line_ends, string_units}
-use Rattle.explain.specs.Walk.{GivesFront, IsFaultAt, IsFront, IsInside, IsLeft, IsPast, IsStep, error_in, line_end}
+use Rattle.explain.specs.Content.{GivesFault, StringFault, line_ends}
+use Rattle.explain.specs.Walk.{GivesFront, IsFaultAt, IsFront, IsInside, IsLeft, IsPast, error_in, line_end}
 use Rattle.explain.specs.declared.contents.Front.{Front}
-use Rattle.explain.specs.declared.contents.Step.TheVariants as steps
 use Rattle.explain.proofs.NumberLemmas.{or_none}
 use Rattle.explain.proofs.EscapeLemmas.{Allows, IsRead, byte_allows, c_allows, escape_is, string_allows}
 
@@ -82,8 +80,13 @@ head_of a b xs ys e = cc
 module _ {U : Type 0} (kind : Kind U) where
   items_are : (c : ℕ) (text : List ℕ) → begins_with (codes "\\\n") (c ∷ text) ≡ false
       → (more : List (Item U)) × (items kind (c ∷ text)
-      ≡ (record { start = bytes (c ∷ text) - bytes (c ∷ text);
-      end = bytes (c ∷ text) - bytes (unit_front kind c text).rest }, (unit_front kind c text).unit) ∷ more)
+      ≡ (
+        record {
+          start = bytes (c ∷ text) - bytes (c ∷ text);
+          end = bytes (c ∷ text) - bytes (unit_front kind c text).rest;
+        },
+        (unit_front kind c text).unit,
+      ) ∷ more)
   items_are c text e = (
     _,
     items_past kind (bytes (c ∷ text)) (c ∷ text)
@@ -124,8 +127,11 @@ module _ {U : Type 0} (kind : Kind U) (strings : StringKind) (are : Allows kind 
   IsUnit text read = read.unit ≡ Ok u → IsRead (unit strings) text more read
 
   plain_is : (c : ℕ) (text : List ℕ) → (c == 92) ≡ false
-      → IsUnit (c ∷ text) (record { unit = cond (c == 34) (Err errors.EscapeOnlyChar)
-      (cond (c == 13) (Err errors.BareCarriageReturn) (kind.of_char c)); rest = text })
+      → IsUnit (c ∷ text) (record {
+        unit = cond (c == 34) (Err errors.EscapeOnlyChar)
+            (cond (c == 13) (Err errors.BareCarriageReturn) (kind.of_char c));
+        rest = text;
+      })
   plain_is c text backslash =
       cond_both (c == 34) _ _ (λ o. IsUnit (c ∷ text) (record { unit = o; rest = text }))
       (λ e h. absurd (cc))

@@ -7,7 +7,7 @@ use Rattle.std.specs.Char.{digit_value, is_ascii, is_ascii_hexdigit}
 use Rattle.std.specs.Int.{is_in_range}
 use Rattle.std.specs.List.{fold, list_all}
 use Rattle.std.proofs.lemmas.Bool.{agree_below_at, and_from, and_parts, both_ways, cond_both, cond-false, cond-true}
-use Rattle.std.proofs.lemmas.Bool.{false_from_ne_true, lt-ltb, ltb-false, not-true, or_cases, or_from}
+use Rattle.std.proofs.lemmas.Bool.{false_from_ne_true, lt-ltb, ltb-false, or_from}
 use Rattle.lexical.specs.Text.{begins_any}
 use Rattle.lexical.specs.Rule.{Rule, Stands}
 use Rattle.lexical.specs.Quoted as rule
@@ -17,8 +17,8 @@ use Rattle.lexical.specs.Quoted.{letters}
 use Rattle.lexical.specs.declared.quoted.StringKind.{StringKind}
 use Rattle.lexical.specs.declared.quoted.StringKind.TheVariants as kinds
 use Rattle.literal_escaper.specs.declared.errors.EscapeError.{EscapeError}
-use Rattle.literal_escaper.specs.Escape.{Read, braced, closed, code_unit, coded, escape, hex_escape, hex_number}
-use Rattle.literal_escaper.specs.Escape.{is_code_character, is_hex, letter, letter_unit, second_digit, unicode_escape}
+use Rattle.literal_escaper.specs.Escape.{Read, closed, code_unit, coded, escape, hex_escape, hex_number}
+use Rattle.literal_escaper.specs.Escape.{is_code_character, is_hex, letter, letter_unit, unicode_escape}
 use Rattle.literal_escaper.specs.declared.mixed_unit.MixedUnit.{MixedUnit}
 use Rattle.literal_escaper.specs.Kind.{Kind, byte_kind, c_code, c_kind, character, string_kind}
 use Rattle.literal_escaper.specs.Units.{c_byte, c_char}
@@ -173,11 +173,11 @@ module _ {U : Type 0} (kind : Kind U) (strings : StringKind) (are : Allows kind 
       (λ o. o ≡ Ok u → is_code (allows strings) ds ≡ true)
       (λ many h. no_unit _ _ u h)
       (λ few h.
-          let number : hex_number (filter is_hex ds) ≡ hex_value ds = number_same 0 ds all in
-          let allowed = are.by_code (hex_value ds) u (subst (λ n. kind.of_code (character n) ≡ Ok u) number h) in
-          let count : nat_lt 6 (length (filter is_ascii_hexdigit ds)) ≡ false =
-          ap (λ d. nat_lt 6 (length d)) (sym (digits_same ds)) ∙ few in
-          and_from _ _ (at_most (length (filter is_ascii_hexdigit ds)) count) (and_from _ _ allowed.0 allowed.1))
+      let number : hex_number (filter is_hex ds) ≡ hex_value ds = number_same 0 ds all in
+      let allowed = are.by_code (hex_value ds) u (subst (λ n. kind.of_code (character n) ≡ Ok u) number h) in
+      let count : nat_lt 6 (length (filter is_ascii_hexdigit ds)) ≡ false =
+      ap (λ d. nat_lt 6 (length d)) (sym (digits_same ds)) ∙ few in
+      and_from _ _ (at_most (length (filter is_ascii_hexdigit ds)) count) (and_from _ _ allowed.0 allowed.1))
     where
       at_most : (n : ℕ) → nat_lt 6 n ≡ false → nat_le n 6 ≡ true
       at_most n e = grind (arith, e)
@@ -203,16 +203,19 @@ module _ {U : Type 0} (kind : Kind U) (strings : StringKind) (are : Allows kind 
             front = x ∷ ds;
             back = codes "}";
             whole = refl;
-            first = (record {
-              front = x ∷ [];
-              back = ds;
-              whole = refl;
-              first = (x, refl, sym (hex_same x) ∙ hex);
-              second = record {
-                each = sym (passes_same ds) ∙ (and_parts _ _ all).1;
-                stops = refl;
-              };
-            }, code_is (x ∷ ds) all h);
+            first = (
+              record {
+                front = x ∷ [];
+                back = ds;
+                whole = refl;
+                first = (x, refl, sym (hex_same x) ∙ hex);
+                second = record {
+                  each = sym (passes_same ds) ∙ (and_parts _ _ all).1;
+                  stops = refl;
+                };
+              },
+              code_is (x ∷ ds) all h,
+            );
             second = refl;
           };
         }));
@@ -315,14 +318,14 @@ string_allows = record {
   by_pair = λ a b u r high low. cond_both (is_ascii (16 * digit_value a + digit_value b)) _ _
       (λ o. o ≡ Ok u → Stands (rule.pair kinds.Plain) (a ∷ b ∷ []) r)
       (λ e h.
-          let small = ltb-true (16 * digit_value a + digit_value b) 128 e in
-          record {
-            front = a ∷ [];
-            back = b ∷ [];
-            whole = refl;
-            first = (a, refl, octal_is a (omega arith));
-            second = (b, refl, hexdigit b low);
-          })
+      let small = ltb-true (16 * digit_value a + digit_value b) 128 e in
+      record {
+        front = a ∷ [];
+        back = b ∷ [];
+        whole = refl;
+        first = (a, refl, octal_is a (omega arith));
+        second = (b, refl, hexdigit b low);
+      })
       (λ e h. no_unit _ _ u h);
   by_code = λ n u h. ((scalar_of n u h).0, refl);
   by_char = λ c u h quote backslash return. plain_is c quote backslash return;

@@ -1,8 +1,8 @@
 -- Where a letter stands and neither an identifier nor a literal does.
-use Rattle.std.proofs.Common.{◌≡◌, ℕ, ◌+◌, Bool, true, false, not, ◌&&◌, ◌||◌, ◌==◌, cond, List, [], ◌∷◌, ◌++◌, codes}
+use Rattle.std.proofs.Common.{◌≡◌, ℕ, Bool, true, false, not, ◌&&◌, ◌==◌, cond, List, [], ◌∷◌, ◌++◌, codes}
 use Rattle.std.proofs.Common.{Some, None, refl, sym, ap, ◌∙◌, subst, arith, eqb-true}
 use Rattle.std.specs.Str.{chars}
-use Rattle.std.proofs.lemmas.Bool.{and_parts, both_ways, cond-false, cond-true, false_from_ne_true, or_from}
+use Rattle.std.proofs.lemmas.Bool.{both_ways, cond-false, cond-true, false_from_ne_true, or_from}
 use Rattle.std.proofs.lemmas.Bool.{true_from_ne_false}
 use Rattle.lexical.specs.Class.{is_ident_continue, is_ident_start}
 use Rattle.lexical.specs.Finder.{Answer, and_find, behind, find_run, if_passes, while_front, while_rest}
@@ -16,9 +16,8 @@ use Rattle.lexical.specs.declared.cursor.Cursor.{Cursor}
 use Rattle.lexical.specs.declared.quoted.StringKind.{StringKind}
 use Rattle.lexical.specs.declared.quoted.StringKind.TheVariants as kinds
 use Rattle.lexical.proofs.ClassLemmas.{ident_start_ascii}
-use Rattle.lexical.proofs.RuleSteps.{lacks_text, passed, past_text}
+use Rattle.lexical.proofs.RuleSteps.{lacks_text, past_text}
 use Rattle.explain.specs.Shapes.{is_hash, no_double_quote}
-use Rattle.explain.proofs.NumberLemmas.{one_none}
 use Rattle.explain.proofs.StuckLemmas.{identifier_stands, untagged_by}
 
 -- ---- how literals begin

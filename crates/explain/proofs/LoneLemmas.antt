@@ -1,28 +1,26 @@
 -- Where no lone quote stands.
-use Rattle.std.proofs.Common.{◌≡◌, ℕ, ◌+◌, Bool, true, false, not, ◌&&◌, ◌||◌, ◌==◌, cond, List, [], ◌∷◌, ◌++◌, codes}
-use Rattle.std.proofs.Common.{length, Some, None, inl, inr, refl, sym, ap, ◌∙◌, subst, append_assoc, arith, eqb-true}
+use Rattle.std.proofs.Common.{◌≡◌, ℕ, ◌+◌, Bool, true, false, not, ◌&&◌, ◌==◌, cond, List, [], ◌∷◌, ◌++◌, codes}
+use Rattle.std.proofs.Common.{length, Some, None, inl, inr, refl, sym, ap, ◌∙◌, subst, append_assoc, arith}
 use Rattle.std.proofs.Common.{length-append}
 use Rattle.std.specs.Char.{is_ascii_digit}
 use Rattle.std.specs.Str.{chars}
-use Rattle.std.proofs.lemmas.Bool.{both_ways, cond-false, cond-true, false_from_ne_true, not-true, or_from, true_from_ne_false}
+use Rattle.std.proofs.lemmas.Bool.{both_ways, cond-false, cond-true, or_from, true_from_ne_false}
 use Rattle.lexical.specs.Character.{single_quote}
-use Rattle.lexical.specs.Class.{is_ident_continue, is_ident_start}
+use Rattle.lexical.specs.Class.{is_ident_continue}
 use Rattle.lexical.specs.Finder.{Answer, and_find, behind, find_run, if_passes, while_front, while_rest}
 use Rattle.lexical.specs.Identifier.{is_allowed, is_reserved, name, raw_name, written}
 use Rattle.lexical.specs.Mark.{bars_quote, follows_quote}
 use Rattle.lexical.specs.PieceFinder.{find_lone_quote}
-use Rattle.lexical.specs.Rule.{Either, Exactly, NotAt, One, Run, Then, Where, Stands, find}
+use Rattle.lexical.specs.Rule.{Either, Exactly, One, Run, Then, Stands, find}
 use Rattle.lexical.specs.Step.{Passes}
 use Rattle.lexical.specs.Text.{begins_with, first_passes}
 use Rattle.lexical.specs.declared.cursor.Cursor.{Cursor}
 use Rattle.lexical.proofs.ClassLemmas.{ident_continue_ascii, ident_start_ascii}
 use Rattle.lexical.proofs.NameFinderLemmas.{unbarred_found}
-use Rattle.lexical.proofs.RuleSteps.{find_where, lacks_text, not_at_passes, passed, past_text, then_passes}
+use Rattle.lexical.proofs.RuleSteps.{lacks_text, passed, past_text, then_passes}
 use Rattle.lexical.proofs.TextLemmas.{begins_splits}
-use Rattle.explain.specs.Shapes.{closed_character, closed_single, closed_single_body, raw_lifetime_start, single_opening}
+use Rattle.explain.specs.Shapes.{closed_character, closed_single, closed_single_body, single_opening}
 use Rattle.explain.specs.Walk.{IsInside, IsPast}
-use Rattle.explain.proofs.NumberLemmas.{one_none}
-use Rattle.explain.proofs.QuoteLemmas.{name_none}
 
 some_none : (b : Bool) (x : List ℕ × List ℕ) → ◌≡◌ {A = Answer} (cond b (Some x) None) None → b ≡ false
 some_none true x e = absurd (cc)
@@ -82,8 +80,10 @@ name_r : (rest : List ℕ) → find name (codes "r#" ++ rest) ≡ Some (codes "r
 unfolding find
 name_r rest =
     ap (and_find (find_run is_ident_continue)) (cond-true _ _ _ (ident_start_ascii 114 (omega arith)))
-    ∙ ap (λ b. Some (114 ∷ cond b (35 ∷ while_front is_ident_continue rest) [],
-    cond b (while_rest is_ident_continue rest) (35 ∷ rest))) (ident_continue_ascii 35 (omega arith))
+    ∙ ap (λ b. Some (
+      114 ∷ cond b (35 ∷ while_front is_ident_continue rest) [],
+      cond b (while_rest is_ident_continue rest) (35 ∷ rest),
+    )) (ident_continue_ascii 35 (omega arith))
 
 rest_of : (text rest : List ℕ) (p r : List ℕ) → text ≡ codes "r#" ++ rest → find name text ≡ Some (p, r)
     → r ≡ 35 ∷ rest
@@ -159,23 +159,29 @@ module _ (at inside mid end : Cursor) (quote : Passes (Exactly (codes "'")) at i
     quoted_inside = (part, whole ∙ ap (λ t. part ++ t) closing.0)
 
     quoted_past : (past : IsPast at end) × (past.part ≡ codes "'" ++ (part ++ codes "'"))
-    quoted_past = (record {
-      part = codes "'" ++ (part ++ codes "'");
-      whole = opening.0 ∙ ap (λ t. codes "'" ++ t) (whole ∙ (ap (λ t. part ++ t) closing.0
-          ∙ sym (append_assoc part (codes "'") (chars end.rest.now))));
-      count = omega (arith, opening.1, closing.1, count, length-append part (codes "'"));
-    }, refl)
+    quoted_past = (
+      record {
+        part = codes "'" ++ (part ++ codes "'");
+        whole = opening.0 ∙ ap (λ t. codes "'" ++ t) (whole ∙ (ap (λ t. part ++ t) closing.0
+            ∙ sym (append_assoc part (codes "'") (chars end.rest.now))));
+        count = omega (arith, opening.1, closing.1, count, length-append part (codes "'"));
+      },
+      refl,
+    )
 
     plain_ends : Stands (Either name (Then (One is_ascii_digit) (Run is_ident_continue))) part (codes "'" ++ chars end.rest.now)
         → EndsAt at end
-    plain_ends stands = (quoted_past.0, subst (λ p. Stands closed_character p (chars end.rest.now)) (sym quoted_past.1)
-        (inr (inr (record {
-          front = codes "'";
-          back = part ++ codes "'";
-          whole = refl;
-          first = refl;
-          second = record { front = part; back = codes "'"; whole = refl; first = stands; second = refl };
-        }))))
+    plain_ends stands = (
+      quoted_past.0,
+      subst (λ p. Stands closed_character p (chars end.rest.now)) (sym quoted_past.1)
+          (inr (inr (record {
+            front = codes "'";
+            back = part ++ codes "'";
+            whole = refl;
+            first = refl;
+            second = record { front = part; back = codes "'"; whole = refl; first = stands; second = refl };
+          }))),
+    )
 
   pub name_ends : (named : Passes name inside mid) → EndsAt at end × IsInside single_quote inside end
   name_ends named =
@@ -205,19 +211,22 @@ module _ (at inside mid end : Cursor) (quote : Passes (Exactly (codes "'")) at i
       let long : mid.chars_before ≡ inside.chars_before + length part =
       omega (arith, opening.1, start.1, named.count) in
       let past = quoted_past part whole long in (
-        (past.0, subst (λ p. Stands closed_character p (chars end.rest.now)) (sym past.1)
-            (inr (inl (record {
-              front = codes "'r#";
-              back = named.front ++ codes "'";
-              whole = refl;
-              first = refl;
-              second = record {
-                front = named.front;
-                back = codes "'";
+        (
+          past.0,
+          subst (λ p. Stands closed_character p (chars end.rest.now)) (sym past.1)
+              (inr (inl (record {
+                front = codes "'r#";
+                back = named.front ++ codes "'";
                 whole = refl;
-                first = subst (Stands name named.front) closing.0 is.1;
-                second = refl;
-              };
-            })))),
+                first = refl;
+                second = record {
+                  front = named.front;
+                  back = codes "'";
+                  whole = refl;
+                  first = subst (Stands name named.front) closing.0 is.1;
+                  second = refl;
+                };
+              }))),
+        ),
         quoted_inside part whole long,
       )

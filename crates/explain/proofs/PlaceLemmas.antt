@@ -1,13 +1,12 @@
 -- What is at fault, between two cursors.
-use Rattle.std.proofs.Common.{◌≡◌, ℕ, ◌+◌, ◌<◌, ◌≤◌, Bool, true, false, List, [], ◌∷◌, ◌++◌, length, refl, sym, ap, ◌∙◌}
+use Rattle.std.proofs.Common.{◌≡◌, ℕ, ◌+◌, ◌<◌, ◌≤◌, true, false, List, [], ◌∷◌, ◌++◌, length, refl, sym, ap, ◌∙◌}
 use Rattle.std.proofs.Common.{subst, append_assoc, arith, length-append}
 use Rattle.std.specs.Str.{chars}
 use Rattle.lexical.specs.declared.cursor.Cursor.{Cursor}
 use Rattle.literal_escaper.specs.declared.errors.EscapeError.{EscapeError}
-use Rattle.explain.specs.Content.{IsAtFault, IsPart, is_of_last}
+use Rattle.explain.specs.Content.{IsPart, is_of_last}
 use Rattle.explain.specs.Walk.{IsFaulty, IsLast, IsPast}
 use Rattle.explain.specs.declared.reason.Reason.TheVariants.{Content}
-use Rattle.explain.specs.declared.trouble.Trouble.{Trouble}
 
 unfoldable pub stays : (at : Cursor) → IsPast at at
 stays at = record { part = []; whole = refl; count = omega arith }

@@ -1,5 +1,5 @@
 -- Where nothing stands that quotes or names begin with.
-use Rattle.std.proofs.Common.{◌≡◌, ℕ, ◌<◌, ◌+◌, Bool, true, false, List, [], ◌∷◌, ◌++◌, codes}
+use Rattle.std.proofs.Common.{◌≡◌, ℕ, ◌<◌, Bool, true, false, List, [], ◌∷◌, ◌++◌, codes}
 use Rattle.std.proofs.Common.{length}
 use Rattle.std.proofs.Common.{Some, None, refl, sym, ap, ◌∙◌, subst, arith, eqb-true}
 use Rattle.std.specs.Char.{is_ascii_digit}
@@ -21,7 +21,6 @@ use Rattle.lexical.specs.declared.quoted.StringKind.{StringKind}
 use Rattle.lexical.proofs.RuleLemmas.{Clear}
 use Rattle.lexical.proofs.RuleSteps.{passed, past_text, then_passes, then_reads, then_lacks, text_lacks, lacks_text}
 use Rattle.lexical.proofs.RuleSteps.{either_first, either_reads, before_passes, where_passes, find_not_before}
-use Rattle.lexical.proofs.RuleSteps.{IsBetween}
 use Rattle.explain.specs.Shapes.{bars_character, closed_body, closed_raw, closed_raw_body, closed_single}
 use Rattle.explain.specs.Shapes.{closed_single_body}
 use Rattle.explain.specs.Shapes.{closed_string, digit_lifetime, hashed_front, is_hash, is_quote, lifetime, long_opening}

@@ -1,19 +1,19 @@
 -- What is wrong with the content of a raw string that ends.
-use Rattle.std.proofs.Common.{◌≡◌, ℕ, ◌+◌, ◌<◌, ◌≤◌, Bool, true, false, not, ◌&&◌, ◌||◌, ◌==◌, List, [], ◌∷◌, ◌++◌}
+use Rattle.std.proofs.Common.{◌≡◌, ℕ, ◌+◌, ◌<◌, ◌≤◌, true, false, not, ◌&&◌, ◌==◌, List, [], ◌∷◌, ◌++◌}
 use Rattle.std.proofs.Common.{codes, length, Some, None, Err, inl, inr, refl, sym, ap, ◌∙◌, subst, append_assoc}
-use Rattle.std.proofs.Common.{append-nil, arith, leb-true, length-append}
+use Rattle.std.proofs.Common.{append-nil, arith, length-append}
 use Rattle.std.specs.Prelude.{nat_le}
-use Rattle.std.specs.List.{concat, list_all}
+use Rattle.std.specs.List.{concat}
 use Rattle.std.specs.Str.{chars}
-use Rattle.std.proofs.lemmas.Bool.{and_parts, both_ways, cond-false, cond-true, false_from_ne_true, le-leb, or_from, or_parts}
-use Rattle.lexical.specs.Finder.{Answer, and_find, and_next, behind, find_many, if_passes, or_find}
-use Rattle.lexical.specs.Form.{Each, HasNone, Many}
+use Rattle.std.proofs.lemmas.Bool.{both_ways, cond-false, cond-true, le-leb, or_from, or_parts}
+use Rattle.lexical.specs.Finder.{Answer, and_find, and_next, behind, if_passes, or_find}
+use Rattle.lexical.specs.Form.{Each, Many}
 use Rattle.lexical.specs.Identifier.{name}
 use Rattle.lexical.specs.Quoted.{body as body_of, close, suffix}
 use Rattle.lexical.specs.RawString.{hashes, may_stand_raw, raw_front, raw_quotes, raw_string, raw_unit}
-use Rattle.lexical.specs.Rule.{Rule, Exactly, Next, Run, Then, Stands, find}
+use Rattle.lexical.specs.Rule.{Rule, Exactly, Next, Run, Stands, find}
 use Rattle.lexical.specs.Step.{Leads, Passes}
-use Rattle.lexical.specs.Text.{begins_any, begins_with, first_passes}
+use Rattle.lexical.specs.Text.{begins_any, begins_with}
 use Rattle.lexical.specs.declared.cursor.Cursor.{Cursor}
 use Rattle.lexical.specs.declared.quoted.StringKind.{StringKind}
 use Rattle.lexical.proofs.QuotedFinderLemmas.{clear_raw_body}
@@ -29,7 +29,6 @@ use Rattle.explain.specs.Shapes as shapes
 use Rattle.explain.specs.Trouble.{IsTrouble}
 use Rattle.explain.specs.Walk.{IsPast}
 use Rattle.explain.specs.declared.reason.Reason.TheVariants.{Content}
-use Rattle.explain.proofs.ContentLemmas.{inside_of}
 use Rattle.explain.proofs.NumberLemmas.{none_after, none_behind, one_none, or_none}
 use Rattle.explain.proofs.PlaceLemmas.{further, stays}
 use Rattle.explain.proofs.QuoteLemmas.{clear_closed, raw_some}
@@ -69,9 +68,10 @@ module _ (kind : StringKind) (signs : List ℕ) where
   clean_of [] tail each = tt
   clean_of (u ∷ units) tail each =
       let one = each.0.0 in
-      subst (λ v. Clean (v ++ concat units) tail) (sym one.1)
-      ((or_parts _ _ (sym (ap (λ v. begins_any (ends ∷ []) (v ++ (concat units ++ tail))) one.1) ∙ each.0.1)).0,
-      clean_of units tail each.1)
+      subst (λ v. Clean (v ++ concat units) tail) (sym one.1) (
+        (or_parts _ _ (sym (ap (λ v. begins_any (ends ∷ []) (v ++ (concat units ++ tail))) one.1) ∙ each.0.1)).0,
+        clean_of units tail each.1,
+      )
 
   -- up to what closes it stands this content
   pub record RawLeft (place end : Cursor) : Type 0 where
@@ -276,12 +276,15 @@ module _ (kind : StringKind) (at inside quote start : Cursor) (letters : Passes 
           length-append run.front (codes "\"" ++ units),
         );
         size = count;
-        holds = inr (inl (kind, record {
-          character = c;
-          stands = stands;
-          closed = λ none. none _ _ (sym (whole ∙ ap (λ t. front ++ t) split) ∙ all.0) all.1;
-          one = refl;
-          apart = stop.apart;
-          gives = gives;
-        }));
+        holds = inr (inl (
+          kind,
+          record {
+            character = c;
+            stands = stands;
+            closed = λ none. none _ _ (sym (whole ∙ ap (λ t. front ++ t) split) ∙ all.0) all.1;
+            one = refl;
+            apart = stop.apart;
+            gives = gives;
+          },
+        ));
       }

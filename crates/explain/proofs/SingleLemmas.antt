@@ -1,20 +1,20 @@
 -- What is wrong with the content of a character or a byte that ends.
-use Rattle.std.proofs.Common.{◌≡◌, ℕ, ◌+◌, ◌-◌, ◌≤◌, ◌<◌, Bool, true, false, not, ◌&&◌, ◌||◌, ◌==◌, List, [], ◌∷◌, ◌++◌}
-use Rattle.std.proofs.Common.{codes, drop, take, length, Option, Some, None, Result, Ok, Err, inl, inr, refl, sym, ap}
-use Rattle.std.proofs.Common.{ap₂, ◌∙◌}
+use Rattle.std.proofs.Common.{◌≡◌, ℕ, ◌+◌, ◌≤◌, Bool, true, false, ◌||◌, ◌==◌, List, [], ◌∷◌, ◌++◌}
+use Rattle.std.proofs.Common.{codes, drop, take, length, Some, None, Result, Ok, Err, inl, inr, refl, sym, ap}
+use Rattle.std.proofs.Common.{◌∙◌}
 use Rattle.std.proofs.Common.{subst, append_assoc, append-nil, arith, eqb-true, length-append}
 use Rattle.std.specs.Prelude.{cond}
 use Rattle.std.specs.Char.{is_ascii}
-use Rattle.std.specs.Str.{IsCharBoundary, chars, encode_utf8_all}
+use Rattle.std.specs.Str.{IsCharBoundary, chars}
 use Rattle.std.specs.declared.ops.Range.{Range}
-use Rattle.std.proofs.lemmas.Bool.{and_from, both_ways, cond_both, cond-false}
+use Rattle.std.proofs.lemmas.Bool.{and_from, both_ways, cond_both}
 use Rattle.std.proofs.lemmas.List.{append_cancel_right}
 use Rattle.std.proofs.lemmas.Str.{IsUtf8-had}
 use Rattle.lexical.specs.Character.{single_quote}
 use Rattle.lexical.specs.Finder.{and_find}
 use Rattle.lexical.specs.Quoted.{close, escape as escape_rule}
 use Rattle.lexical.specs.Rule.{Rule, Exactly, Then, Stands, find}
-use Rattle.lexical.specs.SingleQuoted.{byte, character, is_byte_char_plain, is_char_plain, single as single_quoted}
+use Rattle.lexical.specs.SingleQuoted.{is_byte_char_plain, is_char_plain, single as single_quoted}
 use Rattle.lexical.specs.SingleQuoted.{unit as unit_of}
 use Rattle.lexical.specs.Step.{Passes}
 use Rattle.lexical.specs.declared.cursor.Cursor.{Cursor}
@@ -22,20 +22,20 @@ use Rattle.lexical.specs.declared.quoted.StringKind.{StringKind}
 use Rattle.lexical.specs.declared.quoted.StringKind.TheVariants as kinds
 use Rattle.lexical.proofs.RuleLemmas.{Clear, exact}
 use Rattle.lexical.proofs.RuleSteps.{find_then, past_text}
-use Rattle.lexical.proofs.TextLemmas.{seam_boundary, seam_drop, seam_take}
+use Rattle.lexical.proofs.TextLemmas.{seam_boundary}
 use Rattle.literal_escaper.specs.declared.errors.EscapeError.{EscapeError}
 use Rattle.literal_escaper.specs.declared.errors.EscapeError.TheVariants as errors
-use Rattle.literal_escaper.specs.Errors.{Error, at_most_one, error_at, errors_in, read_range, single_error}
+use Rattle.literal_escaper.specs.Errors.{Error, at_most_one, error_at, errors_in, read_range}
 use Rattle.literal_escaper.specs.Escape.{Read, escape}
 use Rattle.literal_escaper.specs.Kind.{Kind, byte_kind, string_kind}
 use Rattle.literal_escaper.specs.Single.{only, single, single_front as front_of}
 use Rattle.literal_escaper.specs.Text.{bytes}
-use Rattle.literal_escaper.proofs.FrontLemmas.{IsEnd, end_of_end, end_past, end_tail, end_whole, escape_end}
-use Rattle.explain.specs.Content.{IsPart, IsSinglePlace, SingleFault, is_of_literal}
+use Rattle.literal_escaper.proofs.FrontLemmas.{IsEnd, end_of_end, end_tail, end_whole, escape_end}
+use Rattle.explain.specs.Content.{IsSinglePlace, SingleFault, is_of_literal}
 use Rattle.explain.specs.Reason.{Holds}
 use Rattle.explain.specs.Shapes.{closed_character, single_front, single_rule}
 use Rattle.explain.specs.Trouble.{IsTrouble}
-use Rattle.explain.specs.Walk.{GivesSingle, IsFaulty, IsInside, IsLeft, IsPast, IsSingleFault, single_mode}
+use Rattle.explain.specs.Walk.{GivesSingle, IsFaulty, IsLeft, IsPast, IsSingleFault, single_mode}
 use Rattle.explain.specs.declared.quotes.SingleKind.{SingleKind}
 use Rattle.explain.specs.declared.quotes.SingleKind.TheVariants as singles
 use Rattle.explain.specs.declared.reason.Reason.TheVariants.{Content}
@@ -86,46 +86,49 @@ only_ok (Err fault) rest u e = absurd (cc)
 
 module _ {U : Type 0} (kind : Kind U) (strings : StringKind) (are : Allows kind strings) (plain : ℕ → Bool)
     (bare : (c : ℕ) (u : U) → kind.of_char c ≡ Ok u → is_char_plain c ≡ true → plain c ≡ true) (more : List ℕ) (u : U)
-    where
-  abbrev Is : ℕ → List ℕ → Read U → Type 0
-  Is c text read = (only read.unit read.rest).unit ≡ Ok u
-      → Stands (unit_of plain (escape_rule strings)) (c ∷ text) (39 ∷ more)
+  where
+    abbrev Is : ℕ → List ℕ → Read U → Type 0
+    Is c text read = (only read.unit read.rest).unit ≡ Ok u
+        → Stands (unit_of plain (escape_rule strings)) (c ∷ text) (39 ∷ more)
 
-  plain_char : (c : ℕ) → ((c == 10) || (c == 9) || (c == 39)) ≡ false → (c == 13) ≡ false → (c == 92) ≡ false
-      → is_char_plain c ≡ true
-  plain_char c some return backslash = grind (arith, some, return, backslash)
+    plain_char : (c : ℕ) → ((c == 10) || (c == 9) || (c == 39)) ≡ false → (c == 13) ≡ false → (c == 92) ≡ false
+        → is_char_plain c ≡ true
+    plain_char c some return backslash = grind (arith, some, return, backslash)
 
-  plain_is : (c : ℕ) (text : List ℕ) → (c == 92) ≡ false
-      → Is c text (record { unit = cond ((c == 10) || (c == 9) || (c == 39)) (Err errors.EscapeOnlyChar)
-      (cond (c == 13) (Err errors.BareCarriageReturn) (kind.of_char c)); rest = text })
-  plain_is c text backslash =
-      cond_both ((c == 10) || (c == 9) || (c == 39)) _ _ (λ o. Is c text (record { unit = o; rest = text }))
-      (λ e h. absurd (cc))
-      (λ some. cond_both (c == 13) _ _ (λ o. Is c text (record { unit = o; rest = text }))
-      (λ e h. absurd (cc))
-      (λ return h.
-          let both = only_ok (kind.of_char c) text u h in
-          inl (c, ap (λ t. c ∷ t) both.1, bare c u both.0 (plain_char c some return backslash))))
+    plain_is : (c : ℕ) (text : List ℕ) → (c == 92) ≡ false
+        → Is c text (record {
+          unit = cond ((c == 10) || (c == 9) || (c == 39)) (Err errors.EscapeOnlyChar)
+              (cond (c == 13) (Err errors.BareCarriageReturn) (kind.of_char c));
+          rest = text;
+        })
+    plain_is c text backslash =
+        cond_both ((c == 10) || (c == 9) || (c == 39)) _ _ (λ o. Is c text (record { unit = o; rest = text }))
+        (λ e h. absurd (cc))
+        (λ some. cond_both (c == 13) _ _ (λ o. Is c text (record { unit = o; rest = text }))
+        (λ e h. absurd (cc))
+        (λ return h.
+        let both = only_ok (kind.of_char c) text u h in
+        inl (c, ap (λ t. c ∷ t) both.1, bare c u both.0 (plain_char c some return backslash))))
 
-  escaped_is : (c : ℕ) (text : List ℕ) → (c == 92) ≡ true → Is c text (escape kind text)
-  escaped_is c text e h =
-      let both = only_ok (escape kind text).unit (escape kind text).rest u h in
-      let is = escape_is kind strings are (39 ∷ more) u text both.0 in
-      let whole : text ≡ is.part = is.whole ∙ (ap (λ t. is.part ++ t) both.1 ∙ append-nil is.part) in
-      inr (record {
-        front = codes "\\";
-        back = text;
-        whole = ap (λ d. d ∷ text) (eqb-true c 92 e);
-        first = refl;
-        second = subst (λ t. Stands (escape_rule strings) t (39 ∷ more)) (sym whole)
-            (subst (λ t. Stands (escape_rule strings) is.part (t ++ (39 ∷ more))) both.1 is.stands);
-      })
+    escaped_is : (c : ℕ) (text : List ℕ) → (c == 92) ≡ true → Is c text (escape kind text)
+    escaped_is c text e h =
+        let both = only_ok (escape kind text).unit (escape kind text).rest u h in
+        let is = escape_is kind strings are (39 ∷ more) u text both.0 in
+        let whole : text ≡ is.part = is.whole ∙ (ap (λ t. is.part ++ t) both.1 ∙ append-nil is.part) in
+        inr (record {
+          front = codes "\\";
+          back = text;
+          whole = ap (λ d. d ∷ text) (eqb-true c 92 e);
+          first = refl;
+          second = subst (λ t. Stands (escape_rule strings) t (39 ∷ more)) (sym whole)
+              (subst (λ t. Stands (escape_rule strings) is.part (t ++ (39 ∷ more))) both.1 is.stands);
+        })
 
-  pub single_is : (text : List ℕ) → (single kind text).unit ≡ Ok u
-      → Stands (unit_of plain (escape_rule strings)) text (39 ∷ more)
-  unfolding single
-  single_is [] h = absurd (cc)
-  single_is (c ∷ text) h = (cond_both (c == 92) _ _ (Is c text) (escaped_is c text) (plain_is c text)) h
+    pub single_is : (text : List ℕ) → (single kind text).unit ≡ Ok u
+        → Stands (unit_of plain (escape_rule strings)) text (39 ∷ more)
+    unfolding single
+    single_is [] h = absurd (cc)
+    single_is (c ∷ text) h = (cond_both (c == 92) _ _ (Is c text) (escaped_is c text) (plain_is c text)) h
 
 -- so the literal is found
 module _ (front : List ℕ) (plain : ℕ → Bool) (escapes : Rule) (clear : Clear (unit_of plain escapes)) where
@@ -280,15 +283,18 @@ module _ (kind : SingleKind) (e : EscapeError) (at inside end : Cursor) (text : 
     here = past.whole;
     count = omega arith;
     size = past.count;
-    holds = inr (inr (kind, record {
-      content = text;
-      left = read.rest;
-      tail = chars end.rest.now;
-      whole = ap (λ p. p ++ chars end.rest.now) literal;
-      closed = closed_here;
-      gives = read.gives;
-      place = subst (λ b. IsSinglePlace b e (single_front kind) text read.rest [] past.part) (sym whole) (refl, literal);
-    }));
+    holds = inr (inr (
+      kind,
+      record {
+        content = text;
+        left = read.rest;
+        tail = chars end.rest.now;
+        whole = ap (λ p. p ++ chars end.rest.now) literal;
+        closed = closed_here;
+        gives = read.gives;
+        place = subst (λ b. IsSinglePlace b e (single_front kind) text read.rest [] past.part) (sym whole) (refl, literal);
+      },
+    ));
   }
 
   pub bad_part : (after : Cursor) (x : Trouble) → is_of_literal e ≡ false → after.rest.now ≡ drop size inside.rest.now
@@ -316,14 +322,17 @@ module _ (kind : SingleKind) (e : EscapeError) (at inside end : Cursor) (text : 
         count = omega (arith, opening.1, is.start.count, length-append (single_front kind) start);
         size = is.part.count;
         holds = subst (λ reason. Holds reason (single_front kind ++ start) part r) (sym is.reason)
-            (inr (inr (kind, record {
-              content = text;
-              left = read.rest;
-              tail = chars end.rest.now;
-              whole = sym whole ∙ (past.whole ∙ ap (λ p. p ++ chars end.rest.now) literal);
-              closed = closed_here;
-              gives = read.gives;
-              place = subst (λ b. IsSinglePlace b e (single_front kind) text read.rest (single_front kind ++ start) part)
-                  (sym partly) (start, refl, read.whole ∙ ap (λ t. t ++ read.rest) same, is.fault);
-            })));
+            (inr (inr (
+              kind,
+              record {
+                content = text;
+                left = read.rest;
+                tail = chars end.rest.now;
+                whole = sym whole ∙ (past.whole ∙ ap (λ p. p ++ chars end.rest.now) literal);
+                closed = closed_here;
+                gives = read.gives;
+                place = subst (λ b. IsSinglePlace b e (single_front kind) text read.rest (single_front kind ++ start) part)
+                    (sym partly) (start, refl, read.whole ∙ ap (λ t. t ++ read.rest) same, is.fault);
+              },
+            )));
       }

@@ -1,5 +1,5 @@
 -- What is wrong with the content of a string that ends.
-use Rattle.std.proofs.Common.{◌≡◌, ℕ, ◌+◌, ◌<◌, List, [], ◌∷◌, ◌++◌, codes, false, length, Some, None, inl, inr, refl, sym, ap}
+use Rattle.std.proofs.Common.{◌≡◌, ℕ, ◌<◌, List, [], ◌∷◌, ◌++◌, codes, false, length, Some, None, inl, refl, sym, ap}
 use Rattle.std.proofs.Common.{◌∙◌, subst, append_assoc, append-nil, arith, length-append}
 use Rattle.std.specs.List.{concat}
 use Rattle.std.specs.Str.{chars}
@@ -9,7 +9,7 @@ use Rattle.lexical.specs.Finder.{Answer, and_find, behind, or_find}
 use Rattle.lexical.specs.Form.{Each, Form, Many}
 use Rattle.lexical.specs.Identifier.{name}
 use Rattle.lexical.specs.Quoted.{body, close, cooked, unit, front as string_front}
-use Rattle.lexical.specs.Rule.{Rule, Exactly, Then, UpTo, Stands, find}
+use Rattle.lexical.specs.Rule.{Exactly, Stands, find}
 use Rattle.lexical.specs.Step.{Leads, Passes}
 use Rattle.lexical.specs.Text.{begins_any}
 use Rattle.lexical.specs.declared.cursor.Cursor.{Cursor}
@@ -27,7 +27,6 @@ use Rattle.explain.specs.Shapes.{closed_body, closed_string}
 use Rattle.explain.specs.Trouble.{IsTrouble}
 use Rattle.explain.specs.Walk.{IsFaultAt, IsFaulty, IsInside, IsLeft, IsPast}
 use Rattle.explain.specs.declared.trouble.Trouble.{Trouble}
-use Rattle.explain.proofs.PlaceLemmas.{further}
 
 -- ---- one more unit
 

@@ -1,5 +1,5 @@
 -- A reason that was read holds.
-use Rattle.std.proofs.Common.{◌≡◌, ℕ, ◌+◌, List, [], ◌++◌, ap, ◌∙◌, subst, arith}
+use Rattle.std.proofs.Common.{◌≡◌, ℕ, List, [], ◌++◌, ap, ◌∙◌, subst, arith}
 use Rattle.std.specs.Str.{chars}
 use Rattle.lexical.specs.Rule.{Rule, Stands, nothing}
 use Rattle.lexical.specs.Step.{Passes}

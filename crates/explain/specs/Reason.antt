@@ -1,6 +1,6 @@
 -- What each reason says, by itself. `front` is what stands from the fault's byte offset to what is at fault, `part` is
 -- that, and `r` all that follows it in the text.
-use Rattle.std.specs.Prelude.{ℕ, ◌≡◌, List, [], ◌∷◌, ◌++◌, codes}
+use Rattle.std.specs.Prelude.{ℕ, List, [], ◌∷◌, ◌++◌, codes}
 use Rattle.std.specs.Char.{is_ascii_digit}
 use Rattle.lexical.specs.Comment.{block_comment}
 use Rattle.lexical.specs.Form.{HasNone}

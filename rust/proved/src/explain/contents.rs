@@ -85,10 +85,12 @@ fn next_step<'a>(at: Cursor<'a>, end: Cursor<'a>, kind: StringKind) -> Step<'a>
     }
     match read_front(content(at, end), kind) {
         Some(Front { size, error: None }) => Step::Unit(at.after_bytes(size)),
-        Some(Front {
-            size,
-            error: Some(error),
-        }) => Step::Fault(error, at.after_bytes(size)),
+        Some(
+            Front {
+                size,
+                error: Some(error),
+            },
+        ) => Step::Fault(error, at.after_bytes(size)),
         None => Step::End,
     }
 }

@@ -2,7 +2,7 @@ use Rattle.std.proofs.Common.{◌≡◌, None, Some, rules, false, sym, ap, ◌�
 use Rattle.std.specs.Str.{chars}
 use Rattle.lexical.specs.Text.{begins_any}
 use Rattle.explain.specs.Content.{line_ends}
-use Rattle.explain.specs.Walk.{IsFront, IsLeft}
+use Rattle.explain.specs.Walk.{IsFront}
 use Rattle.explain.proofs.ContentLemmas.{front_boundary, no_line_end, no_line_inside, step_fault, step_line, step_unit}
 use Rattle.explain.proofs.contents.next_step.Goals as goal
 

@@ -1,4 +1,3 @@
-use Rattle.std.proofs.Common.{subst}
 use Rattle.explain.proofs.StringLemmas.{bad_string, closed_inside, not_whole, read_opening, read_unit, unit_shorter}
 use Rattle.explain.proofs.contents.string_content.Goals as goal
 

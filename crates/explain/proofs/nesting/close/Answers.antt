@@ -1,4 +1,4 @@
-use Rattle.std.proofs.Common.{◌≡◌, [], rules}
+use Rattle.std.proofs.Common.{◌≡◌, rules}
 use Rattle.explain.proofs.OpenLemmas.{steps_close}
 use Rattle.explain.proofs.nesting.close.Goals as goal
 

@@ -1,4 +1,3 @@
-use Rattle.lexical.proofs.RuleSteps.{passed}
 use Rattle.explain.proofs.LoneLemmas.{raw_ends, raw_reserved}
 use Rattle.explain.proofs.QuoteLemmas.{reserved_lifetime}
 use Rattle.explain.proofs.quotes.raw_lifetime.Goals as goal

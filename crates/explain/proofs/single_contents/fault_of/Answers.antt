@@ -1,4 +1,4 @@
-use Rattle.std.proofs.Common.{◌≡◌, ◌∙◌, [], ap, sym, subst}
+use Rattle.std.proofs.Common.{◌∙◌, ap, sym, subst}
 use Rattle.std.specs.Str.{chars}
 use Rattle.literal_escaper.specs.Errors.{errors_in}
 use Rattle.explain.specs.Walk.{IsSingleFault}

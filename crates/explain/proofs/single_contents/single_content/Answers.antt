@@ -1,6 +1,6 @@
 use Rattle.std.proofs.Common.{Some, None, ◌≤◌, length, sym, subst, ◌∙◌, arith}
 use Rattle.explain.specs.Walk.{IsSingleFault}
-use Rattle.explain.proofs.SingleLemmas.{IsReadFor, bad_literal, bad_part, not_right, read_for, single_boundary}
+use Rattle.explain.proofs.SingleLemmas.{bad_literal, bad_part, not_right, read_for, single_boundary}
 use Rattle.explain.proofs.SingleLemmas.{single_past}
 use Rattle.explain.proofs.single_contents.single_content.Goals as goal
 
@@ -21,9 +21,11 @@ faulty-requires c =
     let read = read_for c.args.kind c.in-Some.error text c.in-Some.size given in
     let past = single_past c.args.kind c.in-Some.error c.args.at c.args.inside c.args.end text c.in-Some.size
     c.requires.opens c.requires.closed.0 c.requires.closed.1 c.requires.closes.1 read c.after_bytes.result
-    c.after_bytes.ensures.rest c.after_bytes.ensures.count in
-    (past.0, subst (λ p. 1 ≤ length p) (sym past.1)
-    (read.some (sym c.is_of_literal.ensures ∙ c.if-is_of_literal.false)))
+    c.after_bytes.ensures.rest c.after_bytes.ensures.count in (
+      past.0,
+      subst (λ p. 1 ≤ length p) (sym past.1)
+          (read.some (sym c.is_of_literal.ensures ∙ c.if-is_of_literal.false)),
+    )
 
 pub returns-then-is_of_literal : goal.returns-then-is_of_literal
 returns-then-is_of_literal c =

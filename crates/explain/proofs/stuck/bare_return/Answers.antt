@@ -1,5 +1,4 @@
 use Rattle.std.proofs.Common.{arith, ap, sym, length, ◌∙◌}
-use Rattle.std.proofs.lemmas.Bool.{not-false}
 use Rattle.lexical.proofs.RuleSteps.{run_goes_on}
 use Rattle.explain.proofs.BareReturnLemmas.{first_bare, first_return, next_return, no_bare}
 use Rattle.explain.proofs.stuck.bare_return.Goals as goal
