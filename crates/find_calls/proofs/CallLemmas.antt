@@ -1,5 +1,6 @@
 -- What is left to find of the calls.
-use Rattle.std.proofs.Common.{◌≡◌, ℕ, zero, suc, ◌+◌, ◌*◌, ◌<◌, ◌≤◌, Bool, true, false, not, ◌&&◌, List, [], ◌∷◌, ◌++◌, drop, length}
+use Rattle.std.proofs.Common.{◌≡◌, ℕ, zero, suc, ◌+◌, ◌*◌, ◌<◌, ◌≤◌, Bool, true, false, not, ◌&&◌, List, [], ◌∷◌}
+use Rattle.std.proofs.Common.{◌++◌, drop, length}
 use Rattle.std.proofs.Common.{Option, Some, None, refl, sym, ap, ap₂, ◌∙◌, arith, get_or, ◌==◌, ne_eqb, if◌then◌else◌}
 use Rattle.std.proofs.Math.Seq.{drop-cons}
 use Rattle.std.proofs.KnownBytes.{Appends-nil}
@@ -96,7 +97,8 @@ drop_past (span ∷ spans) (suc n) past = drop_past spans n (omega (arith, past)
 -- no more is written where no call is left
 pub written_nothing : (old new : Option (List ℕ)) (path text : List ℕ) (spans : List Extent) (n : ℕ)
     → length spans ≤ n
-    → ((end : Option (List ℕ)) → Appends new end (lines path text (drop n spans)) → Appends old end (lines path text spans))
+    → ((end : Option (List ℕ)) → Appends new end (lines path text (drop n spans))
+    → Appends old end (lines path text spans))
     → Appends old new (lines path text spans)
 written_nothing old new path text spans n past h =
     h new (rw (drop_past spans n past) (Appends-nil new))

@@ -20,7 +20,8 @@ use token_buffer::{BufferError, TokenBuffer};
 /// any. A text in which the name's bytes don't stand has none.
 ///
 /// Fails with `Fault`, which has line and column, and `MapFull` before anything is written, and with `Memory` and
-/// `Write`; then a beginning of the lines stands. Of ` f(1)` at the path `a.rs` and the name `f` the line is `a.rs:1:2`.
+/// `Write`; then a beginning of the lines stands. Of ` f(1)` at the path `a.rs` and the name `f` the line is
+/// `a.rs:1:2`.
 pub fn print_calls<W: Write>(
     alloc: Global,
     path: &str,

@@ -1,8 +1,9 @@
 //! Finds the calls of a function or a macro by its name, in source texts.
 //!
-//! `find_calls NAME [FILE..]` writes a line `FILE:L:C` for each call, in reading order: where an identifier of this name
-//! stands right before a group in parentheses, or before `!` and a group, and not right after `fn`. Names in comments
-//! and literals are none. A tuple struct, a variant and their patterns look like calls, and are found too.
+//! `find_calls NAME [FILE..]` writes a line `FILE:L:C` for each call, in reading order: where an identifier of this
+//! name stands right before a group in parentheses, or before `!` and a group, and not right after `fn`. So names in
+//! comments and literals are none, nor is one before `::<`. A tuple struct, a variant and their patterns look like
+//! calls, and are found too. The name is written without `r#`, and found with it too.
 //!
 //! Standard input is the file `-`, and is searched where no file is named. Lines and columns count from 1, columns in
 //! characters. A text in which the name doesn't stand has no calls, and its tokens aren't looked at. The status is 0

@@ -95,5 +95,6 @@ fewer_group (x ∷ groups) inner outer d lo hi here inside is push =
     omega (arith, ap count is, ap (λ gs. steps_left gs inside) push)
 
 -- a group more that is open, the innermost
-pub reverse_push : (groups : List OpenTrees) (outer : OpenTrees) → reverse (groups ++ outer ∷ []) ≡ outer ∷ reverse groups
+pub reverse_push : (groups : List OpenTrees) (outer : OpenTrees)
+    → reverse (groups ++ outer ∷ []) ≡ outer ∷ reverse groups
 reverse_push groups outer = reverse-append groups (outer ∷ [])

@@ -60,7 +60,8 @@ merely_token (Name raw name) h = (
   merely_true _ (∥∥₁_map h (λ all. all.2)),
 )
 merely_token (Mark c joint) h = merely_true _ h
-merely_token (Literal text) h = (merely_literal text (∥∥₁_map h (λ all. all.0)), merely_true _ (∥∥₁_map h (λ all. all.1)))
+merely_token (Literal text) h =
+    (merely_literal text (∥∥₁_map h (λ all. all.0)), merely_true _ (∥∥₁_map h (λ all. all.1)))
 
 pub merely_built : (f : Forest) → ∥ IsBuilt f ∥₁ → IsBuilt f
 merely_built nil h = tt

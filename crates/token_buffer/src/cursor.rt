@@ -16,6 +16,10 @@ use pm_token::{Delimiter, Spacing};
 ///
 /// What reads trees goes on by the cursors that the calls answer, and backs up by an older one. Each call takes the
 /// same time whatever is left, and no memory, but those that say otherwise.
+///
+/// Cursors have no `==`. A doc comment and the attribute that it stands for are the same trees by other entries, so
+/// entries can't be compared one by one, and what a doc comment says would have to be escaped, which takes memory.
+/// Whether two have the same left but for spans is asked of their streams: `to_stream`, and then `same_tokens`.
 #[derive(Clone, Copy)]
 pub struct Cursor<'a> {
     text: &'a str,

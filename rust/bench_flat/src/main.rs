@@ -134,9 +134,11 @@ fn main() -> Result<(), Box<dyn Error>> {
         Ok(stream) => walk_trees(stream),
         Err(_) => 0,
     });
-    least("flat_to_stream_and_walk", trees, || match buffer.begin().to_stream(Global) {
-        Ok(stream) => walk_made(stream.trees()),
-        Err(_) => 0,
+    least("flat_to_stream_and_walk", trees, || {
+        match buffer.begin().to_stream(Global) {
+            Ok(stream) => walk_made(stream.trees()),
+            Err(_) => 0,
+        }
     });
     Ok(())
 }
