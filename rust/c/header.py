@@ -4,9 +4,10 @@
 Usage: rust/c/header.py [--check [ARCHIVE]]
 
 The codes are those of src/codes.rt, the records those of src/records.rt, the faults of literals those of
-specs/Faults.antt, the reasons those of specs/Reasons.antt, and the calls and their comments those of src/lib.rt. The codes that a call may answer are those of
-its record in specs/Calls.antt. With --check nothing is written, and the status is 1 where pm_c.h is another, where
-tests.c has no row for some code, or where ARCHIVE, the static library, exports other calls.
+specs/Faults.antt, the reasons those of specs/Reasons.antt, and the calls and their comments those of src/lib.rt. The
+codes that a call may answer are those of its record in specs/Calls.antt. With --check nothing is written, and the
+status is 1 where pm_c.h is another, where tests.c has no row for some code, or where ARCHIVE, the static library,
+exports other calls.
 """
 import pathlib
 import re

@@ -57,7 +57,7 @@ TEST_METHODS = set('''
 '''.split())
 TEST_MACROS = {'assert', 'assert_eq', 'vec'}
 
-# The one file with `unsafe`. Its type keeps copies of whole texts alone, so their bytes are UTF-8 whatever a caller does.
+# The one file with `unsafe`. Its type keeps copies of whole texts alone, so their bytes are UTF-8 whatever callers do.
 WITH_UNSAFE = 'crates/pm_token/src/symbols/short.rt'
 
 # Words of the language whose form no rule knows, or that Rust reads otherwise.

@@ -8,7 +8,7 @@ static PAIRS: [u8; 200] = *b"\
 /// As many digits and a sign as a number of 128 bits has at most.
 const ROOM: usize = 40;
 
-/// How many digits at the end of a number of 128 bits are written at once, and the power of ten that they are less than.
+/// How many digits at the end of a number of 128 bits are written at once, and the power of ten above them.
 const CHUNK: usize = 19;
 const PAST_CHUNK: u128 = 10u128.pow(CHUNK as u32);
 
