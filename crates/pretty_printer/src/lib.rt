@@ -1,7 +1,7 @@
 //! Prints streams so that people read them well.
 //!
-//! [`to_pretty_string`] writes a stream's tokens on lines of 100 columns where that can be. What it writes reads back to
-//! the stream, whatever its rules choose: the crate `layout` promises that of every layout.
+//! [`to_pretty_string`] writes a stream's tokens on lines of 100 columns where that can be. What it writes reads
+//! back to the stream, whatever its rules choose: the crate `layout` promises that of every layout.
 #![tactic(auto)]
 
 ghost use Rattle.std.specs.Prelude.{◌≡◌, ◌↔◌, Err, IfOk, string_bytes};

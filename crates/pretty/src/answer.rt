@@ -1,0 +1,46 @@
+//! What the program writes for a text.
+ghost use Rattle.std.specs.Prelude.{OnOk};
+ghost use Rattle.std.specs.Str.{chars};
+ghost use Rattle.layout.specs.Writing.{WritesLayout};
+ghost use Rattle.proc_macro2.specs.WellSpaced.{IsWellSpaced};
+ghost use Rattle.pretty.specs.Answer.{Writes};
+
+use layout::LayoutError;
+use messages::Failure;
+use pretty_printer::to_pretty_string;
+use proc_macro2::{SourceMap, TokenStream};
+use std::alloc::Global;
+use std::io::Write;
+
+/// Writes the tokens of the text, in a layout that reads back to them.
+///
+/// Fails with `Fault`, which has line and column, `MapFull` and `Memory` before anything is written, and with `Write`;
+/// then a beginning of the text may stand.
+pub fn print_text<W: Write>(alloc: Global, text: &str, writer: &mut W) -> Result<(), Failure>
+    ensures { OnOk result (Writes (chars text.now) (W.contents writer.old) (W.contents writer.new)) }
+{
+    let mut map = SourceMap::new(alloc);
+    match TokenStream::from_str(text, &mut map) {
+        Ok(stream) => print_stream(alloc, &stream, writer),
+        Err(error) => Err(Failure::unparsed(error, &map)),
+    }
+}
+
+// Writes a stream that is well spaced.
+fn print_stream<W: Write>(
+    alloc: Global,
+    stream: &TokenStream,
+    writer: &mut W,
+) -> Result<(), Failure>
+    requires { IsWellSpaced stream.now }
+    ensures { OnOk result (WritesLayout stream.now (W.contents writer.old) (W.contents writer.new)) }
+{
+    let pretty = match to_pretty_string(alloc, stream) {
+        Ok(pretty) => pretty,
+        Err(LayoutError::NotWellSpaced) => unreachable!(),
+        Err(LayoutError::Memory(_)) => return Err(Failure::Memory),
+        Err(LayoutError::Write(error)) => return Err(Failure::Write(error)),
+    };
+    writer.write_all(pretty.as_str().as_bytes())?;
+    Ok(())
+}

@@ -1,0 +1,42 @@
+//! Prints the tokens of a source text so that people read them well.
+//!
+//! `pretty FILE` reads the file, `pretty` standard input. What it writes has the tokens of the text, and reads back to
+//! them; doc comments are written as attributes. Plain comments are lost. The status is 0 where the text was read and
+//! all was written, 1 where the text has a fault, and 2 where the words ask for nothing, a read or a write failed, the
+//! input isn't UTF-8 or too long, or memory ran out. A line on standard error says why, but nothing where nobody reads
+//! the output any more.
+#![tactic(auto)]
+
+mod answer;
+
+use answer::print_text;
+use messages::{Failure, conclude, path, read_text, words};
+use std::env;
+use std::io::{BufWriter, Write};
+use std::process::ExitCode;
+
+const USAGE: &str = "pretty [FILE] (plain comments are lost)";
+
+fn main(rt: HostRuntime) -> ExitCode {
+    match asked(&rt) {
+        Ok(path) => {
+            let outcome = run(&rt, path.as_str());
+            conclude(rt.alloc(), path.as_str(), outcome, &mut rt.stderr())
+        }
+        Err(failure) => conclude(rt.alloc(), "-", Err(failure), &mut rt.stderr()),
+    }
+}
+
+// The path that the words after the program's name ask for.
+fn asked(rt: &HostRuntime) -> Result<String, Failure> {
+    let words = words(rt.alloc(), env::args(rt), USAGE)?;
+    path(rt.alloc(), words.as_slice(), USAGE)
+}
+
+// Prints the tokens of the text at the path.
+fn run(rt: &HostRuntime, path: &str) -> Result<(), Failure> {
+    let text = read_text(rt, path)?;
+    let mut writer = BufWriter::new(rt.alloc(), rt.stdout())?;
+    print_text(rt.alloc(), text.as_str(), &mut writer)?;
+    Ok(writer.flush()?)
+}
