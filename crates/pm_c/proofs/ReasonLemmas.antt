@@ -45,6 +45,9 @@ told_answer bytes text x answer same utf8 holds fits told =
         told = refl;
       };
       not_utf8 = (λ e. absurd (omega (arith, e)), λ no. absurd (no utf8));
-      map_full = (λ e. absurd (omega (arith, e)), λ over.
-          absurd (fits (subst (λ source. Fits new_map (length (chars source)) → ⊥) (sym same) over.1)));
+      map_full = (
+        λ e. absurd (omega (arith, e)),
+        λ over.
+            absurd (fits (subst (λ source. Fits new_map (length (chars source)) → ⊥) (sym same) over.1)),
+      );
     })

@@ -13,9 +13,9 @@ pub returns-in-Ok-Some : goal.returns-in-Ok-Some
 returns-in-Ok-Some c =
     let source = chars c.in-Ok.text.now in
     let holds = subst (λ answer. MatchOption answer (Parses 1 source) (IsExplained 1 source)) c.in-Ok-Some.field-0-is
-        c.in-Ok-Some.ensures.answer in
+    c.in-Ok-Some.ensures.answer in
     let clash : (Fits new_map (length source) → ⊥)
-        → ◌≡◌ {A = Result (Option Explained) ExplainError} (Ok c.in-Ok-Some.field-0) (Err MapFull)
+    → ◌≡◌ {A = Result (Option Explained) ExplainError} (Ok c.in-Ok-Some.field-0) (Err MapFull)
     = c.in-Ok-Some.ensures.map_full.1 in
     told_answer c.args.source.now c.in-Ok.text.now c.in-Ok-Some.explained c.told_of.result c.in-Ok.ensures.cases.0
     c.in-Ok.ensures.cases.1 holds (λ no. let e = clash no in absurd (cc)) c.told_of.ensures
