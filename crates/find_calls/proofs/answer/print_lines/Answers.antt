@@ -12,13 +12,17 @@ loop-span-preserved g c =
     let at : drop c.loop-span.span-index c.args.spans.now
     ≡ c.span-item.result ∷ drop (c.loop-span.span-index + 1) c.args.spans.now
     = drop_first c.args.spans.now c.loop-span.span-index c.span-item.result c.loop-span-test.true c.span-item.is in
-    let held = subst (Each (Holds c.args.map.now)) at c.loop-span.invariant.0 in
-    (held.1, λ text all.
-        let was = c.loop-span.invariant.1 text all in
-        let starts = subst (Each (StartsIn c.args.map.now text)) at was.0 in
-        (starts.1, λ new more. was.1 new (rw at (Appends-trans _ _ _ _ _
-        (subst (λ start. Appends (g.W.Write.contents c.loop-span.writer) (g.W.Write.contents c.writeln.new.self)
-        (line_of c.args.path.now start)) (starts.0 _ c.start-start.ensures) c.in_ok-writeln.ensures.bytes) more))))
+    let held = subst (Each (Holds c.args.map.now)) at c.loop-span.invariant.0 in (
+      held.1,
+      λ text all.
+          let was = c.loop-span.invariant.1 text all in
+          let starts = subst (Each (StartsIn c.args.map.now text)) at was.0 in (
+            starts.1,
+            λ new more. was.1 new (rw at (Appends-trans _ _ _ _ _
+                (subst (λ start. Appends (g.W.Write.contents c.loop-span.writer) (g.W.Write.contents c.writeln.new.self)
+                (line_of c.args.path.now start)) (starts.0 _ c.start-start.ensures) c.in_ok-writeln.ensures.bytes) more)),
+          ),
+    )
 
 pub returns : goal.returns
 returns g c = λ text all.
