@@ -38,12 +38,6 @@ is_called nil = false
 is_called (leaf token lo hi rest) = is_bang token && is_some (group_first rest)
 is_called (group d lo hi inside rest) = is_parenthesis d
 
--- the keyword `fn` comes first
-abbrev pub fn_first : Forest → Bool
-fn_first nil = false
-fn_first (leaf token lo hi rest) = is_fn token
-fn_first (group d lo hi inside rest) = false
-
 -- where the first tree stands, if it is a call of this name, and doesn't define the name after `fn`
 abbrev pub call_first : List ℕ → Bool → Forest → Option Extent
 call_first name defined nil = None

@@ -1,9 +1,10 @@
 //! The calls among tokens.
-ghost use Rattle.std.specs.Prelude.{◌≡◌, ◌++◌, IfOk, OnOk, not};
+ghost use Rattle.std.specs.Prelude.{◌≡◌, ◌++◌, Bool, IfOk, OnOk};
 ghost use Rattle.std.specs.Option.{option_to_list};
 ghost use Rattle.std.specs.Str.{bytes_eq, chars, encode_utf8_all};
-ghost use Rattle.token_buffer.specs.Reads.{left};
-ghost use Rattle.find_calls.specs.Calls.{call_first, calls, fn_first, is_called};
+ghost use Rattle.lexical.specs.Token as tokens;
+ghost use Rattle.token_buffer.specs.Reads.{BeginsWith, left};
+ghost use Rattle.find_calls.specs.Calls.{call_first, calls, is_called, is_fn};
 
 use pm_span::Span;
 use pm_token::Delimiter;
@@ -22,8 +23,13 @@ pub fn calls(alloc: Global, name: &str, cursor: Cursor<'_>) -> Result<Vec<Span>,
     let mut here = cursor;
     let mut defined = false;
     loop {
-        push_call(&mut spans, name, defined, here)?;
-        defined = begins_with_fn(here);
+        if let Some((ident, after)) = here.ident() {
+            push_call(&mut spans, name, defined, ident.text, here, after)?;
+            defined = is_fn(ident.raw, ident.text);
+            here = after;
+            continue;
+        }
+        defined = false;
         match here.next() {
             Some((TokenText::Group(_, inside), after)) => {
                 outer.push(after)?;
@@ -38,28 +44,38 @@ pub fn calls(alloc: Global, name: &str, cursor: Cursor<'_>) -> Result<Vec<Span>,
     }
 }
 
-// Puts in the first tree's span, if it is a call of this name, and no function is defined there.
+// Puts in the span of this identifier, which comes first, if it is a call of this name, and no function is defined
+// there.
 fn push_call(
     spans: &mut Vec<Span>,
     name: &str,
     defined: bool,
+    text: &str,
     here: Cursor<'_>,
+    after: Cursor<'_>,
 ) -> Result<(), AllocError>
+    requires { (raw : Bool) × BeginsWith (tokens.Name raw (chars text.now)) here after }
     ensures { OnOk result (spans.new.items ≡ spans.old.items
         ++ option_to_list (call_first name.now defined (left here.entry))) }
 {
-    if let Some(span) = call_at(name, defined, here) {
+    if let Some(span) = call_at(name, defined, text, here, after) {
         spans.push(span)?;
     }
     Ok(())
 }
 
-// The first tree's span, if it is a call of this name, and no function is defined there.
-fn call_at(name: &str, defined: bool, here: Cursor<'_>) -> Option<Span>
+// The span of this identifier, which comes first, if it is a call of this name, and no function is defined there.
+fn call_at(
+    name: &str,
+    defined: bool,
+    text: &str,
+    here: Cursor<'_>,
+    after: Cursor<'_>,
+) -> Option<Span>
+    requires { (raw : Bool) × BeginsWith (tokens.Name raw (chars text.now)) here after }
     ensures { result ≡ call_first name.now defined (left here.entry) }
 {
-    let (ident, after) = here.ident()?;
-    if is_text(ident.text, name) && !defined && is_called(after) {
+    if is_text(text, name) && !defined && is_called(after) {
         here.span()
     } else {
         None
@@ -77,14 +93,11 @@ fn is_called(after: Cursor<'_>) -> bool
     }
 }
 
-// Whether the keyword `fn` comes first.
-fn begins_with_fn(here: Cursor<'_>) -> bool
-    ensures { result ≡ fn_first (left here.entry) }
+// Whether it is the keyword `fn`.
+fn is_fn(raw: bool, text: &str) -> bool
+    ensures { result ≡ is_fn (tokens.Name raw (chars text.now)) }
 {
-    match here.ident() {
-        Some((ident, _)) => !ident.raw && is_text(ident.text, "fn"),
-        None => false,
-    }
+    !raw && is_text(text, "fn")
 }
 
 // Whether both are the same.

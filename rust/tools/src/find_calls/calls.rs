@@ -19,8 +19,13 @@ pub fn calls(alloc: Global, name: &str, cursor: Cursor<'_>) -> Result<Vec<Span>,
     let mut here = cursor;
     let mut defined = false;
     loop {
-        push_call(&mut spans, name, defined, here)?;
-        defined = begins_with_fn(here);
+        if let Some((ident, after)) = here.ident() {
+            push_call(&mut spans, name, defined, ident.text, here, after)?;
+            defined = is_fn(ident.raw, ident.text);
+            here = after;
+            continue;
+        }
+        defined = false;
         match here.next() {
             Some((TokenText::Group(_, inside), after)) => {
                 outer.push(after)?;
@@ -35,25 +40,33 @@ pub fn calls(alloc: Global, name: &str, cursor: Cursor<'_>) -> Result<Vec<Span>,
     }
 }
 
-// Puts in the first tree's span, if it is a call of this name, and no function is defined there.
+// Puts in the span of this identifier, which comes first, if it is a call of this name, and no function is defined
+// there.
 fn push_call(
     spans: &mut Vec<Span>,
     name: &str,
     defined: bool,
+    text: &str,
     here: Cursor<'_>,
+    after: Cursor<'_>,
 ) -> Result<(), AllocError>
 {
-    if let Some(span) = call_at(name, defined, here) {
+    if let Some(span) = call_at(name, defined, text, here, after) {
         spans.push(span)?;
     }
     Ok(())
 }
 
-// The first tree's span, if it is a call of this name, and no function is defined there.
-fn call_at(name: &str, defined: bool, here: Cursor<'_>) -> Option<Span>
+// The span of this identifier, which comes first, if it is a call of this name, and no function is defined there.
+fn call_at(
+    name: &str,
+    defined: bool,
+    text: &str,
+    here: Cursor<'_>,
+    after: Cursor<'_>,
+) -> Option<Span>
 {
-    let (ident, after) = here.ident()?;
-    if is_text(ident.text, name) && !defined && is_called(after) {
+    if is_text(text, name) && !defined && is_called(after) {
         here.span()
     } else {
         None
@@ -70,13 +83,10 @@ fn is_called(after: Cursor<'_>) -> bool
     }
 }
 
-// Whether the keyword `fn` comes first.
-fn begins_with_fn(here: Cursor<'_>) -> bool
+// Whether it is the keyword `fn`.
+fn is_fn(raw: bool, text: &str) -> bool
 {
-    match here.ident() {
-        Some((ident, _)) => !ident.raw && is_text(ident.text, "fn"),
-        None => false,
-    }
+    !raw && is_text(text, "fn")
 }
 
 // Whether both are the same.
