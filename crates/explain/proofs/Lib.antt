@@ -1,7 +1,16 @@
+pub mod EscapeLemmas
+pub mod ContentLemmas
+pub mod PlaceLemmas
+pub mod StringLemmas
+pub mod BareReturnLemmas
 pub mod TroubleLemmas
 pub mod NumberLemmas
 pub mod OpenLemmas
 pub mod ScanLemmas
 pub mod QuoteLemmas
+pub mod RawLemmas
+pub mod SingleLemmas
+pub mod LoneLemmas
 pub mod StuckLemmas
+pub mod LetterLemmas
 pub mod ExplainingLemmas

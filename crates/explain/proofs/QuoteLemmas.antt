@@ -54,7 +54,7 @@ unclosed_string kind at inside h none =
 abbrev quotes : List ℕ → Rule
 quotes hashes = Then (Exactly (codes "\"")) (closed_raw_body hashes)
 
-clear_closed : (kind : StringKind) → Clear (closed_raw kind)
+pub clear_closed : (kind : StringKind) → Clear (closed_raw kind)
 clear_closed kind = (tt, (tt, λ hashes. (tt, clear_raw hashes)))
 
 next_passes : (rule : List ℕ → Rule) (at mid to : Cursor) (run : Passes (Run is_hash) at mid)
@@ -79,7 +79,7 @@ module _ (kind : StringKind) (at inside quote body : Cursor) (letters : Passes (
       ∙ ap (behind run.front) (then_reads (Exactly (codes "\""))
       (closed_raw_body run.front) quote body None opens none))
 
-  raw_some : (end : Cursor) → Passes (closed_raw_body run.front) body end → Passes (closed_raw kind) at end
+  pub raw_some : (end : Cursor) → Passes (closed_raw_body run.front) body end → Passes (closed_raw kind) at end
   raw_some end h =
       then_passes (Exactly (raw_front kind)) (Next (Run is_hash) quotes) at inside end letters
       (next_passes quotes inside quote end run (then_passes (Exactly (codes "\""))
@@ -116,13 +116,13 @@ module _ (kind : StringKind) (at inside quote body : Cursor) (letters : Passes (
             none _ _ (sym whole ∙ all.0) all.1,
       ))
 
-pub without_quote : (kind : StringKind) (at inside first end after : Cursor)
-    → Passes (Exactly (raw_front kind)) at inside → Passes (One is_hash) inside first → Passes (Run is_hash) first end
+pub without_quote : (kind : StringKind) (at inside end after : Cursor)
+    → Passes (Exactly (raw_front kind)) at inside → Passes (Then (One is_hash) (Run is_hash)) inside end
     → Passes no_double_quote end after → find raw_name_start (chars at.rest.now) ≡ None
     → IsTrouble at (record { reason = HashesWithoutQuote; at = end; after = after })
-without_quote kind at inside first end after letters one run other none =
+without_quote kind at inside end after letters signs other none =
     trouble (hashed_front kind) no_double_quote (assumption) (assumption) at end after HashesWithoutQuote
-    (then_passes _ _ at inside end letters (then_passes _ _ inside first end one run)) other
+    (then_passes _ _ at inside end letters signs) other
     (λ front part whole is. (kind, is, none_stands raw_name_start (assumption) _ front part _ none whole))
 
 -- ---- names
@@ -145,13 +145,15 @@ pub no_raw_lifetime : (at inner : Cursor) → Passes (Exactly (codes "'r#")) at 
 no_raw_lifetime at inner h none =
     then_reads (Exactly (codes "'r#")) (One is_ident_start) at inner None h (name_none _ none)
 
-pub reserved_name : (at inner end : Cursor) (text : List ℕ) → Passes (Exactly (codes "r#")) at inner
-    → Passes name inner end → IsBetween text inner end → is_reserved text ≡ true
+pub reserved_name : (at inner end : Cursor) → Passes (Exactly (codes "r#")) at inner
+    → (named : Passes name inner end) → is_reserved named.front ≡ true
     → IsTrouble at (record { reason = ReservedRawName; at = at; after = end })
-reserved_name at inner end text h named between reserved =
+reserved_name at inner end h named reserved =
     trouble_here reserved_raw (assumption) at end ReservedRawName
     (either_first _ _ at end (then_passes _ _ at inner end h
-    (where_passes is_reserved name (assumption) inner end text named between reserved)))
+    (where_passes is_reserved name (assumption) inner end named.front named
+    (λ front e. append_cancel_right named.front front (chars end.rest.now)
+    (sym (passed name (assumption) inner end named).0 ∙ e)) reserved)))
     (λ front part whole is. is)
 
 quote_none : (text : List ℕ) → find (Exactly (codes "'")) text ≡ None → first_passes is_quote text ≡ false
@@ -159,17 +161,19 @@ quote_none [] e = refl
 quote_none (c ∷ text) e = false_from_ne_true _ (λ is.
     both_ways _ (lacks_text (codes "'") (c ∷ text) e) (and_from _ _ (eq-eqb 39 c (sym (eqb-true c 39 is))) refl))
 
-pub reserved_lifetime : (at inner end : Cursor) (text : List ℕ) → Passes (Exactly (codes "'r#")) at inner
-    → Passes name inner end → IsBetween text inner end → is_reserved text ≡ true
+pub reserved_lifetime : (at inner end : Cursor) → Passes (Exactly (codes "'r#")) at inner
+    → (named : Passes name inner end) → is_reserved named.front ≡ true
     → find (Exactly (codes "'")) (chars end.rest.now) ≡ None
     → IsTrouble at (record { reason = ReservedRawName; at = at; after = end })
-reserved_lifetime at inner end text h named between reserved none =
+reserved_lifetime at inner end h named reserved none =
     trouble_here reserved_raw (assumption) at end ReservedRawName
     (either_reads _ _ at (Some end)
     (then_lacks _ _ _ (text_lacks (codes "r#") _
     (subst (λ t. begins_with (codes "r#") t ≡ false) (sym (past_text (codes "'r#") at inner h).0) refl)))
     (before_passes is_quote _ at end (then_passes _ _ at inner end h
-    (where_passes is_reserved name (assumption) inner end text named between reserved)) (quote_none _ none)))
+    (where_passes is_reserved name (assumption) inner end named.front named
+    (λ front e. append_cancel_right named.front front (chars end.rest.now)
+    (sym (passed name (assumption) inner end named).0 ∙ e)) reserved)) (quote_none _ none)))
     (λ front part whole is. is)
 
 -- ---- characters and lifetimes

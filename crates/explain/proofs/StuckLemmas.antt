@@ -1,33 +1,44 @@
 -- What the first character tells where no piece stands.
-use Rattle.std.proofs.Common.{◌≡◌, ℕ, ◌+◌, Bool, true, false, not, ◌==◌, List, [], ◌∷◌, ◌++◌, codes}
+use Rattle.std.proofs.Common.{◌≡◌, ℕ, ◌+◌, Bool, true, false, not, ◌&&◌, ◌==◌, cond, List, [], ◌∷◌, ◌++◌, codes}
 use Rattle.std.proofs.Common.{Some}
-use Rattle.std.proofs.Common.{None, IfSome, inl, inr, refl, sym, ap, ◌∙◌, arith, eqb-true}
+use Rattle.std.proofs.Common.{None, IfSome, inl, inr, refl, sym, ap, ◌∙◌, subst, arith, eqb-true}
 use Rattle.std.specs.Char.{is_ascii_digit}
 use Rattle.std.specs.Str.{chars}
-use Rattle.std.proofs.lemmas.Bool.{cases_Bool, false_from_ne_true, or_from}
+use Rattle.std.proofs.lemmas.Bool.{and_from, both_ways, cases_Bool, cond-false, false_from_ne_true, not_from_false, or_from}
 use Rattle.lexical.specs.Comment.{block_comment, comment, line_comment}
 use Rattle.lexical.specs.Class.{is_white, is_ident_start}
-use Rattle.lexical.specs.Delimiter.{is_opener, is_closer}
+use Rattle.lexical.specs.Delimiter.{closer, error_literal, is_opener, is_closer, opener}
+use Rattle.lexical.specs.Identifier.{identifier, literal_prefixes, name}
 use Rattle.lexical.specs.Finder.{Answer}
-use Rattle.lexical.specs.Mark.{is_mark}
+use Rattle.lexical.specs.Literal.{quoted_literal}
+use Rattle.lexical.specs.Mark.{comment_fronts, is_mark, mark}
 use Rattle.lexical.specs.Number.{number}
-use Rattle.lexical.specs.Piece.{HasNoPiece, IsPiece}
-use Rattle.lexical.specs.PieceFinder.{found, literal_kind, piece_start, tagged}
+use Rattle.lexical.specs.Piece.{HasNoPiece, IsPiece, Kind}
+use Rattle.lexical.specs.PieceFinder.{Found, comment_found, find_lone_quote, found, found_identifier, literal_kind}
+use Rattle.lexical.specs.PieceFinder.{closer_kind, gap_kind, mark_kind, name_kind, opener_kind, or_found, piece_start, quote_kind}
+use Rattle.lexical.specs.PieceFinder.{tagged}
+use Rattle.lexical.specs.Quoted.{cooked}
+use Rattle.lexical.specs.RawString.{raw_string}
+use Rattle.lexical.specs.SingleQuoted.{byte, character}
 use Rattle.lexical.specs.Rule.{One, Exactly, find}
 use Rattle.lexical.specs.Step.{Passes}
-use Rattle.lexical.specs.Text.{first_passes}
+use Rattle.lexical.specs.Text.{begins_any, begins_with, first_passes}
 use Rattle.lexical.specs.declared.class.PieceStart.{PieceStart}
 use Rattle.lexical.specs.declared.class.PieceStart.TheVariants as starts
 use Rattle.lexical.specs.declared.cursor.Cursor.{Cursor}
-use Rattle.lexical.proofs.AnswerLemmas.{at_start}
+use Rattle.lexical.proofs.AnswerLemmas.{at_start, one_found_not_at}
 use Rattle.lexical.proofs.ClassLemmas.{of_start, start_white, start_letter, start_digit, start_opener, start_closer}
 use Rattle.lexical.proofs.ClassLemmas.{start_mark, start_quote, start_double_quote, start_front_mark}
+use Rattle.lexical.proofs.ClassLemmas.{start_slash}
 use Rattle.lexical.proofs.PieceLemmas.{found_sound}
-use Rattle.lexical.proofs.RuleSteps.{find_either, one_passes, text_passes}
+use Rattle.lexical.proofs.QuotedFinderLemmas.{each_kind}
+use Rattle.lexical.specs.declared.quoted.StringKind.{StringKind}
+use Rattle.lexical.proofs.RuleSteps.{find_either, lacks_text, one_found, one_passes, text_passes}
 use Rattle.explain.specs.Shapes.{begins_nothing}
 use Rattle.explain.specs.Trouble.{IsTrouble}
-use Rattle.explain.specs.declared.reason.Reason.TheVariants.{MisplacedMark, NoToken, UnclosedComment, Unread}
-use Rattle.explain.proofs.NumberLemmas.{or_none}
+use Rattle.explain.specs.declared.reason.Reason.TheVariants.{MisplacedMark, NoToken, UnclosedComment}
+use Rattle.explain.proofs.NumberLemmas.{one_none, or_none}
+use Rattle.explain.proofs.QuoteLemmas.{name_none}
 use Rattle.explain.proofs.ScanLemmas.{none_stands}
 use Rattle.explain.proofs.TroubleLemmas.{trouble_here}
 
@@ -50,6 +61,74 @@ untagged (Some x) e = absurd (cc)
 pub no_number : (first : Bool) (c : ℕ) (text rest : List ℕ) → text ≡ c ∷ rest → starts.Digit ≡ piece_start c
     → found first text ≡ None → find number text ≡ None
 no_number first c text rest e s none = untagged (find number text) (sym (at_start first starts.Digit e s) ∙ none)
+
+-- ---- what is not found
+
+or_found_none : (o u : Found) → or_found o u ≡ None → (o ≡ None) × (u ≡ None)
+or_found_none None u e = (refl, e)
+or_found_none (Some x) u e = absurd (cc)
+
+pub untagged_by : (kind : List ℕ → List ℕ → Kind) (o : Answer) → tagged kind o ≡ None → o ≡ None
+untagged_by kind None e = refl
+untagged_by kind (Some x) e = absurd (cc)
+
+pub letter_none : (first : Bool) (c : ℕ) (text rest : List ℕ) → text ≡ c ∷ rest → starts.Letter ≡ piece_start c
+    → found first text ≡ None → (found_identifier text ≡ None) × (find quoted_literal text ≡ None)
+letter_none first c text rest e s none =
+    let both = or_found_none _ _ (sym (at_start first starts.Letter e s) ∙ none) in
+    (both.0, untagged (find quoted_literal text) both.1)
+
+pub quote_none : (first : Bool) (c : ℕ) (text rest : List ℕ) → text ≡ c ∷ rest → starts.Quote ≡ piece_start c
+    → found first text ≡ None → (find_lone_quote text ≡ None) × (find quoted_literal text ≡ None)
+quote_none first c text rest e s none =
+    let both = or_found_none _ _ (sym (at_start first starts.Quote e s) ∙ none) in
+    (untagged_by quote_kind (find_lone_quote text) both.0, untagged (find quoted_literal text) both.1)
+
+pub string_none : (first : Bool) (c : ℕ) (text rest : List ℕ) → text ≡ c ∷ rest → starts.DoubleQuote ≡ piece_start c
+    → found first text ≡ None → find quoted_literal text ≡ None
+string_none first c text rest e s none =
+    untagged (find quoted_literal text) (sym (at_start first starts.DoubleQuote e s) ∙ none)
+
+pub comment_none : (first : Bool) (c : ℕ) (text rest : List ℕ) → text ≡ c ∷ rest → starts.Slash ≡ piece_start c
+    → found first text ≡ None
+    → (begins_any comment_fronts text ≡ true) × (comment_found (find comment text) ≡ None)
+comment_none first c text rest e s none = by_front (begins_any comment_fronts text) refl
+    (sym (at_start first starts.Slash e s) ∙ none)
+  where
+    by_front : (b : Bool) → begins_any comment_fronts text ≡ b
+        → cond b (comment_found (find comment text)) (tagged mark_kind (find mark text)) ≡ None
+        → (b ≡ true) × (comment_found (find comment text) ≡ None)
+    by_front true begins h = (refl, h)
+    by_front false plain h =
+        let slash : c ≡ 47 = eqb-true c 47 (of_start starts.Slash c s) in
+        let some = one_found_not_at comment_fronts (λ d. is_mark d && not (d == 39)) text rest c e plain
+        (ap (λ d. is_mark d && not (d == 39)) slash) in
+        let clash : ◌≡◌ {A = Answer} (Some (c ∷ [], rest)) None =
+        sym some ∙ untagged_by mark_kind (find mark text) h in
+        absurd (cc)
+
+-- the literals that a literal between quotes may be
+pub record HasNoLiteral (text : List ℕ) : Type 0 where
+  pub strings : (kind : StringKind) → find (cooked kind) text ≡ None
+  pub raw_strings : (kind : StringKind) → find (raw_string kind) text ≡ None
+  pub characters : find character text ≡ None
+  pub bytes : find byte text ≡ None
+
+pub no_literal : (text : List ℕ) → find quoted_literal text ≡ None → HasNoLiteral text
+no_literal text none =
+    let plain = or_none _ _ (sym (find_either _ _ text) ∙ none) in
+    let plain_parts = or_none _ _ (sym (find_either _ _ text) ∙ plain.0) in
+    let one = or_none _ _ (sym (find_either _ _ text) ∙ plain.1) in
+    let bytes = or_none _ _ (sym (find_either _ _ text) ∙ one.1) in
+    let byte_parts = or_none _ _ (sym (find_either _ _ text) ∙ bytes.0) in
+    let last = or_none _ _ (sym (find_either _ _ text) ∙ bytes.1) in
+    let c_parts = or_none _ _ (sym (find_either _ _ text) ∙ last.1) in
+    record {
+      strings = each_kind (λ k. find (cooked k) text ≡ None) plain_parts.0 byte_parts.0 c_parts.0;
+      raw_strings = each_kind (λ k. find (raw_string k) text ≡ None) plain_parts.1 byte_parts.1 c_parts.1;
+      characters = one.0;
+      bytes = last.0;
+    }
 
 -- one character that is this one
 pub past_one : (d c : ℕ) (at after : Cursor) → chars at.rest.now ≡ c ∷ chars after.rest.now
@@ -116,13 +195,69 @@ unclosed_comment at after h none =
           (or_none _ _ (sym (find_either line_comment block_comment (chars at.rest.now)) ∙ none)).1 whole,
     ))
 
-pub unread : (at : Cursor) → IsTrouble at (record { reason = Unread; at = at; after = at })
-unread at = record {
-  front = [];
-  part = [];
-  before = refl;
-  here = refl;
-  count = omega arith;
-  size = omega arith;
-  holds = (refl, refl);
-}
+-- ---- where a piece always stands
+
+some_of : (A B : Type 0) (x : List ℕ × List ℕ) (o : Answer) → o ≡ Some x → o ≡ None → ⊥
+some_of A B x o some none = let clash : ◌≡◌ {A = Answer} (Some x) None = sym some ∙ none in absurd (cc)
+
+pub white_stands : (first : Bool) (c : ℕ) (text rest : List ℕ) → text ≡ c ∷ rest → starts.White ≡ piece_start c
+    → found first text ≡ None → ⊥
+white_stands first c text rest e s none =
+    some_of ⊥ ⊥ _ _ (one_found is_white c text rest e (of_start starts.White c s))
+    (untagged_by gap_kind (find (One is_white) text) (sym (at_start first starts.White e s) ∙ none))
+
+pub closer_stands : (first : Bool) (c : ℕ) (text rest : List ℕ) → text ≡ c ∷ rest → starts.Closer ≡ piece_start c
+    → found first text ≡ None → ⊥
+closer_stands first c text rest e s none =
+    some_of ⊥ ⊥ _ _ (one_found is_closer c text rest e (of_start starts.Closer c s))
+    (untagged_by closer_kind (find closer text) (sym (at_start first starts.Closer e s) ∙ none))
+
+pub opener_stands : (first : Bool) (c : ℕ) (text rest : List ℕ) → text ≡ c ∷ rest → starts.Opener ≡ piece_start c
+    → found first text ≡ None → ⊥
+opener_stands first c text rest e s none =
+    let both = or_found_none _ _ (sym (at_start first starts.Opener e s) ∙ none) in
+    let plain = lacks_text error_literal text (untagged (find (Exactly error_literal) text) both.1) in
+    some_of ⊥ ⊥ _ _
+    (one_found_not_at (error_literal ∷ []) is_opener text rest c e (or_from _ _ plain refl) (of_start starts.Opener c s))
+    (untagged_by opener_kind (find opener text) both.0)
+
+other_of : (s t : PieceStart) (c d : ℕ) → s ≡ piece_start c → piece_start d ≡ t → (s ≡ t → ⊥) → (c == d) ≡ false
+other_of s t c d h e differs = false_from_ne_true _ (λ same. differs (h ∙ (ap piece_start (eqb-true c d same) ∙ e)))
+
+mark_of : (c : ℕ) → starts.Mark ≡ piece_start c → (is_mark c ≡ true) × ((c == 47) ≡ false) × ((c == 39) ≡ false)
+mark_of c s = (
+  of_start starts.Mark c s,
+  other_of starts.Mark starts.Slash c 47 s start_slash (λ e. cc),
+  other_of starts.Mark starts.Quote c 39 s start_quote (λ e. cc),
+)
+
+pub letter_first : (c : ℕ) (text rest : List ℕ) → text ≡ c ∷ rest → starts.Letter ≡ piece_start c
+    → first_passes is_ident_start text ≡ true
+letter_first c text rest e s = ap (first_passes is_ident_start) e ∙ of_start starts.Letter c s
+
+pub mark_stands : (first : Bool) (c : ℕ) (text rest : List ℕ) → text ≡ c ∷ rest → starts.Mark ≡ piece_start c
+    → found first text ≡ None → ⊥
+mark_stands first c text rest e s none =
+    let is = mark_of c s in
+    some_of ⊥ ⊥ _ _
+    (one_found_not_at comment_fronts (λ d. is_mark d && not (d == 39)) text rest c e
+    (subst (λ t. begins_any comment_fronts t ≡ false) (sym e) (no_comment c rest is.1))
+    (and_from _ _ is.0 (not_from_false _ is.2)))
+    (untagged_by mark_kind (find mark text) (sym (at_start first starts.Mark e s) ∙ none))
+  where
+    no_comment : (c : ℕ) (rest : List ℕ) → (c == 47) ≡ false → begins_any comment_fronts (c ∷ rest) ≡ false
+    no_comment c rest other = grind (arith, other)
+
+-- where a letter does, and no literal begins so, an identifier stands
+pub identifier_stands : (text : List ℕ) → begins_any literal_prefixes text ≡ false
+    → begins_with (codes "r#") text ≡ false → first_passes is_ident_start text ≡ true
+    → found_identifier text ≡ None → ⊥
+unfolding find
+identifier_stands [] plain front starts none = both_ways _ refl starts
+identifier_stands (c ∷ text) plain front starts none =
+    let raw : found_identifier (c ∷ text) ≡ tagged (name_kind false) (find (identifier false) (c ∷ text)) =
+    ap (λ b. tagged (name_kind b) (find (identifier b) (c ∷ text))) front in
+    let lacks = untagged_by (name_kind false) (find (identifier false) (c ∷ text)) (sym raw ∙ none) in
+    let inner : find name (c ∷ text) ≡ None =
+    sym (cond-false _ _ _ (or_from _ _ front refl)) ∙ (sym (cond-false _ _ _ plain) ∙ lacks) in
+    both_ways _ (one_none is_ident_start (c ∷ text) (name_none (c ∷ text) inner)) starts

@@ -9,16 +9,18 @@ use Rattle.lexical.specs.Quoted.{front as string_front}
 use Rattle.lexical.specs.Rule.{Rule, One, Exactly, Stands, nothing}
 use Rattle.lexical.specs.declared.bytes.Base.{Base}
 use Rattle.lexical.specs.declared.quoted.StringKind.{StringKind}
+use Rattle.explain.specs.Content.{IsBadContent, IsBareReturn}
 use Rattle.explain.specs.Shapes.{closed_string, closed_raw, raw_opening, long_opening, hashed_front, no_double_quote}
 use Rattle.explain.specs.Shapes.{raw_name_start, reserved_raw, single_opening, closed_single, digit_lifetime, lifetime}
 use Rattle.explain.specs.Shapes.{raw_lifetime_start, bare_prefix, base_front, ends_badly, begins_nothing}
 use Rattle.explain.specs.declared.reason.Reason.{Reason}
-use Rattle.explain.specs.declared.reason.Reason.TheVariants.{UnclosedComment, UnclosedString}
+use Rattle.explain.specs.declared.reason.Reason.TheVariants.{UnclosedComment, BareReturnInDoc}
+use Rattle.explain.specs.declared.reason.Reason.TheVariants.{UnclosedString}
 use Rattle.explain.specs.declared.reason.Reason.TheVariants.{UnclosedRawString, TooManyHashes, HashesWithoutQuote}
-use Rattle.explain.specs.declared.reason.Reason.TheVariants.{ReservedRawName, UnclosedCharacter}
+use Rattle.explain.specs.declared.reason.Reason.TheVariants.{ReservedRawName, UnclosedCharacter, Content}
 use Rattle.explain.specs.declared.reason.Reason.TheVariants.{DigitLifetime, HashAfterLifetime, NoDigits, BadDigit}
 use Rattle.explain.specs.declared.reason.Reason.TheVariants.{BadNumberEnd, MisplacedMark, NoToken, StrayCloser}
-use Rattle.explain.specs.declared.reason.Reason.TheVariants.{MismatchedCloser, Unread, UnclosedOpener}
+use Rattle.explain.specs.declared.reason.Reason.TheVariants.{MismatchedCloser, UnclosedOpener}
 
 -- a piece of the first rule, and then one of the second
 abbrev pub Follow : Rule → Rule → List ℕ → List ℕ → List ℕ → Type 0
@@ -39,6 +41,7 @@ Has rule front part r = HasNone (Stands rule) (front ++ (part ++ r)) → ⊥
 -- what the reason says where no piece of the grammar stands
 abbrev pub Holds : Reason → List ℕ → List ℕ → List ℕ → Type 0
 Holds UnclosedComment f p r = Begins (Exactly (codes "/*")) f p r × Lacks block_comment f p r
+Holds BareReturnInDoc f p r = IsBareReturn f p r
 Holds UnclosedString f p r =
     (kind : StringKind) × Begins (Exactly (string_front kind)) f p r × Lacks (closed_string kind) f p r
 Holds UnclosedRawString f p r = (kind : StringKind) × Begins (raw_opening kind) f p r × Lacks (closed_raw kind) f p r
@@ -47,6 +50,7 @@ Holds HashesWithoutQuote f p r =
     (kind : StringKind) × Follow (hashed_front kind) no_double_quote f p r × Lacks raw_name_start f p r
 Holds ReservedRawName f p r = Begins reserved_raw f p r
 Holds UnclosedCharacter f p r = Begins single_opening f p r × Lacks closed_single f p r
+Holds (Content e) f p r = IsBadContent e f p r
 Holds DigitLifetime f p r = Begins digit_lifetime f p r
 Holds HashAfterLifetime f p r = Follow lifetime (Exactly (codes "#")) f p r × Lacks raw_lifetime_start f p r
 Holds NoDigits f p r = (base : Base) × Begins (bare_prefix base) f p r
@@ -54,7 +58,6 @@ Holds BadDigit f p r = (base : Base) × Follow (base_front base) (One is_ascii_d
 Holds BadNumberEnd f p r = Follow integer (One ends_badly) f p r
 Holds MisplacedMark f p r = Begins (Exactly (0xFEFF ∷ [])) f p r
 Holds NoToken f p r = Begins (One begins_nothing) f p r
-Holds Unread f p r = (f ≡ []) × (p ≡ [])
 Holds StrayCloser f p r = ⊥
 Holds MismatchedCloser f p r = ⊥
 Holds UnclosedOpener f p r = ⊥

@@ -8,6 +8,7 @@ use Rattle.lexical.specs.Mark.{is_mark, comment_fronts}
 use Rattle.lexical.specs.Number.{is_digit_or_underscore_in, is_underscore, base_digits}
 use Rattle.lexical.specs.Quoted.{front, is_one_of}
 use Rattle.lexical.specs.RawString.{raw_front}
+use Rattle.lexical.specs.SingleQuoted.{byte, character}
 use Rattle.lexical.specs.Identifier.{name, is_reserved}
 use Rattle.lexical.specs.Rule.{Rule, One, Run, Exactly, Then, Next, UpTo, Either, Else, NotAt, NotBefore, Where}
 use Rattle.lexical.specs.Rule.{perhaps}
@@ -15,6 +16,8 @@ use Rattle.lexical.specs.declared.bytes.Base.{Base}
 use Rattle.lexical.specs.declared.bytes.Base.TheVariants.{Binary, Octal, Hexadecimal}
 use Rattle.lexical.specs.declared.quoted.StringKind.{StringKind}
 use Rattle.lexical.specs.Bytes.{radix}
+use Rattle.explain.specs.declared.quotes.SingleKind.{SingleKind}
+use Rattle.explain.specs.declared.quotes.SingleKind.TheVariants.{Character, Byte}
 
 -- any character
 abbrev pub any : ℕ → Bool
@@ -110,6 +113,27 @@ closed_single_body =
 -- a character or a byte that ends, whatever stands in it
 abbrev pub closed_single : Rule
 closed_single = Then single_opening closed_single_body
+
+-- a character that ends, between the quotes of which stands a name, a raw one or what begins with a digit
+abbrev pub closed_named : Rule
+closed_named =
+    Either (Then (Exactly (codes "'r#")) (Then name (Exactly (codes "'"))))
+    (Then (Exactly (codes "'"))
+    (Then (Either name (Then (One is_ascii_digit) (Run is_ident_continue))) (Exactly (codes "'"))))
+
+-- whatever stands in it
+abbrev pub closed_character : Rule
+closed_character = Either closed_single closed_named
+
+-- what opens it
+abbrev pub single_front : SingleKind → List ℕ
+single_front Character = codes "'"
+single_front Byte = codes "b'"
+
+-- and what it is where nothing is wrong with it
+abbrev pub single_rule : SingleKind → Rule
+single_rule Character = character
+single_rule Byte = byte
 
 -- a lifetime that begins with a digit
 abbrev pub digit_lifetime : Rule

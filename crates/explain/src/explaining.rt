@@ -124,6 +124,7 @@ fn left_open(openers: Vec<Opener>) -> Option<Explained>
 
 /// That no piece stands at this rest of a text, which is at this position.
 fn stuck(text: &str, rest: &str, at: u32, first: bool, openers: Vec<Opener>) -> Explained
+    requires some { chars rest.now ≢ [] }
     requires none { HasNoPiece first (chars rest.now) }
     requires behind { (behind : List ℕ) × (chars text.now ≡ behind ++ chars rest.now) }
     requires room { at + length (chars rest.now) < 2 ^ 32 }

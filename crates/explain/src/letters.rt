@@ -1,39 +1,49 @@
 //! Why nothing stands where a letter does.
 #![tactic(auto, using(lexical::proofs::RuleSteps::steps))]
 
-ghost use Rattle.std.specs.Prelude.{◌≡◌, IfSome, None, codes};
+ghost use Rattle.std.specs.Prelude.{◌≡◌, None, codes, true};
 ghost use Rattle.std.specs.Str.{chars};
+ghost use Rattle.lexical.specs.Class.{is_ident_start};
 ghost use Rattle.lexical.specs.Identifier.{name};
+ghost use Rattle.lexical.specs.Literal.{quoted_literal};
 ghost use Rattle.lexical.specs.Rule.{Exactly, find};
+ghost use Rattle.lexical.specs.PieceFinder.{found_identifier};
 ghost use Rattle.lexical.specs.Step.{Passes};
+ghost use Rattle.lexical.specs.Text.{first_passes};
 ghost use Rattle.explain.specs.Trouble.{IsTrouble};
 
-use crate::quotes::single;
+use crate::quotes::{SingleKind, single};
 use crate::reason::Reason;
 use crate::strings::{raw_string, string};
 use crate::trouble::Trouble;
-use lexical::is_reserved;
-use lexical::parts::{Cursor, StringKind, before, name};
+use lexical::parts::{Cursor, StringKind, name};
 
-/// The reserved raw name that stands at the cursor, if it is one. `inner` is after `r#`, and `end` after the name.
-fn reserved<'a>(at: Cursor<'a>, inner: Cursor<'a>, end: Cursor<'a>) -> Option<Trouble<'a>>
+/// Why no raw name stands at the cursor, where `r#` does. `inner` is after that.
+fn raw_name<'a>(at: Cursor<'a>, inner: Cursor<'a>) -> Trouble<'a>
     requires front { Passes (Exactly (codes "r#")) at inner }
-    requires name { Passes name inner end }
-    ensures { IfSome result (IsTrouble at.entry) }
+    requires identifier { found_identifier (chars at.rest.now) ≡ None }
+    requires literal { find quoted_literal (chars at.rest.now) ≡ None }
+    ensures { IsTrouble at.entry result }
 {
-    if is_reserved(before(inner.rest, end.rest)) {
-        return Some(Trouble {
+    if let Some(end) = name(inner) {
+        return Trouble {
             reason: Reason::ReservedRawName,
             at,
             after: end,
-        });
+        };
     }
-    None
+    let Some(inside) = at.past("r") else {
+        unreachable!()
+    };
+    raw_string(at, inside, StringKind::Plain)
 }
 
 /// Why nothing stands at the cursor, where a letter does.
-pub fn letter(at: Cursor<'_>) -> Option<Trouble<'_>>
-    ensures { IfSome result (IsTrouble at.entry) }
+pub fn letter(at: Cursor<'_>) -> Trouble<'_>
+    requires letter { first_passes is_ident_start (chars at.rest.now) ≡ true }
+    requires identifier { found_identifier (chars at.rest.now) ≡ None }
+    requires literal { find quoted_literal (chars at.rest.now) ≡ None }
+    ensures { IsTrouble at.entry result }
 {
     if let Some(inside) = at.past("b\"") {
         return string(at, inside, StringKind::Byte);
@@ -42,13 +52,10 @@ pub fn letter(at: Cursor<'_>) -> Option<Trouble<'_>>
         return string(at, inside, StringKind::C);
     }
     if let Some(inside) = at.past("b'") {
-        return single(at, inside);
+        return single(at, inside, SingleKind::Byte);
     }
     if let Some(inner) = at.past("r#") {
-        return match name(inner) {
-            Some(end) => reserved(at, inner, end),
-            None => raw_string(at, at.past("r")?, StringKind::Plain),
-        };
+        return raw_name(at, inner);
     }
     if let Some(inside) = at.past("r") {
         return raw_string(at, inside, StringKind::Plain);
@@ -56,5 +63,8 @@ pub fn letter(at: Cursor<'_>) -> Option<Trouble<'_>>
     if let Some(inside) = at.past("br") {
         return raw_string(at, inside, StringKind::Byte);
     }
-    raw_string(at, at.past("cr")?, StringKind::C)
+    let Some(inside) = at.past("cr") else {
+        unreachable!()
+    };
+    raw_string(at, inside, StringKind::C)
 }

@@ -1,19 +1,23 @@
 //! Why a text doesn't parse, and where.
 //!
-//! [`explain`] answers a [`Reason`] with what is at fault, as bytes and as a span. Proved is that the reason holds by
-//! its own definition in `specs/Reason.antt`, which is in the words of the grammar's rules, and that the bytes and the
-//! span are what the definition speaks of; that `None` is answered only for a text that parses; and which openers no
-//! closer matches up to the fault, by kind and first position. Not proved is that no other reason holds there, where
-//! [`Reason::Unread`] isn't answered, and the bytes of openers, those of an unclosed one among them.
+//! [`explain`] answers a [`Reason`] with what is at fault, as bytes and as a span. Proved is that at each fault one of
+//! the 19 reasons is answered, that the reason holds by its own definition in `specs/Reason.antt`, which is in the words
+//! of the grammar's rules and of the escaper's items, and that the bytes and the span are what the definition speaks of;
+//! that `None` is answered only for a text that parses; and which openers no closer matches up to the fault, by kind and
+//! first position. Not proved is that no other reason holds there, and the bytes of openers, those of an unclosed one
+//! among them.
 #![tactic(auto)]
 
+mod contents;
 mod explained;
 mod explaining;
 mod letters;
 mod nesting;
 mod numbers;
 mod quotes;
+mod raw_contents;
 mod reason;
+mod single_contents;
 mod strings;
 mod stuck;
 mod trouble;

@@ -1,21 +1,33 @@
 //! Why nothing stands where a single quote does.
 #![tactic(auto, using(lexical::proofs::RuleSteps::steps))]
 
-ghost use Rattle.std.specs.Prelude.{◌≡◌, IfSome, None, codes, not};
+ghost use Rattle.std.specs.Prelude.{◌≡◌, None, codes, not};
 ghost use Rattle.std.specs.Str.{chars};
 ghost use Rattle.std.specs.Char.{is_ascii_digit};
 ghost use Rattle.lexical.specs.Character.{line_feed};
 ghost use Rattle.lexical.specs.Quoted.{is_one_of};
 ghost use Rattle.lexical.specs.Identifier.{name};
 ghost use Rattle.lexical.specs.Rule.{Exactly, One, Then, UpTo, find};
+ghost use Rattle.lexical.specs.PieceFinder.{find_lone_quote};
+ghost use Rattle.lexical.specs.SingleQuoted.{character};
 ghost use Rattle.lexical.specs.Step.{Passes, Reads};
-ghost use Rattle.explain.specs.Shapes.{closed_single_body, raw_lifetime_start, single_opening, single_pair};
+ghost use Rattle.explain.specs.Shapes.{closed_single_body, raw_lifetime_start, single_front, single_opening};
+ghost use Rattle.explain.specs.Shapes.{single_pair, single_rule};
 ghost use Rattle.explain.specs.Trouble.{IsTrouble};
 
 use crate::reason::Reason;
+use crate::single_contents::single_content;
 use crate::trouble::Trouble;
-use lexical::is_reserved;
-use lexical::parts::{Class, Cursor, before, begins, name, one, one_that, skip};
+use lexical::parts::{Class, Cursor, begins, name, one, one_that, skip};
+
+/// What stands between single quotes.
+#[derive(Clone, Copy)]
+pub enum SingleKind {
+    /// A character.
+    Character,
+    /// A byte.
+    Byte,
+}
 
 /// Whether a pair of a character may be the character alone.
 fn stands_alone(c: char) -> bool
@@ -74,84 +86,101 @@ fn past_single(inside: Cursor<'_>) -> Option<Cursor<'_>>
 }
 
 /// Why no character or byte stands at the cursor, which what opens one leads `inside`.
-pub fn single<'a>(at: Cursor<'a>, inside: Cursor<'a>) -> Option<Trouble<'a>>
-    requires { Passes single_opening at inside }
-    ensures { IfSome result (IsTrouble at.entry) }
+pub fn single<'a>(at: Cursor<'a>, inside: Cursor<'a>, kind: SingleKind) -> Trouble<'a>
+    requires opens { Passes single_opening at inside }
+    requires front { Passes (Exactly (single_front kind)) at inside }
+    requires none { find (single_rule kind) (chars at.rest.now) ≡ None }
+    ensures { IsTrouble at.entry result }
 {
     match past_single(inside) {
-        Some(_) => None,
-        None => Some(Trouble {
+        Some(end) => single_content(at, inside, end, kind),
+        None => Trouble {
             reason: Reason::UnclosedCharacter,
             at,
             after: inside,
-        }),
+        },
     }
 }
 
-/// The reserved raw lifetime that stands at the cursor, if its name is reserved and no `'` follows. `inner` is after
-/// `'r#`, and `end` after the name.
-fn reserved<'a>(at: Cursor<'a>, inner: Cursor<'a>, end: Cursor<'a>) -> Option<Trouble<'a>>
+/// Why no raw lifetime stands at the cursor. `inside` is after the `'`, `inner` after `'r#`, and `end` after the name.
+fn raw_lifetime<'a>(
+    at: Cursor<'a>,
+    inside: Cursor<'a>,
+    inner: Cursor<'a>,
+    end: Cursor<'a>,
+) -> Trouble<'a>
+    requires quote { Passes (Exactly (codes "'")) at inside }
     requires front { Passes (Exactly (codes "'r#")) at inner }
     requires name { Passes name inner end }
-    ensures { IfSome result (IsTrouble at.entry) }
+    requires lone { find_lone_quote (chars at.rest.now) ≡ None }
+    requires none { find character (chars at.rest.now) ≡ None }
+    ensures { IsTrouble at.entry result }
 {
-    if !is_reserved(before(inner.rest, end.rest)) {
-        return None;
-    }
     match end.past("'") {
-        Some(_) => None,
-        None => Some(Trouble {
+        Some(after) => single_content(at, inside, after, SingleKind::Character),
+        None => Trouble {
             reason: Reason::ReservedRawName,
             at,
             after: end,
-        }),
+        },
     }
 }
 
-/// Why no lifetime of this name stands at the cursor, before a `#`. `inside` is after the `'`, and `end` after the
-/// name.
-fn lifetime<'a>(at: Cursor<'a>, inside: Cursor<'a>, end: Cursor<'a>) -> Option<Trouble<'a>>
+/// Why no lifetime of this name stands at the cursor. `inside` is after the `'`, and `end` after the name.
+fn lifetime<'a>(at: Cursor<'a>, inside: Cursor<'a>, end: Cursor<'a>) -> Trouble<'a>
     requires quote { Passes (Exactly (codes "'")) at inside }
     requires name { Passes name inside end }
     requires raw { find raw_lifetime_start (chars at.rest.now) ≡ None }
-    ensures { IfSome result (IsTrouble at.entry) }
+    requires lone { find_lone_quote (chars at.rest.now) ≡ None }
+    requires none { find character (chars at.rest.now) ≡ None }
+    ensures { IsTrouble at.entry result }
 {
-    let after = end.past("#")?;
-    Some(Trouble {
+    if let Some(after) = end.past("'") {
+        return single_content(at, inside, after, SingleKind::Character);
+    }
+    let Some(after) = end.past("#") else {
+        unreachable!()
+    };
+    Trouble {
         reason: Reason::HashAfterLifetime,
         at: end,
         after,
-    })
+    }
 }
 
 /// Why no lifetime stands at the cursor that begins with a digit. `inside` is after the `'`, and `first` after the
 /// digit.
-fn digit_lifetime<'a>(at: Cursor<'a>, inside: Cursor<'a>, first: Cursor<'a>) -> Option<Trouble<'a>>
+fn digit_lifetime<'a>(at: Cursor<'a>, inside: Cursor<'a>, first: Cursor<'a>) -> Trouble<'a>
     requires quote { Passes (Exactly (codes "'")) at inside }
     requires digit { Passes (One is_ascii_digit) inside first }
-    ensures { IfSome result (IsTrouble at.entry) }
+    requires none { find character (chars at.rest.now) ≡ None }
+    ensures { IsTrouble at.entry result }
 {
     let end = skip(first, Class::IdentifierContinue);
     match end.past("'") {
-        Some(_) => None,
-        None => Some(Trouble {
+        Some(after) => single_content(at, inside, after, SingleKind::Character),
+        None => Trouble {
             reason: Reason::DigitLifetime,
             at,
             after: end,
-        }),
+        },
     }
 }
 
 /// Why nothing stands at the cursor, where a `'` does. `inside` is after it.
-pub fn quote<'a>(at: Cursor<'a>, inside: Cursor<'a>) -> Option<Trouble<'a>>
-    requires { Passes (Exactly (codes "'")) at inside }
-    ensures { IfSome result (IsTrouble at.entry) }
+pub fn quote<'a>(at: Cursor<'a>, inside: Cursor<'a>) -> Trouble<'a>
+    requires opens { Passes (Exactly (codes "'")) at inside }
+    requires lone { find_lone_quote (chars at.rest.now) ≡ None }
+    requires none { find character (chars at.rest.now) ≡ None }
+    ensures { IsTrouble at.entry result }
 {
     if let Some(inner) = at.past("'r#") {
         if let Some(end) = name(inner) {
-            return reserved(at, inner, end);
+            return raw_lifetime(at, inside, inner, end);
         }
-        let end = name(inside)?;
+        let Some(end) = name(inside) else {
+            unreachable!()
+        };
         return lifetime(at, inside, end);
     }
     if let Some(end) = name(inside) {
@@ -159,6 +188,6 @@ pub fn quote<'a>(at: Cursor<'a>, inside: Cursor<'a>) -> Option<Trouble<'a>>
     }
     match one(inside, Class::Digit) {
         Some(first) => digit_lifetime(at, inside, first),
-        None => single(at, inside),
+        None => single(at, inside, SingleKind::Character),
     }
 }

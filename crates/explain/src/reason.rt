@@ -1,10 +1,14 @@
 //! Why a text doesn't parse.
 
+use literal_escaper::EscapeError;
+
 /// Why a text doesn't parse. Each is defined by itself in `specs/Reason.antt`.
 #[derive(Debug, Drop, PartialEq, Eq)]
 pub enum Reason {
     /// A block comment that doesn't end: the `/*` of `/* a`.
     UnclosedComment,
+    /// A CR in a doc comment that no LF follows.
+    BareReturnInDoc,
     /// A string that doesn't end: the `"` of `"a`.
     UnclosedString,
     /// A raw string that doesn't end: the `r#"` of `r#"a"`.
@@ -17,6 +21,9 @@ pub enum Reason {
     ReservedRawName,
     /// A character or byte that doesn't end: the `'` of `'+`.
     UnclosedCharacter,
+    /// What is wrong first with the content of a literal that ends: the `q` of `"\q"`, by the rules of
+    /// [`literal_escaper`].
+    Content(EscapeError),
     /// A lifetime that begins with a digit: `'1a`.
     DigitLifetime,
     /// A hash sign right after a lifetime: the `#` of `'a#`.
@@ -31,9 +38,6 @@ pub enum Reason {
     MisplacedMark,
     /// A character with which no token begins.
     NoToken,
-    /// Nothing of the grammar stands there, for a reason that isn't told apart: such as what stands in a literal that
-    /// ends, as in `"\q"`, or a CR in a doc comment that no LF follows.
-    Unread,
     /// A closer where no opener waits for one: the `)` of `a)`.
     StrayCloser,
     /// A closer where the innermost opener waits for another: the `]` of `(]`.

@@ -1,21 +1,24 @@
 //! Why no string stands where what opens one does.
 #![tactic(auto, using(lexical::proofs::RuleSteps::steps))]
 
-ghost use Rattle.std.specs.Prelude.{◌≡◌, ◌∷◌, IfSome, IsTrue, None, codes, not};
+ghost use Rattle.std.specs.Prelude.{◌≡◌, ◌∷◌, IsTrue, None, codes, not};
 ghost use Rattle.std.specs.Str.{chars};
 ghost use Rattle.lexical.specs.Ascii.{all_ascii};
-ghost use Rattle.lexical.specs.Quoted.{front, is_one_of};
-ghost use Rattle.lexical.specs.RawString.{raw_front};
+ghost use Rattle.lexical.specs.Quoted.{cooked, front, is_one_of};
+ghost use Rattle.lexical.specs.PieceFinder.{found_identifier};
+ghost use Rattle.lexical.specs.RawString.{raw_front, raw_string as raw_rule};
 ghost use Rattle.lexical.specs.Rule.{Exactly, Run, find};
 ghost use Rattle.lexical.specs.Step.{Passes, Reads};
-ghost use Rattle.explain.specs.Shapes.{any, closed_body, closed_raw_body, no_double_quote, pair, raw_name_start};
-ghost use Rattle.explain.specs.Shapes.{raw_unit};
+ghost use Rattle.explain.specs.Shapes.{any, closed_body, closed_raw_body, is_hash, no_double_quote, pair};
+ghost use Rattle.explain.specs.Shapes.{raw_name_start, raw_unit};
 ghost use Rattle.explain.specs.Trouble.{IsTrouble};
 
+use crate::contents::string_content;
+use crate::raw_contents::raw_content;
 use crate::reason::Reason;
 use crate::trouble::Trouble;
 use lexical::parts::{
-    Class, Cursor, StringKind, before, begins, one, one_that, skip, skip_to, skip_to_either,
+    Class, Cursor, StringKind, before, begins, one_that, skip, skip_to, skip_to_either,
 };
 
 /// Whether a pair may be the character alone.
@@ -72,65 +75,76 @@ fn past_raw_quote<'a>(inside: Cursor<'a>, hashes: &str) -> Option<Cursor<'a>>
 }
 
 /// Why no string of the kind stands at the cursor, which what opens one leads `inside`.
-pub fn string<'a>(at: Cursor<'a>, inside: Cursor<'a>, kind: StringKind) -> Option<Trouble<'a>>
-    requires { Passes (Exactly (front kind)) at inside }
-    ensures { IfSome result (IsTrouble at.entry) }
+pub fn string<'a>(at: Cursor<'a>, inside: Cursor<'a>, kind: StringKind) -> Trouble<'a>
+    requires opens { Passes (Exactly (front kind)) at inside }
+    requires none { find (cooked kind) (chars at.rest.now) ≡ None }
+    ensures { IsTrouble at.entry result }
 {
     match past_quote(inside) {
-        Some(_) => None,
-        None => Some(Trouble {
+        Some(end) => string_content(at, inside, end, kind),
+        None => Trouble {
             reason: Reason::UnclosedString,
             at,
             after: inside,
-        }),
+        },
     }
 }
 
 /// Why no raw string of the kind stands at the cursor, which the letters that open one lead `inside`.
-pub fn raw_string<'a>(at: Cursor<'a>, inside: Cursor<'a>, kind: StringKind) -> Option<Trouble<'a>>
+pub fn raw_string<'a>(at: Cursor<'a>, inside: Cursor<'a>, kind: StringKind) -> Trouble<'a>
     requires letters { Passes (Exactly (raw_front kind)) at inside }
     requires name { find raw_name_start (chars at.rest.now) ≡ None }
-    ensures { IfSome result (IsTrouble at.entry) }
+    requires identifier { found_identifier (chars at.rest.now) ≡ None }
+    requires none { find (raw_rule kind) (chars at.rest.now) ≡ None }
+    ensures { IsTrouble at.entry result }
 {
     let quote = skip(inside, Class::Hash);
     let Some(body) = quote.past("\"") else {
-        return without_quote(at, inside, kind);
+        return without_quote(at, inside, quote, kind);
     };
     let hashes = before(inside.rest, quote.rest);
-    let Some(_) = past_raw_quote(body, hashes) else {
-        return Some(Trouble {
+    let Some(end) = past_raw_quote(body, hashes) else {
+        return Trouble {
             reason: Reason::UnclosedRawString,
             at,
             after: body,
-        });
+        };
     };
     if hashes.len() > MOST_HASHES {
-        return Some(Trouble {
+        return Trouble {
             reason: Reason::TooManyHashes,
             at,
             after: body,
-        });
+        };
     }
-    None
+    raw_content(at, inside, quote, body, end, hashes, kind)
 }
 
 /// How many hash signs a raw string may have at most.
 const MOST_HASHES: usize = 255;
 
-/// That no quote follows the hash signs at `inside`, if there are any.
-fn without_quote<'a>(at: Cursor<'a>, inside: Cursor<'a>, kind: StringKind) -> Option<Trouble<'a>>
+/// That no quote follows the hash signs at `inside`, up to `end`.
+fn without_quote<'a>(
+    at: Cursor<'a>,
+    inside: Cursor<'a>,
+    end: Cursor<'a>,
+    kind: StringKind,
+) -> Trouble<'a>
     requires letters { Passes (Exactly (raw_front kind)) at inside }
+    requires signs { Passes (Run is_hash) inside end }
+    requires quote { find (Exactly (codes "\"")) (chars end.rest.now) ≡ None }
     requires name { find raw_name_start (chars at.rest.now) ≡ None }
-    ensures { IfSome result (IsTrouble at.entry) }
+    requires identifier { found_identifier (chars at.rest.now) ≡ None }
+    ensures { IsTrouble at.entry result }
 {
-    let first = one(inside, Class::Hash)?;
-    let end = skip(first, Class::Hash);
-    let after = past_other(end)?;
-    Some(Trouble {
+    let Some(after) = past_other(end) else {
+        unreachable!()
+    };
+    Trouble {
         reason: Reason::HashesWithoutQuote,
         at: end,
         after,
-    })
+    }
 }
 
 /// The cursor after a character but `"`, or the cursor itself at the end of the text.

@@ -1,10 +1,16 @@
 //! Why no piece stands.
 #![tactic(auto, using(lexical::proofs::RuleSteps::steps))]
 
-ghost use Rattle.std.specs.Prelude.{◌≡◌, IfSome, None};
+ghost use Rattle.std.specs.Prelude.{◌≡◌, ◌≢◌, [], MatchOption, None, false, true};
 ghost use Rattle.std.specs.Str.{chars};
-ghost use Rattle.lexical.specs.PieceFinder.{found};
+ghost use Rattle.lexical.specs.Comment as rule;
+ghost use Rattle.lexical.specs.Comment.{has_bare_return};
+ghost use Rattle.lexical.specs.Mark.{comment_fronts};
+ghost use Rattle.lexical.specs.PieceFinder.{comment_found, found};
+ghost use Rattle.lexical.specs.Rule.{find};
+ghost use Rattle.lexical.specs.Text.{begins_any};
 ghost use Rattle.explain.specs.Trouble.{IsTrouble};
+ghost use Rattle.explain.specs.Walk.{IsFirstBare};
 
 use crate::letters::letter;
 use crate::numbers::number;
@@ -12,63 +18,83 @@ use crate::quotes::quote;
 use crate::reason::Reason;
 use crate::strings::string;
 use crate::trouble::Trouble;
-use lexical::parts::{Cursor, PieceStart, StringKind, piece_start_of, skip_comment};
+use lexical::parts::{
+    Cursor, PieceStart, StringKind, begins, piece_start_of, skip_comment, skip_to,
+};
 
-/// Why no comment stands at the cursor.
-fn comment(at: Cursor<'_>) -> Option<Trouble<'_>>
-    ensures { IfSome result (IsTrouble at.entry) }
+/// The first CR at the cursor or after it that no LF follows, and the cursor after it.
+fn bare_return(inside: Cursor<'_>) -> Option<(Cursor<'_>, Cursor<'_>)>
+    ensures { MatchOption result (has_bare_return (chars inside.entry.rest.now) ≡ false)
+        (λ x. IsFirstBare inside.entry x.0 x.1) }
 {
-    match skip_comment(at) {
-        Some(_) => None,
-        None => {
-            let after = at.past("/*")?;
-            Some(Trouble {
-                reason: Reason::UnclosedComment,
-                at,
-                after,
-            })
+    let mut at = skip_to(inside, b'\r');
+    while let Some((_, after)) = at.advance() {
+        if !begins(after.rest, "\n") {
+            return Some((at, after));
         }
+        at = skip_to(after, b'\r');
+    }
+    None
+}
+
+/// How many bytes open a doc comment.
+const DOC_FRONT: usize = 3;
+
+/// Why no comment stands at the cursor, where one begins.
+fn comment(at: Cursor<'_>) -> Trouble<'_>
+    requires begins { begins_any comment_fronts (chars at.rest.now) ≡ true }
+    requires none { comment_found (find rule.comment (chars at.rest.now)) ≡ None }
+    ensures { IsTrouble at.entry result }
+{
+    let Some(_) = skip_comment(at) else {
+        let Some(after) = at.past("/*") else {
+            unreachable!()
+        };
+        return Trouble {
+            reason: Reason::UnclosedComment,
+            at,
+            after,
+        };
+    };
+    let Some((at, after)) = bare_return(at.after_bytes(DOC_FRONT)) else {
+        unreachable!()
+    };
+    Trouble {
+        reason: Reason::BareReturnInDoc,
+        at,
+        after,
     }
 }
 
-/// Why no piece stands at the cursor, as far as it is told apart. `first` says whether that is byte offset 0 of a
-/// source.
-fn trouble_at(at: Cursor<'_>, first: bool) -> Option<Trouble<'_>>
-    requires { found first (chars at.rest.now) ≡ None }
-    ensures { IfSome result (IsTrouble at.entry) }
+/// Why no piece stands at the cursor, which isn't at the end of the text. `first` says whether that is byte offset 0 of
+/// a source.
+pub fn reason_at(at: Cursor<'_>, first: bool) -> Trouble<'_>
+    requires some { chars at.rest.now ≢ [] }
+    requires none { found first (chars at.rest.now) ≡ None }
+    ensures { IsTrouble at.entry result }
 {
-    let (c, after) = at.advance()?;
+    let Some((c, after)) = at.advance() else {
+        unreachable!()
+    };
     match piece_start_of(c) {
-        PieceStart::Digit => Some(number(at)),
+        PieceStart::Digit => number(at),
         PieceStart::Slash => comment(at),
         PieceStart::Quote => quote(at, after),
         PieceStart::DoubleQuote => string(at, after, StringKind::Plain),
         PieceStart::Letter => letter(at),
-        PieceStart::FrontMark => Some(Trouble {
+        PieceStart::FrontMark => Trouble {
             reason: Reason::MisplacedMark,
             at,
             after,
-        }),
-        PieceStart::Other => Some(Trouble {
+        },
+        PieceStart::Other => Trouble {
             reason: Reason::NoToken,
             at,
             after,
-        }),
-        _ => None,
-    }
-}
-
-/// Why no piece stands at the cursor. `first` says whether that is byte offset 0 of a source.
-pub fn reason_at(at: Cursor<'_>, first: bool) -> Trouble<'_>
-    requires { found first (chars at.rest.now) ≡ None }
-    ensures { IsTrouble at.entry result }
-{
-    match trouble_at(at, first) {
-        Some(trouble) => trouble,
-        None => Trouble {
-            reason: Reason::Unread,
-            at,
-            after: at,
         },
+        PieceStart::White => unreachable!(),
+        PieceStart::Opener => unreachable!(),
+        PieceStart::Closer => unreachable!(),
+        PieceStart::Mark => unreachable!(),
     }
 }

@@ -131,6 +131,10 @@ returns-then-is_empty c =
     (sym c.if-is_empty.ensures))) ∙ chars-nil in
     left_answer _ _ _ _ _ _ c.loop-piece.invariant.reads done c.left_open.result c.left_open.ensures
 
+pub stuck-requires-clause-some : goal.stuck-requires-clause-some
+stuck-requires-clause-some c =
+    λ e. eqb-false _ _ (sym c.if-is_empty.ensures) (bytes_from_no_chars _ c.loop-piece.invariant.utf8 e)
+
 pub stuck-requires-clause-behind : goal.stuck-requires-clause-behind
 stuck-requires-clause-behind c =
     let h = c.loop-piece.invariant.reads in

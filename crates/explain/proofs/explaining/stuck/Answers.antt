@@ -5,8 +5,11 @@ use Rattle.explain.proofs.ExplainingLemmas.{whole_past}
 use Rattle.explain.proofs.StuckLemmas.{none_found}
 use Rattle.explain.proofs.explaining.stuck.Goals as goal
 
-pub reason_at-trouble-requires : goal.reason_at-trouble-requires
-reason_at-trouble-requires c =
+pub reason_at-trouble-requires-clause-some : goal.reason_at-trouble-requires-clause-some
+reason_at-trouble-requires-clause-some c = λ e. c.requires.some (ap chars (sym c.new-start.ensures.rest) ∙ e)
+
+pub reason_at-trouble-requires-clause-none : goal.reason_at-trouble-requires-clause-none
+reason_at-trouble-requires-clause-none c =
     subst (λ t. found c.args.first (chars t) ≡ None) (sym c.new-start.ensures.rest)
     (none_found c.args.first (chars c.args.rest.now) c.requires.none)
 

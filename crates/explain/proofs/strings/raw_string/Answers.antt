@@ -25,3 +25,13 @@ returns-then-hashes-gt-MOST_HASHES c =
     too_many c.args.kind c.args.at c.args.inside c.skip-quote.result c.in-Some.body c.requires.letters
     c.skip-quote.ensures c.in-Some.ensures c.before-hashes.result.now _ same.1
     (omega (arith, c.if-hashes-gt-MOST_HASHES.true)) c.in-Some-past_raw_quote.ensures
+
+pub raw_content-requires-clause-signs : goal.raw_content-requires-clause-signs
+raw_content-requires-clause-signs c = (
+  c.skip-quote.ensures,
+  (signs_text _ _ c.skip-quote.ensures c.before-hashes.result.now c.before-hashes.utf8 c.before-hashes.ensures).1,
+)
+
+pub raw_content-requires-clause-ascii : goal.raw_content-requires-clause-ascii
+raw_content-requires-clause-ascii c =
+    (signs_text _ _ c.skip-quote.ensures c.before-hashes.result.now c.before-hashes.utf8 c.before-hashes.ensures).2

@@ -1,0 +1,117 @@
+-- The walk over the content of a literal.
+use Rattle.std.specs.Prelude.{ℕ, ◌≡◌, ◌+◌, ◌-◌, ◌≤◌, List, [], ◌∷◌, ◌++◌, codes, length, Option, Some, None, Result, Ok, Err}
+use Rattle.std.specs.Prelude.{IsFalse}
+use Rattle.std.specs.Str.{chars}
+use Rattle.lexical.specs.Character.{carriage_return, double_quote}
+use Rattle.lexical.specs.Comment.{has_bare_return}
+use Rattle.lexical.specs.Quoted.{unit}
+use Rattle.lexical.specs.Rule.{Rule, Exactly, Either}
+use Rattle.lexical.specs.Step.{Passes}
+use Rattle.lexical.specs.Text.{begins_any, begins_with}
+use Rattle.lexical.specs.declared.cursor.Cursor.{Cursor}
+use Rattle.lexical.specs.declared.quoted.StringKind.{StringKind}
+use Rattle.lexical.specs.declared.quoted.StringKind.TheVariants.{Plain, Byte, C}
+use Rattle.literal_escaper.specs.Items.{unit_front}
+use Rattle.literal_escaper.specs.Kind.{Kind, byte_kind, c_kind, string_kind}
+use Rattle.literal_escaper.specs.Text.{bytes}
+use Rattle.literal_escaper.specs.declared.errors.EscapeError.{EscapeError}
+use Rattle.literal_escaper.specs.Single.{single}
+use Rattle.literal_escaper.specs.declared.mode.Mode.{Mode}
+use Rattle.literal_escaper.specs.declared.mode.Mode.TheVariants as modes
+use Rattle.explain.specs.declared.quotes.SingleKind.{SingleKind}
+use Rattle.explain.specs.declared.quotes.SingleKind.TheVariants.{Character, Byte as SingleByte}
+use Rattle.explain.specs.Content.{IsAtFault, StringFault, line_ends}
+use Rattle.explain.specs.declared.contents.Front.{Front}
+use Rattle.explain.specs.declared.contents.Step.{Step}
+use Rattle.explain.specs.declared.contents.Step.TheVariants.{Unit as IsUnit, Fault, End}
+use Rattle.explain.specs.declared.reason.Reason.TheVariants.{Content}
+use Rattle.explain.specs.declared.trouble.Trouble.{Trouble}
+
+-- this part of the text stands from one cursor to the other
+pub record IsPast (at to : Cursor) : Type 0 where
+  pub part : List ℕ
+  pub whole : chars at.rest.now ≡ part ++ chars to.rest.now
+  pub count : to.chars_before ≡ at.chars_before + length part
+
+-- this is left of the content that the quote before the other cursor closes
+abbrev pub IsLeft : ℕ → List ℕ → Cursor → Cursor → Type 0
+IsLeft quote left at end = chars at.rest.now ≡ left ++ (quote ∷ chars end.rest.now)
+
+abbrev pub IsInside : ℕ → Cursor → Cursor → Type 0
+IsInside quote at end = (left : List ℕ) × IsLeft quote left at end
+
+-- the error, if it is one
+abbrev pub error_in : {U : Type 0} → Result U EscapeError → Option EscapeError
+error_in (Ok unit) = None
+error_in (Err e) = Some e
+
+-- what the escaper reads at the front of the content
+abbrev pub GivesFront : {U : Type 0} → Kind U → List ℕ → Front → Type 0
+GivesFront kind [] x = ⊥
+GivesFront kind (c ∷ text) x =
+    (x.size ≡ bytes (c ∷ text) - bytes (unit_front kind c text).rest)
+    × (x.error ≡ error_in (unit_front kind c text).unit)
+
+abbrev pub IsFront : StringKind → List ℕ → Front → Type 0
+IsFront Plain = GivesFront string_kind
+IsFront Byte = GivesFront byte_kind
+IsFront C = GivesFront c_kind
+
+-- a fault at the front of the content
+pub record IsFaultAt (kind : StringKind) (e : EscapeError) (at after end : Cursor) : Type 0 where
+  pub past : IsPast at after
+  pub some : 1 ≤ length past.part
+  pub left : List ℕ
+  pub closes : IsLeft double_quote left after end
+  pub apart : IsFalse (begins_any line_ends (chars at.rest.now))
+  pub gives : StringFault kind e (past.part ++ left) left
+
+-- the step leads past a unit, or finds a fault or the end of the content
+abbrev pub IsStep : StringKind → Cursor → Cursor → Step → Type 0
+IsStep kind at end (IsUnit after) = Passes (unit kind) at after × IsInside double_quote after end
+IsStep kind at end (Fault e after) = IsFaultAt kind e at after end
+IsStep kind at end End = IsLeft double_quote [] at end
+
+-- of what stands from one cursor to the other this is at fault, for this error
+pub record IsFaulty (e : EscapeError) (at after : Cursor) (x : Trouble) : Type 0 where
+  pub start : IsPast at x.at
+  pub part : IsPast x.at x.after
+  pub ends : x.after ≡ after
+  pub reason : x.reason ≡ Content e
+  pub fault : IsAtFault e start.part part.part
+
+-- the last character that stands from one cursor to the other
+pub record IsLast (at end last : Cursor) : Type 0 where
+  pub before : IsPast at last
+  pub character : ℕ
+  pub one : chars last.rest.now ≡ character ∷ chars end.rest.now
+  pub count : end.chars_before ≡ last.chars_before + 1
+
+-- a unit that the escaper reads otherwise
+abbrev pub line_end : Rule
+line_end =
+    Either (Exactly (codes "\r\n")) (Either (Exactly (codes "\\\n")) (Exactly (codes "\\\r\n")))
+
+-- from the first cursor on, the first CR that no LF follows stands between the two others
+pub record IsFirstBare (inside at after : Cursor) : Type 0 where
+  pub before : IsPast inside at
+  pub return : chars at.rest.now ≡ carriage_return ∷ chars after.rest.now
+  pub count : after.chars_before ≡ at.chars_before + 1
+  pub bare : IsFalse (begins_with (codes "\n") (chars after.rest.now))
+  pub first : IsFalse (has_bare_return before.part)
+
+-- ---- characters and bytes
+
+abbrev pub single_mode : SingleKind → Mode
+single_mode Character = modes.Char
+single_mode SingleByte = modes.Byte
+
+-- what is wrong with the content, and how many bytes were read for it, or nothing
+abbrev pub GivesSingle : {U : Type 0} → Kind U → List ℕ → Option (ℕ × EscapeError) → Type 0
+GivesSingle {U = U} kind text None = (u : U) × ((single kind text).unit ≡ Ok u)
+GivesSingle kind text (Some x) =
+    (x.0 ≡ bytes text - bytes (single kind text).rest) × ((single kind text).unit ≡ Err x.1)
+
+abbrev pub IsSingleFault : SingleKind → List ℕ → Option (ℕ × EscapeError) → Type 0
+IsSingleFault Character = GivesSingle string_kind
+IsSingleFault SingleByte = GivesSingle byte_kind

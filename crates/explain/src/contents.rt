@@ -1,0 +1,185 @@
+//! What is wrong first with the content of a literal that ends.
+#![tactic(auto, using(lexical::proofs::RuleSteps::steps))]
+
+ghost use Rattle.std.specs.Prelude.{◌≡◌, ◌≤◌, ◌<◌, ◌∷◌, ◌++◌, [], List, MatchOption, None, ℕ, codes, false, length};
+ghost use Rattle.std.specs.Str.{chars};
+ghost use Rattle.lexical.specs.Character.{double_quote};
+ghost use Rattle.lexical.specs.Quoted.{cooked, front};
+ghost use Rattle.lexical.specs.Rule.{Exactly, find};
+ghost use Rattle.lexical.specs.Step.{Passes, Reads};
+ghost use Rattle.lexical.specs.Text.{begins_with};
+ghost use Rattle.explain.specs.Content.{is_of_last as of_last};
+ghost use Rattle.explain.specs.Shapes.{closed_body};
+ghost use Rattle.explain.specs.Trouble.{IsTrouble};
+ghost use Rattle.explain.specs.Walk.{IsFaulty, IsFront, IsInside, IsLast, IsLeft, IsPast, IsStep, error_in, line_end};
+
+use crate::reason::Reason;
+use crate::trouble::Trouble;
+use lexical::parts::{Cursor, StringKind};
+use literal_escaper::{EscapeError, unescape_byte_str, unescape_c_str, unescape_str};
+use std::ops::Range;
+
+/// What the escaper reads at the front of a content.
+#[derive(Drop)]
+pub struct Front {
+    /// How many bytes it reads.
+    pub size: usize,
+    /// What is wrong with them, if something is.
+    pub error: Option<EscapeError>,
+}
+
+/// What stands at a cursor in the content of a string.
+#[derive(Drop)]
+pub enum Step<'a> {
+    /// A unit, and the cursor after it.
+    Unit(Cursor<'a>),
+    /// A fault, and the cursor after what was read for it.
+    Fault(EscapeError, Cursor<'a>),
+    /// The quote that ends it.
+    End,
+}
+
+/// The content from the cursor on, up to the quote before `end`.
+pub fn content<'a>(at: Cursor<'a>, end: Cursor<'a>) -> &'a str
+    requires { (quote : ℕ) × (quote < 128) × IsInside quote at end }
+    ensures { (quote : ℕ) (left : List ℕ) → quote < 128 → IsLeft quote left at.entry end.entry
+        → chars result.now ≡ left }
+{
+    let size = at.rest.len() - end.rest.len() - 1;
+    &at.rest[..size]
+}
+
+/// The range and the error of an item.
+fn front_of<U: Copy>(range: Range<usize>, unit: Result<U, EscapeError>) -> Front
+    ensures size { result.size ≡ range.end }
+    ensures error { result.error ≡ error_in unit }
+{
+    let size = range.end;
+    match unit {
+        Ok(_) => Front { size, error: None },
+        Err(error) => Front {
+            size,
+            error: Some(error),
+        },
+    }
+}
+
+/// What the escaper reads at the front of a content, unless that is empty. A line end with a backslash before it is
+/// read otherwise.
+fn read_front(content: &str, kind: StringKind) -> Option<Front>
+    requires { begins_with (codes "\\\n") (chars content.now) ≡ false }
+    ensures { MatchOption result (chars content.now ≡ []) (IsFront kind (chars content.now)) }
+{
+    match kind {
+        StringKind::Plain => {
+            let (range, unit) = unescape_str(content).next()?;
+            Some(front_of(range, unit))
+        }
+        StringKind::Byte => {
+            let (range, unit) = unescape_byte_str(content).next()?;
+            Some(front_of(range, unit))
+        }
+        StringKind::C => {
+            let (range, unit) = unescape_c_str(content).next()?;
+            Some(front_of(range, unit))
+        }
+    }
+}
+
+/// The cursor after CR LF, or after a line end with a backslash before it.
+fn past_line_end(at: Cursor<'_>) -> Option<Cursor<'_>>
+    ensures { Reads line_end at.entry result }
+{
+    if let Some(end) = at.past("\r\n") {
+        return Some(end);
+    }
+    match at.past("\\\n") {
+        Some(end) => Some(end),
+        None => at.past("\\\r\n"),
+    }
+}
+
+/// What stands at the cursor in the content of a string, which the quote before `end` closes.
+fn next_step<'a>(at: Cursor<'a>, end: Cursor<'a>, kind: StringKind) -> Step<'a>
+    requires { IsInside double_quote at end }
+    ensures { IsStep kind at.entry end.entry result }
+{
+    if let Some(after) = past_line_end(at) {
+        return Step::Unit(after);
+    }
+    match read_front(content(at, end), kind) {
+        Some(Front { size, error: None }) => Step::Unit(at.after_bytes(size)),
+        Some(Front {
+            size,
+            error: Some(error),
+        }) => Step::Fault(error, at.after_bytes(size)),
+        None => Step::End,
+    }
+}
+
+/// Whether the last character that is read is at fault, and not all of the escape.
+fn is_of_last(error: &EscapeError) -> bool
+    ensures { result ≡ of_last error.now }
+{
+    matches!(
+        error,
+        EscapeError::InvalidEscape
+            | EscapeError::InvalidCharInHexEscape
+            | EscapeError::InvalidCharInUnicodeEscape
+            | EscapeError::LeadingUnderscoreUnicodeEscape
+    )
+}
+
+/// The cursor before the last character that stands before `end`, from a cursor on.
+fn last_character<'a>(at: Cursor<'a>, end: Cursor<'a>) -> Cursor<'a>
+    requires { (past : IsPast at end) × (1 ≤ length past.part) }
+    ensures { IsLast at.entry end.entry result }
+{
+    let mut last = at;
+    while last.chars_before + 1 < end.chars_before {
+        let Some((_, after)) = last.advance() else {
+            unreachable!()
+        };
+        last = after;
+    }
+    last
+}
+
+/// That this is wrong with what was read from a cursor to another: with all of it, or with its last character.
+pub fn faulty<'a>(at: Cursor<'a>, after: Cursor<'a>, error: EscapeError) -> Trouble<'a>
+    requires { (past : IsPast at after) × (1 ≤ length past.part) }
+    ensures { IsFaulty error at.entry after.entry result }
+{
+    let at = if is_of_last(&error) {
+        last_character(at, after)
+    } else {
+        at
+    };
+    Trouble {
+        reason: Reason::Content(error),
+        at,
+        after,
+    }
+}
+
+/// What is wrong with the content of a string that ends at `end` and isn't one. What opens it leads `inside`.
+pub fn string_content<'a>(
+    at: Cursor<'a>,
+    inside: Cursor<'a>,
+    end: Cursor<'a>,
+    kind: StringKind,
+) -> Trouble<'a>
+    requires opens { Passes (Exactly (front kind)) at inside }
+    requires closed { Passes closed_body inside end }
+    requires none { find (cooked kind) (chars at.rest.now) ≡ None }
+    ensures { IsTrouble at.entry result }
+{
+    let mut place = inside;
+    loop {
+        match next_step(place, end, kind) {
+            Step::Unit(after) => place = after,
+            Step::Fault(error, after) => return faulty(place, after, error),
+            Step::End => unreachable!(),
+        }
+    }
+}

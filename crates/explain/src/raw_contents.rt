@@ -1,0 +1,98 @@
+//! What is wrong first with the content of a raw string that ends.
+#![tactic(auto, using(lexical::proofs::RuleSteps::steps))]
+
+ghost use Rattle.std.specs.Prelude.{◌≡◌, ◌≤◌, ◌∷◌, ◌&&◌, ◌==◌, Err, IsTrue, None, codes, false, length, not};
+ghost use Rattle.std.specs.Str.{chars};
+ghost use Rattle.lexical.specs.Ascii.{all_ascii};
+ghost use Rattle.lexical.specs.Character.{carriage_return, double_quote};
+ghost use Rattle.lexical.specs.RawString.{may_stand_raw, raw_front, raw_string, raw_unit};
+ghost use Rattle.lexical.specs.Rule.{Exactly, Run, find};
+ghost use Rattle.lexical.specs.Step.{Passes, Reads};
+ghost use Rattle.explain.specs.Content.{raw_character};
+ghost use Rattle.explain.specs.Shapes.{closed_raw_body, is_hash};
+ghost use Rattle.explain.specs.Trouble.{IsTrouble};
+
+use crate::reason::Reason;
+use crate::trouble::Trouble;
+use lexical::parts::{Cursor, StringKind, begins};
+use literal_escaper::EscapeError;
+
+/// Whether a string of the kind may have the character, be it raw or not.
+fn may_stand(c: char, kind: StringKind) -> bool
+    ensures { result ≡ may_stand_raw kind c }
+{
+    match kind {
+        StringKind::Plain => true,
+        StringKind::Byte => c.is_ascii(),
+        StringKind::C => c != '\0',
+    }
+}
+
+/// The cursor after a unit of a raw string with these hash signs.
+#[tactic(auto, unfolding(lexical::specs::Rule::find))]
+fn past_unit<'a>(at: Cursor<'a>, hashes: &str, kind: StringKind) -> Option<Cursor<'a>>
+    requires { IsTrue (all_ascii hashes.now) }
+    ensures { Reads (raw_unit (may_stand_raw kind) (double_quote ∷ hashes.now)) at.entry result }
+{
+    let (c, after) = at.advance()?;
+    if c == '"' && begins(after.rest, hashes) {
+        return None;
+    }
+    if c == '\r' {
+        return at.past("\r\n");
+    }
+    if may_stand(c, kind) {
+        Some(after)
+    } else {
+        None
+    }
+}
+
+/// What is wrong with a character that no raw string of the kind has, but for CR before LF.
+fn error_of(c: char, kind: StringKind) -> EscapeError
+    requires { (may_stand_raw kind c && not (c == carriage_return)) ≡ false }
+    ensures { raw_character kind c ≡ Err result }
+{
+    if c == '\r' {
+        return EscapeError::BareCarriageReturnInRawString;
+    }
+    match kind {
+        StringKind::Byte => EscapeError::NonAsciiCharInByte,
+        StringKind::C => EscapeError::NulInCStr,
+        StringKind::Plain => unreachable!(),
+    }
+}
+
+/// What is wrong with the content of a raw string with these hash signs that ends at `end` and isn't one. The letters
+/// that open it lead `inside`, the hash signs `quote`, and the quote after them `body`.
+pub fn raw_content<'a>(
+    at: Cursor<'a>,
+    inside: Cursor<'a>,
+    quote: Cursor<'a>,
+    body: Cursor<'a>,
+    end: Cursor<'a>,
+    hashes: &str,
+    kind: StringKind,
+) -> Trouble<'a>
+    requires letters { Passes (Exactly (raw_front kind)) at inside }
+    requires signs { (run : Passes (Run is_hash) inside quote) × (hashes.now ≡ run.front) }
+    requires few { length hashes.now ≤ 255 }
+    requires ascii { IsTrue (all_ascii hashes.now) }
+    requires opens { Passes (Exactly (codes "\"")) quote body }
+    requires closed { Passes (closed_raw_body hashes.now) body end }
+    requires none { find (raw_string kind) (chars at.rest.now) ≡ None }
+    ensures { IsTrouble at.entry result }
+{
+    let mut place = body;
+    while let Some(after) = past_unit(place, hashes, kind) {
+        place = after;
+    }
+    let Some((c, after)) = place.advance() else {
+        unreachable!()
+    };
+    Trouble {
+        reason: Reason::Content(error_of(c, kind)),
+        at: place,
+        after,
+    }
+}
