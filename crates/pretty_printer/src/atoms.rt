@@ -477,10 +477,31 @@ fn word_of(text: &str) -> Word {
         "union" => Word::Union,
         "where" => Word::Where,
         "while" => Word::While,
-        "async" | "const" | "continue" | "dyn" | "move" | "mut" | "ref" | "static" | "type"
-        | "unsafe" | "use" | "yield" => Word::Keyword,
-        "block" | "expr" | "ident" | "item" | "lifetime" | "literal" | "meta" | "pat" | "path"
-        | "stmt" | "tt" | "ty" | "vis" => Word::Fragment,
+        "async"
+        | "const"
+        | "continue"
+        | "dyn"
+        | "move"
+        | "mut"
+        | "ref"
+        | "static"
+        | "type"
+        | "unsafe"
+        | "use"
+        | "yield" => Word::Keyword,
+        "block"
+        | "expr"
+        | "ident"
+        | "item"
+        | "lifetime"
+        | "literal"
+        | "meta"
+        | "pat"
+        | "path"
+        | "stmt"
+        | "tt"
+        | "ty"
+        | "vis" => Word::Fragment,
         "format" | "panic" | "print" | "println" | "eprint" | "eprintln" => Word::Format1,
         "write" | "writeln" | "debug_assert" => Word::Format2,
         "assert_eq" | "assert_ne" => Word::Format3,

@@ -359,7 +359,11 @@ impl<'a> Printer<'a> {
             } else {
                 list.deep
             };
-            style = if self.opens(&own) { Style::Open } else { Style::Lines };
+            style = if self.opens(&own) {
+                Style::Open
+            } else {
+                Style::Lines
+            };
         }
         self.column = column;
         self.indent = indent;
@@ -527,8 +531,7 @@ impl<'a> Printer<'a> {
         if !self.fits(own.width.saturating_add(self.tail(list, index))) {
             return false;
         }
-        let called =
-            own.is_round() && (previous.is_any_word() || previous.role == Role::Bang);
+        let called = own.is_round() && (previous.is_any_word() || previous.role == Role::Bang);
         let earlier = self.previous(list, index.saturating_sub(1));
         !called || own.width <= CHAIN.saturating_add(2) || earlier.is_word(Word::Fn)
     }
@@ -549,7 +552,9 @@ impl<'a> Printer<'a> {
             }
             end = later.saturating_add(1);
         }
-        let wide = self.width(index, end).saturating_sub(self.atom(index).width);
+        let wide = self
+            .width(index, end)
+            .saturating_sub(self.atom(index).width);
         let last = self.previous(list, end);
         if end > index.saturating_add(1) && last.is_group() && !last.is_empty() {
             // Only its opener has to.
@@ -802,12 +807,18 @@ struct Chain {
 
 // Whether the atom goes on with a chain of calls.
 fn goes_on(own: &Atom<'_>, previous: &Atom<'_>) -> bool {
-    if matches!(own.role, Role::Path | Role::After | Role::Bang | Role::Greater) {
+    if matches!(
+        own.role,
+        Role::Path | Role::After | Role::Bang | Role::Greater
+    ) {
         return true;
     }
     let open = previous.is_nothing()
         || previous.is_sign()
-            && matches!(previous.role, Role::Plain | Role::Dot | Role::Path | Role::Before);
+            && matches!(
+                previous.role,
+                Role::Plain | Role::Dot | Role::Path | Role::Before
+            );
     if open && (own.is_any_word() || own.role == Role::Before) {
         return true;
     }

@@ -146,12 +146,8 @@ impl State {
         let head = match word {
             Word::Fn => Head::Fn,
             Word::Impl => Head::Impl,
-            Word::Trait
-            | Word::Mod
-            | Word::Struct
-            | Word::Enum
-            | Word::Union
-            | Word::Extern => Head::Item,
+            Word::Trait | Word::Mod | Word::Struct | Word::Enum | Word::Union | Word::Extern =>
+                Head::Item,
             Word::For | Word::While | Word::Loop | Word::Match | Word::If => Head::Other,
             Word::Else => Head::Else,
             _ => return false,
@@ -166,8 +162,7 @@ impl State {
         let after_sign = previous.is_sign()
             && previous.role != Role::Greater
             && previous.role != Role::Semicolon;
-        let inside =
-            after_sign || previous.is_word(Word::Return) || previous.is_word(Word::Break);
+        let inside = after_sign || previous.is_word(Word::Return) || previous.is_word(Word::Break);
         let after_else = previous.is_word(Word::Else);
         self.head = if word == Word::If && after_else {
             self.last
@@ -209,8 +204,10 @@ impl State {
         if previous.is_path() {
             return Role::Use;
         }
-        let goes_on =
-            next.is_mark('=') || next.is_mark('|') || next.is_mark(':') || next.is_word(Word::In);
+        let goes_on = next.is_mark('=')
+            || next.is_mark('|')
+            || next.is_mark(':')
+            || next.is_word(Word::In);
         if self.head != Head::Nothing && (self.is_in_item() || !goes_on) {
             let role = if self.head == Head::Branch && !own.statements {
                 Role::Branch
@@ -238,13 +235,7 @@ impl State {
         }
     }
 
-    fn sign_role(
-        &mut self,
-        sign: Sign,
-        role: Role,
-        previous: &Atom<'_>,
-        next: &Atom<'_>,
-    ) -> Role {
+    fn sign_role(&mut self, sign: Sign, role: Role, previous: &Atom<'_>, next: &Atom<'_>) -> Role {
         let mark = match sign {
             Sign::One(mark) => mark,
             _ => ' ',

@@ -203,7 +203,11 @@ pub fn measure_group(atoms: &mut Vec<Atom<'_>>, index: usize) {
         || group.is_brace() && group.role == Role::Block
         || listed
         || group.role == Role::Fields && group.rest && inner > FIELDS;
-    let around = if group.is_brace() && group.role != Role::Use { 4 } else { 2 };
+    let around = if group.is_brace() && group.role != Role::Use {
+        4
+    } else {
+        2
+    };
     if let Some(own) = atoms.get_mut(index) {
         own.width = inner.saturating_add(around);
         own.tall = tall;

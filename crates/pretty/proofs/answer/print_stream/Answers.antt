@@ -11,6 +11,8 @@ returns g c =
       text = chars bytes;
       layout = c.in-Ok.ensures.layout;
       back = c.in-Ok.ensures.back;
-      appends = rw (encodes-chars bytes (IsUtf8-string_bytes c.in-Ok.pretty),
-          ← (c.as_bytes.ensures.value ∙ c.as_str.ensures.value)) c.in_ok-write_all.ensures.bytes;
+      appends = rw (
+        encodes-chars bytes (IsUtf8-string_bytes c.in-Ok.pretty),
+        ← (c.as_bytes.ensures.value ∙ c.as_str.ensures.value),
+      ) c.in_ok-write_all.ensures.bytes;
     }
