@@ -5,10 +5,10 @@
     python3 bench/pretty.py FOLDER --prepare TEXT       writes what the program is to read
     python3 bench/pretty.py FOLDER --compare PRETTY     compares what it wrote for it
 
-Takes files of Rust below FOLDER at random. Of each, rustfmt formats the text without its plain comments; `pretty` reads
-that and prints its tokens. Printed are the share of rustfmt's lines that stand in that order in the program's text, and
-the files with the most lines that don't. Blank lines and those of doc comments don't count. All files go through one run
-of the program, with a statement between two.
+Takes files of Rust below FOLDER at random. Of each, rustfmt formats the text without its plain comments; `pretty`
+reads that and prints its tokens. Printed are the share of rustfmt's lines that stand in that order in the program's
+text, and the files with the most lines that don't. Blank lines and those of doc comments don't count. All files go
+through one run of the program, with a statement between two.
 """
 import argparse
 import difflib

@@ -28,7 +28,8 @@ use Rattle.proc_macro2.proofs.EventSpans.{bare, said, same_from_said}
 use Rattle.proc_macro2.proofs.PrintedCover.{opener_of, closer_of, open_piece, close_piece, token_piece, stand_open}
 use Rattle.proc_macro2.proofs.PrintedCover.{stand_close, said_open, said_close, tick_stands}
 use Rattle.proc_macro2.proofs.Returns.{next_event, spaced, spaced-flat}
-use Rattle.layout.specs.Layout.{parts_name, parts_from, event_text, goes_on, must_part, is_joint, may_part, Laid, laid_onto}
+use Rattle.layout.specs.Layout.{parts_name, parts_from, event_text, goes_on, must_part, is_joint, may_part, Laid}
+use Rattle.layout.specs.Layout.{laid_onto}
 use Rattle.layout.specs.Layout.{begins_range, is_dot, is_plain}
 use Rattle.layout.proofs.RangeLemmas.{range_stands}
 use Rattle.layout.specs.Layout.{events_of, IsGap, AreGaps, may_follow, keeps_apart, IsLayout}
@@ -214,7 +215,8 @@ literal_there text lo hi (x ∷ xs) last built written gaps end next kept =
     by_gap [] e white plain range follow =
         let dots = dots_text e xs last range follow in range_stands text dots.0 _ built plain dots.1
     by_gap (c ∷ gap) e white plain range follow =
-        literal_stands text _ built (white_parts (Literal text) c (and_parts (is_white c) (list_all is_white gap) white).0)
+        literal_stands text _ built (white_parts (Literal text) c
+        (and_parts (is_white c) (list_all is_white gap) white).0)
 
 -- ---- each piece stands
 
@@ -271,7 +273,8 @@ quoted (One (Name false name) lo hi) xs last written gaps end kept fit h = recor
   named = h.1.0;
   unbarred =
       stops_within (bars_quote false) parts_name (bars_parts false) (onto (laid_pieces xs last) [])
-      (calm_after (Name false name) lo hi xs last refl (no_range (Name false name) lo hi xs refl) written gaps end kept);
+      (calm_after (Name false name) lo hi xs last refl (no_range (Name false name) lo hi xs refl)
+      written gaps end kept);
 }
 quoted (One (Mark d joint) lo hi) xs last written gaps end kept fit h = absurd (both_ways false refl fit)
 quoted (One (Literal text) lo hi) xs last written gaps end kept fit h =
@@ -338,7 +341,8 @@ stand_event b (One (Mark c false) lo hi) xs last written gaps end w next kept h 
     let fit = (and_parts (fits (Mark c false) (next_event (events_of xs))) (spaced (events_of xs)) w).0 in (
       refl,
       alone_stands c _ written.0 (eqb-false c 39 (not-true (c == 39) fit))
-          (calm_after (Mark c false) lo hi xs last refl (no_range (Mark c false) lo hi xs refl) written.1 gaps end next),
+          (calm_after (Mark c false) lo hi xs last refl (no_range (Mark c false) lo hi xs refl) written.1 gaps end
+          next),
     )
 stand_event b (One (Mark c true) lo hi) xs last written gaps end w next kept h =
     let fit = (and_parts (fits (Mark c true) (next_event (events_of xs))) (spaced (events_of xs)) w).0 in

@@ -85,12 +85,14 @@ fitting_may : (before : Option Event) (chosen : Gap) (e : Event) (later : List E
     → may_stand before (gap_text (fitting before chosen (event_text e) range)) e later ≡ true
 fitting_may None chosen e later range comes = refl
 fitting_may (Some before) chosen e later range comes =
-    by_cases before chosen (is_joint before) (goes_on before (event_text e)) (is_plain before) range refl refl refl comes
+    by_cases before chosen (is_joint before) (goes_on before (event_text e)) (is_plain before) range refl refl refl
+    comes
   where
     by_cases : (b : Event) (chosen : Gap) (joint goes plain range : Bool)
         → is_joint b ≡ joint → goes_on b (event_text e) ≡ goes → is_plain b ≡ plain
         → (range ≡ true → begins_range e later ≡ true)
-        → may_part b (gap_text (if joint then Nothing else (if goes && not (plain && range) then some chosen else chosen)))
+        → may_part b (gap_text (if joint then Nothing
+        else (if goes && not (plain && range) then some chosen else chosen)))
         e later ≡ true
     by_cases b chosen true goes plain range j g p comes = or_left (is_joint b) _ j
     by_cases b Nothing false false plain range j g p comes =
