@@ -288,58 +288,226 @@ fn doc_comments_with_a_bare_return() {
 #[test]
 fn contents_of_strings() {
     let rt = HostRuntime;
-    check(&rt, "let a = \"ab\rcd\";\n", "Content(BareCarriageReturn)", 11, 12);
-    check(&rt, "let a = \"ab\r\";\n", "Content(BareCarriageReturn)", 11, 12);
-    check(&rt, "let a = b\"ab\rcd\";\n", "Content(BareCarriageReturn)", 12, 13);
-    check(&rt, "let a = b\"caf\u{E9} \u{4E2D}\";\n", "Content(NonAsciiCharInByte)", 13, 15);
+    check(
+        &rt,
+        "let a = \"ab\rcd\";\n",
+        "Content(BareCarriageReturn)",
+        11,
+        12,
+    );
+    check(
+        &rt,
+        "let a = \"ab\r\";\n",
+        "Content(BareCarriageReturn)",
+        11,
+        12,
+    );
+    check(
+        &rt,
+        "let a = b\"ab\rcd\";\n",
+        "Content(BareCarriageReturn)",
+        12,
+        13,
+    );
+    check(
+        &rt,
+        "let a = b\"caf\u{E9} \u{4E2D}\";\n",
+        "Content(NonAsciiCharInByte)",
+        13,
+        15,
+    );
     check(&rt, "let a = c\"a\0b\";\n", "Content(NulInCStr)", 11, 12);
     check(&rt, "let a = c\"a\\0b\";\n", "Content(NulInCStr)", 11, 13);
     check(&rt, "let a = c\"a\\x00b\";\n", "Content(NulInCStr)", 11, 15);
-    check(&rt, "let a = c\"a\\u{0}b\";\n", "Content(NulInCStr)", 11, 16);
-    check(&rt, "let a = c\"a\rb\";\n", "Content(BareCarriageReturn)", 11, 12);
+    check(
+        &rt,
+        "let a = c\"a\\u{0}b\";\n",
+        "Content(NulInCStr)",
+        11,
+        16,
+    );
+    check(
+        &rt,
+        "let a = c\"a\rb\";\n",
+        "Content(BareCarriageReturn)",
+        11,
+        12,
+    );
 }
 
 #[test]
 fn escapes_that_are_none_1() {
     let rt = HostRuntime;
-    check(&rt, "let a = \"C:\\dir\\qux\";\n", "Content(InvalidEscape)", 12, 13);
+    check(
+        &rt,
+        "let a = \"C:\\dir\\qux\";\n",
+        "Content(InvalidEscape)",
+        12,
+        13,
+    );
     check(&rt, "let a = \"\\{x\";\n", "Content(InvalidEscape)", 10, 11);
-    check(&rt, "let a = \"a\\\rb\";\n", "Content(InvalidEscape)", 11, 12);
-    check(&rt, "let a = \"\\x\";\n", "Content(TooShortHexEscape)", 9, 11);
-    check(&rt, "let a = \"\\x4\";\n", "Content(TooShortHexEscape)", 9, 12);
-    check(&rt, "let a = \"\\x4g\";\n", "Content(InvalidCharInHexEscape)", 12, 13);
-    check(&rt, "let a = \"\\x80\";\n", "Content(OutOfRangeHexEscape)", 9, 13);
-    check(&rt, "let a = \"\\u00e9x\";\n", "Content(NoBraceInUnicodeEscape)", 9, 12);
-    check(&rt, "let a = \"\\u\";\n", "Content(NoBraceInUnicodeEscape)", 9, 11);
+    check(
+        &rt,
+        "let a = \"a\\\rb\";\n",
+        "Content(InvalidEscape)",
+        11,
+        12,
+    );
+    check(
+        &rt,
+        "let a = \"\\x\";\n",
+        "Content(TooShortHexEscape)",
+        9,
+        11,
+    );
+    check(
+        &rt,
+        "let a = \"\\x4\";\n",
+        "Content(TooShortHexEscape)",
+        9,
+        12,
+    );
+    check(
+        &rt,
+        "let a = \"\\x4g\";\n",
+        "Content(InvalidCharInHexEscape)",
+        12,
+        13,
+    );
+    check(
+        &rt,
+        "let a = \"\\x80\";\n",
+        "Content(OutOfRangeHexEscape)",
+        9,
+        13,
+    );
+    check(
+        &rt,
+        "let a = \"\\u00e9x\";\n",
+        "Content(NoBraceInUnicodeEscape)",
+        9,
+        12,
+    );
+    check(
+        &rt,
+        "let a = \"\\u\";\n",
+        "Content(NoBraceInUnicodeEscape)",
+        9,
+        11,
+    );
 }
 
 #[test]
 fn escapes_that_are_none_2() {
     let rt = HostRuntime;
-    check(&rt, "let a = \"\\u{12\";\n", "Content(UnclosedUnicodeEscape)", 9, 14);
-    check(&rt, "let a = \"\\u{_12}\";\n", "Content(LeadingUnderscoreUnicodeEscape)", 12, 13);
-    check(&rt, "let a = \"\\u{}\";\n", "Content(EmptyUnicodeEscape)", 9, 13);
-    check(&rt, "let a = \"\\u{12g}\";\n", "Content(InvalidCharInUnicodeEscape)", 14, 15);
-    check(&rt, "let a = \"\\u{1234567}\";\n", "Content(OverlongUnicodeEscape)", 9, 20);
-    check(&rt, "let a = \"\\u{110000}\";\n", "Content(OutOfRangeUnicodeEscape)", 9, 19);
-    check(&rt, "let a = \"\\u{d800}\";\n", "Content(LoneSurrogateUnicodeEscape)", 9, 17);
-    check(&rt, "let a = b\"\\u{41}\";\n", "Content(UnicodeEscapeInByte)", 10, 16);
-    check(&rt, "let a = \"\\q \\w \\x80\";\n", "Content(InvalidEscape)", 10, 11);
+    check(
+        &rt,
+        "let a = \"\\u{12\";\n",
+        "Content(UnclosedUnicodeEscape)",
+        9,
+        14,
+    );
+    check(
+        &rt,
+        "let a = \"\\u{_12}\";\n",
+        "Content(LeadingUnderscoreUnicodeEscape)",
+        12,
+        13,
+    );
+    check(
+        &rt,
+        "let a = \"\\u{}\";\n",
+        "Content(EmptyUnicodeEscape)",
+        9,
+        13,
+    );
+    check(
+        &rt,
+        "let a = \"\\u{12g}\";\n",
+        "Content(InvalidCharInUnicodeEscape)",
+        14,
+        15,
+    );
+    check(
+        &rt,
+        "let a = \"\\u{1234567}\";\n",
+        "Content(OverlongUnicodeEscape)",
+        9,
+        20,
+    );
+    check(
+        &rt,
+        "let a = \"\\u{110000}\";\n",
+        "Content(OutOfRangeUnicodeEscape)",
+        9,
+        19,
+    );
+    check(
+        &rt,
+        "let a = \"\\u{d800}\";\n",
+        "Content(LoneSurrogateUnicodeEscape)",
+        9,
+        17,
+    );
+    check(
+        &rt,
+        "let a = b\"\\u{41}\";\n",
+        "Content(UnicodeEscapeInByte)",
+        10,
+        16,
+    );
+    check(
+        &rt,
+        "let a = \"\\q \\w \\x80\";\n",
+        "Content(InvalidEscape)",
+        10,
+        11,
+    );
 }
 
 #[test]
 fn escapes_that_are_none_3() {
     let rt = HostRuntime;
-    check(&rt, "let p = \"C:\\Users\\me\\x\";\n", "Content(InvalidEscape)", 12, 13);
-    check(&rt, "let p = Regex::new(\"^\\d+\\.\\d+$\");\n", "Content(InvalidEscape)", 22, 23);
-    check(&rt, "let a = c\"\\u{dfff}\";\n", "Content(LoneSurrogateUnicodeEscape)", 10, 18);
+    check(
+        &rt,
+        "let p = \"C:\\Users\\me\\x\";\n",
+        "Content(InvalidEscape)",
+        12,
+        13,
+    );
+    check(
+        &rt,
+        "let p = Regex::new(\"^\\d+\\.\\d+$\");\n",
+        "Content(InvalidEscape)",
+        22,
+        23,
+    );
+    check(
+        &rt,
+        "let a = c\"\\u{dfff}\";\n",
+        "Content(LoneSurrogateUnicodeEscape)",
+        10,
+        18,
+    );
 }
 
 #[test]
 fn contents_of_raw_strings() {
     let rt = HostRuntime;
-    check(&rt, "let a = r\"a\rb\";\n", "Content(BareCarriageReturnInRawString)", 11, 12);
-    check(&rt, "let a = br\"a\u{E9}b\";\n", "Content(NonAsciiCharInByte)", 12, 14);
+    check(
+        &rt,
+        "let a = r\"a\rb\";\n",
+        "Content(BareCarriageReturnInRawString)",
+        11,
+        12,
+    );
+    check(
+        &rt,
+        "let a = br\"a\u{E9}b\";\n",
+        "Content(NonAsciiCharInByte)",
+        12,
+        14,
+    );
     check(&rt, "let a = cr\"a\0b\";\n", "Content(NulInCStr)", 12, 13);
 }
 
@@ -354,29 +522,83 @@ fn contents_of_characters_and_bytes_1() {
     check(&rt, "let a = '\r';\n", "Content(BareCarriageReturn)", 9, 10);
     check(&rt, "let a = 'hello';\n", "Content(MoreThanOneChar)", 8, 15);
     check(&rt, "let a = '++';\n", "Content(MoreThanOneChar)", 8, 12);
-    check(&rt, "let a = 'e\u{301}';\n", "Content(MoreThanOneChar)", 8, 13);
+    check(
+        &rt,
+        "let a = 'e\u{301}';\n",
+        "Content(MoreThanOneChar)",
+        8,
+        13,
+    );
 }
 
 #[test]
 fn contents_of_characters_and_bytes_2() {
     let rt = HostRuntime;
-    check(&rt, "let a = '\u{200B}x\u{200B}';\n", "Content(MoreThanOneChar)", 8, 17);
-    check(&rt, "let a = '\\x10\\x10';\n", "Content(MoreThanOneChar)", 8, 18);
+    check(
+        &rt,
+        "let a = '\u{200B}x\u{200B}';\n",
+        "Content(MoreThanOneChar)",
+        8,
+        17,
+    );
+    check(
+        &rt,
+        "let a = '\\x10\\x10';\n",
+        "Content(MoreThanOneChar)",
+        8,
+        18,
+    );
     check(&rt, "let a = '+/b';\n", "Content(MoreThanOneChar)", 8, 13);
     check(&rt, "let a = '12';\n", "Content(MoreThanOneChar)", 8, 12);
     check(&rt, "let a = '\\q';\n", "Content(InvalidEscape)", 10, 11);
-    check(&rt, "let a = '\\u{d800}';\n", "Content(LoneSurrogateUnicodeEscape)", 9, 17);
+    check(
+        &rt,
+        "let a = '\\u{d800}';\n",
+        "Content(LoneSurrogateUnicodeEscape)",
+        9,
+        17,
+    );
     check(&rt, "let a = b'ab';\n", "Content(MoreThanOneChar)", 8, 13);
-    check(&rt, "let a = b'\u{E9}';\n", "Content(NonAsciiCharInByte)", 10, 12);
-    check(&rt, "let a = b'\\u{41}';\n", "Content(UnicodeEscapeInByte)", 10, 16);
+    check(
+        &rt,
+        "let a = b'\u{E9}';\n",
+        "Content(NonAsciiCharInByte)",
+        10,
+        12,
+    );
+    check(
+        &rt,
+        "let a = b'\\u{41}';\n",
+        "Content(UnicodeEscapeInByte)",
+        10,
+        16,
+    );
 }
 
 #[test]
 fn contents_of_characters_and_bytes_3() {
     let rt = HostRuntime;
     check(&rt, "m!('r#ab');\n", "Content(MoreThanOneChar)", 3, 9);
-    check(&rt, "fn f() {\n    println!('{} x', y);\n}\n", "Content(MoreThanOneChar)", 22, 28);
-    check(&rt, "m!('{\"a\": 1}');\n", "Content(MoreThanOneChar)", 3, 13);
-    check(&rt, "let a = b'\r';\n", "Content(BareCarriageReturn)", 10, 11);
+    check(
+        &rt,
+        "fn f() {\n    println!('{} x', y);\n}\n",
+        "Content(MoreThanOneChar)",
+        22,
+        28,
+    );
+    check(
+        &rt,
+        "m!('{\"a\": 1}');\n",
+        "Content(MoreThanOneChar)",
+        3,
+        13,
+    );
+    check(
+        &rt,
+        "let a = b'\r';\n",
+        "Content(BareCarriageReturn)",
+        10,
+        11,
+    );
     check(&rt, "let a = b''';\n", "Content(EscapeOnlyChar)", 10, 11);
 }
