@@ -19,8 +19,9 @@ loop-span-preserved g c =
           let starts = subst (Each (StartsIn c.args.map.now text)) at was.0 in (
             starts.1,
             λ new more. was.1 new (rw at (Appends-trans _ _ _ _ _
-                (subst (λ start. Appends (g.W.Write.contents c.loop-span.writer) (g.W.Write.contents c.writeln.new.self)
-                (line_of c.args.path.now start)) (starts.0 _ c.start-start.ensures) c.in_ok-writeln.ensures.bytes) more)),
+                (subst (λ start. Appends (g.W.Write.contents c.loop-span.writer)
+                (g.W.Write.contents c.writeln.new.self) (line_of c.args.path.now start))
+                (starts.0 _ c.start-start.ensures) c.in_ok-writeln.ensures.bytes) more)),
           ),
     )
 
