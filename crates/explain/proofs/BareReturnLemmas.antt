@@ -158,7 +158,8 @@ within (c ∷ (d ∷ text)) rest (b ∷ before) after apart bare none e =
     let back : (d ∷ text) ++ rest ≡ before ++ (13 ∷ after) = cc in
     let inner = within (d ∷ text) rest before after apart
     (still before (sym (ap (begins_with (codes "\n")) back)) (sym same) none) (or_parts _ _ none).1 back in
-    record { more = inner.more; whole = ap (λ t. c ∷ t) inner.whole ∙ ap (λ x. x ∷ (before ++ (13 ∷ inner.more))) same; back = inner.back }
+    record { more = inner.more; whole = ap (λ t. c ∷ t) inner.whole ∙ ap (λ x. x ∷ (before ++ (13 ∷ inner.more)))
+        same; back = inner.back }
   where
     still : (before : List ℕ) → begins_with (codes "\n") (before ++ (13 ∷ after)) ≡ begins_with (codes "\n") (d ∷ text)
         → b ≡ c → has_bare_return (b ∷ before) ≡ false → has_bare_return (d ∷ text) ≡ true
@@ -212,7 +213,8 @@ text_apart p r h doc = by_closing (begins_with (codes "/*") p) refl
     by_closing true block ends = ap (λ t. begins_with (codes "\n") (t ++ r)) (closing_block p r block)
     by_closing false line ends = by_feed (ends_with 13 p && begins_with (codes "\n") r) refl ends
       where
-        by_feed : (b : Bool) → (ends_with 13 p && begins_with (codes "\n") r) ≡ b → Apart (doc_text p r) (closing p r ++ r)
+        by_feed : (b : Bool) → (ends_with 13 p && begins_with (codes "\n") r) ≡ b → Apart (doc_text p r) (closing p r
+            ++ r)
         by_feed true feed ends =
             ap (λ t. begins_with (codes "\n") (t ++ r)) (ap (λ b. cond b (codes "*/")
             (cond (ends_with 13 p && begins_with (codes "\n") r) (13 ∷ []) [])) line ∙ cond-true _ _ _ feed)
@@ -259,7 +261,8 @@ module _ (at inside : Cursor) (is : IsDocAt at) (rest : inside.rest.now ≡ drop
   past_front =
       let utf8 = IsUtf8-had at.rest.now at.text in record {
         part = opening;
-        whole = split ∙ ap (λ t. opening ++ t) (sym (ap chars rest ∙ seam_drop at.rest.now opening _ 3 utf8 split size));
+        whole = split ∙ ap (λ t. opening ++ t) (sym (ap chars rest ∙ seam_drop at.rest.now opening _ 3 utf8 split
+            size));
         count = count ∙ ap (λ t. at.chars_before + length t) (seam_take at.rest.now opening _ 3 utf8 split size);
       }
 

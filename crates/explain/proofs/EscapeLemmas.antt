@@ -1,6 +1,8 @@
 -- What the escaper reads as an escape is an escape of the grammar.
-use Rattle.std.proofs.Common.{◌≡◌, ℕ, ◌*◌, ◌+◌, ◌<◌, ◌≤◌, Bool, true, false, not, ◌&&◌, ◌||◌, ◌==◌, nat_lt, nat_le, List, []}
-use Rattle.std.proofs.Common.{◌∷◌, ◌++◌, codes, length, Option, Some, None, Result, Ok, Err, refl, sym, ap, ap₂, ◌∙◌, subst}
+use Rattle.std.proofs.Common.{◌≡◌, ℕ, ◌*◌, ◌+◌, ◌<◌, ◌≤◌, Bool, true, false, not, ◌&&◌, ◌||◌, ◌==◌, nat_lt, nat_le}
+use Rattle.std.proofs.Common.{List, []}
+use Rattle.std.proofs.Common.{◌∷◌, ◌++◌, codes, length, Option, Some, None, Result, Ok, Err, refl, sym, ap, ap₂, ◌∙◌}
+use Rattle.std.proofs.Common.{subst}
 use Rattle.std.proofs.Common.{append_assoc, arith, inl, inr, eqb-true, ltb-true, leb-true}
 use Rattle.std.specs.Prelude.{filter, cond, is_some}
 use Rattle.std.specs.Char.{digit_value, is_ascii, is_ascii_hexdigit}
@@ -11,7 +13,8 @@ use Rattle.std.proofs.lemmas.Bool.{false_from_ne_true, lt-ltb, ltb-false, or_fro
 use Rattle.lexical.specs.Text.{begins_any}
 use Rattle.lexical.specs.Rule.{Rule, Stands}
 use Rattle.lexical.specs.Quoted as rule
-use Rattle.lexical.specs.Quoted.{allows, hex_value, is_code, is_code_digit, is_octal_digit, is_one_of, is_plain, is_scalar}
+use Rattle.lexical.specs.Quoted.{allows, hex_value, is_code, is_code_digit, is_octal_digit, is_one_of, is_plain}
+use Rattle.lexical.specs.Quoted.{is_scalar}
 use Rattle.lexical.specs.Quoted.{is_string_plain}
 use Rattle.lexical.specs.Quoted.{letters}
 use Rattle.lexical.specs.declared.quoted.StringKind.{StringKind}

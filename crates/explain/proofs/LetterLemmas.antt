@@ -70,7 +70,8 @@ starts_with (c ∷ text) starts =
     grind (arith, quote, hash)
   where
     apart : (d : ℕ) → is_ident_start d ≡ false → (d == c) ≡ false
-    apart d none = false_from_ne_true _ (λ same. both_ways _ (ap is_ident_start (sym (eqb-true d c same)) ∙ none) starts)
+    apart d none = false_from_ne_true _ (λ same. both_ways _ (ap is_ident_start (sym (eqb-true d c same)) ∙ none)
+        starts)
 
 named_starts : (text : List ℕ) (p r : List ℕ) → find name text ≡ Some (p, r) → first_passes is_ident_start text ≡ true
 unfolding find

@@ -140,7 +140,8 @@ single_inside inside end body =
     let last = by_rule body.front is.1 in
     (last.0, is.0 ∙ (ap (λ t. t ++ chars end.rest.now) last.1 ∙ append_assoc last.0 (codes "'") (chars end.rest.now)))
   where
-    by_rule : (p : List ℕ) → Stands closed_single_body p (chars end.rest.now) → (left : List ℕ) × (p ≡ left ++ codes "'")
+    by_rule : (p : List ℕ) → Stands closed_single_body p (chars end.rest.now) → (left : List ℕ) × (p ≡ left ++ codes
+        "'")
     by_rule p (inl alone) = (alone.front, alone.whole ∙ ap (λ t. alone.front ++ t) alone.second)
     by_rule p (inr more) = (more.1.front, more.1.whole ∙ ap (λ t. more.1.front ++ t) more.1.second)
 
@@ -169,7 +170,8 @@ module _ (at inside mid end : Cursor) (quote : Passes (Exactly (codes "'")) at i
       refl,
     )
 
-    plain_ends : Stands (Either name (Then (One is_ascii_digit) (Run is_ident_continue))) part (codes "'" ++ chars end.rest.now)
+    plain_ends : Stands (Either name (Then (One is_ascii_digit) (Run is_ident_continue))) part (codes "'" ++ chars
+        end.rest.now)
         → EndsAt at end
     plain_ends stands = (
       quoted_past.0,
@@ -190,7 +192,8 @@ module _ (at inside mid end : Cursor) (quote : Passes (Exactly (codes "'")) at i
         quoted_inside named.front is.0 named.count,
       )
 
-  pub digits_end : (first : Cursor) → Passes (One is_ascii_digit) inside first → Passes (Run is_ident_continue) first mid
+  pub digits_end : (first : Cursor) → Passes (One is_ascii_digit) inside first → Passes (Run is_ident_continue) first
+      mid
       → EndsAt at end × IsInside single_quote inside end
   digits_end first digit run =
       let rule = Then (One is_ascii_digit) (Run is_ident_continue) in

@@ -132,7 +132,8 @@ module _ (kind : StringKind) (signs : List ℕ) where
       let clear = clear_raw_body kind ends in
       let is = passed unit clear.0 place after j in
       let past : IsPast place after = record { part = j.front; whole = is.0; count = j.count } in
-      let more = raw_past j.front rest.left (chars after.rest.now) (chars end.rest.now) (sym is.0 ∙ rest.whole) rest.clean
+      let more = raw_past j.front rest.left (chars after.rest.now) (chars end.rest.now) (sym is.0 ∙ rest.whole)
+          rest.clean
       is.1 in (
         record {
           past = further start place after h.past past;
@@ -203,7 +204,8 @@ module _ (kind : StringKind) (at inside quote start : Cursor) (letters : Passes 
   few_run : nat_le (length run.front) 255 ≡ true
   few_run = le-leb (length run.front) 255 (omega (arith, few, ap length same))
 
-  pub raw_body_none : find (raw_string kind) (chars at.rest.now) ≡ None → find (body kind signs) (chars start.rest.now) ≡ None
+  pub raw_body_none : find (raw_string kind) (chars at.rest.now) ≡ None → find (body kind signs) (chars
+      start.rest.now) ≡ None
   unfolding find
   raw_body_none none =
       let quotes = raw_quotes (may_stand_raw kind) in

@@ -73,7 +73,8 @@ some_fault singles.Character text r e more is =
     is in
     (ap (λ x. x.end) both.0, both.1)
 some_fault singles.Byte text r e more is =
-    let both = by_some (read_range (bytes text) (single byte_kind text).rest) (single byte_kind text).unit r e more is in
+    let both = by_some (read_range (bytes text) (single byte_kind text).rest) (single byte_kind text).unit r e more
+        is in
     (ap (λ x. x.end) both.0, both.1)
 
 -- ---- what nothing is wrong with stands
@@ -148,7 +149,8 @@ byte_bare : (c u : ℕ) → byte_kind.of_char c ≡ Ok u → is_char_plain c ≡
 byte_bare c u = cond_both (is_ascii c) _ _ (λ o. o ≡ Ok u → is_char_plain c ≡ true → is_byte_char_plain c ≡ true)
     (λ e h plain. and_from _ _ plain e) (λ e h. absurd (cc))
 
-pub not_right : (kind : SingleKind) (at inside end : Cursor) (text : List ℕ) → Passes (Exactly (single_front kind)) at inside
+pub not_right : (kind : SingleKind) (at inside end : Cursor) (text : List ℕ) → Passes (Exactly (single_front kind))
+    at inside
     → IsLeft single_quote text inside end → IsSingleFault kind text None
     → find (single_rule kind) (chars at.rest.now) ≡ None → ⊥
 not_right singles.Character at inside end text opens whole right none =
@@ -292,7 +294,8 @@ module _ (kind : SingleKind) (e : EscapeError) (at inside end : Cursor) (text : 
         whole = ap (λ p. p ++ chars end.rest.now) literal;
         closed = closed_here;
         gives = read.gives;
-        place = subst (λ b. IsSinglePlace b e (single_front kind) text read.rest [] past.part) (sym whole) (refl, literal);
+        place = subst (λ b. IsSinglePlace b e (single_front kind) text read.rest [] past.part) (sym whole) (refl,
+            literal);
       },
     ));
   }
@@ -331,7 +334,8 @@ module _ (kind : SingleKind) (e : EscapeError) (at inside end : Cursor) (text : 
                 whole = sym whole ∙ (past.whole ∙ ap (λ p. p ++ chars end.rest.now) literal);
                 closed = closed_here;
                 gives = read.gives;
-                place = subst (λ b. IsSinglePlace b e (single_front kind) text read.rest (single_front kind ++ start) part)
+                place = subst (λ b. IsSinglePlace b e (single_front kind) text read.rest (single_front kind ++ start)
+                    part)
                     (sym partly) (start, refl, read.whole ∙ ap (λ t. t ++ read.rest) same, is.fault);
               },
             )));

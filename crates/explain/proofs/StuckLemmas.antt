@@ -4,7 +4,8 @@ use Rattle.std.proofs.Common.{Some}
 use Rattle.std.proofs.Common.{None, IfSome, inl, inr, refl, sym, ap, ◌∙◌, subst, arith, eqb-true}
 use Rattle.std.specs.Char.{is_ascii_digit}
 use Rattle.std.specs.Str.{chars}
-use Rattle.std.proofs.lemmas.Bool.{and_from, both_ways, cases_Bool, cond-false, false_from_ne_true, not_from_false, or_from}
+use Rattle.std.proofs.lemmas.Bool.{and_from, both_ways, cases_Bool, cond-false, false_from_ne_true, not_from_false}
+use Rattle.std.proofs.lemmas.Bool.{or_from}
 use Rattle.lexical.specs.Comment.{block_comment, comment, line_comment}
 use Rattle.lexical.specs.Class.{is_white, is_ident_start}
 use Rattle.lexical.specs.Delimiter.{closer, error_literal, is_opener, is_closer, opener}
@@ -15,7 +16,8 @@ use Rattle.lexical.specs.Mark.{comment_fronts, is_mark, mark}
 use Rattle.lexical.specs.Number.{number}
 use Rattle.lexical.specs.Piece.{HasNoPiece, IsPiece, Kind}
 use Rattle.lexical.specs.PieceFinder.{Found, comment_found, find_lone_quote, found, found_identifier, literal_kind}
-use Rattle.lexical.specs.PieceFinder.{closer_kind, gap_kind, mark_kind, name_kind, opener_kind, or_found, piece_start, quote_kind}
+use Rattle.lexical.specs.PieceFinder.{closer_kind, gap_kind, mark_kind, name_kind, opener_kind, or_found}
+use Rattle.lexical.specs.PieceFinder.{piece_start, quote_kind}
 use Rattle.lexical.specs.PieceFinder.{tagged}
 use Rattle.lexical.specs.Quoted.{cooked}
 use Rattle.lexical.specs.RawString.{raw_string}
@@ -218,7 +220,8 @@ opener_stands first c text rest e s none =
     let both = or_found_none _ _ (sym (at_start first starts.Opener e s) ∙ none) in
     let plain = lacks_text error_literal text (untagged (find (Exactly error_literal) text) both.1) in
     some_of ⊥ ⊥ _ _
-    (one_found_not_at (error_literal ∷ []) is_opener text rest c e (or_from _ _ plain refl) (of_start starts.Opener c s))
+    (one_found_not_at (error_literal ∷ []) is_opener text rest c e (or_from _ _ plain refl) (of_start starts.Opener c
+        s))
     (untagged_by opener_kind (find opener text) both.0)
 
 other_of : (s t : PieceStart) (c d : ℕ) → s ≡ piece_start c → piece_start d ≡ t → (s ≡ t → ⊥) → (c == d) ≡ false
