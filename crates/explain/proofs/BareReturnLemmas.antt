@@ -158,8 +158,12 @@ within (c ∷ (d ∷ text)) rest (b ∷ before) after apart bare none e =
     let back : (d ∷ text) ++ rest ≡ before ++ (13 ∷ after) = cc in
     let inner = within (d ∷ text) rest before after apart
     (still before (sym (ap (begins_with (codes "\n")) back)) (sym same) none) (or_parts _ _ none).1 back in
-    record { more = inner.more; whole = ap (λ t. c ∷ t) inner.whole ∙ ap (λ x. x ∷ (before ++ (13 ∷ inner.more)))
-        same; back = inner.back }
+    record {
+      more = inner.more;
+      whole = ap (λ t. c ∷ t) inner.whole ∙ ap (λ x. x ∷ (before ++ (13 ∷ inner.more)))
+          same;
+      back = inner.back;
+    }
   where
     still : (before : List ℕ) → begins_with (codes "\n") (before ++ (13 ∷ after)) ≡ begins_with (codes "\n") (d ∷ text)
         → b ≡ c → has_bare_return (b ∷ before) ≡ false → has_bare_return (d ∷ text) ≡ true

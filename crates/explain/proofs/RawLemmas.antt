@@ -133,7 +133,7 @@ module _ (kind : StringKind) (signs : List ℕ) where
       let is = passed unit clear.0 place after j in
       let past : IsPast place after = record { part = j.front; whole = is.0; count = j.count } in
       let more = raw_past j.front rest.left (chars after.rest.now) (chars end.rest.now) (sym is.0 ∙ rest.whole)
-          rest.clean
+      rest.clean
       is.1 in (
         record {
           past = further start place after h.past past;

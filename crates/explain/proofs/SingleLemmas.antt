@@ -74,7 +74,7 @@ some_fault singles.Character text r e more is =
     (ap (λ x. x.end) both.0, both.1)
 some_fault singles.Byte text r e more is =
     let both = by_some (read_range (bytes text) (single byte_kind text).rest) (single byte_kind text).unit r e more
-        is in
+    is in
     (ap (λ x. x.end) both.0, both.1)
 
 -- ---- what nothing is wrong with stands
@@ -294,8 +294,10 @@ module _ (kind : SingleKind) (e : EscapeError) (at inside end : Cursor) (text : 
         whole = ap (λ p. p ++ chars end.rest.now) literal;
         closed = closed_here;
         gives = read.gives;
-        place = subst (λ b. IsSinglePlace b e (single_front kind) text read.rest [] past.part) (sym whole) (refl,
-            literal);
+        place = subst (λ b. IsSinglePlace b e (single_front kind) text read.rest [] past.part) (sym whole) (
+          refl,
+          literal,
+        );
       },
     ));
   }

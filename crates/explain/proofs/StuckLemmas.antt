@@ -221,7 +221,7 @@ opener_stands first c text rest e s none =
     let plain = lacks_text error_literal text (untagged (find (Exactly error_literal) text) both.1) in
     some_of ⊥ ⊥ _ _
     (one_found_not_at (error_literal ∷ []) is_opener text rest c e (or_from _ _ plain refl) (of_start starts.Opener c
-        s))
+    s))
     (untagged_by opener_kind (find opener text) both.0)
 
 other_of : (s t : PieceStart) (c d : ℕ) → s ≡ piece_start c → piece_start d ≡ t → (s ≡ t → ⊥) → (c == d) ≡ false

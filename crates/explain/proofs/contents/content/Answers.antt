@@ -22,6 +22,6 @@ range-requires-clause-end_boundary c =
 pub returns : goal.returns
 returns c = λ quote left low is.
     let cut : c.range.result.now ≡ take (length c.args.at.rest.now - length c.args.end.rest.now - 1)
-        c.args.at.rest.now =
+    c.args.at.rest.now =
     grind (arith, common_steps) in
     ap chars cut ∙ content_chars c.args.at c.args.end quote left low is

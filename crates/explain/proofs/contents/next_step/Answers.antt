@@ -14,7 +14,7 @@ read_front-requires c =
     no_line_inside (chars c.content.result.now) (34 ∷ chars c.args.end.rest.now)
     (subst (λ t. begins_any line_ends t ≡ false)
     (c.requires.1 ∙ ap (λ t. t ++ (34 ∷ chars c.args.end.rest.now)) (sym (c.content.ensures 34 c.requires.0 (omega
-        arith)
+    arith)
     c.requires.1)))
     (no_line_end (chars c.args.at.rest.now) c.in_default.ensures))
 

@@ -5,13 +5,13 @@ use Rattle.explain.proofs.quotes.digit_lifetime.Goals as goal
 pub single_content-requires-clause-closed : goal.single_content-requires-clause-closed
 single_content-requires-clause-closed c =
     (digits_end c.args.at c.args.inside c.skip-end.result c.in-Some.after c.requires.quote c.in-Some.ensures
-        c.args.first
+    c.args.first
     c.requires.digit c.skip-end.ensures).0
 
 pub single_content-requires-clause-closes : goal.single_content-requires-clause-closes
 single_content-requires-clause-closes c =
     (digits_end c.args.at c.args.inside c.skip-end.result c.in-Some.after c.requires.quote c.in-Some.ensures
-        c.args.first
+    c.args.first
     c.requires.digit c.skip-end.ensures).1
 
 pub returns-in-None : goal.returns-in-None
