@@ -22,7 +22,7 @@ METHODS = set('''
     abs_diff all allocator and_then any append as_bytes as_mut_slice as_slice as_str
     bytes checked_add checked_mul checked_sub chars clear clone cmp collect contains copy_from_slice count
     debug_list debug_struct encode_utf8 entry escape_unicode extend_from_slice
-    field filter find finish first fmt format from_mut get hash
+    field filter find finish first fmt format from_mut get get_mut hash
     insert into_bytes into_iter into_string is_ascii is_ascii_alphabetic is_ascii_alphanumeric is_ascii_digit
     is_ascii_hexdigit is_char_boundary is_digit is_empty is_err is_none is_ok is_some is_whitespace iter
     kind last len len_utf8 lines map max min next next_back ok or_else parse partition_point pop pop_front push push_str

@@ -11,6 +11,9 @@ const WIDTH: usize = 100;
 /// How far in a block stands.
 const TAB: usize = 4;
 
+/// No line begins further in, so that a text that is nested deeply takes room in proportion to its length.
+const DEEPEST: usize = 60;
+
 /// No chain of calls, and no list of arguments, is wider on one line.
 const CHAIN: usize = 60;
 
@@ -272,7 +275,7 @@ impl<'a> Printer<'a> {
                 inner.chain = column;
             }
             Style::Lines => {
-                inner.lines = column.saturating_add(TAB);
+                inner.lines = deeper(column);
                 inner.mixed = self.mixed_from(&own, index);
             }
         }
@@ -454,7 +457,7 @@ impl<'a> Printer<'a> {
             return Gap::Line(list.indent);
         }
         if previous.is_mark('=') && previous.role == Role::Between {
-            let column = list.indent.saturating_add(TAB);
+            let column = deeper(list.indent);
             if self.goes_below(list, index, column) {
                 list.deep = column;
                 return Gap::Line(column);
@@ -491,7 +494,7 @@ impl<'a> Printer<'a> {
         if !body && !last.is_mark(';') {
             return false;
         }
-        let column = list.indent.saturating_add(TAB);
+        let column = deeper(list.indent);
         let mut depth: usize = 0;
         let mut begins = true;
         for later in index.saturating_add(1)..end {
@@ -656,7 +659,7 @@ impl<'a> Printer<'a> {
         let column = if found == Operator::Bar {
             list.indent
         } else {
-            list.indent.saturating_add(TAB)
+            deeper(list.indent)
         };
         for later in index.saturating_add(1)..stop {
             if operator_of(&self.atom(later)) == found && !self.previous(list, later).glued {
@@ -734,7 +737,7 @@ impl<'a> Printer<'a> {
     fn break_chain(&mut self, list: &mut Frame, index: usize, used: usize) {
         list.chain_from = 0;
         list.chain_until = 0;
-        list.chain = list.deep.saturating_add(TAB);
+        list.chain = deeper(list.deep);
         let chain = self.chain_of(list, index);
         if chain.dots == 0 {
             return;
@@ -862,4 +865,9 @@ fn operator_of(own: &Atom<'_>) -> Operator {
     } else {
         Operator::Nothing
     }
+}
+
+// The column of what is inside something that begins at this one.
+fn deeper(column: usize) -> usize {
+    column.saturating_add(TAB).min(DEEPEST)
 }

@@ -57,4 +57,8 @@ erased! {
     #[cfg(feature = "explain")]
     #[allow(unused_variables)]
     explain
+    #[cfg(feature = "layout")]
+    layout
+    #[cfg(feature = "pretty_printer")]
+    pretty_printer
 }

@@ -1,4 +1,4 @@
-//! What the programs `tokens`, `highlight` and `find_calls` call.
+//! What the programs `tokens`, `highlight`, `find_calls` and `pretty` call.
 //!
 //! Each module is a crate of `crates/`, made into plain Rust by `rust/erase` as those of [`proved`] are. A program's
 //! `main` is by hand, in `src/bin`: what `main.rt` of its crate does, over the streams and words of
@@ -46,4 +46,10 @@ pub mod highlight {
 pub mod find_calls {
     pub mod answer;
     mod calls;
+}
+
+/// The program `pretty`, but for its `main`.
+#[allow(dead_code, unreachable_code, unused_imports, clippy::complexity, clippy::style)]
+pub mod pretty {
+    pub mod answer;
 }

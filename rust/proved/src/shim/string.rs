@@ -53,6 +53,12 @@ impl String {
         self.0.remove(bytes)
     }
 
+    /// Contract: takes all away, and keeps the room.
+    #[inline(always)]
+    pub fn clear(&mut self) {
+        self.0.clear();
+    }
+
     /// Contract: the text.
     #[inline(always)]
     pub fn as_str(&self) -> &str {

@@ -1,0 +1,182 @@
+// Made from crates/layout/src/gaps.rt by rust/erase: change that file, not this one.
+//! Gaps of white space, and who chooses them.
+
+use crate::pm_stream::{Step, TokenTree};
+use crate::pm_token::Spacing;
+use crate::pm_token::parts::TextBuilder;
+use crate::shim::alloc::AllocError;
+
+/// White space between two tokens.
+#[derive(Clone, Copy)]
+pub enum Gap {
+    /// None.
+    Nothing,
+    /// A space.
+    Space,
+    /// A line's end, and so many spaces.
+    Line(usize),
+    /// A line's end, an empty line, and so many spaces.
+    Blank(usize),
+}
+
+/// Where a gap is wanted.
+#[derive(Clone, Copy)]
+pub struct Place<'a> {
+    /// What stands before it: a token, an opener or a closer, with the trees that follow it in the same list. `None`
+    /// at the beginning.
+    pub before: Option<Step<'a>>,
+    /// What comes after it, and `None` at the end.
+    pub after: Option<Step<'a>>,
+    /// In how many groups it stands.
+    pub depth: usize,
+}
+
+/// Chooses the gaps of a layout.
+pub trait Chooser {
+    /// The gap that is wished here. It is asked once for each place, in order.
+    fn gap(&mut self, place: Place<'_>) -> Gap;
+}
+
+// The gap that is written where this one is chosen: none after a Joint mark, and a space where none is chosen and
+// the text that comes with the next step would go on with what stands before it.
+pub(crate) fn fitting(before: Option<Step<'_>>, chosen: Gap, text: &str, next: Step<'_>) -> Gap
+{
+    let Some(step) = before else {
+        return chosen;
+    };
+    if is_joint(step) {
+        return Gap::Nothing;
+    }
+    if goes_on(step, text) && !(is_plain(step) && begins_range(next)) {
+        return some(chosen);
+    }
+    chosen
+}
+
+// Whether the step is past a literal of letters, digits and `_` alone.
+fn is_plain(step: Step<'_>) -> bool
+{
+    match step {
+        Step::Token(TokenTree::Literal(literal), _) => is_all_continue(literal.text()),
+        _ => false,
+    }
+}
+
+// Whether an identifier may go on with each character.
+fn is_all_continue(text: &str) -> bool
+{
+    text.chars().all(|c| crate::shim::unicode_ident::is_xid_continue(c))
+}
+
+// Whether the step is past the first of the two dots of a range.
+fn begins_range(step: Step<'_>) -> bool
+{
+    match step {
+        Step::Token(tree, after) => is_joint_dot(tree) && is_dot_next(after),
+        _ => false,
+    }
+}
+
+// Whether the tree is `.` Joint.
+fn is_joint_dot(tree: &TokenTree) -> bool
+{
+    match tree {
+        TokenTree::Punct(punct) => punct.spacing() == Spacing::Joint && punct.as_char() == '.',
+        _ => false,
+    }
+}
+
+// Whether the first of the trees is `.`.
+fn is_dot_next(trees: &[TokenTree]) -> bool
+{
+    match trees.first() {
+        Some(TokenTree::Punct(punct)) => punct.as_char() == '.',
+        _ => false,
+    }
+}
+
+// A space in place of nothing.
+fn some(gap: Gap) -> Gap
+{
+    match gap {
+        Gap::Nothing => Gap::Space,
+        _ => gap,
+    }
+}
+
+// Whether the step is past a Joint mark.
+fn is_joint(step: Step<'_>) -> bool
+{
+    match step {
+        Step::Token(TokenTree::Punct(punct), _) => punct.spacing() == Spacing::Joint,
+        _ => false,
+    }
+}
+
+// Whether the text would go on with the token that the step is past.
+fn goes_on(step: Step<'_>, text: &str) -> bool
+{
+    let Some(first) = text.chars().next() else {
+        return false;
+    };
+    match step {
+        Step::Token(TokenTree::Ident(_), _) => parts_name(first),
+        Step::Token(TokenTree::Punct(_), _) => crate::lexical::is_mark(first),
+        Step::Token(TokenTree::Literal(literal), _) => parts_literal(literal.text(), first),
+        _ => false,
+    }
+}
+
+// Whether the character, right after a name, would go on with it, or make a literal or a lifetime of it.
+fn parts_name(c: char) -> bool
+{
+    crate::shim::unicode_ident::is_xid_continue(c) || c == '"' || c == '\'' || c == '#'
+}
+
+// Whether the character would go on with the literal of this text.
+fn parts_literal(text: &str, c: char) -> bool
+{
+    if begins_with_digit(text) {
+        crate::shim::unicode_ident::is_xid_continue(c) || c == '.' || c == '+' || c == '-'
+    } else {
+        crate::shim::unicode_ident::is_xid_continue(c)
+    }
+}
+
+// Whether a digit begins the text.
+fn begins_with_digit(text: &str) -> bool
+{
+    match text.chars().next() {
+        Some(first) => first.is_ascii_digit(),
+        None => false,
+    }
+}
+
+// Writes the gap.
+pub(crate) fn push_gap(text: &mut TextBuilder, gap: Gap) -> Result<(), AllocError>
+{
+    match gap {
+        Gap::Nothing => Ok(()),
+        Gap::Space => text.push(' '),
+        Gap::Line(columns) => {
+            text.push('\n')?;
+            push_spaces(text, columns)
+        }
+        Gap::Blank(columns) => {
+            text.push('\n')?;
+            text.push('\n')?;
+            push_spaces(text, columns)
+        }
+    }
+}
+
+// Writes so many spaces.
+fn push_spaces(text: &mut TextBuilder, count: usize) -> Result<(), AllocError>
+{
+    let mut left = count;
+    while left > 0 {
+        text.push(' ')?;
+        left -= 1;
+    }
+    Ok(())
+}

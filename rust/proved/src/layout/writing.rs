@@ -1,0 +1,141 @@
+// Made from crates/layout/src/writing.rt by rust/erase: change that file, not this one.
+//! Writes a stream with chosen gaps.
+
+use crate::shim::prelude::String;
+
+use crate::layout::errors::LayoutError;
+use crate::layout::gaps::{Chooser, Place, fitting, push_gap};
+use crate::pm_stream::{Step, TokenStream, TokenTree};
+use crate::pm_token::Delimiter;
+use crate::pm_token::parts::TextBuilder;
+use crate::shim::alloc::{AllocError, Global};
+use crate::shim::io::Write;
+
+/// The stream's tokens with the gaps that the chooser gives.
+///
+/// What it gives stands there, with two exceptions: nothing stands after a Joint mark, and a space stands where nothing
+/// is given and the next token would go on with the one before. So the text is a layout of the stream, and reads back
+/// to it up to spans, whatever the chooser gives.
+///
+/// Fails with `NotWellSpaced` exactly where the stream isn't `well-spaced`, and with `Memory`. It takes time
+/// proportional to the length of the text.
+pub fn text_with<C: Chooser>(
+    stream: &TokenStream,
+    chooser: &mut C,
+    alloc: Global,
+) -> Result<String, LayoutError>
+{
+    if !stream.is_well_spaced() {
+        return Err(LayoutError::NotWellSpaced);
+    }
+    let text = laid_out(stream, chooser, alloc)?;
+    Ok(text)
+}
+
+// The tokens of a stream that is well spaced with the gaps that the chooser gives.
+fn laid_out<C: Chooser>(
+    stream: &TokenStream,
+    chooser: &mut C,
+    alloc: Global,
+) -> Result<String, AllocError>
+{
+    let mut text = TextBuilder::with_room(alloc, 0)?;
+    let mut front = String::new(alloc);
+    let mut steps = stream.steps();
+    let mut before = None;
+    let mut depth: usize = 0;
+    while let Some(step) = steps.next()? {
+        if let Step::Leave(..) = step {
+            depth = depth.saturating_sub(1);
+        }
+        let place = Place {
+            before,
+            after: Some(step),
+            depth,
+        };
+        let chosen = chooser.gap(place);
+        set_front(&mut front, step)?;
+        push_gap(&mut text, fitting(before, chosen, front.as_str(), step))?;
+        text.push_text(front.as_str())?;
+        if let Step::Enter(..) = step {
+            depth = depth.saturating_add(1);
+        }
+        before = Some(step);
+    }
+    let place = Place {
+        before,
+        after: None,
+        depth,
+    };
+    let last = chooser.gap(place);
+    push_gap(&mut text, last)?;
+    Ok(text.into_string())
+}
+
+// Makes the text that of the token, opener or closer.
+fn set_front(text: &mut String, step: Step<'_>) -> Result<(), AllocError>
+{
+    text.clear();
+    match step {
+        Step::Enter(group, _) => text.push_str(opener(group.delimiter())),
+        Step::Leave(group, _) => text.push_str(closer(group.delimiter())),
+        Step::Token(tree, _) => set_tree(text, tree),
+    }
+}
+
+// Makes the empty text that of the token, or of the group's opener.
+fn set_tree(text: &mut String, tree: &TokenTree) -> Result<(), AllocError>
+{
+    match tree {
+        TokenTree::Group(group) => text.push_str(opener(group.delimiter())),
+        TokenTree::Ident(ident) => {
+            // It computes nothing: proofs learn that the identifier is a token's text.
+            ident.span();
+            write!(text, "{ident}")
+        }
+        TokenTree::Punct(punct) => {
+            // Nor does this.
+            punct.span();
+            write!(text, "{punct}")
+        }
+        TokenTree::Literal(literal) => text.push_str(literal.text()),
+    }
+}
+
+fn opener(delimiter: Delimiter) -> &'static str
+{
+    match delimiter {
+        Delimiter::Parenthesis => "(",
+        Delimiter::Brace => "{",
+        Delimiter::Bracket => "[",
+        Delimiter::None => "",
+    }
+}
+
+fn closer(delimiter: Delimiter) -> &'static str
+{
+    match delimiter {
+        Delimiter::Parenthesis => ")",
+        Delimiter::Brace => "}",
+        Delimiter::Bracket => "]",
+        Delimiter::None => "",
+    }
+}
+
+/// Writes what [`text_with`] gives.
+///
+/// Fails with `NotWellSpaced` and with `Memory` before anything is written, and with `Write`; then a beginning of the
+/// text may stand.
+pub fn write_with<C: Chooser, W: Write>(
+    stream: &TokenStream,
+    chooser: &mut C,
+    alloc: Global,
+    writer: &mut W,
+) -> Result<(), LayoutError>
+{
+    let text = text_with(stream, chooser, alloc)?;
+    match writer.write_all(text.as_str().as_bytes()) {
+        Ok(()) => Ok(()),
+        Err(error) => Err(LayoutError::Write(error)),
+    }
+}

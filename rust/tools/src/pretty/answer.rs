@@ -1,0 +1,39 @@
+// Made from crates/pretty/src/answer.rt by rust/erase: change that file, not this one.
+//! What the program writes for a text.
+
+use proved::layout::LayoutError;
+use crate::messages::Failure;
+use proved::pretty_printer::to_pretty_string;
+use proved::proc_macro2::{SourceMap, TokenStream};
+use proved::shim::alloc::Global;
+use proved::shim::io::Write;
+
+/// Writes the tokens of the text, in a layout that reads back to them.
+///
+/// Fails with `Fault`, which has line and column, `MapFull` and `Memory` before anything is written, and with `Write`;
+/// then a beginning of the text may stand.
+pub fn print_text<W: Write>(alloc: Global, text: &str, writer: &mut W) -> Result<(), Failure>
+{
+    let mut map = SourceMap::new(alloc);
+    match TokenStream::from_str(text, &mut map) {
+        Ok(stream) => print_stream(alloc, &stream, writer),
+        Err(error) => Err(Failure::unparsed(error, &map)),
+    }
+}
+
+// Writes a stream that is well spaced.
+fn print_stream<W: Write>(
+    alloc: Global,
+    stream: &TokenStream,
+    writer: &mut W,
+) -> Result<(), Failure>
+{
+    let pretty = match to_pretty_string(alloc, stream) {
+        Ok(pretty) => pretty,
+        Err(LayoutError::NotWellSpaced) => unreachable!(),
+        Err(LayoutError::Memory(_)) => return Err(Failure::Memory),
+        Err(LayoutError::Write(error)) => return Err(Failure::Write(error)),
+    };
+    writer.write_all(pretty.as_str().as_bytes())?;
+    Ok(())
+}
