@@ -66,7 +66,7 @@ programs() {
     try "cargo install of rust/tools" cargo install --offline --quiet --path tools --root "$room/installed"
     stored() {
         local name words
-        for name in tokens highlight find_calls pretty; do
+        for name in tokens highlight find_calls pretty rust_check; do
             words=()
             [ -f "../crates/$name/args" ] && mapfile -t words < "../crates/$name/args"
             "$built/$name" "${words[@]}" < "../crates/$name/stdin" > "$room/seen" || return 1
@@ -85,7 +85,7 @@ programs() {
         refused 'a\0377' 2 '-: error: not UTF-8 at byte 1\n' highlight html
     if command -v python3 > /dev/null; then
         try "the rows of checks/programs on rust/tools" \
-            env "CARGO_BUILD=$built" ../checks/programs tokens highlight find_calls pretty
+            env "CARGO_BUILD=$built" ../checks/programs tokens highlight find_calls pretty rust_check
     fi
     tools() { (cd tools && cargo "$@"); }
     documented_tools() { RUSTDOCFLAGS="-D warnings" tools doc --offline --quiet --no-deps; }

@@ -32,7 +32,7 @@ TESTED = ['conformance']
 OWN_TESTS = ['lexical_tests', 'token_tests', 'span_tests', 'building_tests', 'stream_tests', 'quoting_tests',
              'explain_tests']
 # The programs, and the library that they share.
-PROGRAMS = ['messages', 'tokens', 'highlight', 'find_calls', 'pretty']
+PROGRAMS = ['messages', 'tokens', 'highlight', 'find_calls', 'pretty', 'rust_check']
 # What isn't erased: tests within the library, what is for them alone, tests of how many bytes a value takes in Rattle,
 # and each `main`, which is by hand.
 LEFT_OUT = {'tests.rt', 'failing.rt', 'sizes.rt', 'main.rt'}

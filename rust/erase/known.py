@@ -15,7 +15,7 @@ STD_ITEMS = set('''
 '''.split())
 
 # Crates of the toolchain, which the shim answers for.
-TOOLCHAIN_CRATES = {'hex', 'itoa', 'memchr', 'ucd_category', 'unicode_ident'}
+TOOLCHAIN_CRATES = {'hex', 'itoa', 'memchr', 'ucd_category', 'unicode_ident', 'unicode_width'}
 
 # Methods of std's types that Rust's types have too, with the same answers, or that the shim's types have.
 METHODS = set('''
@@ -29,7 +29,7 @@ METHODS = set('''
     range read read_to_end remove reserve resize rev reverse saturating_add saturating_mul saturating_sub size_hint
     skip stdin split split_at split_first split_last split_off split_once starts_with strip_prefix strip_suffix
     take to_digit to_string trim truncate unwrap_or utf8_chunks utf8_error
-    valid valid_up_to write write_all write_str
+    valid valid_up_to width write write_all write_str
 '''.split())
 
 # Those of them that are methods of traits alone, which take `&mut self`. A trait may have one of this name that takes

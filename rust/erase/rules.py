@@ -505,17 +505,21 @@ def texts(file):
 
     A crate that has a `to_string` of its own keeps it.
 
-        fn text(e: &E) -> Result<String, F> { e.to_string(alloc)? }
+        fn text(e: &E) -> Result<String, F> { e.to_string(alloc)?; e.line.to_string(alloc)? }
         => use crate::shim::prelude::{String, format}; fn text(e: &E) -> Result<String, F> {
-           format!(in alloc; "{e}")? }
+           format!(in alloc; "{e}")?; format!(in alloc; "{}", e.line)? }
     """
     tokens, edits = file.tokens, {}
     for at, token in enumerate(tokens):
         alone = token.kind == 'name' and tokens[preceding(tokens, at)].text != '.'
         if not alone or 'to_string' in file.package.functions:
             continue
-        for end in found(tokens, at, f'{token.text} . to_string ( alloc )'):
-            edits[at, end] = 'format!(in alloc; "{%s}")' % token.text
+        last = at
+        while tokens[last + 1].text == '.' and tokens[last + 2].kind == 'name' and tokens[last + 2].text != 'to_string':
+            last += 2
+        value = text_of(tokens[at:last + 1])
+        for end in found(tokens, last, f'{tokens[last].text} . to_string ( alloc )'):
+            edits[at, end] = 'format!(in alloc; "{%s}")' % value if last == at else f'format!(in alloc; "{{}}", {value})'
             file.count('texts')
     file.tokens = replaced(tokens, edits)
 
@@ -566,6 +570,15 @@ def prelude(file):
     file.count('prelude', len(used))
 
 
+def linked(comment, crate, erased):
+    """A comment whose links lead to this crate's module, and to those of the others."""
+    comment = comment.replace('(crate::', f'(crate::{crate}::')
+    for other in erased:
+        comment = comment.replace(f']({other}::', f'](crate::{other}::')
+        comment = re.sub(rf'\[`{other}`\](?!\()', f'[`{other}`](crate::{other})', comment)
+    return comment
+
+
 @rule
 def paths(file):
     """Names the shim for std and for the toolchain's crates, and for each crate its module in this package.
@@ -577,8 +590,8 @@ def paths(file):
     package, tokens, edits = file.package, file.tokens, {}
     root = 'proved' if package.below else 'crate'
     for at, token in enumerate(tokens):
-        if token.kind == 'comment' and '(crate::' in token.text:
-            token.text = token.text.replace('(crate::', f'(crate::{file.crate}::')
+        if token.kind == 'comment':
+            token.text = linked(token.text, file.crate, package.erased)
         if token.kind != 'name' or not found(tokens, following(tokens, at), ': :'):
             continue
         if at > 1 and tokens[at - 1].text == ':' and tokens[at - 2].text == ':':

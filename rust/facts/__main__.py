@@ -4,8 +4,8 @@
     python3 rust/facts            writes rust/proved/src/tables.rs anew
     python3 rust/facts --check    compares it with what is there, and fails where it differs
 
-A small program over `unicode_ident` and `ucd_category` is proved and run, by `rt run` in a temporary folder. It asks
-about every code point, and tells where an answer changes. No source of these crates is read.
+A small program over `unicode_ident`, `ucd_category` and `unicode_width` is proved and run, by `rt run` in a temporary
+folder. It asks about every code point, and tells where an answer changes. No source of these crates is read.
 """
 import os
 import pathlib
@@ -23,23 +23,33 @@ use std::io;
 use std::io::{BufWriter, Write};
 use std::process::ExitCode;
 use ucd_category::GeneralCategory;
+use unicode_width::UnicodeWidthChar;
+
+// How many columns a character takes, and 3 where it has no width.
+fn columns(c: char) -> usize {
+    match c.width() {
+        Some(width) => width,
+        None => 3,
+    }
+}
 
 fn main(rt: HostRuntime) -> io::Result<ExitCode> {
     let mut writer = BufWriter::new(rt.alloc(), rt.stdout())?;
     writeln!(writer, "version {:?}", unicode_ident::UNICODE_VERSION)?;
-    let mut before = (false, false, GeneralCategory::Surrogate);
+    let mut before = (false, false, GeneralCategory::Surrogate, 3);
     for code in 0..0x11_0000u32 {
         let facts = match char::from_u32(code) {
             Some(c) => (
                 unicode_ident::is_xid_start(c),
                 unicode_ident::is_xid_continue(c),
                 GeneralCategory::for_char(c),
+                columns(c),
             ),
-            None => (false, false, GeneralCategory::Surrogate),
+            None => (false, false, GeneralCategory::Surrogate, 3),
         };
         if facts != before {
-            let (starts, continues, category) = facts;
-            writeln!(writer, "{code} {starts} {continues} {category:?}")?;
+            let (starts, continues, category, columns) = facts;
+            writeln!(writer, "{code} {starts} {continues} {category:?} {columns}")?;
             before = facts;
         }
     }
@@ -56,20 +66,20 @@ END = 0x110000
 
 
 def answers():
-    """The version of Unicode, and for each code point where an answer changes: it, and the three answers."""
+    """The version of Unicode, and for each code point where an answer changes: it, and the four answers."""
     with tempfile.TemporaryDirectory() as room:
         crate = pathlib.Path(room, 'crates/ask')
         (crate / 'src').mkdir(parents=True)
         (crate / 'src/main.rt').write_text(PROGRAM)
-        pathlib.Path(room, 'crates.txt').write_text('ask: ucd_category unicode_ident\n')
+        pathlib.Path(room, 'crates.txt').write_text('ask: ucd_category unicode_ident unicode_width\n')
         pathlib.Path(room, 'HANDLES').write_text('Handles allowed: none.\n')
         run = subprocess.run(['rt', 'run'], cwd=crate, capture_output=True, text=True, env=os.environ, check=False)
         if run.returncode != 0:
             sys.exit(run.stderr + 'the program that asks the proved crates was not run')
     version, *lines = run.stdout.splitlines()
     rows = [line.split(' ') for line in lines]
-    return version.split(' ', 1)[1], [(int(code), starts == 'true', continues == 'true', category)
-                                      for code, starts, continues, category in rows]
+    return version.split(' ', 1)[1], [(int(code), starts == 'true', continues == 'true', category, int(columns))
+                                      for code, starts, continues, category, columns in rows]
 
 
 def ranges(rows, column):
@@ -83,14 +93,18 @@ def ranges(rows, column):
     return out
 
 
-def runs(rows):
-    """Where the category changes, as far as it is asked: the code point, and its number among them."""
+def runs(pairs):
+    """Where the number in pairs of a code point and a number changes."""
     out = []
-    for code, _, _, category in rows:
-        number = ASKED.index(category) if category in ASKED else len(ASKED)
+    for code, number in pairs:
         if not out or out[-1][1] != number:
             out.append((code, number))
     return out
+
+
+def number_of(category):
+    """The number of a category among those that are asked."""
+    return ASKED.index(category) if category in ASKED else len(ASKED)
 
 
 def table(doc, name, kind, pairs):
@@ -113,7 +127,9 @@ def tables():
         table('What an identifier may go on with: ranges, their ends included, in order.', 'IDENTIFIER_CONTINUE',
               '(u32, u32)', ranges(rows, 2)),
         table('Where the category changes, in order: from which code point on, and its number in `CATEGORIES`.',
-              'CATEGORY_RUNS', '(u32, u8)', runs(rows)),
+              'CATEGORY_RUNS', '(u32, u8)', runs((row[0], number_of(row[3])) for row in rows)),
+        table('Where the width changes, in order: from which code point on, and how many columns, or 3 for no width.',
+              'WIDTH_RUNS', '(u32, u8)', runs((row[0], row[4]) for row in rows)),
     ])
 
 

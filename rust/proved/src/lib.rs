@@ -37,7 +37,7 @@ macro_rules! erased {
         $(
             $(#[$attribute])*
             #[allow(dead_code, unreachable_code, unused_imports)]
-            #[allow(clippy::complexity, clippy::style)]
+            #[allow(clippy::complexity, clippy::style, clippy::drop_non_drop)]
             pub mod $name;
         )*
     };

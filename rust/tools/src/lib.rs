@@ -1,4 +1,4 @@
-//! What the programs `tokens`, `highlight`, `find_calls` and `pretty` call.
+//! What the programs `tokens`, `highlight`, `find_calls`, `pretty` and `rust_check` call.
 //!
 //! Each module is a crate of `crates/`, made into plain Rust by `rust/erase` as those of [`proved`] are. A program's
 //! `main` is by hand, in `src/bin`: what `main.rt` of its crate does, over the streams and words of
@@ -52,4 +52,21 @@ pub mod find_calls {
 #[allow(dead_code, unreachable_code, unused_imports, clippy::complexity, clippy::style)]
 pub mod pretty {
     pub mod answer;
+}
+
+/// The program `rust_check`, but for its `main`.
+#[allow(dead_code, unreachable_code, unused_imports, unused_variables, clippy::complexity, clippy::style)]
+pub mod rust_check {
+    mod answer;
+    pub mod files;
+    mod finding;
+    mod hidden;
+    mod json;
+    pub mod options;
+    mod place;
+    mod shown;
+    mod tally;
+    mod told;
+    mod words;
+    mod writing;
 }

@@ -9,7 +9,7 @@ use crate::pm_span::parts::fits_new;
 use crate::pm_token::{Delimiter, ParseError};
 use crate::shim::alloc::{AllocError, Global};
 
-/// A line and a column of a text, as in [`LineColumn`](pm_span::LineColumn), in half the memory.
+/// A line and a column of a text, as in [`LineColumn`](crate::pm_span::LineColumn), in half the memory.
 ///
 /// A text that fits a new map has no more lines or columns than 32 bits can tell.
 #[derive(Clone, Copy, Debug, PartialEq, Eq)]

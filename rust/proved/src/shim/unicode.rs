@@ -1,6 +1,6 @@
 //! What the toolchain's proved crates answer about characters, by tables that were made by asking them.
 
-use crate::tables::{CATEGORY_RUNS, IDENTIFIER_CONTINUE, IDENTIFIER_START};
+use crate::tables::{CATEGORY_RUNS, IDENTIFIER_CONTINUE, IDENTIFIER_START, WIDTH_RUNS};
 
 /// Whether the code point is in one of the ranges, which are in order.
 fn is_within(ranges: &[(u32, u32)], c: char) -> bool {
@@ -101,11 +101,33 @@ pub mod ucd_category {
     }
 }
 
+/// Widths of characters on a terminal.
+pub mod unicode_width {
+    use super::WIDTH_RUNS;
+
+    /// What has a width on a terminal.
+    pub trait UnicodeWidthChar {
+        /// Contract: how many columns it takes, or `None` of a control character.
+        fn width(self) -> Option<usize>;
+    }
+
+    impl UnicodeWidthChar for char {
+        fn width(self) -> Option<usize> {
+            let after = WIDTH_RUNS.partition_point(|(first, _)| *first <= self as u32);
+            match WIDTH_RUNS[after - 1].1 {
+                3 => None,
+                width => Some(usize::from(width)),
+            }
+        }
+    }
+}
+
 #[cfg(test)]
 mod tests {
     use super::ucd_category::{GeneralCategory, CATEGORIES};
     use super::unicode_ident::{is_xid_continue, is_xid_start};
-    use super::{is_within, CATEGORY_RUNS, IDENTIFIER_CONTINUE, IDENTIFIER_START};
+    use super::unicode_width::UnicodeWidthChar;
+    use super::{is_within, CATEGORY_RUNS, IDENTIFIER_CONTINUE, IDENTIFIER_START, WIDTH_RUNS};
 
     #[test]
     fn each_character_is_what_the_ranges_say() {
@@ -124,6 +146,8 @@ mod tests {
         assert_eq!(CATEGORY_RUNS[0].0, 0);
         assert!(CATEGORY_RUNS.windows(2).all(|pair| pair[0].0 < pair[1].0 && pair[0].1 != pair[1].1));
         assert!(CATEGORY_RUNS.iter().all(|(_, number)| usize::from(*number) < CATEGORIES.len()));
+        assert_eq!(WIDTH_RUNS[0].0, 0);
+        assert!(WIDTH_RUNS.windows(2).all(|pair| pair[0].0 < pair[1].0 && pair[0].1 != pair[1].1));
     }
 
     #[test]
@@ -131,6 +155,8 @@ mod tests {
         assert!(is_xid_start('a') && is_xid_start('é') && is_xid_start('中') && !is_xid_start('1'));
         assert!(is_xid_continue('1') && is_xid_continue('\u{301}') && !is_xid_continue('-'));
         assert!(!is_xid_start('\u{10FFFF}') && !is_xid_start('\0'));
+        let widths = ['a', '中', '\u{301}', '\t', '\0'].map(UnicodeWidthChar::width);
+        assert_eq!(widths, [Some(1), Some(2), Some(0), None, None]);
         for (c, category) in [
             ('\0', GeneralCategory::Control),
             ('a', GeneralCategory::Other),

@@ -1,0 +1,133 @@
+// Made from crates/rust_check/src/answer.rt by rust/erase: change that file, not this one.
+//! What the program writes for a text.
+
+use crate::rust_check::finding::{Finding, Place};
+use crate::rust_check::options::Form;
+use crate::rust_check::place::{byte_count, last_line, split_chars};
+use crate::rust_check::told::tell_hidden;
+use crate::rust_check::words::{name_of, sentence_of};
+use crate::rust_check::writing::{write_excerpt, write_message};
+use proved::explain::{ExplainError, Explained, Reason, explain};
+use crate::messages::Failure;
+use proved::pm_span::Span;
+use proved::pm_span::parts::{bounds, char_count};
+use proved::shim::alloc::Global;
+use proved::shim::io;
+use proved::shim::io::Write;
+
+/// Writes why the text of the file at this path doesn't parse, and then where its hidden characters stand, if `hidden`
+/// asks for them, and answers whether something was found.
+pub fn check_all<W: Write>(
+    alloc: Global,
+    form: Form,
+    hidden: bool,
+    path: &str,
+    text: &str,
+    writer: &mut W,
+) -> Result<bool, Failure>
+{
+    let faulty = check_text(alloc, form, path, text, writer)?;
+    if !hidden {
+        return Ok(faulty);
+    }
+    let told = tell_hidden(alloc, form, path, text, writer)?;
+    Ok(faulty || told)
+}
+
+// Writes why the text of the file at this path doesn't parse, and answers whether it has a fault. Nothing is written
+// for a text that parses.
+fn check_text<W: Write>(
+    alloc: Global,
+    form: Form,
+    path: &str,
+    text: &str,
+    writer: &mut W,
+) -> Result<bool, Failure>
+{
+    match explain(alloc, text) {
+        Ok(None) => Ok(false),
+        Ok(Some(explained)) => {
+            write_fault(alloc, form, path, text, &explained, writer)?;
+            Ok(true)
+        }
+        Err(ExplainError::MapFull) => Err(Failure::MapFull),
+        Err(ExplainError::Memory(_)) => Err(Failure::Memory),
+    }
+}
+
+// The fault of the text.
+fn fault<'a>(text: &'a str, explained: &Explained) -> Finding<'a>
+{
+    let name = name_of(&explained.reason);
+    let says = sentence_of(&explained.reason);
+    found_at(name, says, text, explained.at.span)
+}
+
+// Writes what is said of the fault.
+fn write_fault<W: Write>(
+    alloc: Global,
+    form: Form,
+    path: &str,
+    text: &str,
+    explained: &Explained,
+    writer: &mut W,
+) -> io::Result<()>
+{
+    write_message(alloc, form, path, &fault(text, explained), writer)?;
+    write_note(alloc, form, path, text, explained, writer)
+}
+
+// Writes what is said below the fault: of a closer that doesn't match, where the opener stands that waits for another.
+fn write_note<W: Write>(
+    alloc: Global,
+    form: Form,
+    path: &str,
+    text: &str,
+    explained: &Explained,
+    writer: &mut W,
+) -> io::Result<()>
+{
+    match (form, &explained.reason, &explained.innermost) {
+        (Form::Long, Reason::MismatchedCloser, Some(opener)) => {
+            write_waiting(alloc, path, &found_at("", "", text, opener.at.span), writer)
+        }
+        _ => Ok(()),
+    }
+}
+
+// Writes where an opener stands.
+fn write_waiting<W: Write>(
+    alloc: Global,
+    path: &str,
+    opener: &Finding<'_>,
+    writer: &mut W,
+) -> io::Result<()>
+{
+    writeln!(writer, "note: this opener waits")?;
+    write_excerpt(alloc, path, opener, writer)
+}
+
+// What is found where the span says.
+fn found_at<'a>(name: &'static str, says: &'static str, text: &'a str, span: Span) -> Finding<'a>
+{
+    let (lo, hi) = bounds(span);
+    let (before, rest) = split_chars(text, lo.saturating_sub(FIRST));
+    let (here, _) = split_chars(rest, hi - lo);
+    let line = last_line(before);
+    let place = Place {
+        line: line.number,
+        column: char_count(line.text),
+        begin: byte_count(before),
+    };
+    Finding {
+        name,
+        says,
+        place,
+        front: line.text,
+        here,
+        rest,
+    }
+}
+
+// The position of the text's first character.
+const FIRST: u32 = 1;

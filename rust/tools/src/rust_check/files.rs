@@ -1,0 +1,71 @@
+// Made from crates/rust_check/src/files.rt by rust/erase: change that file, not this one.
+//! Checks files one after the other.
+
+use proved::shim::prelude::HostRuntime;
+
+use crate::rust_check::answer::check_all;
+use crate::rust_check::options::Options;
+use crate::rust_check::tally::Tally;
+use crate::messages::{Failure, read_text, say};
+use proved::shim::alloc::Global;
+use proved::shim::io::Write;
+
+/// Checks the files that the options name one after the other, and writes what is found in them. Of a file that can't
+/// be read or isn't UTF-8, and of a text that is too long, `errors` says so, and the others are checked still.
+///
+/// Fails where a write fails.
+pub fn check_files<W: Write, E: Write>(
+    rt: &HostRuntime,
+    options: &Options,
+    writer: &mut W,
+    errors: &mut E,
+) -> Result<Tally, Failure>
+{
+    let mut tally = Tally::new();
+    for path in options.paths.as_slice() {
+        let outcome = unless_writing_failed(check_file(rt, options, path.as_str(), writer))?;
+        say_unread(rt.alloc(), path.as_str(), &outcome, errors);
+        tally = tally.with(&outcome);
+    }
+    Ok(tally)
+}
+
+// Checks the file at this path, and answers whether its text has a fault.
+fn check_file<W: Write>(
+    rt: &HostRuntime,
+    options: &Options,
+    path: &str,
+    writer: &mut W,
+) -> Result<bool, Failure>
+{
+    let text = read_text(rt, path)?;
+    check_all(
+        rt.alloc(),
+        options.form,
+        options.hidden,
+        path,
+        text.as_str(),
+        writer,
+    )
+}
+
+// The outcome again, where it isn't that a write failed.
+fn unless_writing_failed(outcome: Result<bool, Failure>) -> Result<Result<bool, Failure>, Failure>
+{
+    match outcome {
+        Err(Failure::Write(error)) => Err(Failure::Write(error)),
+        outcome => Ok(outcome),
+    }
+}
+
+// Says why the file at this path wasn't read. A message that can't be written changes nothing.
+fn say_unread<E: Write>(
+    alloc: Global,
+    path: &str,
+    outcome: &Result<bool, Failure>,
+    errors: &mut E,
+) {
+    if let Err(failure) = outcome {
+        let _ = say(alloc, path, failure, errors);
+    }
+}

@@ -1,0 +1,87 @@
+// Made from crates/rust_check/src/shown.rt by rust/erase: change that file, not this one.
+//! How a line is shown on a terminal, and in which columns.
+
+use proved::shim::prelude::String;
+
+use crate::rust_check::hidden::is_hidden;
+use proved::shim::alloc::{AllocError, Global};
+use proved::shim::unicode_width::UnicodeWidthChar;
+
+/// The two parts of a line as they are shown: tab as four spaces, CR and what is hidden as U+FFFD.
+pub fn shown_line(alloc: Global, front: &str, rest: &str) -> Result<String, AllocError>
+{
+    let mut out = String::new(alloc);
+    push_shown(&mut out, front)?;
+    push_shown(&mut out, rest)?;
+    Ok(out)
+}
+
+/// Carets below the columns of a part of a line, one at least, after the columns of what stands before it.
+pub fn underline(alloc: Global, front: &str, part: &str) -> Result<String, AllocError>
+{
+    let mut out = String::new(alloc);
+    push_filled(&mut out, " ", front)?;
+    let bare = out.len();
+    push_filled(&mut out, "^", part)?;
+    if out.len() == bare {
+        out.push_str("^")?;
+    }
+    Ok(out)
+}
+
+/// So many spaces.
+pub fn spaces(alloc: Global, count: usize) -> Result<String, AllocError>
+{
+    let mut out = String::new(alloc);
+    push_times(&mut out, count, " ")?;
+    Ok(out)
+}
+
+// Appends a text as it is shown.
+fn push_shown(out: &mut String, text: &str) -> Result<(), AllocError>
+{
+    for c in text.chars() {
+        push_character(out, c)?;
+    }
+    Ok(())
+}
+
+// Appends a character as it is shown.
+fn push_character(out: &mut String, c: char) -> Result<(), AllocError>
+{
+    match c {
+        '\t' => out.push_str("    "),
+        '\r' => out.push('\u{FFFD}'),
+        _ if is_hidden(c) => out.push('\u{FFFD}'),
+        _ => out.push(c),
+    }
+}
+
+// Appends this for each column of the text.
+fn push_filled(out: &mut String, fill: &str, text: &str) -> Result<(), AllocError>
+{
+    for c in text.chars() {
+        push_times(out, columns(c), fill)?;
+    }
+    Ok(())
+}
+
+// Appends a text so many times.
+fn push_times(out: &mut String, count: usize, text: &str) -> Result<(), AllocError>
+{
+    for _ in 0..count {
+        out.push_str(text)?;
+    }
+    Ok(())
+}
+
+// The columns that a character takes as it is shown.
+fn columns(c: char) -> usize
+{
+    match c {
+        '\t' => 4,
+        '\r' => 1,
+        _ if is_hidden(c) => 1,
+        _ => c.width().unwrap_or(0),
+    }
+}

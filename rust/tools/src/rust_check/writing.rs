@@ -1,0 +1,141 @@
+// Made from crates/rust_check/src/writing.rt by rust/erase: change that file, not this one.
+//! What is written for a finding.
+
+use proved::shim::prelude::format;
+
+use crate::rust_check::finding::{Finding, Place};
+use crate::rust_check::json::escaped;
+use crate::rust_check::options::Form;
+use crate::rust_check::place::{byte_count, first_line};
+use crate::rust_check::shown::{shown_line, spaces, underline};
+use proved::shim::alloc::Global;
+use proved::shim::io;
+use proved::shim::io::Write;
+
+/// Writes what is found in the file at this path, in this form.
+pub fn write_message<W: Write>(
+    alloc: Global,
+    form: Form,
+    path: &str,
+    finding: &Finding<'_>,
+    writer: &mut W,
+) -> io::Result<()>
+{
+    match form {
+        Form::Short => write_short(path, finding, writer),
+        Form::Long => write_long(alloc, path, finding, writer),
+        Form::Json => write_json(alloc, path, finding, writer),
+    }
+}
+
+/// Writes what is found in the file at this path on one line, whichever form it has.
+pub fn write_line<W: Write>(
+    alloc: Global,
+    form: Form,
+    path: &str,
+    finding: &Finding<'_>,
+    writer: &mut W,
+) -> io::Result<()>
+{
+    match form {
+        Form::Json => write_json(alloc, path, finding, writer),
+        _ => write_short(path, finding, writer),
+    }
+}
+
+// Writes what is found in the file at this path in one line: `FILE:L:C: error: what`, line and column from 1, the
+// column in characters.
+fn write_short<W: Write>(path: &str, finding: &Finding<'_>, writer: &mut W) -> io::Result<()>
+{
+    let line = finding.place.line;
+    // As wide as the sum needs.
+    let column = finding.place.column as u128 + 1;
+    let says = finding.says;
+    writeln!(writer, "{path}:{line}:{column}: error: {says}")
+}
+
+// Writes what is found in the file at this path, with its line of the source and carets below.
+fn write_long<W: Write>(
+    alloc: Global,
+    path: &str,
+    finding: &Finding<'_>,
+    writer: &mut W,
+) -> io::Result<()>
+{
+    write_headline(finding, writer)?;
+    write_excerpt(alloc, path, finding, writer)
+}
+
+// Writes what is wrong.
+fn write_headline<W: Write>(finding: &Finding<'_>, writer: &mut W) -> io::Result<()>
+{
+    let name = finding.name;
+    let says = finding.says;
+    writeln!(writer, "error[{name}]: {says}")
+}
+
+/// Writes where it is found in the file at this path, with its line of the source and carets below.
+pub fn write_excerpt<W: Write>(
+    alloc: Global,
+    path: &str,
+    finding: &Finding<'_>,
+    writer: &mut W,
+) -> io::Result<()>
+{
+    let number = format!(in alloc; "{}", finding.place.line)?;
+    // As wide as the sum needs.
+    let column = finding.place.column as u128 + 1;
+    let gutter = spaces(alloc, number.len())?;
+    let source = shown_line(alloc, finding.front, first_line(finding.rest))?;
+    let carets = underline(alloc, finding.front, first_line(finding.here))?;
+    write!(
+        writer,
+        "{gutter}--> {path}:{number}:{column}\n{gutter} |\n{number} | {source}\n{gutter} | {carets}\n"
+    )
+}
+
+// Writes what is found in the file at this path as an object of JSON on a line.
+fn write_json<W: Write>(
+    alloc: Global,
+    path: &str,
+    finding: &Finding<'_>,
+    writer: &mut W,
+) -> io::Result<()>
+{
+    write_json_what(alloc, path, finding, writer)?;
+    write_json_where(finding, writer)
+}
+
+// Writes the front of an object of JSON: the file and what is wrong.
+fn write_json_what<W: Write>(
+    alloc: Global,
+    path: &str,
+    finding: &Finding<'_>,
+    writer: &mut W,
+) -> io::Result<()>
+{
+    let file = escaped(alloc, path)?;
+    let name = finding.name;
+    let says = escaped(alloc, finding.says)?;
+    write!(
+        writer,
+        "{{\"file\":\"{file}\",\"reason\":\"{name}\",\"message\":\"{says}\","
+    )
+}
+
+// Writes its rest: where it stands.
+fn write_json_where<W: Write>(finding: &Finding<'_>, writer: &mut W) -> io::Result<()>
+{
+    let Place {
+        line,
+        column,
+        begin,
+    } = finding.place;
+    // As wide as the sums need.
+    let column = column as u128 + 1;
+    let end = begin as u128 + byte_count(finding.here) as u128;
+    write!(
+        writer,
+        "\"line\":{line},\"column\":{column},\"begin\":{begin},\"end\":{end}}}\n"
+    )
+}
