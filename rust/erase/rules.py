@@ -571,11 +571,11 @@ def prelude(file):
 
 
 def linked(comment, crate, erased):
-    """A comment whose links lead to this crate's module, and to those of the others."""
+    """A comment whose links lead to this crate's module, and to items of the others, whose names alone are no link."""
     comment = comment.replace('(crate::', f'(crate::{crate}::')
     for other in erased:
         comment = comment.replace(f']({other}::', f'](crate::{other}::')
-        comment = re.sub(rf'\[`{other}`\](?!\()', f'[`{other}`](crate::{other})', comment)
+        comment = re.sub(rf'\[`{other}`\](?!\()', f'`{other}`', comment)
     return comment
 
 

@@ -1,7 +1,7 @@
 // Made from crates/explain/src/lib.rt by rust/erase: change that file, not this one.
 //! Why a text doesn't parse, and where.
 //!
-//! [`explain`](crate::explain) answers a [`Reason`] with what is at fault, as bytes and as a span. Proved is that one of the 19 reasons
+//! `explain` answers a [`Reason`] with what is at fault, as bytes and as a span. Proved is that one of the 19 reasons
 //! is answered at each fault, that it holds by its own definition in `specs/Reason.antt`, which is in the words of the
 //! grammar's rules and of the escaper's items, and that the bytes and the span are what the definition speaks of; that
 //! `None` is answered only for a text that parses; and which openers no closer matches up to the fault, by kind and

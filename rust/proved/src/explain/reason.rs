@@ -23,7 +23,7 @@ pub enum Reason {
     /// A character or byte that doesn't end: the `'` of `'+`.
     UnclosedCharacter,
     /// What is wrong first with the content of a literal that ends: the `q` of `"\q"`, by the rules of
-    /// [`literal_escaper`](crate::literal_escaper).
+    /// `literal_escaper`.
     Content(EscapeError),
     /// A lifetime that begins with a digit: `'1a`.
     DigitLifetime,
