@@ -571,7 +571,7 @@ def prelude(file):
 
 
 def linked(comment, crate, erased):
-    """A comment whose links lead to this crate's module, and to items of the others, whose names alone are no link."""
+    """A comment whose links lead to items of these crates. A crate's name alone is no link."""
     comment = comment.replace('(crate::', f'(crate::{crate}::')
     for other in erased:
         comment = comment.replace(f']({other}::', f'](crate::{other}::')
