@@ -519,8 +519,8 @@ def texts(file):
             last += 2
         value = text_of(tokens[at:last + 1])
         for end in found(tokens, last, f'{tokens[last].text} . to_string ( alloc )'):
-            alone = 'format!(in alloc; "{%s}")' % value
-            edits[at, end] = alone if last == at else f'format!(in alloc; "{{}}", {value})'
+            short = 'format!(in alloc; "{%s}")' % value
+            edits[at, end] = short if last == at else f'format!(in alloc; "{{}}", {value})'
             file.count('texts')
     file.tokens = replaced(tokens, edits)
 
