@@ -8,6 +8,7 @@ time, the least processor time (user and system time together), and the most mem
 growth from the half to the whole. Ends with an error where a run fails, or where the last outputs of the two on the
 half or on the whole differ.
 """
+import multiprocessing
 import os
 import pathlib
 import subprocess
@@ -34,6 +35,12 @@ def source(folder: pathlib.Path, size: int) -> bytes:
             parts.append(text)
             length += len(text)
     return b"".join(parts)
+
+
+def write_texts(folder: pathlib.Path, out: pathlib.Path) -> None:
+    """Writes the two texts."""
+    for name, size in zip(TEXTS, (SIZE // 2, SIZE)):
+        (out / name).write_bytes(source(folder, size))
 
 
 def is_unmarked_utf8(text: bytes) -> bool:
@@ -71,12 +78,14 @@ def main() -> None:
     with tempfile.TemporaryDirectory() as folder:
         out = pathlib.Path(folder)
         programs = build(sys.argv[1], sys.argv[2], out)
-        half, whole = (source(pathlib.Path(sys.argv[3]), size) for size in (SIZE // 2, SIZE))
-        for name, text in zip(TEXTS, (half, whole)):
-            (out / name).write_bytes(text)
+        # A process counts the memory of the one that started it too, so the texts are made in another.
+        writer = multiprocessing.Process(target=write_texts, args=(pathlib.Path(sys.argv[3]), out))
+        writer.start()
+        writer.join()
+        half, whole = ((out / name).stat().st_size for name in TEXTS)
         print(f"load {os.getloadavg()[0]:.1f}, {os.cpu_count()} processors, the best of {runs} runs in turn")
         for word in WORDS:
-            report(word, best(programs, word, runs, out), len(half), len(whole))
+            report(word, best(programs, word, runs, out), half, whole)
 
 
 def best(programs: dict[str, str], word: str, runs: int, out: pathlib.Path) -> dict:
