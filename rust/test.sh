@@ -65,12 +65,15 @@ programs() {
     local built=$room/installed/bin
     try "cargo install of rust/tools" cargo install --offline --quiet --path tools --root "$room/installed"
     stored() {
-        local name words
+        local name words wanted status
         for name in tokens highlight find_calls pretty rust_check; do
             words=()
+            wanted=0
+            status=0
             [ -f "../crates/$name/args" ] && mapfile -t words < "../crates/$name/args"
-            "$built/$name" "${words[@]}" < "../crates/$name/stdin" > "$room/seen" || return 1
-            cmp "../crates/$name/stdout" "$room/seen" || return 1
+            [ -f "../crates/$name/status" ] && wanted=$(< "../crates/$name/status")
+            "$built/$name" "${words[@]}" < "../crates/$name/stdin" > "$room/seen" || status=$?
+            [ "$status" -eq "$wanted" ] && cmp "../crates/$name/stdout" "$room/seen" || return 1
         done
     }
     try "the programs of rust/tools on the stored runs of their crates" stored

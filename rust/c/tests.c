@@ -204,7 +204,7 @@ static void reasons(void) {
     want_reason("a)", PM_REASON_STRAY_CLOSER, 1, 1, 2);
     want_reason("{ (]", PM_REASON_MISMATCHED_CLOSER, 3, 3, 4);
     want_reason("[a (b", PM_REASON_UNCLOSED_OPENER, 3, 3, 4);
-    want_reason("\"a\\q\"", PM_REASON_CONTENT, 0, 2, 4);
+    want_reason("\"a\\q\"", PM_REASON_CONTENT, 0, 3, 4);
     want("the content's fault", pm_explain(TEXT("\"a\\q\"")).detail, PM_ESCAPE_INVALID_ESCAPE);
     pm_explanation told = pm_explain(TEXT("{ [ (]"));
     want("the innermost opener", told.opener_start, 4);

@@ -12,13 +12,11 @@ pub struct LexError {
 
 impl LexError {
     pub(crate) fn compiler(error: proc_macro::LexError) -> LexError {
-        let repr = Repr::Compiler(error);
-        LexError { repr }
+        LexError { repr: Repr::Compiler(error) }
     }
 
     pub(crate) fn own(place: Place) -> LexError {
-        let repr = Repr::Own(place);
-        LexError { repr }
+        LexError { repr: Repr::Own(place) }
     }
 
     /// Where the fault stands: with span locations and outside of macros right before what can't be read, else

@@ -16,9 +16,8 @@ struct Chunks<'a, 'b> {
 
 impl Chunks<'_, '_> {
     fn flush(&mut self) -> Result {
-        let text = std::str::from_utf8(&self.bytes[..self.used]).expect("whole texts were put in");
-        self.used = 0;
-        self.out.write_str(text)
+        let used = std::mem::take(&mut self.used);
+        self.out.write_str(std::str::from_utf8(&self.bytes[..used]).expect("whole texts were put in"))
     }
 
     /// Writes a text for which there is no room behind the others.
@@ -26,12 +25,7 @@ impl Chunks<'_, '_> {
     #[inline(never)]
     fn write_past_room(&mut self, text: &str) -> Result {
         self.flush()?;
-        if text.len() > CHUNK {
-            return self.out.write_str(text);
-        }
-        self.bytes[..text.len()].copy_from_slice(text.as_bytes());
-        self.used = text.len();
-        Ok(())
+        self.out.write_str(text)
     }
 }
 
@@ -53,8 +47,7 @@ impl Write for Chunks<'_, '_> {
 
 /// Prints a value in chunks.
 pub(crate) fn in_chunks(value: &impl shim::fmt::Display, f: &mut Formatter) -> Result {
-    let (out, bytes, used) = (f, [0; CHUNK], 0);
-    shim::fmt::print_to(value, Chunks { out, bytes, used })?.flush()
+    shim::fmt::print_to(value, Chunks { out: f, bytes: [0; CHUNK], used: 0 })?.flush()
 }
 
 /// Shows a value with its spans, where there are span locations, and else without, by `show`.
