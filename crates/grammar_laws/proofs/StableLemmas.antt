@@ -207,8 +207,8 @@ module _ (class : ℕ → Bool) where
   keeps (rules.Where test a) n looks = λ p b r s long ends is. (keeps a n looks p b r s long ends is.0, is.1)
   keeps (rules.Ends depth) n looks = looks
 
-  pub stable : (rule : Rule) → Looks class 0 rule → Stable class (Stands rule)
-  stable rule looks p b r s ends is = keeps rule 0 looks p b r s (omega arith) ends is
+  pub stable : (a : Rule) → Looks class 0 a → Stable class (Stands a)
+  stable a looks p b r s ends is = keeps a 0 looks p b r s (omega arith) ends is
 
 -- ---- the characters of pieces
 

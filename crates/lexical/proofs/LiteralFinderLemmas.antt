@@ -133,6 +133,10 @@ quote_bars c tail =
     ∙ cond_both (is_ident_start c) (Some (c ∷ [], 39 ∷ tail)) None
     (λ o. follows (and_find (find_run is_ident_continue) o) ≡ false) (λ e. refl) (λ e. refl))
 
+escape_bars : (tail : List ℕ) → find_lone_quote (39 ∷ 92 ∷ tail) ≡ None
+unfolding unicode_ident find
+escape_bars tail = refl
+
 -- a character has a backslash after its first quote, or one character and a quote
 no_lone_quote : (p r : List ℕ) → Character p r → find_lone_quote (p ++ r) ≡ None
 unfolding unicode_ident find
@@ -142,7 +146,8 @@ no_lone_quote p r h =
     elim unit.first [
       | inl one ↦ rw (h.whole, h.first, unit.whole, one.1, close.whole, close.first)
           (cond-false _ _ _ (quote_bars one.0 (close.back ++ r)))
-      | inr escape ↦ rw (h.whole, h.first, unit.whole, escape.whole, escape.first) refl
+      | inr escape ↦ rw (h.whole, h.first, unit.whole, escape.whole, escape.first)
+          (escape_bars ((escape.back ++ unit.back) ++ r))
     ]
 
 pub quote_apart : Disjoint LoneQuote Character

@@ -29,7 +29,7 @@ use Rattle.lexical.proofs.TextLemmas.{all_pass, ends_splits, is_ascii}
 line_stops : (rest : List ℕ) → first_passes (λ c. not (is_byte2 10 13 c)) rest ≡ false → (get_or rest 0 32 ≡ 13 → ⊥)
     → first_passes (λ c. not (c == 10)) (chars rest) ≡ false
 line_stops [] stops other = ap (first_passes (λ c. not (c == 10))) chars-nil
-line_stops (b ∷ rest) stops other = elim (or_cases _ _ (true_from_not _ stops)) [
+line_stops (b ∷ rest) stops other = elim (or_cases (b == 10) (b == 13) (true_from_not _ stops)) [
   | inl feed ↦ low_fails (λ c. not (c == 10)) (b ∷ rest) (omega (arith, eqb-true b 10 feed)) (ap not feed)
   | inr return ↦ absurd (other (eqb-true b 13 return))
 ]

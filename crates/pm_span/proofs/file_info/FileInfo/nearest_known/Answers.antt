@@ -1,4 +1,4 @@
-use Rattle.std.proofs.Common.{arith, ◌-◌}
+use Rattle.std.proofs.Common.{arith}
 use Rattle.pm_span.proofs.ByteOffsetLemmas.{known_order, narrow_between}
 use Rattle.pm_span.proofs.file_info.FileInfo.nearest_known.Goals as goal
 
