@@ -3,18 +3,6 @@
 ghost use Rattle.std.specs.Prelude.{◌≡◌, ◌∷◌, [], ◌≤◌, IfSome, MatchOption, length};
 ghost use Rattle.std.specs.Str.{IsUtf8, chars};
 
-/// The first character of a text, and the text after it.
-#[tactic(auto, using(std::proofs::lemmas::Str::chars_past_char))]
-fn split_first(text: &str) -> Option<(char, &str)>
-    ensures split { MatchOption result (chars text.now ≡ []) (λ x. chars text.now ≡ x.0 ∷ chars x.1.now) }
-    ensures utf8 { IfSome result (λ x. IsUtf8 x.1.now) }
-    ensures shorter { IfSome result (λ x. length x.1.now ≤ length text.now) }
-{
-    let mut characters = text.chars();
-    let first = characters.next()?;
-    Some((first, characters.as_str()))
-}
-
 /// Where reading stands in the contents of a literal.
 #[derive(Clone, Copy)]
 pub struct ContentCursor<'a> {
@@ -50,13 +38,15 @@ impl<'a> ContentCursor<'a> {
     }
 
     /// The character after the cursor, and the cursor after that character.
+    #[tactic(auto, using(std::proofs::lemmas::Str::chars_past_char))]
     pub fn advance(self) -> Option<(char, Self)>
         ensures { MatchOption result (chars self.entry.rest.now ≡ []) (λ x.
             (chars self.entry.rest.now ≡ x.0 ∷ chars x.1.rest.now) × (x.1.end ≡ self.entry.end)) }
     {
-        let (first, rest) = split_first(self.rest)?;
+        let mut characters = self.rest.chars();
+        let first = characters.next()?;
         let after = ContentCursor {
-            rest,
+            rest: characters.as_str(),
             end: self.end,
         };
         Some((first, after))

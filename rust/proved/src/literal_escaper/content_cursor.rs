@@ -1,14 +1,6 @@
 // Made from crates/literal_escaper/src/content_cursor.rt by rust/erase: change that file, not this one.
 //! A cursor over the contents of a literal.
 
-/// The first character of a text, and the text after it.
-fn split_first(text: &str) -> Option<(char, &str)>
-{
-    let mut characters = text.chars();
-    let first = characters.next()?;
-    Some((first, characters.as_str()))
-}
-
 /// Where reading stands in the contents of a literal.
 #[derive(Clone, Copy)]
 pub struct ContentCursor<'a> {
@@ -38,9 +30,10 @@ impl<'a> ContentCursor<'a> {
     /// The character after the cursor, and the cursor after that character.
     pub fn advance(self) -> Option<(char, Self)>
     {
-        let (first, rest) = split_first(self.rest)?;
+        let mut characters = self.rest.chars();
+        let first = characters.next()?;
         let after = ContentCursor {
-            rest,
+            rest: characters.as_str(),
             end: self.end,
         };
         Some((first, after))
