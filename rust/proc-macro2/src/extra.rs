@@ -9,6 +9,18 @@ use std::fmt::{self, Debug};
 /// # Panics
 ///
 /// Inside a macro, where the spans are the compiler's.
+///
+/// ```
+/// use proc_macro2::{extra, TokenStream};
+///
+/// for text in ["a", "b"] {
+///     let stream: TokenStream = text.parse()?;
+///     let first = stream.into_iter().next().expect("it has one tree");
+///     assert_eq!(first.span().byte_range(), 0..1);
+///     extra::invalidate_current_thread_spans();
+/// }
+/// # Ok::<(), proc_macro2::LexError>(())
+/// ```
 #[cfg(span_locations)]
 pub fn invalidate_current_thread_spans() {
     assert!(
@@ -19,6 +31,16 @@ pub fn invalidate_current_thread_spans() {
 }
 
 /// The span of a group, with those of its two delimiters.
+///
+/// ```
+/// use proc_macro2::{TokenStream, TokenTree};
+///
+/// let stream: TokenStream = "(a)".parse()?;
+/// let Some(TokenTree::Group(group)) = stream.into_iter().next() else { panic!("it is a group") };
+/// let spans = group.delim_span();
+/// assert_eq!(format!("{:?}", spans.open()), format!("{:?}", group.span_open()));
+/// # Ok::<(), proc_macro2::LexError>(())
+/// ```
 #[derive(Clone, Copy)]
 pub struct DelimSpan {
     pub(crate) join: Span,

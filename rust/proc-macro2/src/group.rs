@@ -9,6 +9,16 @@ use proved::pm_stream::Group as Own;
 use std::fmt::{self, Debug, Display};
 
 /// Trees between delimiters.
+///
+/// ```
+/// use proc_macro2::{Delimiter, Group};
+///
+/// let group = Group::new(Delimiter::Bracket, "1, 2".parse()?);
+/// assert_eq!(group.to_string(), "[1 , 2]");
+/// assert_eq!(group.delimiter(), Delimiter::Bracket);
+/// assert_eq!(group.stream().to_string(), "1 , 2");
+/// # Ok::<(), proc_macro2::LexError>(())
+/// ```
 #[derive(Clone)]
 pub struct Group {
     pub(crate) repr: Repr<proc_macro::Group, Own>,

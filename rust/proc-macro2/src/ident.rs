@@ -13,6 +13,15 @@ use std::hash::{Hash, Hasher};
 /// An identifier or a keyword, raw or plain.
 ///
 /// A lifetime is none: it is the mark `'` and an identifier. `true` and `false` are identifiers.
+///
+/// ```
+/// use proc_macro2::{Ident, Span};
+///
+/// let name = Ident::new("match", Span::call_site());
+/// let raw = Ident::new_raw("match", Span::call_site());
+/// assert_eq!(raw.to_string(), "r#match");
+/// assert!(name == "match" && raw == "r#match" && name != raw);
+/// ```
 #[derive(Clone)]
 pub struct Ident {
     pub(crate) repr: Repr<proc_macro::Ident, Own>,
@@ -26,6 +35,13 @@ impl Ident {
     /// # Panics
     ///
     /// Where the name is empty, a number, or no name of the language.
+    ///
+    /// ```
+    /// # use proc_macro2::{Ident, Span};
+    /// let name = Ident::new("größe", Span::call_site());
+    /// assert_eq!(name.to_string(), "größe");
+    /// assert!(std::panic::catch_unwind(|| Ident::new("2", Span::call_site())).is_err());
+    /// ```
     #[track_caller]
     #[inline]
     pub fn new(string: &str, span: Span) -> Ident {

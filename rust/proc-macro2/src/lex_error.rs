@@ -6,6 +6,13 @@ use std::error::Error;
 use std::fmt::{self, Debug, Display};
 
 /// A text that couldn't be read.
+///
+/// ```
+/// use proc_macro2::TokenStream;
+///
+/// let error = "f(x))".parse::<TokenStream>().unwrap_err();
+/// assert_eq!(error.to_string(), "cannot parse string into token stream");
+/// ```
 pub struct LexError {
     repr: Repr<proc_macro::LexError, Place>,
 }
@@ -21,6 +28,13 @@ impl LexError {
 
     /// Where the fault stands: with span locations and outside of macros right before what can't be read, else
     /// no place.
+    ///
+    /// ```
+    /// # use proc_macro2::TokenStream;
+    /// let error = "f(x))".parse::<TokenStream>().unwrap_err();
+    /// let shown = format!("{:?}", error.span()); // bytes(5..5) with span locations: before the second `)`
+    /// # assert!(shown.starts_with("bytes(") || shown == "Span", "{shown}");
+    /// ```
     pub fn span(&self) -> Span {
         match &self.repr {
             Repr::Compiler(_) => Span::call_site(),

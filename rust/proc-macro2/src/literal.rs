@@ -14,6 +14,16 @@ use std::ops::RangeBounds;
 use std::str::FromStr;
 
 /// A literal: a string, a character, a number, by its text.
+///
+/// ```
+/// use proc_macro2::Literal;
+///
+/// assert_eq!(Literal::string("one\ttwo").to_string(), r#""one\ttwo""#);
+/// assert_eq!(Literal::u8_suffixed(7).to_string(), "7u8");
+/// assert_eq!(Literal::f64_unsuffixed(1.0).to_string(), "1.0");
+/// assert_eq!(Literal::byte_string(b"\0a").to_string(), r#"b"\0a""#);
+/// assert_eq!(Literal::c_string(c"a").to_string(), r#"c"a""#);
+/// ```
 #[derive(Clone)]
 pub struct Literal {
     pub(crate) repr: Repr<proc_macro::Literal, Own>,
@@ -125,6 +135,19 @@ impl Literal {
     /// The span of a part of the literal, which is told in characters from where its span begins; `None` where the
     /// part ends before it begins or after the literal, where there are no span locations, and inside a macro, where
     /// a stable compiler doesn't tell.
+    ///
+    /// ```
+    /// use proc_macro2::Literal;
+    ///
+    /// let literal: Literal = r#""ab{}""#.parse()?;
+    /// let hole = literal.subspan(3..5);
+    /// if let Some(hole) = hole {
+    ///     // with span locations
+    ///     assert_eq!(hole.source_text().as_deref(), Some("{}"));
+    /// }
+    /// assert!(literal.subspan(3..70).is_none());
+    /// # Ok::<(), proc_macro2::LexError>(())
+    /// ```
     pub fn subspan<R: RangeBounds<usize>>(&self, range: R) -> Option<Span> {
         match &self.repr {
             Repr::Own(literal) if cfg!(span_locations) => {
@@ -135,6 +158,15 @@ impl Literal {
     }
 
     /// The value of a string literal.
+    ///
+    /// ```
+    /// use proc_macro2::Literal;
+    ///
+    /// let literal: Literal = r#""a\n\u{e9}""#.parse()?;
+    /// assert_eq!(literal.str_value().unwrap(), "a\n\u{e9}");
+    /// assert!(Literal::u8_suffixed(1).str_value().is_err());
+    /// # Ok::<(), proc_macro2::LexError>(())
+    /// ```
     #[cfg(procmacro2_semver_exempt)]
     pub fn str_value(&self) -> Result<String, ConversionErrorKind> {
         self.value(|literal| literal.str_value(Global)).map(|value| value.into_rust())
@@ -197,6 +229,15 @@ impl FromStr for Literal {
     type Err = LexError;
 
     /// The literal that the whole text is, or `-` and a number. Nothing else may stand there, not even white space.
+    ///
+    /// ```
+    /// use proc_macro2::Literal;
+    ///
+    /// let literal: Literal = "-0x1F_u8".parse()?;
+    /// assert_eq!(literal.to_string(), "-0x1F_u8");
+    /// assert!(" 1".parse::<Literal>().is_err());
+    /// # Ok::<(), proc_macro2::LexError>(())
+    /// ```
     fn from_str(repr: &str) -> Result<Literal, LexError> {
         if compiler::inside() {
             return compiler::read(repr, Own::is_whole(repr)).map(Literal::compiler);

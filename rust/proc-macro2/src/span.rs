@@ -6,6 +6,16 @@ use proved::pm_token::parts::show_span;
 use std::fmt::{self, Debug};
 
 /// Where a token stands, and inside a macro how its names are resolved.
+///
+/// ```
+/// use proc_macro2::{Ident, Span, TokenStream};
+///
+/// let stream: TokenStream = "a\n  é.b".parse()?;
+/// let last = stream.into_iter().last().expect("it has four trees");
+/// let same_place = Ident::new("c", last.span());
+/// assert_eq!(format!("{:?}", same_place.span()), format!("{:?}", last.span()));
+/// # Ok::<(), proc_macro2::LexError>(())
+/// ```
 #[derive(Clone, Copy)]
 pub struct Span {
     pub(crate) repr: Repr,
@@ -109,6 +119,18 @@ impl Span {
     }
 
     /// The line and column where the span begins.
+    ///
+    /// ```
+    /// use proc_macro2::TokenStream;
+    ///
+    /// let stream: TokenStream = "a\n  é.b".parse()?;
+    /// let last = stream.into_iter().last().expect("it has four trees").span();
+    /// assert_eq!((last.start().line, last.start().column), (2, 4));
+    /// assert_eq!((last.end().line, last.end().column), (2, 5));
+    /// assert_eq!(last.byte_range(), 7..8);
+    /// assert_eq!(last.source_text().as_deref(), Some("b"));
+    /// # Ok::<(), proc_macro2::LexError>(())
+    /// ```
     #[cfg(span_locations)]
     pub fn start(&self) -> crate::LineColumn {
         self.ask(|span| compiler::line_column(span.start()), |place, map| place.start(map))
@@ -138,6 +160,19 @@ impl Span {
 
     /// The span from the first of the two beginnings to the last of the two ends; `None` where they are in two files,
     /// and inside a macro, where a stable compiler doesn't tell.
+    ///
+    /// ```
+    /// use proc_macro2::TokenStream;
+    ///
+    /// let stream: TokenStream = "a + b; c".parse()?;
+    /// let spans: Vec<_> = stream.into_iter().map(|tree| tree.span()).collect();
+    /// let sum = spans[0].join(spans[2]).expect("one text has both");
+    /// if let Some(text) = sum.source_text() {
+    ///     // with span locations
+    ///     assert_eq!(text, "a + b");
+    /// }
+    /// # Ok::<(), proc_macro2::LexError>(())
+    /// ```
     pub fn join(&self, other: Span) -> Option<Span> {
         match (self.repr, other.repr) {
             (Repr::Own(place), Repr::Own(other)) if cfg!(span_locations) => {

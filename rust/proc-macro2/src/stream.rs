@@ -10,6 +10,15 @@ use std::fmt::{self, Debug, Display};
 use std::str::FromStr;
 
 /// Token trees in order, each a token or a group of trees between delimiters.
+///
+/// ```
+/// use proc_macro2::TokenStream;
+///
+/// let stream: TokenStream = "fn f(x: u8) { /* nothing */ }".parse()?;
+/// assert_eq!(stream.to_string(), "fn f (x : u8) { }");
+/// assert_eq!(stream.into_iter().count(), 4);
+/// # Ok::<(), proc_macro2::LexError>(())
+/// ```
 #[derive(Clone)]
 pub struct TokenStream {
     pub(crate) repr: Repr<compiler::Stream, Own>,
@@ -56,6 +65,13 @@ impl FromStr for TokenStream {
     type Err = LexError;
 
     /// The trees of a text. It is read by the proved functions, and inside a macro then by the compiler.
+    ///
+    /// ```
+    /// use proc_macro2::TokenStream;
+    ///
+    /// assert!("(]".parse::<TokenStream>().is_err());
+    /// assert!("\"no end".parse::<TokenStream>().is_err());
+    /// ```
     fn from_str(src: &str) -> Result<TokenStream, LexError> {
         if compiler::inside() {
             return compiler::read(src, map::is_readable(src)).map(TokenStream::compiler);
@@ -112,6 +128,17 @@ impl FromIterator<TokenStream> for TokenStream {
     }
 }
 
+/// Puts the trees at the end. A negative number stands there as the mark `-` and the rest.
+///
+/// ```
+/// use proc_macro2::{Literal, Punct, Spacing, TokenStream, TokenTree};
+///
+/// let mut stream: TokenStream = "x =".parse()?;
+/// let one = TokenTree::Literal(Literal::u8_suffixed(1));
+/// stream.extend([one, TokenTree::Punct(Punct::new(';', Spacing::Alone))]);
+/// assert_eq!(stream.to_string(), "x = 1u8 ;");
+/// # Ok::<(), proc_macro2::LexError>(())
+/// ```
 impl Extend<TokenTree> for TokenStream {
     #[inline]
     fn extend<I: IntoIterator<Item = TokenTree>>(&mut self, trees: I) {
@@ -146,6 +173,14 @@ macro_rules! extend {
 extend!(Group Ident Punct Literal);
 
 /// Prints the trees with a space between two, but none after a mark that is joint to what follows.
+///
+/// ```
+/// use proc_macro2::TokenStream;
+///
+/// let stream: TokenStream = "a+=b.c::<D>()".parse()?;
+/// assert_eq!(stream.to_string(), "a += b . c ::< D > ()"); // the second `:` is joint to `<`
+/// # Ok::<(), proc_macro2::LexError>(())
+/// ```
 impl Display for TokenStream {
     fn fmt(&self, f: &mut fmt::Formatter) -> fmt::Result {
         match &self.repr {
@@ -160,6 +195,17 @@ impl Display for TokenStream {
 debug!(TokenStream, stream, f => Debug::fmt(&ShownStream(stream), f));
 
 /// The trees of a stream that are left, in order. A group comes whole.
+///
+/// ```
+/// use proc_macro2::{TokenStream, TokenTree};
+///
+/// let stream: TokenStream = "f(x, y)".parse()?;
+/// let mut trees = stream.into_iter();
+/// assert!(matches!(trees.next(), Some(TokenTree::Ident(name)) if name == "f"));
+/// assert!(matches!(trees.next(), Some(TokenTree::Group(_))));
+/// assert!(trees.next().is_none());
+/// # Ok::<(), proc_macro2::LexError>(())
+/// ```
 #[derive(Clone)]
 pub struct IntoIter {
     left: Repr<proc_macro::token_stream::IntoIter, OwnIter>,
