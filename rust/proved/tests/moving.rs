@@ -1,0 +1,97 @@
+//! Each call that `docs/MOVING.md` names, made once.
+#![cfg(feature = "token_buffer")]
+#![cfg(feature = "quoting")]
+#![cfg(feature = "pretty_printer")]
+use proved::pretty_printer::to_pretty_string;
+use proved::proc_macro2::rustc_literal_escaper::unescape_str;
+use proved::proc_macro2::{
+    pieces, reprint, Delimiter, Ident, Literal, PieceKind, SourceMap, Span, TokenStream, TokenTree,
+};
+use proved::quoting::{Hole, Quote};
+use proved::shim::alloc::Global;
+use proved::shim::prelude::Clone as _;
+use proved::token_buffer::TokenBuffer;
+
+const TEXT: &str = "fn f(x: u8) -> u8 { x + 1 }";
+
+#[test]
+fn calls_in_place_of_proc_macro2s() {
+    let alloc = Global;
+    let mut map = SourceMap::new(alloc);
+    let stream = TokenStream::from_str(TEXT, &mut map).unwrap();
+    assert_eq!(*reprint(alloc, TEXT).unwrap(), *stream.to_string());
+    let Ok(empty) = TokenStream::from_trees(alloc, []);
+    let mut built = TokenStream::new(alloc);
+    assert!(empty.is_empty() && built.same_tokens(&empty));
+
+    let Ok(trees) = stream.into_iter();
+    let Ok(()) = built.extend_trees(trees);
+    assert_eq!(built.trees().len(), 7);
+    let mut walk = built.walk();
+    let mut names = Vec::new();
+    while let Ok(Some(tree)) = walk.next() {
+        if let TokenTree::Ident(name) = tree {
+            names.push(name.to_string());
+        }
+    }
+    assert_eq!(names, ["fn", "f", "x", "u8", "u8", "x"]);
+
+    let TokenTree::Group(group) = &built.trees()[6] else { panic!("it is the body") };
+    let Ok(inside) = group.stream();
+    assert!(inside.same_tokens(group.stream_ref()));
+    let Ok(copy) = built.trees()[0].clone();
+    let TokenTree::Ident(keyword) = &copy else { panic!("it is a keyword") };
+    assert!(keyword.eq_str("fn"));
+
+    let (first, last) = (built.trees()[0].span(), built.trees()[6].span());
+    assert!(map.holds(first) && map.holds(last));
+    assert_eq!(first.start(&map).line, 1);
+    let Ok(file) = first.file(&map);
+    assert_eq!(*file, *"<parsed string 1>");
+    let whole = first.join(last, &map).unwrap();
+    assert_eq!(whole.source_str(&map), Some(TEXT));
+    let Ok(text) = whole.source_text(&mut map);
+    assert_eq!(text.as_deref(), Some(TEXT));
+    assert_eq!(whole.byte_range(&mut map), 0..TEXT.len());
+    map.invalidate();
+    assert!(!map.holds(first));
+
+    let literal = Literal::from_str("\"a\"", &mut map).unwrap();
+    assert_eq!(literal.text(), "\"a\"");
+    assert_eq!(*literal.str_value(alloc).unwrap(), *"a");
+    let Ok(string) = Literal::string(alloc, "a");
+    assert_eq!(string.text(), literal.text());
+}
+
+#[test]
+fn calls_in_place_of_quotes_and_syns() {
+    let alloc = Global;
+    let mut map = SourceMap::new(alloc);
+    let name = Ident::new(alloc, "g", Span::call_site()).unwrap();
+    let Ok(name) = TokenStream::from_trees(alloc, [TokenTree::Ident(name)]);
+    let mut quote = Quote::new(alloc);
+    quote.parse("fn #name() {}", &mut map, &[Hole::one("name", &name)]).unwrap();
+    assert_eq!(quote.finish().unwrap().to_string(), "fn g () { }");
+
+    let buffer = TokenBuffer::new(alloc, TEXT).unwrap();
+    let (keyword, after) = buffer.begin().ident().unwrap();
+    assert_eq!(keyword.text, "fn");
+    let (_, after) = after.ident().unwrap();
+    assert!(after.group(Delimiter::Parenthesis).is_some());
+}
+
+#[test]
+fn calls_in_place_of_rustc_lexers_and_prettypleases() {
+    let alloc = Global;
+    let mut walk = pieces("a+=1");
+    let first = walk.next_piece().unwrap();
+    assert_eq!((first.text, first.piece.bytes), ("a", 1));
+    let mark = walk.next_piece().unwrap();
+    assert_eq!(mark.piece.kind, PieceKind::Mark { mark: '+', joint: true });
+    assert!(unescape_str("a").all(|(_, read)| read == Ok('a')));
+
+    let mut map = SourceMap::new(alloc);
+    let stream = TokenStream::from_str(TEXT, &mut map).unwrap();
+    let text = to_pretty_string(alloc, &stream).unwrap();
+    assert_eq!(*text, *"fn f(x: u8) -> u8 {\n    x + 1\n}\n");
+}
