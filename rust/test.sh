@@ -89,6 +89,7 @@ programs() {
     if command -v python3 > /dev/null; then
         try "the rows of checks/programs on rust/tools" \
             env "CARGO_BUILD=$built" ../checks/programs tokens highlight find_calls pretty rust_check
+        try "the commands of README.md print what it shows" ../checks/pages "$built" ../README.md
     fi
     tools() { (cd tools && cargo "$@"); }
     documented_tools() { RUSTDOCFLAGS="-D warnings" tools doc --offline --quiet --no-deps; }
