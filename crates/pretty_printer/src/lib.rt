@@ -68,7 +68,7 @@ pub fn to_pretty_string(alloc: Global, stream: &TokenStream) -> Result<String, Q
     ensures layout { IfOk result (λ text. IsLayout (respaced stream.now) (chars (string_bytes text))) }
     ensures back { IfOk result (λ text. ReadsBack (respaced stream.now) (chars (string_bytes text))) }
     ensures unchanged { IfOk result (λ text. IsWellSpaced stream.now
-        → ReadsBack stream.now (chars (string_bytes text))) }
+        → IsLayout stream.now (chars (string_bytes text)) × ReadsBack stream.now (chars (string_bytes text))) }
     ensures fault { IfErr result (IsFaultOf stream.now) }
     ensures hopeless { IfErr result (HopelessIfNamed stream.now) }
 {
