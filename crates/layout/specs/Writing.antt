@@ -16,6 +16,8 @@ use Rattle.pm_stream.specs.declared.stream.TokenTree.{TokenTree}
 use Rattle.pm_stream.specs.declared.stream.TokenTree.TheVariants.{Group, Ident, Punct, Literal}
 use Rattle.proc_macro2.specs.Laws.{Gives}
 use Rattle.layout.specs.Layout.{goes_on, is_joint, is_plain, IsLayout}
+use Rattle.layout.specs.declared.errors.LayoutError.{LayoutError}
+use Rattle.layout.specs.declared.errors.LayoutError.TheVariants.{NotWellSpaced, Memory, Write}
 use Rattle.layout.specs.declared.gaps.Gap.{Gap}
 use Rattle.layout.specs.declared.gaps.Gap.TheVariants.{Nothing, Space, Line, Blank}
 
@@ -92,6 +94,12 @@ fitting (Some before) chosen text range =
 -- the text reads back to the stream, up to spans, wherever it stands
 abbrev pub ReadsBack : Forest → List ℕ → Type 0
 ReadsBack stream text = (base : ℕ) → Gives base text stream
+
+-- it isn't that a writer failed
+abbrev pub IsNoWrite : LayoutError → Type 0
+IsNoWrite NotWellSpaced = Unit {0}
+IsNoWrite (Memory error) = Unit {0}
+IsNoWrite (Write error) = ⊥
 
 -- what is written is a layout of the stream, which reads back to it
 pub record WritesLayout (stream : Forest) (old new : Option (List ℕ)) : Type 0 where

@@ -5,7 +5,7 @@ ghost use Rattle.pm_stream.specs.Delimited.{closing, opening};
 ghost use Rattle.pm_stream.specs.Steps.{step_of};
 ghost use Rattle.pm_stream.specs.WellSpaced.{IsWellSpaced};
 ghost use Rattle.layout.specs.Layout.{IsLayout, event_text};
-ghost use Rattle.layout.specs.Writing.{ReadsBack, WritesLayout, event_of, tree_event};
+ghost use Rattle.layout.specs.Writing.{IsNoWrite, ReadsBack, WritesLayout, event_of, tree_event};
 ghost use Rattle.layout.specs.declared.errors.LayoutError.TheVariants.{NotWellSpaced};
 
 use crate::errors::LayoutError;
@@ -32,6 +32,7 @@ pub fn text_with<C: Chooser>(
     ensures layout { IfOk result (λ text. IsLayout stream.now (chars (string_bytes text))) }
     ensures back { IfOk result (λ text. ReadsBack stream.now (chars (string_bytes text))) }
     ensures refused { (result ≡ Err NotWellSpaced) ↔ (IsWellSpaced stream.now → ⊥) }
+    ensures unwritten { IfErr result IsNoWrite }
 {
     if !stream.is_well_spaced() {
         return Err(LayoutError::NotWellSpaced);

@@ -1,14 +1,15 @@
 //! What the program writes for a text.
-ghost use Rattle.std.specs.Prelude.{OnOk};
+ghost use Rattle.std.specs.Prelude.{IfErr, List, OnOk, ℕ};
 ghost use Rattle.std.specs.Str.{chars};
 ghost use Rattle.layout.specs.Writing.{WritesLayout};
+ghost use Rattle.messages.specs.Parsed.{MayFail};
 ghost use Rattle.proc_macro2.specs.WellSpaced.{IsWellSpaced};
 ghost use Rattle.pretty.specs.Answer.{Writes};
 
-use layout::LayoutError;
 use messages::Failure;
 use pretty_printer::to_pretty_string;
 use proc_macro2::{SourceMap, TokenStream};
+use quoting::QuoteError;
 use std::alloc::Global;
 use std::io::Write;
 
@@ -17,7 +18,8 @@ use std::io::Write;
 /// Fails with `Fault`, which has line and column, `MapFull` and `Memory` before anything is written, and with `Write`;
 /// then a beginning of the text may stand.
 pub fn print_text<W: Write>(alloc: Global, text: &str, writer: &mut W) -> Result<(), Failure>
-    ensures { OnOk result (Writes (chars text.now) (W.contents writer.old) (W.contents writer.new)) }
+    ensures ok { OnOk result (Writes (chars text.now) (W.contents writer.old) (W.contents writer.new)) }
+    ensures err { IfErr result (MayFail (chars text.now) (W.contents writer.old) (W.contents writer.new)) }
 {
     let mut map = SourceMap::new(alloc);
     match TokenStream::from_str(text, &mut map) {
@@ -33,13 +35,14 @@ fn print_stream<W: Write>(
     writer: &mut W,
 ) -> Result<(), Failure>
     requires { IsWellSpaced stream.now }
-    ensures { OnOk result (WritesLayout stream.now (W.contents writer.old) (W.contents writer.new)) }
+    ensures ok { OnOk result (WritesLayout stream.now (W.contents writer.old) (W.contents writer.new)) }
+    ensures err { IfErr result (λ failure. (text : List ℕ)
+        → MayFail text (W.contents writer.old) (W.contents writer.new) failure) }
 {
     let pretty = match to_pretty_string(alloc, stream) {
         Ok(pretty) => pretty,
-        Err(LayoutError::NotWellSpaced) => unreachable!(),
-        Err(LayoutError::Memory(_)) => return Err(Failure::Memory),
-        Err(LayoutError::Write(error)) => return Err(Failure::Write(error)),
+        Err(QuoteError::Memory(_)) => return Err(Failure::Memory),
+        Err(QuoteError::NoneGroup | QuoteError::LoneQuote) => unreachable!(),
     };
     writer.write_all(pretty.as_str().as_bytes())?;
     Ok(())

@@ -22,9 +22,13 @@
 
 mod back;
 mod over;
+#[cfg(feature = "pretty_printer")]
+mod pretty;
 mod spans;
 
 pub use back::from_proved;
 pub use over::to_proved;
+#[cfg(feature = "pretty_printer")]
+pub use pretty::{pretty, PrettyError};
 pub use proved;
 pub use spans::{NoToken, Spans};

@@ -221,3 +221,17 @@ fn a_template_takes_tokens_of_the_caller() -> Result<(), Box<dyn Error>> {
     assert_ne!(lines[0], 3);
     Ok(())
 }
+
+#[test]
+#[cfg(feature = "pretty_printer")]
+fn a_stream_is_printed_for_people_where_it_comes_back_from_a_text() {
+    use proved_bridge::{pretty, PrettyError};
+
+    // `+` can't be joined with a name, and is printed apart from it.
+    let plus = TokenTree::Punct(Punct::new('+', Spacing::Joint));
+    let name = TokenTree::Ident(Ident::new("a", Span::call_site()));
+    assert_eq!(pretty(&[name.clone(), plus, name.clone()].into_iter().collect()).unwrap(), "a + a\n");
+
+    let group = TokenTree::Group(Group::new(Delimiter::None, name.into()));
+    assert!(matches!(pretty(&group.into()), Err(PrettyError::Quote(_))));
+}

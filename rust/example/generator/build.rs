@@ -1,5 +1,6 @@
 //! Writes an enum from the lines of a table.
 use proc_macro2::{Ident, Literal, Span, TokenStream};
+use proved_bridge::pretty;
 use quote::quote;
 use std::error::Error;
 use std::path::Path;
@@ -10,7 +11,8 @@ const TABLE: &str = "units.txt";
 fn main() -> Result<(), Box<dyn Error>> {
     println!("cargo:rerun-if-changed={TABLE}");
     let code = generated(&fs::read_to_string(TABLE)?)?;
-    fs::write(Path::new(&env::var("OUT_DIR")?).join("units.rs"), code.to_string())?;
+    // On lines for people: what rustc or a reader is told of the file then has a line of its own.
+    fs::write(Path::new(&env::var("OUT_DIR")?).join("units.rs"), pretty(&code)?)?;
     Ok(())
 }
 

@@ -2,9 +2,10 @@
 //! Prints streams so that people read them well.
 //!
 //! [`to_pretty_string`] writes a stream's tokens on lines of 100 columns where that can be. What it writes reads
-//! back to the stream, whatever its rules choose: the crate `layout` promises that of every layout.
+//! back to the stream with its marks respaced, whatever its rules choose: the crate `layout` promises that of every
+//! layout.
 
-use crate::shim::prelude::{String, Vec};
+use crate::shim::prelude::{Clone, String, Vec};
 
 mod atoms;
 mod lists;
@@ -17,6 +18,7 @@ use crate::layout::{Chooser, Gap, LayoutError, Place, text_with};
 use lists::atom;
 use printer::gaps;
 use crate::proc_macro2::TokenStream;
+use crate::quoting::{Quote, QuoteError};
 use roles::assign_roles;
 use crate::shim::alloc::{AllocError, Global};
 use widths::{find_parts, measure, measure_group};
@@ -46,21 +48,35 @@ impl Chooser for Planned {
 
 /// The stream's tokens as text for people: a statement or an item a line, blocks and long lists over several lines.
 ///
-/// The text is a layout of the stream, so that it reads back to it, up to spans. Where its lines break is told by no
-/// contract. Fails with `NotWellSpaced` exactly where the stream isn't `well-spaced`, and with `Memory`. It takes time
-/// in proportion to the length of the text.
+/// Its marks are respaced first, as `Quote::finish` does: one that is Joint to what it can't be joined with is Alone.
+/// The text is a layout of that stream, so that it reads back to it, up to spans; a stream that is `well-spaced` is
+/// respaced to itself. Where the lines of the text break is told by no contract.
+///
+/// `NoneGroup` and `LoneQuote` tell the stream's first fault, which no spacing of its marks mends, and `Memory` that
+/// memory ran out. It takes time in proportion to the length of the text.
 ///
 /// `fn f(){g(1)}` is written over three lines, the second of which is `    g(1)`.
-pub fn to_pretty_string(alloc: Global, stream: &TokenStream) -> Result<String, LayoutError>
+pub fn to_pretty_string(alloc: Global, stream: &TokenStream) -> Result<String, QuoteError>
 {
-    if !stream.is_well_spaced() {
-        return Err(LayoutError::NotWellSpaced);
-    }
+    let mut quote = Quote::new(alloc);
+    quote.push_stream(stream.clone()?)?;
+    let stream = quote.finish()?;
+    let text = lay_out(alloc, &stream)?;
+    Ok(text)
+}
+
+// The tokens of a stream that is well spaced, as text for people.
+fn lay_out(alloc: Global, stream: &TokenStream) -> Result<String, AllocError>
+{
     let mut chooser = Planned {
         gaps: plan(alloc, stream)?,
         next: 0,
     };
-    text_with(stream, &mut chooser, alloc)
+    match text_with(stream, &mut chooser, alloc) {
+        Ok(text) => Ok(text),
+        Err(LayoutError::Memory(error)) => Err(error),
+        Err(LayoutError::NotWellSpaced | LayoutError::Write(_)) => unreachable!(),
+    }
 }
 
 // The gaps before the tokens of a stream.

@@ -1,10 +1,10 @@
 // Made from crates/pretty/src/answer.rt by rust/erase: change that file, not this one.
 //! What the program writes for a text.
 
-use proved::layout::LayoutError;
 use crate::messages::Failure;
 use proved::pretty_printer::to_pretty_string;
 use proved::proc_macro2::{SourceMap, TokenStream};
+use proved::quoting::QuoteError;
 use proved::shim::alloc::Global;
 use proved::shim::io::Write;
 
@@ -30,9 +30,8 @@ fn print_stream<W: Write>(
 {
     let pretty = match to_pretty_string(alloc, stream) {
         Ok(pretty) => pretty,
-        Err(LayoutError::NotWellSpaced) => unreachable!(),
-        Err(LayoutError::Memory(_)) => return Err(Failure::Memory),
-        Err(LayoutError::Write(error)) => return Err(Failure::Write(error)),
+        Err(QuoteError::Memory(_)) => return Err(Failure::Memory),
+        Err(QuoteError::NoneGroup | QuoteError::LoneQuote) => unreachable!(),
     };
     writer.write_all(pretty.as_str().as_bytes())?;
     Ok(())

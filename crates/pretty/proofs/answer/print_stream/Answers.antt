@@ -4,13 +4,14 @@ use Rattle.std.specs.Str.{chars}
 use Rattle.std.proofs.lemmas.Str.{IsUtf8-string_bytes, encodes-chars}
 use Rattle.pretty.proofs.answer.print_stream.Goals as goal
 
-pub returns : goal.returns
-returns g c =
+pub returns-clause-ok : goal.returns-clause-ok
+returns-clause-ok g c =
     let bytes = string_bytes c.in-Ok.pretty in
+    let kept = c.in-Ok.ensures.unchanged c.requires in
     record {
       text = chars bytes;
-      layout = c.in-Ok.ensures.layout;
-      back = c.in-Ok.ensures.back;
+      layout = kept.0;
+      back = kept.1;
       appends = rw (
         encodes-chars bytes (IsUtf8-string_bytes c.in-Ok.pretty),
         ← (c.as_bytes.ensures.value ∙ c.as_str.ensures.value),

@@ -1,0 +1,48 @@
+//! Streams printed for people.
+use crate::{to_proved, NoToken, Spans};
+use proved::pretty_printer::to_pretty_string;
+use proved::quoting::QuoteError;
+use proved::shim::alloc::Global;
+use std::error::Error;
+use std::fmt::{self, Display};
+
+/// The stream's tokens as text for people: a statement or an item a line, blocks and long lists over several lines.
+///
+/// The text reads back to the stream, up to spans and to the spacing of marks that can't be joined with what follows.
+///
+/// ```
+/// let code: proc_macro2::TokenStream = "fn f(x:u8)->u8{match x{0=>1,_=>x}}".parse()?;
+/// let text = "fn f(x: u8) -> u8 {\n    match x {\n        0 => 1,\n        _ => x\n    }\n}\n";
+/// assert_eq!(proved_bridge::pretty(&code)?, text);
+/// # Ok::<(), Box<dyn std::error::Error>>(())
+/// ```
+///
+/// # Errors
+///
+/// `NoToken` where a token isn't one of the grammar of `proved`, and `Quote` where no spacing of the marks lets the
+/// stream come back from a text: a group without delimiters, as macros by example make, or a `'` with nothing after it.
+pub fn pretty(stream: &proc_macro2::TokenStream) -> Result<String, PrettyError> {
+    let stream = to_proved(stream, &mut Spans::new()).map_err(PrettyError::NoToken)?;
+    let text = to_pretty_string(Global, &stream).map_err(PrettyError::Quote)?;
+    Ok(text.into_rust())
+}
+
+/// Why a stream isn't printed.
+#[derive(Debug)]
+pub enum PrettyError {
+    /// This token isn't one of the grammar.
+    NoToken(NoToken),
+    /// The stream comes back from no text.
+    Quote(QuoteError),
+}
+
+impl Display for PrettyError {
+    fn fmt(&self, f: &mut fmt::Formatter) -> fmt::Result {
+        match self {
+            PrettyError::NoToken(error) => Display::fmt(error, f),
+            PrettyError::Quote(error) => Display::fmt(error, f),
+        }
+    }
+}
+
+impl Error for PrettyError {}
