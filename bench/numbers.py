@@ -41,7 +41,7 @@ def instructions(command: list[str], text: pathlib.Path, out: pathlib.Path) -> f
         return float("nan")
     count = ["valgrind", "--tool=callgrind", f"--callgrind-out-file={out}/counted"]
     with open(text, "rb") as source:
-        said = subprocess.run(count + command, stdin=source, stdout=subprocess.DEVNULL, stderr=subprocess.PIPE, check=True)
+        said = subprocess.run(count + command, stdin=source, capture_output=True, check=True)
     return int(re.search(rb"Collected : (\d+)", said.stderr)[1]) / text.stat().st_size
 
 
@@ -79,14 +79,16 @@ def programs(crate: str, ident: str, sources: pathlib.Path, runs: int) -> None:
         check = pathlib.Path(__file__).resolve().parent.parent / "crates/rust_check"
         with open(check / "stdin", "rb") as text:
             subprocess.run(["rt", "run"], cwd=check, stdin=text, stdout=subprocess.DEVNULL)
-        checked = min(compare.measured(str(check / "out/rust_check"), "-", out / "10", out / "told")[1] for _ in range(runs))
-        row("rust_check, 10 MB", checked, 0, "ms")
+        program = str(check / "out/rust_check")
+        times = [compare.measured(program, "-", out / "10", out / "told")[1] for _ in range(runs)]
+        row("rust_check, 10 MB", min(times), 0, "ms")
 
 
 def calls(crate: str, sources: pathlib.Path, registry: pathlib.Path, runs: int) -> None:
     rust = pathlib.Path(__file__).resolve().parent.parent / "rust"
     settings = dict(os.environ, CARGO_REGISTRY=str(registry))
-    said = subprocess.run([rust / "bench.sh", crate, sources, str(runs)], env=settings, capture_output=True, text=True, check=True)
+    command = [rust / "bench.sh", crate, sources, str(runs)]
+    said = subprocess.run(command, env=settings, capture_output=True, text=True, check=True)
     found = {line.split()[0]: line.split()[1:3] for line in said.stdout.splitlines()[1:]}
     for name, what in CALLS.items():
         ours, theirs = (float(value) for value in found[name])
