@@ -1,6 +1,7 @@
 //! The text of a token, kept once.
 ghost use Rattle.std.specs.Prelude.{◌≡◌, ◌++◌, ℕ, List, drop, IfOk, IfSome, IsOk, Some, if◌then◌else◌};
-ghost use Rattle.std.specs.Prelude.{string_bytes};
+ghost use Rattle.std.specs.Prelude.{codes, string_bytes};
+ghost use Rattle.std.specs.Fmt.{decimal};
 ghost use Rattle.std.specs.Rc.{rc_str_bytes};
 ghost use Rattle.std.specs.Str.{chars, encode_utf8_all};
 ghost use Rattle.pm_token.specs.Kept.{IsShort, text_bytes};
@@ -175,6 +176,19 @@ impl Symbol {
         }
         Some(Symbol {
             text: Text::Short(Short::joined(front, back)),
+        })
+    }
+
+    /// The number in decimal digits, behind a `-` where it is negative, and what follows it, if together they are
+    /// short. It takes no memory.
+    #[inline(always)]
+    pub(crate) fn number(negative: bool, value: u64, suffix: &str) -> Option<Symbol>
+        ensures value { IfSome result (λ symbol. symbol
+            ≡ chars ((if negative then codes "-" else codes "") ++ decimal value ++ suffix.now)) }
+        ensures text { IfSome result IsText }
+    {
+        Some(Symbol {
+            text: Text::Short(Short::number(negative, value, suffix)?),
         })
     }
 

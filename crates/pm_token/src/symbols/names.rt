@@ -1,5 +1,5 @@
 //! Names, raw and plain.
-ghost use Rattle.std.specs.Prelude.{◌≡◌, ◌≤◌, IfOk, IsOk, Some, length};
+ghost use Rattle.std.specs.Prelude.{◌≡◌, ◌↔◌, ◌≤◌, IfOk, IsOk, IsTrue, Some, length};
 ghost use Rattle.std.specs.Rc.{rc_str_bytes};
 ghost use Rattle.std.specs.Str.{IsUtf8, chars, encode_utf8_all};
 ghost use Rattle.pm_token.specs.Kept.{IsShort, KeptName, is_raw, name_bytes};
@@ -110,6 +110,25 @@ impl Name {
             NameText::Short(name) | NameText::RawShort(name) => name.as_bytes(),
             NameText::Long(name) | NameText::RawLong(name) => name.as_str().as_bytes(),
         }
+    }
+
+    /// Whether both are the same name, and both are raw or both plain.
+    #[inline(always)]
+    pub fn same(&self, other: &Name) -> bool
+        ensures { IsTrue result ↔ (self.now ≡ other.now) }
+    {
+        match (&self.text, &other.text) {
+            (NameText::Short(name), NameText::Short(other_name)) => name.same(other_name),
+            _ => self.has_same_bytes(other),
+        }
+    }
+
+    /// The same, of any names.
+    #[inline(never)]
+    fn has_same_bytes(&self, other: &Name) -> bool
+        ensures { IsTrue result ↔ (self.now ≡ other.now) }
+    {
+        self.is_raw() == other.is_raw() && self.as_bytes() == other.as_bytes()
     }
 
     /// Whether it is raw.
