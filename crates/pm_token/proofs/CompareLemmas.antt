@@ -154,9 +154,9 @@ eq_by_fields a b s t r h k fields = same_from_decides r (name_eq a b) fields (el
   | inl alike ↦ eq_fields a b s t (name_eq a b) h k alike
       (sym (eq_alike a b s t (pointwise nat_eq s t) h k alike refl))
   | inr differ ↦ (
-      λ yes. absurd (both_ways _ (eq_apart a b s t h k differ) yes),
-      λ same. absurd (differ same.1),
-    )
+    λ yes. absurd (both_ways _ (eq_apart a b s t h k differ) yes),
+    λ same. absurd (differ same.1),
+  )
 ])
 
 -- ---- order

@@ -11,9 +11,9 @@ returns-clause-fields c =
     let raw = ap (λ (x : Name). x.raw) c.self.view_is in
     let other_raw = ap (λ (x : Name). x.raw) c.other.view_is in (
       λ yes. let same = c.same.ensures.0 yes in (
-          sym own ∙ (ap (λ (x : KeptName). x.name) same ∙ other),
-          sym raw ∙ (ap (λ (x : KeptName). x.raw) same ∙ other_raw),
-        ),
+        sym own ∙ (ap (λ (x : KeptName). x.name) same ∙ other),
+        sym raw ∙ (ap (λ (x : KeptName). x.raw) same ∙ other_raw),
+      ),
       λ fields. c.same.ensures.1 (ap₂ (λ name raw. record { name = name; raw = raw })
           (own ∙ (fields.0 ∙ sym other)) (raw ∙ (fields.1 ∙ sym other_raw))),
     )
