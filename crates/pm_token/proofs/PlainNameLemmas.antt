@@ -1,21 +1,31 @@
 -- Names of ASCII letters, digits and `_` have no fault.
 use Rattle.std.proofs.Common.{◌≡◌, ℕ, ◌<◌, Bool, true, false, not, ◌||◌, ◌==◌, List, [], ◌∷◌, length, None, refl}
-use Rattle.std.proofs.Common.{ap, sym, ◌∙◌, arith, inl, inr, nat_le, if◌then◌else◌, Some}
-use Rattle.std.specs.List.{list_all}
+use Rattle.std.proofs.Common.{ap, sym, ◌∙◌, arith, inl, inr, nat_le, get_or, map, if◌then◌else◌, Some}
+use Rattle.std.specs.List.{list_all, range_with_len}
 use Rattle.std.specs.Int.{is_in_range}
 use Rattle.std.specs.Char.{is_ascii_alphabetic, is_ascii_alphanumeric, is_ascii_digit}
 use Rattle.std.specs.Str.{chars}
 use Rattle.std.proofs.lemmas.Bool.{and_parts, and_from, and_left, cond-true, cond-false, eqb-true, both_ways, false_from_ne_true}
 use Rattle.std.proofs.lemmas.Bool.{leb-true, lt-ltb, ne_eqb, or_cases, or_left, or_right}
 use Rattle.std.proofs.lemmas.Str.{chars-IsAscii}
+use Rattle.std.proofs.lemmas.List.FromFn.{get_or-map-range_with_len}
 use Rattle.lexical.specs.Class.{is_ident_continue}
 use Rattle.lexical.specs.Finder.{while_front}
 use Rattle.lexical.specs.Ascii.{all_ascii}
 use Rattle.lexical.proofs.ClassLemmas.{ident_start_ascii, ident_continue_ascii}
 use Rattle.lexical.proofs.StripLemmas.{is_ascii}
 use Rattle.lexical.specs.Identifier.{is_allowed}
+use Rattle.pm_token.specs.declared.identifiers.faults.TheConstants.{CONTINUES}
 use Rattle.pm_token.specs.declared.identifiers.faults.IdentError.TheVariants.{Reserved}
 use Rattle.pm_token.specs.IdentFault.{ident_fault, is_name, is_number, is_plain_continue, is_plain_start}
+
+-- the table of what goes on with a plain name
+continues_is : CONTINUES ≡ map is_plain_continue (range_with_len 0 256)
+continues_is = refl
+
+pub continues_at : (byte : ℕ) → byte < 256 → get_or CONTINUES byte false ≡ is_plain_continue byte
+continues_at byte small = ap (λ table. get_or table byte false) continues_is
+    ∙ get_or-map-range_with_len is_plain_continue 0 256 byte byte false small (omega arith)
 
 -- what goes on with a plain name is ASCII
 plain_low : (c : ℕ) → is_plain_continue c ≡ true → c < 128

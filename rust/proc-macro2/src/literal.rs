@@ -5,7 +5,7 @@ use crate::span::Repr as SpanRepr;
 use crate::{compiler, print, LexError, Span};
 use proved::pm_span::Span as Place;
 use proved::pm_token::Literal as Own;
-use proved::shim::alloc::Global;
+use proved::shim::{self, alloc::Global};
 #[cfg(procmacro2_semver_exempt)]
 use proved::{literal_escaper::EscapeError, pm_token::ConversionErrorKind as OwnErrorKind};
 use std::ffi::CStr;
@@ -14,12 +14,21 @@ use std::ops::RangeBounds;
 use std::str::FromStr;
 
 /// A literal: a string, a character, a number, by its text.
-#[derive(Clone)]
 pub struct Literal {
     pub(crate) repr: Repr<proc_macro::Literal, Own>,
 }
 
 token!(Literal, Own);
+
+impl Clone for Literal {
+    #[inline(always)]
+    fn clone(&self) -> Literal {
+        match &self.repr {
+            Repr::Own(literal) => Literal::own(sure(shim::clone::Clone::clone(literal))),
+            Repr::Compiler(literal) => compiler::inside_alone(|| Literal::compiler(literal.clone())),
+        }
+    }
+}
 
 macro_rules! literals {
     ($($(#[$doc:meta])* $name:ident($value:ident: $type:ty) => $given:expr;)*) => {$(
@@ -76,9 +85,8 @@ macro_rules! floats {
             if compiler::inside() {
                 return Literal::compiler(proc_macro::Literal::$unsuffixed(f));
             }
-            let text = f.to_string();
-            let end = if text.contains('.') { "" } else { ".0" };
-            Literal::made(&(text + end))
+            let end = if f.fract() == 0.0 { ".0" } else { "" };
+            Literal::made(&(f.to_string() + end))
         }
     )*};
 }
