@@ -8,7 +8,8 @@ use Rattle.std.specs.Fmt.{decimal, signed_decimal}
 use Rattle.std.specs.Int.{w64, w128}
 use Rattle.std.specs.Prelude.{int_lt, unsigned_abs}
 use Rattle.std.specs.Str.Parse.{AllDigits, IsNumeral}
-use Rattle.std.proofs.lemmas.Bool.{both_ways, and_parts, and_from, or_left, or_cases, le-leb, ltb-true, false_from_ne_true}
+use Rattle.std.proofs.lemmas.Bool.{both_ways, and_parts, and_from, or_left, or_cases, le-leb, ltb-true}
+use Rattle.std.proofs.lemmas.Bool.{false_from_ne_true}
 use Rattle.std.proofs.lemmas.Fmt.{decimal_is_IsNumeral_wide, IsAscii-decimal_wide}
 use Rattle.std.proofs.lemmas.Str.{chars-append, chars-IsAscii, IsUtf8-from_ascii}
 use Rattle.std.proofs.lemmas.Str.Ascii.{IsAscii-cons}
@@ -172,7 +173,8 @@ chars_signed (negsuc n) suffix h =
 -- a number is written as its sign and the digits of its size
 pub sign_and_size : (z : ℤ) → sign (int_lt z (pos 0)) ++ decimal (unsigned_abs z) ≡ signed_decimal z
 sign_and_size (pos n) =
-    ap (λ negative. sign negative ++ decimal n) (false_from_ne_true _ (λ less. let below : n < 0 = ltb-true n 0 less in omega (arith, below)))
+    ap (λ negative. sign negative ++ decimal n)
+    (false_from_ne_true _ (λ less. let below : n < 0 = ltb-true n 0 less in omega (arith, below)))
 sign_and_size (negsuc n) = refl
 
 -- a number that fits 64 bits fits 128

@@ -1,6 +1,7 @@
 -- Short texts: bytes, and zeros up to the end of their room.
-use Rattle.std.proofs.Common.{◌≡◌, ◌+◌, ◌-◌, ◌≤◌, ◌++◌, ◌∷◌, ℕ, suc, zero, Bool, true, false, List, [], ap, ap₂, sym, ◌∙◌}
-use Rattle.std.proofs.Common.{arith, codes, length, take, drop, replicate, refl, length-append, append_assoc, subst, IsUtf8}
+use Rattle.std.proofs.Common.{◌≡◌, ◌+◌, ◌-◌, ◌≤◌, ◌++◌, ◌∷◌, ℕ, suc, zero, Bool, true, false, List, [], ap, ap₂}
+use Rattle.std.proofs.Common.{sym, ◌∙◌, arith, codes, length, take, drop, replicate, refl, length-append}
+use Rattle.std.proofs.Common.{append_assoc, IsUtf8}
 use Rattle.std.proofs.Common.{if◌then◌else◌, ◌<◌, ◌^◌, drop-drop, rules}
 use borrow.Rule.Slice.PartMut.{put_mid}
 use Rattle.std.specs.Int.{from_bool}
@@ -110,8 +111,8 @@ pub numbered : (negative : Bool) (n : ℕ) (suffix bytes y : List ℕ) (start co
 numbered negative n suffix bytes y start count first small at is begins before written size behind =
     let fits = number_short negative n start count small at is in
     let place : first ≡ length (sign negative) = omega (arith, begins, is, at, sign_length negative) in
-    copied_behind (replicate 22 0) bytes (sign negative ++ decimal n) suffix y (start + count) (omega (arith, size, fits))
-    behind
+    copied_behind (replicate 22 0) bytes (sign negative ++ decimal n) suffix y (start + count)
+    (omega (arith, size, fits)) behind
     (digits_behind negative (replicate 21 0) bytes (decimal n) first (start + count) place begins
     (decimal_nonempty n small) before written)
 

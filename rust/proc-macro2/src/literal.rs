@@ -69,10 +69,9 @@ macro_rules! floats {
         pub fn $suffixed(f: $type) -> Literal {
             assert!(f.is_finite());
             if compiler::inside() {
-                Literal::compiler(proc_macro::Literal::$suffixed(f))
-            } else {
-                Literal::made(&format!(concat!("{}", stringify!($type)), f))
+                return Literal::compiler(proc_macro::Literal::$suffixed(f));
             }
+            Literal::made(&format!(concat!("{}", stringify!($type)), f))
         }
 
         /// The literal of the number without its type, always with a dot, as `1.0`.
@@ -85,8 +84,9 @@ macro_rules! floats {
             if compiler::inside() {
                 return Literal::compiler(proc_macro::Literal::$unsuffixed(f));
             }
-            let end = if f.fract() == 0.0 { ".0" } else { "" };
-            Literal::made(&(f.to_string() + end))
+            let text = f.to_string();
+            let whole = !text.bytes().any(|byte| byte == b'.');
+            Literal::made(&if whole { text + ".0" } else { text })
         }
     )*};
 }

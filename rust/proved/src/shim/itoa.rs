@@ -40,8 +40,8 @@ pub fn write_digits(number: u64, room: &mut [u8], end: usize) -> usize {
     at
 }
 
-/// The digits above the last chunk. The number is multiplied with the inverse, since a division of 128 bits is slow, and
-/// the 190 lowest bits of the product are left away.
+/// The digits above the last chunk. The number is multiplied with the inverse, since a division of 128 bits is slow,
+/// and the 190 lowest bits of the product are left away.
 #[inline(always)]
 fn above_chunk(number: u128) -> u128 {
     const LOW: u128 = u64::MAX as u128;

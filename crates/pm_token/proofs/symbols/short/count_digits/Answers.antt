@@ -6,7 +6,8 @@ use Rattle.pm_token.proofs.DigitLemmas.{digits_count}
 use Rattle.pm_token.proofs.symbols.short.count_digits.Goals as goal
 
 pub returns-then-value-eq0 : goal.returns-then-value-eq0
-returns-then-value-eq0 c = sym (ap (λ n. length (decimal n)) c.if-value-eq0.true ∙ ap length (decimal_digit 0 (omega arith)))
+returns-then-value-eq0 c =
+    sym (ap (λ n. length (decimal n)) c.if-value-eq0.true ∙ ap length (decimal_digit 0 (omega arith)))
 
 pub returns : goal.returns
 returns c = digits_count c.args.value c.ilog10.result c.ranges.value.fits c.ilog10.ensures.power_le

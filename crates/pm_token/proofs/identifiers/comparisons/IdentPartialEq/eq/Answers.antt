@@ -1,4 +1,4 @@
-use Rattle.std.proofs.Common.{◌≡◌, ap, ap₂, sym, ◌∙◌}
+use Rattle.std.proofs.Common.{ap, ap₂, sym, ◌∙◌}
 use Rattle.pm_token.specs.Kept.{KeptName}
 use Rattle.pm_token.specs.Leaf.{Name}
 use Rattle.pm_token.proofs.CompareLemmas.{name_by_bytes, eq_by_fields, eq_text}

@@ -1,7 +1,7 @@
-use Rattle.std.proofs.Common.{◌+◌, ◌≤◌, ◌++◌, length, length-append, arith, sym, ◌∙◌, subst, IsUtf8, replicate}
+use Rattle.std.proofs.Common.{sym, ◌∙◌, subst, IsUtf8, replicate}
 use Rattle.std.proofs.lemmas.Str.{IsUtf8-append}
 use Rattle.pm_token.specs.declared.symbols.short.TheConstants.{ROOM}
-use Rattle.pm_token.proofs.ShortLemmas.{Holds, copied_both}
+use Rattle.pm_token.proofs.ShortLemmas.{copied_both}
 use Rattle.pm_token.proofs.symbols.short.Short.joined.Goals as goal
 
 pub invariant_of-result : goal.invariant_of-result

@@ -5,5 +5,6 @@ use Rattle.pm_token.proofs.symbols.short.Short.new.Goals as goal
 
 pub invariant_of-result : goal.invariant_of-result
 invariant_of-result c =
-    let holds = copied (replicate ROOM 0) c.args.text.now _ (c.copy_from_slice.ensures.after ∙ c.as_bytes.ensures.value) in
+    let holds = copied (replicate ROOM 0) c.args.text.now _
+    (c.copy_from_slice.ensures.after ∙ c.as_bytes.ensures.value) in
     (c.requires, ∣ subst IsUtf8 (sym holds.front) c.utf8.text ∣₁, holds.rest)

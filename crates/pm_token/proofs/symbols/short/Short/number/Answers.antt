@@ -31,7 +31,8 @@ invariant_of-result c =
     c.write_digits.ensures.start c.write_digits.ensures.before c.write_digits.ensures.written
     c.write_digits.auto.buf (c.copy_from_slice.ensures.after ∙ c.as_bytes.ensures.value) in (
       search rules,
-      ∣ subst IsUtf8 (sym holds.front) (number_utf8 c.args.negative c.args.value _ c.ranges.value.fits c.utf8.suffix) ∣₁,
+      ∣ subst IsUtf8 (sym holds.front)
+          (number_utf8 c.args.negative c.args.value _ c.ranges.value.fits c.utf8.suffix) ∣₁,
       holds.rest,
     )
 
