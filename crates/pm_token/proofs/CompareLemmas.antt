@@ -1,6 +1,6 @@
 -- Lemmas on identifiers as they are written.
 use Rattle.std.proofs.Common.{◌≡◌, ◌≢◌, ◌↔◌, ℕ, Bool, true, false, not, ◌&&◌, ◌||◌, ◌==◌, List, [], ◌∷◌, ◌++◌, IsTrue}
-use Rattle.std.proofs.Common.{nat_eq, codes, refl, sym, ap, ap₂, ◌∙◌, subst, arith}
+use Rattle.std.proofs.Common.{nat_eq, codes, refl, sym, ap, ap₂, ◌∙◌, subst, arith, ◌⊎◌, inl, inr}
 use Rattle.std.specs.Bool.{beq}
 use Rattle.std.specs.Cmp.{Equal-is, booleans_Decides}
 use Rattle.std.specs.Cmp.Lexicographic.{pointwise, slice_cmp, texts_ties, nat_list_eq_equiv}
@@ -10,9 +10,10 @@ use Rattle.std.specs.declared.cmp.Ordering.{Ordering}
 use Rattle.std.specs.declared.cmp.Ordering.TheVariants.{Less, Equal, Greater}
 use Rattle.std.specs.Str.{chars, IsUtf8, encode_utf8_all}
 use Rattle.std.proofs.lemmas.Bool.{both_ways, false_from_ne_true, and_parts, eq-eqb, cond-false}
+use Rattle.std.proofs.lemmas.Bool.Decides.{same_from_decides}
 use Rattle.std.proofs.lemmas.Map.Lookups.{exact_unsigned}
 use Rattle.std.proofs.lemmas.Slice.Eq.{bytes_eq-Decides}
-use Rattle.std.proofs.lemmas.Str.{encodes-chars, encodes_same}
+use Rattle.std.proofs.lemmas.Str.{chars-encodes, encodes-chars, encodes_same}
 use Rattle.lexical.specs.Class.{is_ident_continue}
 use Rattle.lexical.specs.Identifier as identifiers
 use Rattle.lexical.specs.Text.{begins_with}
@@ -134,6 +135,29 @@ eq_fields a b s t r h k alike is =
       λ fields. is ∙ same.1 (sym (encodes-chars s h.utf8)
           ∙ (ap encode_utf8_all (sym h.own ∙ (fields.0 ∙ k.own)) ∙ encodes-chars t k.utf8)),
     )
+
+-- what a name is told by is its own bytes
+pub name_by_bytes : {a b : Name} → b ≡ a → IsBuiltToken (name_token b) → IsNameOf a (encode_utf8_all b.name)
+name_by_bytes {a} {b} view built =
+    name_of (encode_utf8_all b.name) view (chars-encodes b.name built.2) (b.name, (built.2, refl)) built
+
+alike_or_apart : (x y : Bool) → (x ≡ y) ⊎ (x ≢ y)
+alike_or_apart true true = inl refl
+alike_or_apart true false = inr (λ e. both_ways true e refl)
+alike_or_apart false true = inr (λ e. both_ways false refl e)
+alike_or_apart false false = inl refl
+
+-- what tells whether the fields are the same tells whether both are written alike
+pub eq_by_fields : (a b : Name) (s t : List ℕ) (r : Bool) → IsNameOf a s → IsNameOf b t
+    → IsTrue r ↔ ((a.name ≡ b.name) × (a.raw ≡ b.raw)) → r ≡ name_eq a b
+eq_by_fields a b s t r h k fields = same_from_decides r (name_eq a b) fields (elim (alike_or_apart a.raw b.raw) [
+  | inl alike ↦ eq_fields a b s t (name_eq a b) h k alike
+      (sym (eq_alike a b s t (pointwise nat_eq s t) h k alike refl))
+  | inr differ ↦ (
+    λ yes. absurd (both_ways _ (eq_apart a b s t h k differ) yes),
+    λ same. absurd (differ same.1),
+  )
+])
 
 -- ---- order
 

@@ -6,8 +6,10 @@ use Rattle.std.specs.Char.{is_ascii_digit, digit_value}
 use Rattle.std.specs.Str.{chars, IsAscii}
 use Rattle.std.specs.Fmt.{decimal, signed_decimal}
 use Rattle.std.specs.Int.{w64, w128}
+use Rattle.std.specs.Prelude.{int_lt, unsigned_abs}
 use Rattle.std.specs.Str.Parse.{AllDigits, IsNumeral}
-use Rattle.std.proofs.lemmas.Bool.{both_ways, and_parts, and_from, or_left, or_cases, le-leb, false_from_ne_true}
+use Rattle.std.proofs.lemmas.Bool.{both_ways, and_parts, and_from, or_left, or_cases, le-leb, ltb-true}
+use Rattle.std.proofs.lemmas.Bool.{false_from_ne_true}
 use Rattle.std.proofs.lemmas.Fmt.{decimal_is_IsNumeral_wide, IsAscii-decimal_wide}
 use Rattle.std.proofs.lemmas.Str.{chars-append, chars-IsAscii, IsUtf8-from_ascii}
 use Rattle.std.proofs.lemmas.Str.Ascii.{IsAscii-cons}
@@ -23,6 +25,7 @@ use Rattle.lexical.proofs.StripLemmas.{is_ascii}
 use Rattle.lexical.proofs.TextLemmas.{begins_splits}
 use Rattle.lexical.proofs.FinderLemmas.{found_is}
 use Rattle.lexical.proofs.NumberFinderLemmas.{finds_digits, finds_number, number_decimal}
+use Rattle.pm_token.proofs.ShortLemmas.{sign}
 use Rattle.pm_token.specs.Integer.{suffix_text}
 use Rattle.pm_token.specs.LiteralText.{IsWholeLiteral}
 use Rattle.pm_token.specs.declared.literals.integers.Suffix.{Suffix}
@@ -166,6 +169,13 @@ chars_signed (pos n) suffix h = chars_unsigned n suffix (omega (arith, h.sfits))
 chars_signed (negsuc n) suffix h =
     chars_behind (45 ∷ decimal (suc n)) suffix
     (IsAscii-cons 45 (decimal (suc n)) (omega arith) (IsAscii-decimal_wide (suc n) (omega (arith, h.sfits))))
+
+-- a number is written as its sign and the digits of its size
+pub sign_and_size : (z : ℤ) → sign (int_lt z (pos 0)) ++ decimal (unsigned_abs z) ≡ signed_decimal z
+sign_and_size (pos n) =
+    ap (λ negative. sign negative ++ decimal n)
+    (false_from_ne_true _ (λ less. let below : n < 0 = ltb-true n 0 less in omega (arith, below)))
+sign_and_size (negsuc n) = refl
 
 -- a number that fits 64 bits fits 128
 pub fits_wide : (z : ℤ) → SFits w64 z → SFits w128 z

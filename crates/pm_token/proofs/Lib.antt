@@ -1,11 +1,13 @@
 pub mod CodeReadLemmas
 pub mod ContentLemmas
 pub mod CookedValueLemmas
+pub mod DigitLemmas
 pub mod TextBuilderLemmas
 pub mod HexEscapeLemmas
 pub mod HexLemmas
 pub mod IntegerLemmas
 pub mod KindLawLemmas
+pub mod ShortLemmas
 pub mod EscapeValueLemmas
 pub mod EscapedLemmas
 pub mod ByteLemmas

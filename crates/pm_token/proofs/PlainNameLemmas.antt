@@ -1,19 +1,32 @@
 -- Names of ASCII letters, digits and `_` have no fault.
 use Rattle.std.proofs.Common.{◌≡◌, ℕ, ◌<◌, Bool, true, false, not, ◌||◌, ◌==◌, List, [], ◌∷◌, length, None, refl}
-use Rattle.std.proofs.Common.{ap, sym, ◌∙◌, arith, inl, inr, nat_le}
-use Rattle.std.specs.List.{list_all}
+use Rattle.std.proofs.Common.{ap, sym, ◌∙◌, arith, inl, inr, nat_le, get_or, map, if◌then◌else◌, Some}
+use Rattle.std.specs.List.{list_all, range_with_len}
 use Rattle.std.specs.Int.{is_in_range}
 use Rattle.std.specs.Char.{is_ascii_alphabetic, is_ascii_alphanumeric, is_ascii_digit}
 use Rattle.std.specs.Str.{chars}
-use Rattle.std.proofs.lemmas.Bool.{and_parts, and_from, and_left, cond-true, cond-false, eqb-true, false_from_ne_true}
+use Rattle.std.proofs.lemmas.Bool.{and_parts, and_from, and_left, cond-true, cond-false, eqb-true, both_ways}
+use Rattle.std.proofs.lemmas.Bool.{false_from_ne_true}
 use Rattle.std.proofs.lemmas.Bool.{leb-true, lt-ltb, ne_eqb, or_cases, or_left, or_right}
 use Rattle.std.proofs.lemmas.Str.{chars-IsAscii}
+use Rattle.std.proofs.lemmas.List.FromFn.{get_or-map-range_with_len}
 use Rattle.lexical.specs.Class.{is_ident_continue}
 use Rattle.lexical.specs.Finder.{while_front}
 use Rattle.lexical.specs.Ascii.{all_ascii}
 use Rattle.lexical.proofs.ClassLemmas.{ident_start_ascii, ident_continue_ascii}
 use Rattle.lexical.proofs.StripLemmas.{is_ascii}
+use Rattle.lexical.specs.Identifier.{is_allowed}
+use Rattle.pm_token.specs.declared.identifiers.faults.TheConstants.{CONTINUES}
+use Rattle.pm_token.specs.declared.identifiers.faults.IdentError.TheVariants.{Reserved}
 use Rattle.pm_token.specs.IdentFault.{ident_fault, is_name, is_number, is_plain_continue, is_plain_start}
+
+-- the table of what goes on with a plain name
+continues_is : CONTINUES ≡ map is_plain_continue (range_with_len 0 256)
+continues_is = refl
+
+pub continues_at : (byte : ℕ) → byte < 256 → get_or CONTINUES byte false ≡ is_plain_continue byte
+continues_at byte small = ap (λ table. get_or table byte false) continues_is
+    ∙ get_or-map-range_with_len is_plain_continue 0 256 byte byte false small (omega arith)
 
 -- what goes on with a plain name is ASCII
 plain_low : (c : ℕ) → is_plain_continue c ≡ true → c < 128
@@ -83,6 +96,22 @@ all_continue : (bs : List ℕ) → list_all is_plain_continue bs ≡ true → li
 all_continue [] all = refl
 all_continue (b ∷ bs) all = let parts = and_parts _ _ all in
     and_from _ _ (ident_continue_ascii b (plain_low b parts.0) ∙ parts.0) (all_continue bs parts.1)
+
+-- of the faults a name can only have that it is reserved
+pub named_fault : (raw : Bool) (text : List ℕ) → is_name text ≡ true
+    → ident_fault raw text ≡ (if not (is_allowed raw text) then Some Reserved else None)
+named_fault raw [] h = absurd (both_ways _ refl h)
+named_fault raw (c ∷ text) h =
+    cond-false (length (c ∷ text) == 0) _ _ (ne_eqb (length (c ∷ text)) 0 (λ e. omega (arith, e)))
+    ∙ (cond-false (is_number (c ∷ text)) _ _ no_number ∙ cond-false (not (is_name (c ∷ text))) _ _ (ap not h))
+  where
+    no_number : is_number (c ∷ text) ≡ false
+    no_number = false_from_ne_true (is_number (c ∷ text)) (λ number.
+        let digit = (and_parts _ _ number).0 in
+        let top = leb-true c 57 (and_parts (nat_le 48 c) (nat_le c 57) digit).1 in
+        let low : c < 128 = omega (arith, top) in
+        let starts = sym (ident_start_ascii c low) ∙ (and_parts _ _ h).0 in
+        both_ways (is_ascii_digit c) (start_no_digit c starts) digit)
 
 -- a plain name has no fault
 pub plain_no_fault : (b : ℕ) (bs text : List ℕ) → text ≡ b ∷ bs → is_plain_start b ≡ true

@@ -11,7 +11,7 @@ use Rattle.pm_token.specs.declared.symbols.names.NameText.TheVariants as names
 -- the bytes of a text
 abbrev pub text_bytes : Text → List ℕ
 text_bytes (Short text) = text
-text_bytes (Long long) = rc_str_bytes long.text
+text_bytes (Long long) = rc_str_bytes long.text.text
 text_bytes (Negative text) = string_bytes text.value
 
 -- a text that stands in place: a copy of it takes no memory
@@ -26,9 +26,9 @@ pub record KeptName : Type 0 where
 -- the bytes of a name
 abbrev pub name_bytes : NameText → List ℕ
 name_bytes (names.Short name) = name
-name_bytes (names.Long name) = rc_str_bytes name
+name_bytes (names.Long name) = rc_str_bytes name.text
 name_bytes (names.RawShort name) = name
-name_bytes (names.RawLong name) = rc_str_bytes name
+name_bytes (names.RawLong name) = rc_str_bytes name.text
 
 -- whether it is raw
 abbrev pub is_raw : NameText → Bool

@@ -1,18 +1,19 @@
 //! The text of a token, kept once.
-ghost use Rattle.std.specs.Prelude.{◌≡◌, ◌++◌, ℕ, List, drop, IfOk, IfSome, IsOk, Some, if◌then◌else◌};
-ghost use Rattle.std.specs.Prelude.{string_bytes};
-ghost use Rattle.std.specs.Rc.{rc_str_bytes};
+ghost use Rattle.std.specs.Prelude.{◌≡◌, ◌<◌, ◌++◌, ℕ, List, drop, length, IfOk, IfSome, IsOk, Some};
+ghost use Rattle.std.specs.Prelude.{codes, string_bytes, if◌then◌else◌};
+ghost use Rattle.std.specs.Fmt.{decimal};
 ghost use Rattle.std.specs.Str.{chars, encode_utf8_all};
 ghost use Rattle.pm_token.specs.Kept.{IsShort, text_bytes};
 ghost use Rattle.pm_token.specs.Negative.{has_minus};
 ghost use Rattle.pm_token.specs.Text.{IsText};
+ghost use Rattle.pm_token.specs.declared.symbols.short.TheConstants.{ROOM};
 
 mod names;
 mod shared;
 mod short;
 
 pub use names::Name;
-use shared::Shared;
+use shared::{Shared, Unsigned};
 use short::{ROOM, Short};
 use std::alloc::{AllocError, Global};
 use std::fmt;
@@ -23,29 +24,31 @@ use std::marker::Model;
 #[derive(Drop)]
 enum Text {
     Short(Short),
-    Long(Shared),
+    Long(Unsigned),
     Negative(Box<String>),
 }
 
 impl Text {
     /// A copy of a long text. Fails where memory runs out.
     fn long(alloc: Global, text: &str) -> Result<Text, AllocError>
+        requires { ROOM < length text.now }
         ensures ok { IfOk result (λ kept. text_bytes kept ≡ text.now) }
     {
         if is_negative(text) {
             return Ok(Text::Negative(Box::new(alloc, String::from_str(alloc, text)?)?));
         }
-        Ok(Text::Long(Shared::new(alloc, text)?))
+        Ok(Text::Long(Unsigned::new(Shared::new(alloc, text)?)))
     }
 
     /// The long text itself. Fails where memory runs out.
     fn long_from_string(alloc: Global, text: String) -> Result<Text, AllocError>
+        requires { ROOM < length (string_bytes text) }
         ensures ok { IfOk result (λ kept. text_bytes kept ≡ string_bytes text) }
     {
         if is_negative(text.as_str()) {
             return Ok(Text::Negative(Box::new(alloc, text)?));
         }
-        Ok(Text::Long(Shared::from_string(text)?))
+        Ok(Text::Long(Unsigned::new(Shared::from_string(text)?)))
     }
 
     /// A copy of the text. Fails where memory runs out.
@@ -85,23 +88,10 @@ impl Clone for Text {
     fn clone(&self) -> Result<Text, AllocError> {
         match self {
             Text::Short(text) => Ok(Text::Short(text.copy())),
-            Text::Long(text) => share(text),
+            Text::Long(text) => Ok(Text::Long(text.share()?)),
             Text::Negative(text) => Text::new(*text.allocator(), text.as_str()),
         }
     }
-}
-
-/// The same text, which a long one shares. It fails where a long one has more owners than can be counted.
-#[inline(always)]
-fn share(text: &Shared) -> Result<Text, AllocError>
-    ensures ok { IfOk result (λ kept. text_bytes kept ≡ rc_str_bytes text.now.text) }
-    ensures short { IsShort (chars (rc_str_bytes text.now.text)) → IsOk result }
-{
-    let whole = text.as_str();
-    if whole.len() <= ROOM {
-        return Ok(Text::Short(Short::new(whole)));
-    }
-    Ok(Text::Long(text.share()?))
 }
 
 /// Whether the text begins with `-`.
@@ -175,6 +165,19 @@ impl Symbol {
         }
         Some(Symbol {
             text: Text::Short(Short::joined(front, back)),
+        })
+    }
+
+    /// The number in decimal digits, behind a `-` where it is negative, and what follows it, if together they are
+    /// short. It takes no memory.
+    #[inline(always)]
+    pub(crate) fn number(negative: bool, value: u64, suffix: &str) -> Option<Symbol>
+        ensures value { IfSome result (λ symbol. symbol
+            ≡ chars ((if negative then codes "-" else codes "") ++ decimal value ++ suffix.now)) }
+        ensures text { IfSome result IsText }
+    {
+        Some(Symbol {
+            text: Text::Short(Short::number(negative, value, suffix)?),
         })
     }
 

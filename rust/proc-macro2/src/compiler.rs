@@ -38,6 +38,7 @@ fn look() -> bool {
 
 /// Does what is done inside macros alone, out of the way of all other code.
 #[cold]
+#[inline(never)]
 pub(crate) fn inside_alone<T>(act: impl FnOnce() -> T) -> T {
     act()
 }

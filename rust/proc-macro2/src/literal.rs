@@ -5,7 +5,7 @@ use crate::span::Repr as SpanRepr;
 use crate::{compiler, print, LexError, Span};
 use proved::pm_span::Span as Place;
 use proved::pm_token::Literal as Own;
-use proved::shim::alloc::Global;
+use proved::shim::{self, alloc::Global};
 #[cfg(procmacro2_semver_exempt)]
 use proved::{literal_escaper::EscapeError, pm_token::ConversionErrorKind as OwnErrorKind};
 use std::ffi::CStr;
@@ -24,12 +24,21 @@ use std::str::FromStr;
 /// assert_eq!(Literal::byte_string(b"\0a").to_string(), r#"b"\0a""#);
 /// assert_eq!(Literal::c_string(c"a").to_string(), r#"c"a""#);
 /// ```
-#[derive(Clone)]
 pub struct Literal {
     pub(crate) repr: Repr<proc_macro::Literal, Own>,
 }
 
 token!(Literal, Own);
+
+impl Clone for Literal {
+    #[inline(always)]
+    fn clone(&self) -> Literal {
+        match &self.repr {
+            Repr::Own(literal) => Literal::own(sure(shim::clone::Clone::clone(literal))),
+            Repr::Compiler(literal) => compiler::inside_alone(|| Literal::compiler(literal.clone())),
+        }
+    }
+}
 
 macro_rules! literals {
     ($($(#[$doc:meta])* $name:ident($value:ident: $type:ty) => $given:expr;)*) => {$(
@@ -70,10 +79,9 @@ macro_rules! floats {
         pub fn $suffixed(f: $type) -> Literal {
             assert!(f.is_finite());
             if compiler::inside() {
-                Literal::compiler(proc_macro::Literal::$suffixed(f))
-            } else {
-                Literal::made(&format!(concat!("{}", stringify!($type)), f))
+                return Literal::compiler(proc_macro::Literal::$suffixed(f));
             }
+            Literal::made(&format!(concat!("{}", stringify!($type)), f))
         }
 
         /// The literal of the number without its type, always with a dot, as `1.0`.
@@ -87,8 +95,8 @@ macro_rules! floats {
                 return Literal::compiler(proc_macro::Literal::$unsuffixed(f));
             }
             let text = f.to_string();
-            let end = if text.contains('.') { "" } else { ".0" };
-            Literal::made(&(text + end))
+            let whole = !text.bytes().any(|byte| byte == b'.');
+            Literal::made(&if whole { text + ".0" } else { text })
         }
     )*};
 }

@@ -31,7 +31,7 @@ impl<C: Clone, O: shim::clone::Clone> Clone for Repr<C, O> {
     fn clone(&self) -> Repr<C, O> {
         match self {
             Repr::Own(token) => Repr::Own(sure(token.clone())),
-            Repr::Compiler(token) => Repr::Compiler(token.clone()),
+            Repr::Compiler(token) => Repr::Compiler(compiler::inside_alone(|| token.clone())),
         }
     }
 }
@@ -41,14 +41,12 @@ macro_rules! token {
     ($name:ident, $own:ty) => {
         impl $name {
             pub(crate) fn compiler(token: proc_macro::$name) -> $name {
-                let repr = Repr::Compiler(token);
-                $name { repr }
+                $name { repr: Repr::Compiler(token) }
             }
 
             #[inline(always)]
             pub(crate) fn own(token: $own) -> $name {
-                let repr = Repr::Own(token);
-                $name { repr }
+                $name { repr: Repr::Own(token) }
             }
 
             /// Where it stands: of a group delimiters and all.

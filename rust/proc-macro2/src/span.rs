@@ -29,13 +29,11 @@ pub(crate) enum Repr {
 
 impl Span {
     pub(crate) fn compiler(span: proc_macro::Span) -> Span {
-        let repr = Repr::Compiler(span);
-        Span { repr }
+        Span { repr: Repr::Compiler(span) }
     }
 
     pub(crate) fn own(place: Place) -> Span {
-        let repr = Repr::Own(place);
-        Span { repr }
+        Span { repr: Repr::Own(place) }
     }
 
     fn site(compiler: impl FnOnce() -> proc_macro::Span) -> Span {

@@ -36,14 +36,12 @@ impl TokenStream {
     }
 
     pub(crate) fn compiler(stream: proc_macro::TokenStream) -> TokenStream {
-        let repr = Repr::Compiler(compiler::Stream::new(stream));
-        TokenStream { repr }
+        TokenStream { repr: Repr::Compiler(compiler::Stream::new(stream)) }
     }
 
     #[inline]
     pub(crate) fn own(stream: Own) -> TokenStream {
-        let repr = Repr::Own(stream);
-        TokenStream { repr }
+        TokenStream { repr: Repr::Own(stream) }
     }
 
     /// Whether it has no trees.
@@ -105,9 +103,7 @@ impl From<TokenStream> for proc_macro::TokenStream {
 impl From<TokenTree> for TokenStream {
     #[inline]
     fn from(tree: TokenTree) -> TokenStream {
-        let mut stream = TokenStream::new();
-        stream.extend(Some(tree));
-        stream
+        TokenStream::from_iter(Some(tree))
     }
 }
 

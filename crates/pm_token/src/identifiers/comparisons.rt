@@ -22,13 +22,7 @@ impl PartialEq for Ident {
         ensures fields { IsTrue result ↔ ((self.now.name ≡ other.now.name) × (self.now.raw ≡ other.now.raw)) }
         ensures text { IsTrue result ↔ (name_text self.now ≡ name_text other.now) }
     {
-        let name = self.name.as_bytes();
-        let other_name = other.name.as_bytes();
-        let raw = self.name.is_raw();
-        if raw == other.name.is_raw() {
-            return name == other_name;
-        }
-        false
+        self.name.same(&other.name)
     }
 }
 

@@ -1,5 +1,5 @@
 //! Which names identifiers refuse.
-ghost use Rattle.std.specs.Prelude.{◌≡◌, ◌==◌, IsTrue, None, false, length};
+ghost use Rattle.std.specs.Prelude.{◌≡◌, ◌==◌, Bool, IsTrue, None, Some, false, length};
 ghost use Rattle.std.specs.Str.{chars};
 ghost use Rattle.lexical.specs.Finder.{while_front};
 ghost use Rattle.pm_token.specs.IdentFault.{ident_fault, is_name as name_only, is_number as digits_only};
@@ -84,12 +84,38 @@ fn begins_plain(byte: u8) -> bool
     byte.is_ascii_alphabetic() || byte == b'_'
 }
 
+// Words that make the table below a square.
+const NO: bool = false;
+
+const YES: bool = true;
+
+/// Whether each byte is an ASCII letter, a digit or `_`.
+#[rattlefmt::skip]
+static CONTINUES: [bool; 256] = [
+    NO, NO, NO, NO, NO, NO, NO, NO, NO, NO, NO, NO, NO, NO, NO, NO,
+    NO, NO, NO, NO, NO, NO, NO, NO, NO, NO, NO, NO, NO, NO, NO, NO,
+    NO, NO, NO, NO, NO, NO, NO, NO, NO, NO, NO, NO, NO, NO, NO, NO,
+    YES, YES, YES, YES, YES, YES, YES, YES, YES, YES, NO, NO, NO, NO, NO, NO,
+    NO, YES, YES, YES, YES, YES, YES, YES, YES, YES, YES, YES, YES, YES, YES, YES,
+    YES, YES, YES, YES, YES, YES, YES, YES, YES, YES, YES, NO, NO, NO, NO, YES,
+    NO, YES, YES, YES, YES, YES, YES, YES, YES, YES, YES, YES, YES, YES, YES, YES,
+    YES, YES, YES, YES, YES, YES, YES, YES, YES, YES, YES, NO, NO, NO, NO, NO,
+    NO, NO, NO, NO, NO, NO, NO, NO, NO, NO, NO, NO, NO, NO, NO, NO,
+    NO, NO, NO, NO, NO, NO, NO, NO, NO, NO, NO, NO, NO, NO, NO, NO,
+    NO, NO, NO, NO, NO, NO, NO, NO, NO, NO, NO, NO, NO, NO, NO, NO,
+    NO, NO, NO, NO, NO, NO, NO, NO, NO, NO, NO, NO, NO, NO, NO, NO,
+    NO, NO, NO, NO, NO, NO, NO, NO, NO, NO, NO, NO, NO, NO, NO, NO,
+    NO, NO, NO, NO, NO, NO, NO, NO, NO, NO, NO, NO, NO, NO, NO, NO,
+    NO, NO, NO, NO, NO, NO, NO, NO, NO, NO, NO, NO, NO, NO, NO, NO,
+    NO, NO, NO, NO, NO, NO, NO, NO, NO, NO, NO, NO, NO, NO, NO, NO,
+];
+
 /// Whether the byte is an ASCII letter, a digit or `_`.
 #[inline(always)]
 fn continues_plain(byte: u8) -> bool
     ensures { result ≡ is_plain_continue byte }
 {
-    byte.is_ascii_alphanumeric() || byte == b'_'
+    CONTINUES[byte as usize]
 }
 
 /// How many bytes at the front are ASCII letters, digits or `_`.
@@ -138,17 +164,25 @@ pub(crate) fn fault(name: &str, raw: bool) -> Option<IdentError>
 fn other_fault(name: &str, raw: bool) -> Option<IdentError>
     ensures { result ≡ ident_fault raw (chars name.now) }
 {
-    if is_empty(name) {
-        return Some(IdentError::Empty);
-    }
-    if is_number(name) {
-        return Some(IdentError::Number);
-    }
     if !is_name(name) {
-        return Some(IdentError::Invalid);
+        return Some(fault_of_other(name));
     }
     if raw && is_reserved(name) {
         return Some(IdentError::Reserved);
     }
     None
+}
+
+/// Why a text that is no name is none.
+fn fault_of_other(text: &str) -> IdentError
+    requires { name_only (chars text.now) ≡ false }
+    ensures { (raw : Bool) → ident_fault raw (chars text.now) ≡ Some result }
+{
+    if is_empty(text) {
+        return IdentError::Empty;
+    }
+    if is_number(text) {
+        return IdentError::Number;
+    }
+    IdentError::Invalid
 }

@@ -72,9 +72,10 @@ fn narrow_unsigned(alloc: Global, value: u64, suffix: Suffix) -> Result<Symbol, 
     ensures value { IfOk result (λ text. text ≡ decimal value ++ suffix_text suffix) }
     ensures text { IfOk result IsText }
 {
-    let mut buffer = Buffer::new();
-    let text = Symbol::concat(alloc, buffer.format(value), suffix.name())?;
-    Ok(text)
+    match Symbol::number(false, value, suffix.name()) {
+        Some(text) => Ok(text),
+        None => wide_unsigned(alloc, u128::from(value), suffix),
+    }
 }
 
 /// The same of a number with a sign.
@@ -83,9 +84,10 @@ fn narrow_signed(alloc: Global, value: i64, suffix: Suffix) -> Result<Symbol, Al
     ensures value { IfOk result (λ text. text ≡ signed_decimal value ++ suffix_text suffix) }
     ensures text { IfOk result IsText }
 {
-    let mut buffer = Buffer::new();
-    let text = Symbol::concat(alloc, buffer.format(value), suffix.name())?;
-    Ok(text)
+    match Symbol::number(value < 0, value.unsigned_abs(), suffix.name()) {
+        Some(text) => Ok(text),
+        None => wide_signed(alloc, i128::from(value), suffix),
+    }
 }
 
 /// The text of any number and its suffix. Fails where memory runs out.

@@ -1,24 +1,24 @@
 //! Names, raw and plain.
-ghost use Rattle.std.specs.Prelude.{◌≡◌, ◌≤◌, IfOk, IsOk, Some, length};
+ghost use Rattle.std.specs.Prelude.{◌≡◌, ◌↔◌, ◌≤◌, IfOk, IsOk, IsTrue, Some, length};
 ghost use Rattle.std.specs.Rc.{rc_str_bytes};
 ghost use Rattle.std.specs.Str.{IsUtf8, chars, encode_utf8_all};
 ghost use Rattle.pm_token.specs.Kept.{IsShort, KeptName, is_raw, name_bytes};
 ghost use Rattle.pm_token.specs.declared.symbols.short.TheConstants.{ROOM};
 
+use super::shared::Shared;
 use super::short::{ROOM, Short};
 use std::alloc::{AllocError, Global};
 use std::fmt;
 use std::marker::Model;
-use std::rc::RcStr;
 
 /// A plain or a raw name, short or long. One enum tells all four apart, so a name is as long as a text. Copies of a
 /// long name share it.
 #[derive(Drop)]
 enum NameText {
     Short(Short),
-    Long(RcStr),
+    Long(Shared),
     RawShort(Short),
-    RawLong(RcStr),
+    RawLong(Shared),
 }
 
 impl NameText {
@@ -37,8 +37,8 @@ impl NameText {
     }
 
     /// The text as a name.
-    fn long(text: RcStr, raw: bool) -> NameText
-        ensures bytes { name_bytes result ≡ rc_str_bytes text }
+    fn long(text: Shared, raw: bool) -> NameText
+        ensures bytes { name_bytes result ≡ rc_str_bytes text.text }
         ensures raw { is_raw result ≡ raw }
     {
         if raw {
@@ -46,20 +46,6 @@ impl NameText {
         } else {
             NameText::Long(text)
         }
-    }
-
-    /// The text as a name that shares it. It takes no memory, and fails where a long one has more owners than can be
-    /// counted.
-    fn shared(text: &RcStr, raw: bool) -> Result<NameText, AllocError>
-        ensures bytes { IfOk result (λ kept. name_bytes kept ≡ rc_str_bytes text.now) }
-        ensures raw { IfOk result (λ kept. is_raw kept ≡ raw) }
-        ensures short { IsShort (chars (rc_str_bytes text.now)) → IsOk result }
-    {
-        let name = text.as_str();
-        if name.len() <= ROOM {
-            return Ok(NameText::short(name, raw));
-        }
-        Ok(NameText::long(text.clone()?, raw))
     }
 }
 
@@ -84,7 +70,7 @@ impl Name {
         let text = if name.len() <= ROOM {
             NameText::short(name, raw)
         } else {
-            NameText::long(RcStr::from_str(alloc, name)?, raw)
+            NameText::long(Shared::new(alloc, name)?, raw)
         };
         Ok(Name { text })
     }
@@ -112,6 +98,25 @@ impl Name {
         }
     }
 
+    /// Whether both are the same name, and both are raw or both plain.
+    #[inline(always)]
+    pub fn same(&self, other: &Name) -> bool
+        ensures { IsTrue result ↔ (self.now ≡ other.now) }
+    {
+        match (&self.text, &other.text) {
+            (NameText::Short(name), NameText::Short(other_name)) => name.same(other_name),
+            _ => self.has_same_bytes(other),
+        }
+    }
+
+    /// The same, of any names.
+    #[inline(never)]
+    fn has_same_bytes(&self, other: &Name) -> bool
+        ensures { IsTrue result ↔ (self.now ≡ other.now) }
+    {
+        self.is_raw() == other.is_raw() && self.as_bytes() == other.as_bytes()
+    }
+
     /// Whether it is raw.
     #[inline(always)]
     pub fn is_raw(&self) -> bool
@@ -135,8 +140,8 @@ impl Clone for Name {
         let text = match &self.text {
             NameText::Short(name) => NameText::Short(name.copy()),
             NameText::RawShort(name) => NameText::RawShort(name.copy()),
-            NameText::Long(name) => NameText::shared(name, false)?,
-            NameText::RawLong(name) => NameText::shared(name, true)?,
+            NameText::Long(name) => NameText::Long(name.share()?),
+            NameText::RawLong(name) => NameText::RawLong(name.share()?),
         };
         Ok(Name { text })
     }

@@ -1,23 +1,24 @@
 //! Long texts, which their copies share.
-ghost use Rattle.std.specs.Prelude.{◌≡◌, IfOk, false, string_bytes};
+ghost use Rattle.std.specs.Prelude.{◌≡◌, ◌<◌, ◌≤◌, IfOk, IsOk, false, length, string_bytes};
 ghost use Rattle.std.specs.Rc.{rc_str_bytes};
-ghost use Rattle.std.specs.Str.{chars};
+ghost use Rattle.std.specs.Str.{chars, encode_utf8_all};
 ghost use Rattle.pm_token.specs.Negative.{has_minus};
+ghost use Rattle.pm_token.specs.declared.symbols.short.TheConstants.{ROOM};
 
 use std::alloc::{AllocError, Global};
 use std::rc::RcStr;
 
-/// A long text that doesn't begin with `-`. Its copies share it.
+/// A text of more than 22 bytes. Its copies share it.
 #[derive(Drop)]
 pub(crate) struct Shared {
     text: RcStr,
-    ghost no_minus: { has_minus (chars (rc_str_bytes text)) ≡ false },
+    ghost long: { ROOM < length (rc_str_bytes text) },
 }
 
 impl Shared {
     /// A copy of the text. Fails where memory runs out.
     pub(crate) fn new(alloc: Global, text: &str) -> Result<Shared, AllocError>
-        requires { has_minus (chars text.now) ≡ false }
+        requires { ROOM < length text.now }
         ensures ok { IfOk result (λ shared. rc_str_bytes shared.text ≡ text.now) }
     {
         Ok(Shared {
@@ -27,7 +28,7 @@ impl Shared {
 
     /// The text itself. Fails where memory runs out.
     pub(crate) fn from_string(text: String) -> Result<Shared, AllocError>
-        requires { has_minus (chars (string_bytes text)) ≡ false }
+        requires { ROOM < length (string_bytes text) }
         ensures ok { IfOk result (λ shared. rc_str_bytes shared.text ≡ string_bytes text) }
     {
         Ok(Shared {
@@ -38,8 +39,7 @@ impl Shared {
     /// The text.
     #[inline(always)]
     pub(crate) fn as_str(&self) -> &str
-        ensures value { result.now ≡ rc_str_bytes self.now.text }
-        ensures no_minus { has_minus (chars result.now) ≡ false }
+        ensures { result.now ≡ rc_str_bytes self.now.text }
     {
         self.text.as_str()
     }
@@ -48,9 +48,50 @@ impl Shared {
     #[inline(always)]
     pub(crate) fn share(&self) -> Result<Shared, AllocError>
         ensures ok { IfOk result (λ shared. rc_str_bytes shared.text ≡ rc_str_bytes self.now.text) }
+        ensures short { length (encode_utf8_all (chars (rc_str_bytes self.now.text))) ≤ ROOM → IsOk result }
     {
+        // It computes nothing: proofs learn that the bytes are UTF-8.
+        self.text.as_str();
         Ok(Shared {
             text: self.text.clone()?,
+        })
+    }
+}
+
+/// A text of more than 22 bytes that doesn't begin with `-`. Its copies share it.
+#[derive(Drop)]
+pub(crate) struct Unsigned {
+    text: Shared,
+    ghost no_minus: { has_minus (chars (rc_str_bytes text.text)) ≡ false },
+}
+
+impl Unsigned {
+    /// The text, which is long.
+    pub(crate) fn new(text: Shared) -> Unsigned
+        requires { has_minus (chars (rc_str_bytes text.text)) ≡ false }
+        ensures { rc_str_bytes result.text.text ≡ rc_str_bytes text.text }
+    {
+        Unsigned { text }
+    }
+
+    /// The text.
+    #[inline(always)]
+    pub(crate) fn as_str(&self) -> &str
+        ensures value { result.now ≡ rc_str_bytes self.now.text.text }
+        ensures no_minus { has_minus (chars result.now) ≡ false }
+    {
+        self.text.as_str()
+    }
+
+    /// The same text. It takes no memory, and fails where the text has more owners than can be counted.
+    #[inline(always)]
+    pub(crate) fn share(&self) -> Result<Unsigned, AllocError>
+        ensures ok { IfOk result (λ shared. rc_str_bytes shared.text.text ≡ rc_str_bytes self.now.text.text) }
+        ensures short { length (encode_utf8_all (chars (rc_str_bytes self.now.text.text))) ≤ ROOM
+            → IsOk result }
+    {
+        Ok(Unsigned {
+            text: self.text.share()?,
         })
     }
 }

@@ -1,17 +1,19 @@
 //! Short texts, which stand in place.
-ghost use Rattle.std.specs.Prelude.{◌≡◌, ◌≤◌, ◌+◌, ◌++◌, ℕ, List, drop, length, take, false, true, IfSome, IsUtf8};
-ghost use Rattle.std.specs.Prelude.{MatchOption, if◌then◌else◌};
+ghost use Rattle.std.specs.Prelude.{◌≡◌, ◌↔◌, ◌≤◌, ◌+◌, ◌++◌, ℕ, List, drop, length, replicate, take, false, true};
+ghost use Rattle.std.specs.Prelude.{codes, IfSome, IsTrue, IsUtf8, MatchOption, if◌then◌else◌};
+ghost use Rattle.std.specs.Fmt.{decimal};
 ghost use Rattle.std.specs.Str.{chars};
 ghost use Rattle.pm_token.specs.Negative.{has_minus};
 ghost use Rattle.pm_token.specs.declared.symbols.short.TheConstants.{ROOM};
 
+use itoa::write_digits;
 use std::marker::Model;
 use std::str;
 
 /// How many bytes a short text has at most. With its length and the tag of an enum it is as long as three pointers.
 pub(crate) const ROOM: usize = 22;
 
-/// A text of at most 22 bytes.
+/// A text of at most 22 bytes. Those past it are zero, so that texts can be compared in whole words.
 #[derive(Drop)]
 pub(crate) struct Short {
     len: u8,
@@ -23,7 +25,8 @@ impl Model for Short {
 
     ghost view = { λ short. take short.len short.bytes };
 
-    ghost invariant = { λ short. (short.len ≤ ROOM) × ∥ IsUtf8 (take short.len short.bytes) ∥₁ };
+    ghost invariant = { λ short. (short.len ≤ ROOM) × ∥ IsUtf8 (take short.len short.bytes) ∥₁
+        × (drop short.len short.bytes ≡ drop short.len (replicate ROOM 0)) };
 }
 
 impl Short {
@@ -55,6 +58,37 @@ impl Short {
             len: end as u8,
             bytes,
         }
+    }
+
+    /// The number in decimal digits, behind a `-` where it is negative, and what follows it, if that is short.
+    #[inline(always)]
+    pub(crate) fn number(negative: bool, value: u64, suffix: &str) -> Option<Short>
+        ensures { IfSome result (λ short.
+            short ≡ (if negative then codes "-" else codes "") ++ decimal value ++ suffix.now) }
+    {
+        let start = usize::from(negative);
+        let digits_end = start + count_digits(value);
+        if suffix.len() > ROOM - digits_end {
+            return None;
+        }
+        let end = digits_end + suffix.len();
+        let mut bytes = [0; ROOM];
+        // Where the number has no `-`, its first digit takes that place.
+        bytes[0] = b'-';
+        write_digits(value, &mut bytes, digits_end);
+        bytes[digits_end..end].copy_from_slice(suffix.as_bytes());
+        Some(Short {
+            len: end as u8,
+            bytes,
+        })
+    }
+
+    /// Whether both are the same text.
+    #[inline(always)]
+    pub(crate) fn same(&self, other: &Short) -> bool
+        ensures { IsTrue result ↔ (chars self.now ≡ chars other.now) }
+    {
+        self.len == other.len && self.bytes == other.bytes
     }
 
     /// The bytes of the text.
@@ -98,6 +132,17 @@ impl Short {
             bytes: self.bytes,
         }
     }
+}
+
+/// How many decimal digits the number has.
+#[inline(always)]
+fn count_digits(value: u64) -> usize
+    ensures { result ≡ length (decimal value) }
+{
+    if value == 0 {
+        return 1;
+    }
+    value.ilog10() as usize + 1
 }
 
 /// The text after the `-` that it begins with, if there is one.

@@ -8,7 +8,7 @@ mod shared;
 mod short;
 
 pub use names::Name;
-use shared::Shared;
+use shared::{Shared, Unsigned};
 use short::{ROOM, Short};
 use crate::shim::alloc::{AllocError, Global};
 use crate::shim::fmt;
@@ -17,7 +17,7 @@ use crate::shim::fmt;
 /// the `-` can be taken away without memory.
 enum Text {
     Short(Short),
-    Long(Shared),
+    Long(Unsigned),
     Negative(Box<String>),
 }
 
@@ -28,7 +28,7 @@ impl Text {
         if is_negative(text) {
             return Ok(Text::Negative(Box::new(alloc, String::from_str(alloc, text)?)?));
         }
-        Ok(Text::Long(Shared::new(alloc, text)?))
+        Ok(Text::Long(Unsigned::new(Shared::new(alloc, text)?)))
     }
 
     /// The long text itself. Fails where memory runs out.
@@ -37,7 +37,7 @@ impl Text {
         if is_negative(text.as_str()) {
             return Ok(Text::Negative(Box::new(alloc, text)?));
         }
-        Ok(Text::Long(Shared::from_string(text)?))
+        Ok(Text::Long(Unsigned::new(Shared::from_string(text)?)))
     }
 
     /// A copy of the text. Fails where memory runs out.
@@ -69,21 +69,10 @@ impl Clone for Text {
     fn clone(&self) -> Result<Text, AllocError> {
         match self {
             Text::Short(text) => Ok(Text::Short(text.copy())),
-            Text::Long(text) => share(text),
+            Text::Long(text) => Ok(Text::Long(text.share()?)),
             Text::Negative(text) => Text::new(*text.allocator(), text.as_str()),
         }
     }
-}
-
-/// The same text, which a long one shares. It fails where a long one has more owners than can be counted.
-#[inline(always)]
-fn share(text: &Shared) -> Result<Text, AllocError>
-{
-    let whole = text.as_str();
-    if whole.len() <= ROOM {
-        return Ok(Text::Short(Short::new(whole)));
-    }
-    Ok(Text::Long(text.share()?))
 }
 
 /// Whether the text begins with `-`.
@@ -139,6 +128,16 @@ impl Symbol {
         }
         Some(Symbol {
             text: Text::Short(Short::joined(front, back)),
+        })
+    }
+
+    /// The number in decimal digits, behind a `-` where it is negative, and what follows it, if together they are
+    /// short. It takes no memory.
+    #[inline(always)]
+    pub(crate) fn number(negative: bool, value: u64, suffix: &str) -> Option<Symbol>
+    {
+        Some(Symbol {
+            text: Text::Short(Short::number(negative, value, suffix)?),
         })
     }
 

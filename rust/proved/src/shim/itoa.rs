@@ -12,6 +12,9 @@ const ROOM: usize = 40;
 const CHUNK: usize = 19;
 const PAST_CHUNK: u128 = 10u128.pow(CHUNK as u32);
 
+/// 2^190 divided by that power and rounded up, which is too much by less than 1 in 2^128.
+const INVERSE: u128 = 156_927_543_384_667_019_095_894_735_580_191_660_403;
+
 /// A number of at most 128 bits.
 pub trait Integer: Copy {
     /// Contract: writes the number at the end of the room, and answers where it begins.
@@ -37,11 +40,22 @@ pub fn write_digits(number: u64, room: &mut [u8], end: usize) -> usize {
     at
 }
 
+/// The digits above the last chunk. The number is multiplied with the inverse, since a division of 128 bits is slow,
+/// and the 190 lowest bits of the product are left away.
+#[inline(always)]
+fn above_chunk(number: u128) -> u128 {
+    const LOW: u128 = u64::MAX as u128;
+    let (low, high) = (number & LOW, number >> 64);
+    let middle = high * (INVERSE & LOW) + (low * (INVERSE & LOW) >> 64);
+    let other = low * (INVERSE >> 64) + (middle & LOW);
+    (high * (INVERSE >> 64) + (middle >> 64) + (other >> 64)) >> 62
+}
+
 /// The same of a number of 128 bits: the last digits in chunks, with the zeros at their fronts.
 fn write_wide(number: u128, room: &mut [u8; ROOM]) -> usize {
     let (mut rest, mut end) = (number, ROOM);
     while rest > u128::from(u64::MAX) {
-        let front = rest / PAST_CHUNK;
+        let front = above_chunk(rest);
         let at = write_digits((rest - front * PAST_CHUNK) as u64, room, end);
         end -= CHUNK;
         room[end..at].fill(b'0');
@@ -136,6 +150,11 @@ mod tests {
             }
         }
         assert_eq!(buffer.format(i128::MIN), i128::MIN.to_string());
+        for multiple in (0..1000).chain((0..64).map(|shift| (u128::MAX / super::PAST_CHUNK) >> shift)) {
+            for number in [multiple * super::PAST_CHUNK, (multiple * super::PAST_CHUNK).wrapping_sub(1)] {
+                assert_eq!(super::above_chunk(number), number / super::PAST_CHUNK);
+            }
+        }
         assert_eq!(buffer.format(7usize), "7");
         let mut bytes = *b"abcdefgh";
         assert_eq!(super::write_digits(403, &mut bytes, 5), 2);

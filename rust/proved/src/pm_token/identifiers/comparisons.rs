@@ -11,13 +11,7 @@ impl PartialEq for Ident {
     #[inline(always)]
     fn eq(&self, other: &Ident) -> bool
     {
-        let name = self.name.as_bytes();
-        let other_name = other.name.as_bytes();
-        let raw = self.name.is_raw();
-        if raw == other.name.is_raw() {
-            return name == other_name;
-        }
-        false
+        self.name.same(&other.name)
     }
 }
 

@@ -69,11 +69,37 @@ fn begins_plain(byte: u8) -> bool
     byte.is_ascii_alphabetic() || byte == b'_'
 }
 
+// Words that make the table below a square.
+const NO: bool = false;
+
+const YES: bool = true;
+
+/// Whether each byte is an ASCII letter, a digit or `_`.
+#[rustfmt::skip]
+static CONTINUES: [bool; 256] = [
+    NO, NO, NO, NO, NO, NO, NO, NO, NO, NO, NO, NO, NO, NO, NO, NO,
+    NO, NO, NO, NO, NO, NO, NO, NO, NO, NO, NO, NO, NO, NO, NO, NO,
+    NO, NO, NO, NO, NO, NO, NO, NO, NO, NO, NO, NO, NO, NO, NO, NO,
+    YES, YES, YES, YES, YES, YES, YES, YES, YES, YES, NO, NO, NO, NO, NO, NO,
+    NO, YES, YES, YES, YES, YES, YES, YES, YES, YES, YES, YES, YES, YES, YES, YES,
+    YES, YES, YES, YES, YES, YES, YES, YES, YES, YES, YES, NO, NO, NO, NO, YES,
+    NO, YES, YES, YES, YES, YES, YES, YES, YES, YES, YES, YES, YES, YES, YES, YES,
+    YES, YES, YES, YES, YES, YES, YES, YES, YES, YES, YES, NO, NO, NO, NO, NO,
+    NO, NO, NO, NO, NO, NO, NO, NO, NO, NO, NO, NO, NO, NO, NO, NO,
+    NO, NO, NO, NO, NO, NO, NO, NO, NO, NO, NO, NO, NO, NO, NO, NO,
+    NO, NO, NO, NO, NO, NO, NO, NO, NO, NO, NO, NO, NO, NO, NO, NO,
+    NO, NO, NO, NO, NO, NO, NO, NO, NO, NO, NO, NO, NO, NO, NO, NO,
+    NO, NO, NO, NO, NO, NO, NO, NO, NO, NO, NO, NO, NO, NO, NO, NO,
+    NO, NO, NO, NO, NO, NO, NO, NO, NO, NO, NO, NO, NO, NO, NO, NO,
+    NO, NO, NO, NO, NO, NO, NO, NO, NO, NO, NO, NO, NO, NO, NO, NO,
+    NO, NO, NO, NO, NO, NO, NO, NO, NO, NO, NO, NO, NO, NO, NO, NO,
+];
+
 /// Whether the byte is an ASCII letter, a digit or `_`.
 #[inline(always)]
 fn continues_plain(byte: u8) -> bool
 {
-    byte.is_ascii_alphanumeric() || byte == b'_'
+    CONTINUES[byte as usize]
 }
 
 /// How many bytes at the front are ASCII letters, digits or `_`.
@@ -118,17 +144,23 @@ pub(crate) fn fault(name: &str, raw: bool) -> Option<IdentError>
 #[inline(never)]
 fn other_fault(name: &str, raw: bool) -> Option<IdentError>
 {
-    if is_empty(name) {
-        return Some(IdentError::Empty);
-    }
-    if is_number(name) {
-        return Some(IdentError::Number);
-    }
     if !is_name(name) {
-        return Some(IdentError::Invalid);
+        return Some(fault_of_other(name));
     }
     if raw && is_reserved(name) {
         return Some(IdentError::Reserved);
     }
     None
+}
+
+/// Why a text that is no name is none.
+fn fault_of_other(text: &str) -> IdentError
+{
+    if is_empty(text) {
+        return IdentError::Empty;
+    }
+    if is_number(text) {
+        return IdentError::Number;
+    }
+    IdentError::Invalid
 }

@@ -65,18 +65,20 @@ impl Suffix {
 #[inline(always)]
 fn narrow_unsigned(alloc: Global, value: u64, suffix: Suffix) -> Result<Symbol, AllocError>
 {
-    let mut buffer = Buffer::new();
-    let text = Symbol::concat(alloc, buffer.format(value), suffix.name())?;
-    Ok(text)
+    match Symbol::number(false, value, suffix.name()) {
+        Some(text) => Ok(text),
+        None => wide_unsigned(alloc, u128::from(value), suffix),
+    }
 }
 
 /// The same of a number with a sign.
 #[inline(always)]
 fn narrow_signed(alloc: Global, value: i64, suffix: Suffix) -> Result<Symbol, AllocError>
 {
-    let mut buffer = Buffer::new();
-    let text = Symbol::concat(alloc, buffer.format(value), suffix.name())?;
-    Ok(text)
+    match Symbol::number(value < 0, value.unsigned_abs(), suffix.name()) {
+        Some(text) => Ok(text),
+        None => wide_signed(alloc, i128::from(value), suffix),
+    }
 }
 
 /// The text of any number and its suffix. Fails where memory runs out.

@@ -3,18 +3,18 @@
 
 use crate::shim::prelude::Clone;
 
+use super::shared::Shared;
 use super::short::{ROOM, Short};
 use crate::shim::alloc::{AllocError, Global};
 use crate::shim::fmt;
-use crate::shim::rc::RcStr;
 
 /// A plain or a raw name, short or long. One enum tells all four apart, so a name is as long as a text. Copies of a
 /// long name share it.
 enum NameText {
     Short(Short),
-    Long(RcStr),
+    Long(Shared),
     RawShort(Short),
-    RawLong(RcStr),
+    RawLong(Shared),
 }
 
 impl NameText {
@@ -30,24 +30,13 @@ impl NameText {
     }
 
     /// The text as a name.
-    fn long(text: RcStr, raw: bool) -> NameText
+    fn long(text: Shared, raw: bool) -> NameText
     {
         if raw {
             NameText::RawLong(text)
         } else {
             NameText::Long(text)
         }
-    }
-
-    /// The text as a name that shares it. It takes no memory, and fails where a long one has more owners than can be
-    /// counted.
-    fn shared(text: &RcStr, raw: bool) -> Result<NameText, AllocError>
-    {
-        let name = text.as_str();
-        if name.len() <= ROOM {
-            return Ok(NameText::short(name, raw));
-        }
-        Ok(NameText::long(text.clone()?, raw))
     }
 }
 
@@ -64,7 +53,7 @@ impl Name {
         let text = if name.len() <= ROOM {
             NameText::short(name, raw)
         } else {
-            NameText::long(RcStr::from_str(alloc, name)?, raw)
+            NameText::long(Shared::new(alloc, name)?, raw)
         };
         Ok(Name { text })
     }
@@ -89,6 +78,23 @@ impl Name {
         }
     }
 
+    /// Whether both are the same name, and both are raw or both plain.
+    #[inline(always)]
+    pub fn same(&self, other: &Name) -> bool
+    {
+        match (&self.text, &other.text) {
+            (NameText::Short(name), NameText::Short(other_name)) => name.same(other_name),
+            _ => self.has_same_bytes(other),
+        }
+    }
+
+    /// The same, of any names.
+    #[inline(never)]
+    fn has_same_bytes(&self, other: &Name) -> bool
+    {
+        self.is_raw() == other.is_raw() && self.as_bytes() == other.as_bytes()
+    }
+
     /// Whether it is raw.
     #[inline(always)]
     pub fn is_raw(&self) -> bool
@@ -107,8 +113,8 @@ impl Clone for Name {
         let text = match &self.text {
             NameText::Short(name) => NameText::Short(name.copy()),
             NameText::RawShort(name) => NameText::RawShort(name.copy()),
-            NameText::Long(name) => NameText::shared(name, false)?,
-            NameText::RawLong(name) => NameText::shared(name, true)?,
+            NameText::Long(name) => NameText::Long(name.share()?),
+            NameText::RawLong(name) => NameText::RawLong(name.share()?),
         };
         Ok(Name { text })
     }

@@ -6,7 +6,7 @@ use crate::shim::prelude::{Clone, String};
 use crate::shim::alloc::{AllocError, Global};
 use crate::shim::rc::RcStr;
 
-/// A long text that doesn't begin with `-`. Its copies share it.
+/// A text of more than 22 bytes. Its copies share it.
 pub(crate) struct Shared {
     text: RcStr,
 }
@@ -39,8 +39,39 @@ impl Shared {
     #[inline(always)]
     pub(crate) fn share(&self) -> Result<Shared, AllocError>
     {
+        // It computes nothing: proofs learn that the bytes are UTF-8.
+        self.text.as_str();
         Ok(Shared {
             text: self.text.clone()?,
+        })
+    }
+}
+
+/// A text of more than 22 bytes that doesn't begin with `-`. Its copies share it.
+pub(crate) struct Unsigned {
+    text: Shared,
+}
+
+impl Unsigned {
+    /// The text, which is long.
+    pub(crate) fn new(text: Shared) -> Unsigned
+    {
+        Unsigned { text }
+    }
+
+    /// The text.
+    #[inline(always)]
+    pub(crate) fn as_str(&self) -> &str
+    {
+        self.text.as_str()
+    }
+
+    /// The same text. It takes no memory, and fails where the text has more owners than can be counted.
+    #[inline(always)]
+    pub(crate) fn share(&self) -> Result<Unsigned, AllocError>
+    {
+        Ok(Unsigned {
+            text: self.text.share()?,
         })
     }
 }

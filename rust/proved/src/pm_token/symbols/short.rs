@@ -3,12 +3,13 @@
 
 #![allow(unsafe_code)]
 
+use crate::shim::itoa::write_digits;
 use crate::shim::str;
 
 /// How many bytes a short text has at most. With its length and the tag of an enum it is as long as three pointers.
 pub(crate) const ROOM: usize = 22;
 
-/// A text of at most 22 bytes.
+/// A text of at most 22 bytes. Those past it are zero, so that texts can be compared in whole words.
 pub(crate) struct Short {
     len: u8,
     bytes: [u8; ROOM],
@@ -39,6 +40,34 @@ impl Short {
             len: end as u8,
             bytes,
         }
+    }
+
+    /// The number in decimal digits, behind a `-` where it is negative, and what follows it, if that is short.
+    #[inline(always)]
+    pub(crate) fn number(negative: bool, value: u64, suffix: &str) -> Option<Short>
+    {
+        let start = usize::from(negative);
+        let digits_end = start + count_digits(value);
+        if suffix.len() > ROOM - digits_end {
+            return None;
+        }
+        let end = digits_end + suffix.len();
+        let mut bytes = [0; ROOM];
+        // Where the number has no `-`, its first digit takes that place.
+        bytes[0] = b'-';
+        write_digits(value, &mut bytes, digits_end);
+        bytes[digits_end..end].copy_from_slice(suffix.as_bytes());
+        Some(Short {
+            len: end as u8,
+            bytes,
+        })
+    }
+
+    /// Whether both are the same text.
+    #[inline(always)]
+    pub(crate) fn same(&self, other: &Short) -> bool
+    {
+        self.len == other.len && self.bytes == other.bytes
     }
 
     /// The bytes of the text.
@@ -75,6 +104,16 @@ impl Short {
             bytes: self.bytes,
         }
     }
+}
+
+/// How many decimal digits the number has.
+#[inline(always)]
+fn count_digits(value: u64) -> usize
+{
+    if value == 0 {
+        return 1;
+    }
+    value.ilog10() as usize + 1
 }
 
 /// The text after the `-` that it begins with, if there is one.
