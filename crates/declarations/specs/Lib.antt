@@ -1,0 +1,5 @@
+pub mod TypeStep
+pub mod Walk
+pub mod TypeEnd
+pub mod Signs
+pub mod Reading
