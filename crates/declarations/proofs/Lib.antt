@@ -1,4 +1,4 @@
 pub mod SignLemmas
 pub mod WalkLemmas
-pub mod TypeLemmas
+pub mod PlaceLemmas
 pub mod ReadingLemmas

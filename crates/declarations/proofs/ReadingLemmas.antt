@@ -1,18 +1,17 @@
 -- From walks over signs to what is read of trees.
-use Rattle.std.proofs.Common.{◌≡◌, refl, sym, ◌∙◌, ap, subst, ℕ, suc, zero, ◌+◌, ◌-◌, ◌<◌, ◌≤◌, Bool, true, false, List, [], ◌∷◌, ◌++◌, Option, Some, None, ◌≢◌, drop, length, rules, arith, append_assoc, append-nil}
+use Rattle.std.proofs.Common.{◌≡◌, refl, sym, ◌∙◌, ap, subst, ℕ, ◌+◌, ◌≤◌, true, false, List, [], ◌∷◌, ◌++◌, Some, drop, length, arith, append_assoc, append-nil}
 use Rattle.std.proofs.lemmas.List.{append_cancel_left, append_cancel_right, length-append}
-use Rattle.std.proofs.lemmas.Bool.Decides.{nat_tests}
 use Rattle.std.proofs.Math.Seq.{drop-append_seam}
 use Rattle.pm_stream.specs.declared.stream.TokenTree.{TokenTree}
 use Rattle.declarations.proofs.WalkLemmas.{after, walk-append, walk-cons, one_walk, not_found, not_found-end, none_stands, is_front, no_front}
-use Rattle.declarations.proofs.TypeLemmas.{goes_on, operand_after, closers}
+use Rattle.declarations.proofs.PlaceLemmas.{goes_on}
 use Rattle.declarations.specs.Reading.{Reads, FaultAt, IsOnly, StopsBefore}
 use Rattle.declarations.specs.Signs.{Sign, signs, classes_of, trees_of, BeginsWith}
-use Rattle.declarations.specs.TypeEnd.{step, ends, begin, may_end, IsRange}
-use Rattle.declarations.specs.Walk.{walk, Stops, IsWalk, IsFront}
+use Rattle.declarations.specs.Forms.{IsFrom}
+use Rattle.declarations.specs.Grammar.{step, ends}
+use Rattle.declarations.specs.Walk.{walk, Stops}
 use Rattle.declarations.specs.declared.class.Class.{Class}
-use Rattle.declarations.specs.declared.types.Place.{Place}
-use Rattle.declarations.specs.declared.types.TypeState.{TypeState}
+use Rattle.declarations.specs.declared.grammar.Place.{Place}
 
 pub classes-append : (front back : List Sign) → classes_of (front ++ back) ≡ classes_of front ++ classes_of back
 classes-append [] back = refl
@@ -43,8 +42,8 @@ pub record Walked (start : Place) (trees left : List TokenTree) (place : Place) 
   pub walks : walk step start (classes_of front) ≡ Some place
 
 -- with room for the depth to grow
-pub record Walking (state : TypeState) (trees left : List TokenTree) (place : Place) : Type 0 where
-  pub walked : Walked (begin state) trees left place
+pub record Walking (start : Place) (trees left : List TokenTree) (place : Place) : Type 0 where
+  pub walked : Walked start trees left place
   pub room : place.depth + length left ≤ length trees
 
 pub walked-none : (start : Place) (trees : List TokenTree) → Walked start trees trees start
@@ -81,20 +80,11 @@ same_back a b x y whole same =
     let left = length-append a x in let right = length-append b y in omega arith in
     sym (drop-append_seam a x) ∙ ap (λ n. drop n (a ++ x)) count ∙ ap (drop (length b)) whole ∙ drop-append_seam b y
 
-pub ends-true : (place : Place) → may_end place.state ≡ true → place.depth ≡ 0 → ends place ≡ true
-ends-true place ended flat = grind (arith, nat_tests)
-
-pub ends-false_state : (place : Place) → may_end place.state ≡ false → ends place ≡ false
-ends-false_state place ended = rw ended refl
-
-pub ends-false_depth : (place : Place) → place.depth ≢ 0 → ends place ≡ false
-ends-false_depth place deep = grind (arith, nat_tests)
-
--- a range is read where the walk may end
-pub range_read : (state : TypeState) (trees left part rest : List TokenTree) (place : Place)
-    → Walking state trees left place → ends place ≡ true → Stops step place (classes_of (signs left))
-    → trees ≡ part ++ rest → length rest ≡ length left → Reads (IsRange state) trees part rest
-range_read state trees left part rest place walking ended stops whole counted =
+-- something is read where the walk may end
+pub split_read : (start : Place) (trees left part rest : List TokenTree) (place : Place)
+    → Walking start trees left place → ends place ≡ true → Stops step place (classes_of (signs left))
+    → trees ≡ part ++ rest → length rest ≡ length left → Reads (IsFrom start) trees part rest
+split_read start trees left part rest place walking ended stops whole counted =
     let walked = walking.walked in
     let same : left ≡ rest =
     same_back (trees_of walked.front) part left rest (sym walked.whole ∙ whole) (sym counted) in
@@ -112,11 +102,11 @@ range_read state trees left part rest place walking ended stops whole counted =
       };
     }
 
-pub only_range : (state : TypeState) (trees part rest : List TokenTree) → Reads (IsRange state) trees part rest
-    → IsOnly (IsRange state) trees part rest
-only_range state trees part rest here part2 rest2 there =
+pub split_only : (start : Place) (trees part rest : List TokenTree) → Reads (IsFrom start) trees part rest
+    → IsOnly (IsFrom start) trees part rest
+split_only start trees part rest here part2 rest2 there =
     let same : here.piece ++ signs rest ≡ there.piece ++ signs rest2 = sym here.read ∙ there.read in
-    let classes = one_walk step ends (begin state) (classes_of here.piece) (classes_of (signs rest))
+    let classes = one_walk step ends start (classes_of here.piece) (classes_of (signs rest))
     (classes_of there.piece) (classes_of (signs rest2)) here.stands there.stands
     (sym (classes-append here.piece (signs rest)) ∙ ap classes_of same
     ∙ classes-append there.piece (signs rest2)) in
@@ -128,35 +118,35 @@ only_range state trees part rest here part2 rest2 there =
     (parts, rests)
 
 -- a fault is where the walk can't go on, and may not end
-nothing_read : (state : TypeState) (trees left : List TokenTree) (place : Place) (after : List Class)
-    → (walked : Walked (begin state) trees left place) → ends place ≡ false → Stops step place after
+nothing_read : (start : Place) (trees left : List TokenTree) (place : Place) (after : List Class)
+    → (walked : Walked start trees left place) → ends place ≡ false → Stops step place after
     → classes_of (signs left) ≡ after
-    → (part rest : List TokenTree) → Reads (IsRange state) trees part rest → ⊥
-nothing_read state trees left place [] walked wrong stops is part rest reads =
-    none_stands step ends (begin state) (classes_of walked.front) (classes_of reads.piece) (classes_of (signs rest))
-    (not_found-end step ends (begin state) place (classes_of walked.front) walked.walks wrong)
+    → (part rest : List TokenTree) → Reads (IsFrom start) trees part rest → ⊥
+nothing_read start trees left place [] walked wrong stops is part rest reads =
+    none_stands step ends start (classes_of walked.front) (classes_of reads.piece) (classes_of (signs rest))
+    (not_found-end step ends start place (classes_of walked.front) walked.walks wrong)
     (sym (ap (λ cs. classes_of walked.front ++ cs) is ∙ append-nil (classes_of walked.front))
     ∙ sym (classes-append walked.front (signs left)) ∙ ap classes_of (sym walked.read ∙ reads.read)
     ∙ classes-append reads.piece (signs rest)) reads.stands
-nothing_read state trees left place (class ∷ more) walked wrong stops is part rest reads =
-    none_stands step ends (begin state) (classes_of walked.front ++ class ∷ more) (classes_of reads.piece)
+nothing_read start trees left place (class ∷ more) walked wrong stops is part rest reads =
+    none_stands step ends start (classes_of walked.front ++ class ∷ more) (classes_of reads.piece)
     (classes_of (signs rest))
-    (not_found step ends (begin state) place (classes_of walked.front) class more walked.walks wrong stops)
+    (not_found step ends start place (classes_of walked.front) class more walked.walks wrong stops)
     (sym (ap (λ cs. classes_of walked.front ++ cs) is)
     ∙ sym (classes-append walked.front (signs left)) ∙ ap classes_of (sym walked.read ∙ reads.read)
     ∙ classes-append reads.piece (signs rest)) reads.stands
 
-no_longer : (state : TypeState) (place : Place) (front after : List Class)
-    → walk step (begin state) front ≡ Some place → ends place ≡ false → Stops step place after
-    → StopsBefore (IsRange state) front after
-no_longer state place front [] walks wrong stops = tt
-no_longer state place front (class ∷ after) walks wrong stops =
-    no_front step ends (begin state) place front class walks wrong stops
+no_longer : (start : Place) (place : Place) (front after : List Class)
+    → walk step start front ≡ Some place → ends place ≡ false → Stops step place after
+    → StopsBefore (IsFrom start) front after
+no_longer start place front [] walks wrong stops = tt
+no_longer start place front (class ∷ after) walks wrong stops =
+    no_front step ends start place front class walks wrong stops
 
-pub range_fault : (state : TypeState) (trees left : List TokenTree) (place : Place) (at : ℕ)
-    → Walking state trees left place → ends place ≡ false → Stops step place (classes_of (signs left))
-    → at + length left ≡ length trees → FaultAt (IsRange state) trees at
-range_fault state trees left place at walking wrong stops counted =
+pub split_fault : (start : Place) (trees left : List TokenTree) (place : Place) (at : ℕ)
+    → Walking start trees left place → ends place ≡ false → Stops step place (classes_of (signs left))
+    → at + length left ≡ length trees → FaultAt (IsFrom start) trees at
+split_fault start trees left place at walking wrong stops counted =
     let walked = walking.walked in
     let sum = ap length walked.whole ∙ length-append (trees_of walked.front) left in
     record {
@@ -165,8 +155,8 @@ range_fault state trees left place at walking wrong stops counted =
       read = walked.read;
       whole = walked.whole;
       counted = omega arith;
-      goes_on = is_front step ends (begin state) place _ (classes_of walked.front)
-          (operand_after place.state (closers place.depth)) walked.walks (goes_on place) refl;
-      longest = no_longer state place (classes_of walked.front) (classes_of (signs left)) walked.walks wrong stops;
-      nothing = nothing_read state trees left place (classes_of (signs left)) walked wrong stops refl;
+      goes_on = let goes = goes_on place in is_front step ends start place goes.final (classes_of walked.front) goes.more
+          walked.walks goes.walks goes.ended;
+      longest = no_longer start place (classes_of walked.front) (classes_of (signs left)) walked.walks wrong stops;
+      nothing = nothing_read start trees left place (classes_of (signs left)) walked wrong stops refl;
     }

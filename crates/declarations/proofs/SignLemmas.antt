@@ -1,7 +1,13 @@
 -- How trees begin with a sign.
-use Rattle.std.proofs.Common.{◌≡◌, refl, sym, ◌∙◌, ap, subst, ℕ, suc, zero, ◌+◌, ◌<◌, ◌≤◌, List, [], ◌∷◌, ◌++◌, Option, Some, None, length, rules, arith}
+use Rattle.std.proofs.Common.{◌≡◌, refl, sym, ◌∙◌, ap, suc, ◌==◌, Bool, false, List, [], ◌∷◌, Option, Some, None, length, arith}
+use Rattle.std.proofs.lemmas.Bool.Decides.{nat_tests}
+use Rattle.pm_token.specs.Leaf.{Name}
+use Rattle.pm_stream.specs.Forest.{Forest}
+use Rattle.pm_stream.specs.Size.{is_nil}
+use Rattle.pm_stream.specs.Trees.{forest}
 use Rattle.pm_stream.specs.declared.stream.TokenTree.{TokenTree}
-use Rattle.declarations.specs.Signs.{Sign, signs, signs_after, pair_class, tree_class, BeginsWith}
+use Rattle.pm_stream.specs.declared.stream.TokenTree.TheVariants.{Group, Ident, Punct, Literal}
+use Rattle.declarations.specs.Signs.{Sign, signs, signs_after, pair_class, tree_class, BeginsWith, is_restriction, restricts}
 use Rattle.declarations.specs.declared.class.Class.{Class}
 
 -- the signs of trees, by whether the first two are read as one
@@ -55,3 +61,23 @@ begins_last trees [] first whole none = record {
   read = rw whole refl;
 }
 begins_last trees (second ∷ rest) first whole none = absurd (omega arith)
+
+-- ---- restrictions
+
+more_than_none : (rest : List TokenTree) → false ≡ (suc (length rest) == 0)
+more_than_none rest = grind (arith, nat_tests)
+
+nil_forest : (rest : List TokenTree) → is_nil (forest rest) ≡ (length rest == 0)
+nil_forest [] = refl
+nil_forest (Group g ∷ rest) = more_than_none rest
+nil_forest (Ident i ∷ rest) = more_than_none rest
+nil_forest (Punct p ∷ rest) = more_than_none rest
+nil_forest (Literal l ∷ rest) = more_than_none rest
+
+pub restriction_first : (stream : Forest) (trees : List TokenTree) (first : TokenTree) (rest : List TokenTree)
+    (ident : Name) (alone : Bool) → forest trees ≡ stream → trees ≡ first ∷ rest → first ≡ Ident ident
+    → alone ≡ (length rest == 0) → restricts ident alone ≡ is_restriction stream
+restriction_first stream trees first rest ident alone held whole is none =
+    let all : stream ≡ forest (Ident ident ∷ rest) = sym held ∙ ap forest whole ∙ ap (λ f. forest (f ∷ rest)) is in
+    let nil_rest : is_nil (forest rest) ≡ alone = nil_forest rest ∙ sym none in
+    ap (λ a. restricts ident a) (sym nil_rest) ∙ ap is_restriction (sym all)

@@ -1,5 +1,5 @@
 -- Walks over signs: at most one stands at a place, and where none goes on.
-use Rattle.std.proofs.Common.{◌≡◌, refl, sym, ◌∙◌, ap, subst, Bool, true, false, IsTrue, cond, List, [], ◌∷◌, ◌++◌, Option, Some, None, append_assoc, append-nil, rules, arith}
+use Rattle.std.proofs.Common.{◌≡◌, refl, sym, ◌∙◌, ap, subst, Bool, true, false, cond, List, [], ◌∷◌, ◌++◌, Option, Some, None, append_assoc, append-nil}
 use Rattle.declarations.specs.Walk.{walk, Stops, IsWalk, IsFront}
 use Rattle.declarations.specs.declared.class.Class.{Class}
 

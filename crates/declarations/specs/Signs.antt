@@ -2,10 +2,14 @@
 use Rattle.std.specs.Prelude.{◌≡◌, ℕ, ◌==◌, ◌<◌, ◌&&◌, ◌||◌, Bool, true, false, List, [], ◌∷◌, ◌++◌, codes, Option, Some, None}
 use Rattle.std.specs.Prelude.{length, nat_eq, if◌then◌else◌}
 use Rattle.std.specs.Cmp.Lexicographic.{pointwise}
+use Rattle.lexical.specs.Token as tokens
+use Rattle.lexical.specs.Token.{Token}
 use Rattle.pm_token.specs.Leaf.{Name, is_joint}
 use Rattle.pm_token.specs.Spelling.{name_text}
 use Rattle.pm_token.specs.declared.delimiters.Delimiter.{Delimiter}
 use Rattle.pm_token.specs.declared.delimiters.Delimiter.TheVariants as delimiters
+use Rattle.pm_stream.specs.Forest.{Forest, nil, leaf, group}
+use Rattle.pm_stream.specs.Size.{is_nil}
 use Rattle.pm_stream.specs.declared.stream.TokenTree.{TokenTree}
 use Rattle.pm_stream.specs.declared.stream.TokenTree.TheVariants.{Group, Ident, Punct, Literal}
 use Rattle.declarations.specs.declared.class.Class.{Class}
@@ -94,9 +98,10 @@ item_class ident =
     else (if is_written ident (codes "where") then classes.Where
     else (if is_written ident (codes "struct") then classes.Struct
     else (if is_written ident (codes "enum") then classes.Enum
+    else (if is_written ident (codes "union") then classes.Union
     else (if is_early_keyword ident then classes.Keyword
     else (if is_middle_keyword ident then classes.Keyword
-    else (if is_late_keyword ident then classes.Keyword else classes.Word)))))))
+    else (if is_late_keyword ident then classes.Keyword else classes.Word))))))))
 
 abbrev pub or_else : Option Class → Class → Class
 or_else None class = class
@@ -124,15 +129,39 @@ mark_class c =
     else (if c == 126 then classes.Tilde
     else classes.Mark)))))))))))))
 
-abbrev pub group_class : Delimiter → Class
-group_class delimiters.Parenthesis = classes.Parentheses
-group_class delimiters.Bracket = classes.Brackets
-group_class delimiters.Brace = classes.Braces
-group_class delimiters.None = classes.Invisible
+-- whether an identifier restricts `pub`, alone in parentheses or not
+abbrev pub restricts : Name → Bool → Bool
+restricts ident alone =
+    is_written ident (codes "in")
+    || (alone && ((is_written ident (codes "crate") || is_written ident (codes "self"))
+    || is_written ident (codes "super")))
+
+-- the name of a token, in words for which it doesn't matter where it stands
+abbrev pub restricts_by : Token → Bool → Bool
+restricts_by (tokens.Name raw name) alone =
+    restricts (record { name = name; raw = raw; span = record { lo = 0; hi = 0 } }) alone
+restricts_by (tokens.Mark c joint) alone = false
+restricts_by (tokens.Literal text) alone = false
+
+-- whether trees in parentheses restrict `pub`: `crate`, `self` or `super` alone, or `in` and others
+abbrev pub is_restriction : Forest → Bool
+is_restriction nil = false
+is_restriction (leaf token lo hi rest) = restricts_by token (is_nil rest)
+is_restriction (group d lo hi inside rest) = false
+
+abbrev pub parentheses_class : Bool → Class
+parentheses_class true = classes.Restriction
+parentheses_class false = classes.Parentheses
+
+abbrev pub group_class : Delimiter → Forest → Class
+group_class delimiters.Parenthesis inside = parentheses_class (is_restriction inside)
+group_class delimiters.Bracket inside = classes.Brackets
+group_class delimiters.Brace inside = classes.Braces
+group_class delimiters.None inside = classes.Invisible
 
 -- the class of a tree that is read alone
 abbrev pub tree_class : TokenTree → Class
-tree_class (Group g) = group_class g.delimiter
+tree_class (Group g) = group_class g.delimiter g.stream
 tree_class (Ident i) = name_class i
 tree_class (Punct p) = mark_class p.mark
 tree_class (Literal l) = classes.Literal

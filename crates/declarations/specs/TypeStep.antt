@@ -1,7 +1,7 @@
 -- The steps of the walk over a type.
-use Rattle.std.specs.Prelude.{Bool, true, false, Option, Some, None, if◌then◌else◌}
+use Rattle.std.specs.Prelude.{Bool, true, false, Option, Some, None}
 use Rattle.declarations.specs.declared.class.Class.{Class}
-use Rattle.declarations.specs.declared.class.Class.TheVariants.{Word, SelfValue, SelfType, Super, Crate, Underscore, Mut, Const, Extern, For, As, Truth, TypeFront, Literal, Lifetime, PathSeparator, Arrow, Parentheses, Brackets, Braces, Invisible, Less, Greater, Comma, Colon, Equals, Plus, Minus, Star, And, Question, Exclamation, Tilde}
+use Rattle.declarations.specs.declared.class.Class.TheVariants.{Word, Union, SelfValue, SelfType, Super, Crate, Underscore, Mut, Const, Extern, For, As, Truth, TypeFront, Literal, Lifetime, PathSeparator, Arrow, Restriction, Parentheses, Brackets, Braces, Invisible, Less, Greater, Comma, Colon, Equals, Plus, Minus, Star, And, Question, Exclamation, Tilde}
 use Rattle.declarations.specs.declared.types.Turn.{Turn}
 use Rattle.declarations.specs.declared.types.Turn.TheVariants as turns
 use Rattle.declarations.specs.declared.types.TypeState.{TypeState}
@@ -22,11 +22,13 @@ within false step = step
 -- the step where an operand may stand, outside of angle brackets or not
 abbrev pub operand : Class → Bool → Option TypeStep
 operand Word outside = stay states.Whole
+operand Union outside = stay states.Whole
 operand SelfValue outside = stay states.Whole
 operand SelfType outside = stay states.Whole
 operand Super outside = stay states.Whole
 operand Crate outside = stay states.Whole
 operand Underscore outside = stay states.Whole
+operand Restriction outside = stay states.Whole
 operand Parentheses outside = stay states.Whole
 operand Brackets outside = stay states.Whole
 operand Invisible outside = stay states.Whole
@@ -50,6 +52,7 @@ operand _ outside = None
 
 -- the step after an operand
 abbrev pub continuation : Class → Bool → Option TypeStep
+continuation Restriction outside = stay states.Whole
 continuation Parentheses outside = stay states.Whole
 continuation PathSeparator outside = stay states.Wanted
 continuation Arrow outside = stay states.Wanted
@@ -74,6 +77,7 @@ operand_or_end Greater outside = within outside (go states.Whole turns.Close)
 operand_or_end class outside = operand class outside
 
 abbrev pub macro_group : Class → Option TypeStep
+macro_group Restriction = stay states.Whole
 macro_group Parentheses = stay states.Whole
 macro_group Brackets = stay states.Whole
 macro_group Braces = stay states.Whole
@@ -120,3 +124,9 @@ step_of states.Abi class outside = abi class outside
 step_of states.Minus class outside = minus class
 step_of states.For class outside = for_binder class
 step_of states.Binder class outside = binder class
+
+-- whether a type may end there, outside of angle brackets
+abbrev pub may_end : TypeState → Bool
+may_end states.Whole = true
+may_end states.Open = true
+may_end _ = false

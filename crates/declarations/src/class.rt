@@ -5,6 +5,8 @@
 pub enum Class {
     /// An identifier that is no keyword, or a raw one.
     Word,
+    /// `union`, which is a word too.
+    Union,
     /// `self`
     SelfValue,
     /// `Self`
@@ -49,7 +51,9 @@ pub enum Class {
     PathSeparator,
     /// `->`
     Arrow,
-    /// `( .. )`
+    /// `(crate)`, `(self)`, `(super)`, or `(in ..)`: parentheses that may restrict `pub`.
+    Restriction,
+    /// Any other `( .. )`.
     Parentheses,
     /// `[ .. ]`
     Brackets,

@@ -2,10 +2,10 @@
 ghost use Rattle.std.specs.Prelude.{◌≡◌, [], MatchOption};
 ghost use Rattle.declarations.specs.Signs.{BeginsWith, group_class, item_class, mark_class, name_class};
 ghost use Rattle.declarations.specs.Signs.{pair_class, path_class, tree_class, type_class, is_early_keyword};
-ghost use Rattle.declarations.specs.Signs.{is_late_keyword, is_middle_keyword, is_truth, is_type_front};
+ghost use Rattle.declarations.specs.Signs.{is_late_keyword, is_middle_keyword, is_restriction, is_truth, restricts, is_type_front};
 
 use crate::class::Class;
-use pm_stream::TokenTree;
+use pm_stream::{Group, TokenStream, TokenTree};
 use pm_token::{Delimiter, Ident, Spacing};
 
 /// The class of the first sign of the trees, and the trees after it; `None` where there are none.
@@ -58,22 +58,49 @@ fn tree_class(tree: &TokenTree) -> Class
     ensures { result ≡ tree_class tree.now }
 {
     match tree {
-        TokenTree::Group(group) => group_class(group.delimiter()),
+        TokenTree::Group(group) => group_class(group),
         TokenTree::Ident(ident) => name_class(ident),
         TokenTree::Punct(punct) => mark_class(punct.as_char()),
         TokenTree::Literal(_) => Class::Literal,
     }
 }
 
-fn group_class(delimiter: Delimiter) -> Class
-    ensures { result ≡ group_class delimiter }
+fn group_class(group: &Group) -> Class
+    ensures { result ≡ group_class group.now.delimiter group.now.stream }
 {
-    match delimiter {
-        Delimiter::Parenthesis => Class::Parentheses,
+    match group.delimiter() {
+        Delimiter::Parenthesis => {
+            if is_restriction(group.stream_ref()) {
+                Class::Restriction
+            } else {
+                Class::Parentheses
+            }
+        }
         Delimiter::Bracket => Class::Brackets,
         Delimiter::Brace => Class::Braces,
         Delimiter::None => Class::Invisible,
     }
+}
+
+// Whether trees in parentheses restrict `pub`: `crate`, `self` or `super` alone, or `in` and others.
+fn is_restriction(inside: &TokenStream) -> bool
+    ensures { result ≡ is_restriction inside.now }
+{
+    let Some((first, rest)) = inside.trees().split_first() else {
+        return false;
+    };
+    match first {
+        TokenTree::Ident(ident) => restricts(ident, rest.is_empty()),
+        TokenTree::Group(_) | TokenTree::Punct(_) | TokenTree::Literal(_) => false,
+    }
+}
+
+// Whether an identifier restricts `pub`, alone in parentheses or not.
+fn restricts(ident: &Ident, alone: bool) -> bool
+    ensures { result ≡ restricts ident.now alone }
+{
+    ident.eq_str("in")
+        || (alone && (ident.eq_str("crate") || ident.eq_str("self") || ident.eq_str("super")))
 }
 
 fn mark_class(mark: char) -> Class
@@ -196,6 +223,9 @@ fn item_class(ident: &Ident) -> Class
     }
     if ident.eq_str("enum") {
         return Class::Enum;
+    }
+    if ident.eq_str("union") {
+        return Class::Union;
     }
     if is_early_keyword(ident) || is_middle_keyword(ident) || is_late_keyword(ident) {
         return Class::Keyword;
