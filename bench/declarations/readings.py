@@ -93,6 +93,13 @@ def total(pairs):
 
 # ---- the walk by the tables
 
+def plain(word):
+    """A constructor without its modules."""
+    if word.startswith("("):
+        return word.strip("()").replace("states.Range types.", "Range ").replace("states.At spots.", "At ")
+    return word.split(".")[-1]
+
+
 def rows(name, text):
     """The equations of a definition: the words of the left side, and the right side."""
     return [(left.split(), right) for left, right in re.findall(r"^%s ([^:=]+?) =\s+(.*)$" % name, text, re.M)]
@@ -139,8 +146,7 @@ class Tables:
             return words[0] == "true"
         if words[0] == "Some":
             return bound.get(words[1], words[1].split(".")[-1])
-        values = tuple(bound.get(w, w.strip("()").replace("states.Range types.", "Range ").replace("states.At spots.", "At ")
-                                 if w.startswith("(") else w.split(".")[-1]) for w in words[1:])
+        values = tuple(bound.get(word, plain(word)) for word in words[1:])
         if words[0] == "stay":
             return values[0], "Stay"
         if words[0] == "go":
@@ -174,7 +180,8 @@ class Tables:
         item, rule, state, depth = place
         kind, name = state.split()
         if kind == "Range":
-            return depth == 0 and self.call("may_end", (name,), self.types) and self.call("rule_ends", (item, rule), self.text)
+            whole = depth == 0 and self.call("may_end", (name,), self.types)
+            return whole and self.call("rule_ends", (item, rule), self.text)
         return self.call("spot_ends", (item, rule, name), self.text)
 
 
@@ -202,7 +209,8 @@ PARTS = [
     ("generics", "Alone", "At Generics", [
         "Less Greater Lifetime Word Comma Colon", "Less Greater Const Word Colon Equals",
         "Less Greater Hash Brackets Word", "Less Greater Const Word Colon Equals Minus Literal Braces"]),
-    ("where", "Alone", "At Where", ["Where Word Colon Comma Plus Less Greater", "Where Lifetime Colon Brackets Comma For"]),
+    ("where", "Alone", "At Where", [
+        "Where Word Colon Comma Plus Less Greater", "Where Lifetime Colon Brackets Comma For"]),
     ("item", "Alone", "At Item", [
         "Struct Word Parentheses Braces Semicolon Where Colon", "Enum Union Word Braces Semicolon Where Colon",
         "Struct Word Less Greater Semicolon Lifetime", "Hash Brackets Pub Restriction Struct Word Semicolon"]),

@@ -1,11 +1,14 @@
 -- From each place there is a way to an end.
-use Rattle.std.proofs.Common.{◌≡◌, refl, ◌∙◌, ap, ℕ, suc, zero, ◌-◌, ◌==◌, true, false, List, [], ◌∷◌, ◌++◌, Some, arith}
+use Rattle.std.proofs.Common.{◌≡◌, refl, ◌∙◌, ap, ℕ, suc, zero, ◌-◌, ◌==◌, true, false, List, [], ◌∷◌, ◌++◌, Some}
+use Rattle.std.proofs.Common.{arith}
 use Rattle.std.proofs.lemmas.Bool.Decides.{nat_tests}
 use Rattle.declarations.proofs.WalkLemmas.{after, walk-cons}
 use Rattle.declarations.specs.Walk.{walk}
 use Rattle.declarations.specs.Grammar.{step, ends}
 use Rattle.declarations.specs.declared.class.Class.{Class}
-use Rattle.declarations.specs.declared.class.Class.TheVariants.{Word, Const, Literal, Less, Greater, Parentheses, Colon, Semicolon, Braces, Brackets, Struct, Lifetime, Where}
+use Rattle.declarations.specs.declared.class.Class.TheVariants.{Word, Const, Literal, Less, Greater, Parentheses}
+use Rattle.declarations.specs.declared.class.Class.TheVariants.{Colon, Semicolon, Braces, Brackets, Struct, Lifetime}
+use Rattle.declarations.specs.declared.class.Class.TheVariants.{Where}
 use Rattle.declarations.specs.declared.grammar.Item.{Item}
 use Rattle.declarations.specs.declared.grammar.Item.TheVariants as items
 use Rattle.declarations.specs.declared.grammar.Place.{Place}
@@ -32,7 +35,8 @@ abbrev at : Item → Rule → Spot → ℕ → Place
 at item rule spot depth = record { item = item; rule = rule; state = states.At spot; depth = depth }
 
 -- by signs that lead to a place that goes on
-led : (place next : Place) (front : List Class) → ((more : List Class) → walk step place (front ++ more) ≡ walk step next more)
+led : (place next : Place) (front : List Class)
+    → ((more : List Class) → walk step place (front ++ more) ≡ walk step next more)
     → GoesOn next → GoesOn place
 led place next front leads goes = record {
   more = front ++ goes.more;
@@ -124,15 +128,18 @@ to_whole item rule depth place front leads =
     led place (in_type item rule types.Whole depth) front leads (whole item rule depth)
 
 to_close : (item : Item) (depth : ℕ) (place : Place) (front : List Class)
-    → ((more : List Class) → walk step place (front ++ more) ≡ walk step (at item places.Alone spots.AfterGenerics depth) more)
+    → ((more : List Class) → walk step place (front ++ more)
+    ≡ walk step (at item places.Alone spots.AfterGenerics depth) more)
     → GoesOn place
 to_close item depth place front leads =
     led place (at item places.Alone spots.AfterGenerics depth) front leads (after_generics item places.Alone depth)
 
 to_end : (depth : ℕ) (place : Place) (front : List Class)
-    → ((more : List Class) → walk step place (front ++ more) ≡ walk step (at items.Alone places.Alone spots.ItemEnd depth) more)
+    → ((more : List Class) → walk step place (front ++ more)
+    ≡ walk step (at items.Alone places.Alone spots.ItemEnd depth) more)
     → GoesOn place
-to_end depth place front leads = led place (at items.Alone places.Alone spots.ItemEnd depth) front leads (item_end depth)
+to_end depth place front leads =
+    led place (at items.Alone places.Alone spots.ItemEnd depth) front leads (item_end depth)
 
 from_type : (item : Item) (rule : Rule) (state : TypeState) (depth : ℕ) → GoesOn (in_type item rule state depth)
 from_type item rule types.Wanted depth =
@@ -185,7 +192,8 @@ from_spot item rule spots.TupleAttributed depth =
 from_spot item rule spots.TuplePublic depth =
     to_whole item rule depth (at item rule spots.TuplePublic depth) (Word ∷ []) (λ more. refl)
 from_spot item rule spots.ConstName depth =
-    to_whole item places.ConstParameter depth (at item rule spots.ConstName depth) (Word ∷ Colon ∷ Word ∷ []) (λ more. refl)
+    to_whole item places.ConstParameter depth (at item rule spots.ConstName depth) (Word ∷ Colon ∷ Word ∷ [])
+    (λ more. refl)
 from_spot item rule spots.ConstColon depth =
     to_whole item places.ConstParameter depth (at item rule spots.ConstColon depth) (Colon ∷ Word ∷ []) (λ more. refl)
 from_spot item rule spots.Generics depth =
@@ -229,7 +237,8 @@ from_spot item rule spots.Variant depth =
     led (at item rule spots.Variant depth) (at item rule spots.VariantName depth) (Word ∷ []) (λ more. refl)
     (here (at item rule spots.VariantName depth) refl)
 from_spot item rule spots.VariantHash depth =
-    led (at item rule spots.VariantHash depth) (at item rule spots.VariantName depth) (Brackets ∷ Word ∷ []) (λ more. refl)
+    led (at item rule spots.VariantHash depth) (at item rule spots.VariantName depth) (Brackets ∷ Word ∷ [])
+    (λ more. refl)
     (here (at item rule spots.VariantName depth) refl)
 from_spot item rule spots.VariantPublic depth =
     led (at item rule spots.VariantPublic depth) (at item rule spots.VariantName depth) (Word ∷ []) (λ more. refl)

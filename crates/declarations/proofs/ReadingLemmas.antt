@@ -1,9 +1,11 @@
 -- From walks over signs to what is read of trees.
-use Rattle.std.proofs.Common.{◌≡◌, refl, sym, ◌∙◌, ap, subst, ℕ, ◌+◌, ◌≤◌, true, false, List, [], ◌∷◌, ◌++◌, Some, drop, length, arith, append_assoc, append-nil}
+use Rattle.std.proofs.Common.{◌≡◌, refl, sym, ◌∙◌, ap, subst, ℕ, ◌+◌, ◌≤◌, true, false, List, [], ◌∷◌, ◌++◌, Some}
+use Rattle.std.proofs.Common.{drop, length, arith, append_assoc, append-nil}
 use Rattle.std.proofs.lemmas.List.{append_cancel_left, append_cancel_right, length-append}
 use Rattle.std.proofs.Math.Seq.{drop-append_seam}
 use Rattle.pm_stream.specs.declared.stream.TokenTree.{TokenTree}
-use Rattle.declarations.proofs.WalkLemmas.{after, walk-append, walk-cons, one_walk, not_found, not_found-end, none_stands, is_front, no_front}
+use Rattle.declarations.proofs.WalkLemmas.{after, walk-append, walk-cons, one_walk, not_found, not_found-end}
+use Rattle.declarations.proofs.WalkLemmas.{none_stands, is_front, no_front}
 use Rattle.declarations.proofs.PlaceLemmas.{goes_on}
 use Rattle.declarations.specs.Reading.{Reads, FaultAt, IsOnly, StopsBefore}
 use Rattle.declarations.specs.Signs.{Sign, signs, classes_of, trees_of, BeginsWith}
@@ -20,7 +22,8 @@ classes-append (sign ∷ front) back = ap (λ cs. sign.class ∷ cs) (classes-ap
 pub trees-append : (front back : List Sign) → trees_of (front ++ back) ≡ trees_of front ++ trees_of back
 trees-append [] back = refl
 trees-append (sign ∷ front) back =
-    ap (λ ts. sign.trees ++ ts) (trees-append front back) ∙ sym (append_assoc sign.trees (trees_of front) (trees_of back))
+    ap (λ ts. sign.trees ++ ts) (trees-append front back)
+    ∙ sym (append_assoc sign.trees (trees_of front) (trees_of back))
 
 -- as many signs at the front of the same are the same
 same_front : (p q r s : List Sign) → p ++ r ≡ q ++ s → classes_of p ≡ classes_of q → p ≡ q
@@ -155,7 +158,8 @@ split_fault start trees left place at walking wrong stops counted =
       read = walked.read;
       whole = walked.whole;
       counted = omega arith;
-      goes_on = let goes = goes_on place in is_front step ends start place goes.final (classes_of walked.front) goes.more
+      goes_on = let goes = goes_on place in
+          is_front step ends start place goes.final (classes_of walked.front) goes.more
           walked.walks goes.walks goes.ended;
       longest = no_longer start place (classes_of walked.front) (classes_of (signs left)) walked.walks wrong stops;
       nothing = nothing_read start trees left place (classes_of (signs left)) walked wrong stops refl;

@@ -1,5 +1,6 @@
 -- How trees begin with a sign.
-use Rattle.std.proofs.Common.{◌≡◌, refl, sym, ◌∙◌, ap, suc, ◌==◌, Bool, false, List, [], ◌∷◌, Option, Some, None, length, arith}
+use Rattle.std.proofs.Common.{◌≡◌, refl, sym, ◌∙◌, ap, suc, ◌==◌, Bool, false, List, [], ◌∷◌, Option, Some, None}
+use Rattle.std.proofs.Common.{length, arith}
 use Rattle.std.proofs.lemmas.Bool.Decides.{nat_tests}
 use Rattle.pm_token.specs.Leaf.{Name}
 use Rattle.pm_stream.specs.Forest.{Forest}
@@ -7,7 +8,8 @@ use Rattle.pm_stream.specs.Size.{is_nil}
 use Rattle.pm_stream.specs.Trees.{forest}
 use Rattle.pm_stream.specs.declared.stream.TokenTree.{TokenTree}
 use Rattle.pm_stream.specs.declared.stream.TokenTree.TheVariants.{Group, Ident, Punct, Literal}
-use Rattle.declarations.specs.Signs.{Sign, signs, signs_after, pair_class, tree_class, BeginsWith, is_restriction, restricts}
+use Rattle.declarations.specs.Signs.{Sign, signs, signs_after, pair_class, tree_class, BeginsWith, is_restriction}
+use Rattle.declarations.specs.Signs.{restricts}
 use Rattle.declarations.specs.declared.class.Class.{Class}
 
 -- the signs of trees, by whether the first two are read as one

@@ -1,5 +1,6 @@
 -- Walks over signs: at most one stands at a place, and where none goes on.
-use Rattle.std.proofs.Common.{◌≡◌, refl, sym, ◌∙◌, ap, subst, Bool, true, false, cond, List, [], ◌∷◌, ◌++◌, Option, Some, None, append_assoc, append-nil}
+use Rattle.std.proofs.Common.{◌≡◌, refl, sym, ◌∙◌, ap, subst, Bool, true, false, cond, List, [], ◌∷◌, ◌++◌, Option}
+use Rattle.std.proofs.Common.{Some, None, append_assoc, append-nil}
 use Rattle.declarations.specs.Walk.{walk, Stops, IsWalk, IsFront}
 use Rattle.declarations.specs.declared.class.Class.{Class}
 
@@ -15,7 +16,10 @@ abbrev pub find : {P : Type 0} → (P → Class → Option P) → (P → Bool) �
     → Option (List Class × List Class)
 find step ends place [] = at_end (ends place) []
 find step ends place (sign ∷ signs) =
-    elim (step place sign) [ None ↦ at_end (ends place) (sign ∷ signs) | Some next ↦ onto sign (find step ends next signs) ]
+    elim (step place sign) [
+      | None ↦ at_end (ends place) (sign ∷ signs)
+      | Some next ↦ onto sign (find step ends next signs)
+    ]
 
 -- what one step more leads to
 abbrev pub after : {P : Type 0} → (P → Class → Option P) → Option P → List Class → Option P
@@ -49,7 +53,8 @@ found step ends place last [] (sign ∷ rest) walks ended stops =
     let stop : step place sign ≡ None = subst (λ p. step p sign ≡ None) (sym same) stops in
     rw stop (rw here refl)
 found {P = P} step ends place last (sign ∷ piece) rest walks ended stops =
-    elim (step place sign) as (λ o. (elim o as (λ x. Option P) [ None ↦ None | Some next ↦ walk step next piece ]) ≡ Some last
+    elim (step place sign) as (λ o. (elim o as (λ x. Option P) [ None ↦ None | Some next ↦ walk step next piece ])
+    ≡ Some last
     → (elim o as (λ x. Option (List Class × List Class)) [
       | None ↦ at_end (ends place) (sign ∷ (piece ++ rest))
       | Some next ↦ onto sign (find step ends next (piece ++ rest))
@@ -81,7 +86,8 @@ not_found step ends place last [] sign more walks wrong stop =
     let stop_here : step place sign ≡ None = subst (λ p. step p sign ≡ None) (sym same) stop in
     rw stop_here (rw here refl)
 not_found {P = P} step ends place last (first ∷ front) sign more walks wrong stop =
-    elim (step place first) as (λ o. (elim o as (λ x. Option P) [ None ↦ None | Some next ↦ walk step next front ]) ≡ Some last
+    elim (step place first) as (λ o. (elim o as (λ x. Option P) [ None ↦ None | Some next ↦ walk step next front ])
+    ≡ Some last
     → (elim o as (λ x. Option (List Class × List Class)) [
       | None ↦ at_end (ends place) (first ∷ (front ++ sign ∷ more))
       | Some next ↦ onto first (find step ends next (front ++ sign ∷ more))
@@ -96,7 +102,8 @@ not_found-end step ends place last [] walks wrong =
     let here : ends place ≡ false = cc in
     rw here refl
 not_found-end {P = P} step ends place last (first ∷ front) walks wrong =
-    elim (step place first) as (λ o. (elim o as (λ x. Option P) [ None ↦ None | Some next ↦ walk step next front ]) ≡ Some last
+    elim (step place first) as (λ o. (elim o as (λ x. Option P) [ None ↦ None | Some next ↦ walk step next front ])
+    ≡ Some last
     → (elim o as (λ x. Option (List Class × List Class)) [
       | None ↦ at_end (ends place) (first ∷ front)
       | Some next ↦ onto first (find step ends next front)

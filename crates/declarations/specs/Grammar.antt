@@ -24,8 +24,8 @@ move_to item rule state = Some (record { item = item; rule = rule; state = state
 
 -- ---- signs outside of types
 
--- after the generic parameters of an item, or after its fields in parentheses, its body. An enum and a union have theirs
--- in braces
+-- after the generic parameters of an item, or after its fields in parentheses, its body. An enum and a union have
+-- theirs in braces
 abbrev pub body : Item → Class → Option Shift
 body items.Struct signs.Braces = move_to items.Alone rules.Alone (states.At spots.ItemEnd)
 body items.Struct signs.Semicolon = move_to items.Alone rules.Alone (states.At spots.ItemEnd)

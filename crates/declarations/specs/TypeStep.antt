@@ -1,7 +1,12 @@
 -- The steps of the walk over a type.
 use Rattle.std.specs.Prelude.{Bool, true, false, Option, Some, None}
 use Rattle.declarations.specs.declared.class.Class.{Class}
-use Rattle.declarations.specs.declared.class.Class.TheVariants.{Word, Union, SelfValue, SelfType, Super, Crate, Underscore, Mut, Const, Extern, For, As, Truth, TypeFront, Literal, Lifetime, PathSeparator, Arrow, Restriction, Parentheses, Brackets, Braces, Invisible, Less, Greater, Comma, Colon, Equals, Plus, Minus, Star, And, Question, Exclamation, Tilde}
+use Rattle.declarations.specs.declared.class.Class.TheVariants.{Word, Union, SelfValue, SelfType, Super, Crate}
+use Rattle.declarations.specs.declared.class.Class.TheVariants.{Underscore, Mut, Const, Extern, For, As, Truth}
+use Rattle.declarations.specs.declared.class.Class.TheVariants.{TypeFront, Literal, Lifetime, PathSeparator, Arrow}
+use Rattle.declarations.specs.declared.class.Class.TheVariants.{Restriction, Parentheses, Brackets, Braces, Invisible}
+use Rattle.declarations.specs.declared.class.Class.TheVariants.{Less, Greater, Comma, Colon, Equals, Plus, Minus}
+use Rattle.declarations.specs.declared.class.Class.TheVariants.{Star, And, Question, Exclamation, Tilde}
 use Rattle.declarations.specs.declared.types.Turn.{Turn}
 use Rattle.declarations.specs.declared.types.Turn.TheVariants as turns
 use Rattle.declarations.specs.declared.types.TypeState.{TypeState}

@@ -1,7 +1,9 @@
 //! The grammar of declarations: what may follow each place.
 ghost use Rattle.std.specs.Prelude.{◌≡◌, ◌+◌, ◌≤◌, ◌<◌, ◌^◌, IfSome};
-ghost use Rattle.declarations.specs.Grammar.{body, ends, follow, parameter_end, range_step, rule_ends, move_to, spot_ends};
-ghost use Rattle.declarations.specs.Grammar.{spot_step, spot_type, step, closing, item_step, parameter_step, visible_step};
+ghost use Rattle.declarations.specs.Grammar.{body, ends, follow, parameter_end, range_step, rule_ends, move_to};
+ghost use Rattle.declarations.specs.Grammar.{spot_ends};
+ghost use Rattle.declarations.specs.Grammar.{spot_step, spot_type, step, closing, item_step, parameter_step};
+ghost use Rattle.declarations.specs.Grammar.{visible_step};
 ghost use Rattle.declarations.specs.Grammar.{field_step, is_alone, shifted, tuple_step, variant_body, variant_step};
 ghost use Rattle.declarations.specs.TypeStep.{may_end};
 

@@ -2,7 +2,8 @@
 ghost use Rattle.std.specs.Prelude.{◌≡◌, [], MatchOption};
 ghost use Rattle.declarations.specs.Signs.{BeginsWith, group_class, item_class, mark_class, name_class};
 ghost use Rattle.declarations.specs.Signs.{pair_class, path_class, tree_class, type_class, is_early_keyword};
-ghost use Rattle.declarations.specs.Signs.{is_late_keyword, is_middle_keyword, is_restriction, is_truth, restricts, is_type_front};
+ghost use Rattle.declarations.specs.Signs.{is_late_keyword, is_middle_keyword, is_restriction, is_truth, restricts};
+ghost use Rattle.declarations.specs.Signs.{is_type_front};
 
 use crate::class::Class;
 use pm_stream::{Group, TokenStream, TokenTree};
@@ -10,9 +11,9 @@ use pm_token::{Delimiter, Ident, Spacing};
 
 /// The class of the first sign of the trees, and the trees after it; `None` where there are none.
 ///
-/// `:` and `:` are one sign where the first is Joint, so are `-` and `>`, and so are `'` and an identifier. Any other
-/// tree is a sign by itself. It takes the same time whatever follows, and no memory.
-#[tactic(auto, using(crate::proofs::SignLemmas::begins_two, crate::proofs::SignLemmas::begins_one, crate::proofs::SignLemmas::begins_last))]
+/// `:` and `:` are one sign where the first is Joint, so are `-` and `>`, and so are `'` and an identifier. Any
+/// other tree is a sign by itself. It takes the same time whatever follows, and no memory.
+#[tactic(auto, using(crate::proofs::SignLemmas::begins_one, crate::proofs::SignLemmas::begins_last))]
 pub fn first_sign<'a>(trees: &'a [TokenTree]) -> Option<(Class, &'a [TokenTree])>
     ensures { MatchOption result (trees.now ≡ []) (λ sign. BeginsWith trees.now sign.0 sign.1.now) }
 {

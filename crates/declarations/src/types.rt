@@ -1,6 +1,7 @@
 //! Where types end.
 ghost use Rattle.std.specs.Prelude.{◌≡◌};
-ghost use Rattle.declarations.specs.TypeStep.{abi, binder, continuation, for_binder, macro_group, may_end, minus, operand};
+ghost use Rattle.declarations.specs.TypeStep.{abi, binder, continuation, for_binder, macro_group, may_end, minus};
+ghost use Rattle.declarations.specs.TypeStep.{operand};
 ghost use Rattle.declarations.specs.TypeStep.{operand_or_end, pointer, stay, step_of, tilde};
 
 use crate::class::Class;
