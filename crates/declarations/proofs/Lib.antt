@@ -1,0 +1,4 @@
+pub mod SignLemmas
+pub mod WalkLemmas
+pub mod PlaceLemmas
+pub mod ReadingLemmas

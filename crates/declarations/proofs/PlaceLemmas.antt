@@ -1,0 +1,256 @@
+-- From each place there is a way to an end.
+use Rattle.std.proofs.Common.{◌≡◌, refl, ◌∙◌, ap, ℕ, suc, zero, ◌-◌, ◌==◌, true, false, List, [], ◌∷◌, ◌++◌, Some}
+use Rattle.std.proofs.Common.{arith}
+use Rattle.std.proofs.lemmas.Bool.Decides.{nat_tests}
+use Rattle.declarations.proofs.WalkLemmas.{after, walk-cons}
+use Rattle.declarations.specs.Walk.{walk}
+use Rattle.declarations.specs.Grammar.{step, ends}
+use Rattle.declarations.specs.declared.class.Class.{Class}
+use Rattle.declarations.specs.declared.class.Class.TheVariants.{Word, Const, Literal, Less, Greater, Parentheses}
+use Rattle.declarations.specs.declared.class.Class.TheVariants.{Colon, Semicolon, Braces, Brackets, Struct, Lifetime}
+use Rattle.declarations.specs.declared.class.Class.TheVariants.{Where}
+use Rattle.declarations.specs.declared.grammar.Item.{Item}
+use Rattle.declarations.specs.declared.grammar.Item.TheVariants as items
+use Rattle.declarations.specs.declared.grammar.Place.{Place}
+use Rattle.declarations.specs.declared.grammar.Rule.{Rule}
+use Rattle.declarations.specs.declared.grammar.Rule.TheVariants as places
+use Rattle.declarations.specs.declared.grammar.Spot.{Spot}
+use Rattle.declarations.specs.declared.grammar.Spot.TheVariants as spots
+use Rattle.declarations.specs.declared.grammar.State.{State}
+use Rattle.declarations.specs.declared.grammar.State.TheVariants as states
+use Rattle.declarations.specs.declared.types.TypeState.{TypeState}
+use Rattle.declarations.specs.declared.types.TypeState.TheVariants as types
+
+-- some signs lead from the place to one where what is read may end
+pub record GoesOn (place : Place) : Type 0 where
+  pub more : List Class
+  pub final : Place
+  pub walks : walk step place more ≡ Some final
+  pub ended : ends final ≡ true
+
+abbrev in_type : Item → Rule → TypeState → ℕ → Place
+in_type item rule state depth = record { item = item; rule = rule; state = states.Range state; depth = depth }
+
+abbrev at : Item → Rule → Spot → ℕ → Place
+at item rule spot depth = record { item = item; rule = rule; state = states.At spot; depth = depth }
+
+-- by signs that lead to a place that goes on
+led : (place next : Place) (front : List Class)
+    → ((more : List Class) → walk step place (front ++ more) ≡ walk step next more)
+    → GoesOn next → GoesOn place
+led place next front leads goes = record {
+  more = front ++ goes.more;
+  final = goes.final;
+  walks = leads goes.more ∙ goes.walks;
+  ended = goes.ended;
+}
+
+here : (place : Place) → ends place ≡ true → GoesOn place
+here place ended = record { more = []; final = place; walks = refl; ended = ended }
+
+after_generics : (item : Item) (rule : Rule) (depth : ℕ) → GoesOn (at item rule spots.AfterGenerics depth)
+after_generics items.Alone rule depth = here (at items.Alone rule spots.AfterGenerics depth) refl
+after_generics items.Struct rule depth =
+    led (at items.Struct rule spots.AfterGenerics depth) (at items.Alone places.Alone spots.ItemEnd depth)
+    (Semicolon ∷ []) (λ more. refl) (here (at items.Alone places.Alone spots.ItemEnd depth) refl)
+after_generics items.Tuple rule depth =
+    led (at items.Tuple rule spots.AfterGenerics depth) (at items.Alone places.Alone spots.ItemEnd depth)
+    (Semicolon ∷ []) (λ more. refl) (here (at items.Alone places.Alone spots.ItemEnd depth) refl)
+after_generics items.Braced rule depth =
+    led (at items.Braced rule spots.AfterGenerics depth) (at items.Alone places.Alone spots.ItemEnd depth)
+    (Braces ∷ []) (λ more. refl) (here (at items.Alone places.Alone spots.ItemEnd depth) refl)
+
+-- after a type or bounds, outside of brackets
+item_end : (depth : ℕ) → GoesOn (at items.Alone places.Alone spots.ItemEnd depth)
+item_end depth = here (at items.Alone places.Alone spots.ItemEnd depth) refl
+
+predicate : (item : Item) (rule : Rule) (depth : ℕ) → GoesOn (at item rule spots.Predicate depth)
+predicate items.Alone rule depth = here (at items.Alone rule spots.Predicate depth) refl
+predicate items.Struct rule depth =
+    led (at items.Struct rule spots.Predicate depth) (at items.Alone places.Alone spots.ItemEnd depth)
+    (Semicolon ∷ []) (λ more. refl) (item_end depth)
+predicate items.Tuple rule depth =
+    led (at items.Tuple rule spots.Predicate depth) (at items.Alone places.Alone spots.ItemEnd depth)
+    (Semicolon ∷ []) (λ more. refl) (item_end depth)
+predicate items.Braced rule depth =
+    led (at items.Braced rule spots.Predicate depth) (at items.Alone places.Alone spots.ItemEnd depth)
+    (Braces ∷ []) (λ more. refl) (item_end depth)
+
+bounds_end : (item : Item) → GoesOn (in_type item places.Predicate types.Whole 0)
+bounds_end items.Alone = here (in_type items.Alone places.Predicate types.Whole 0) refl
+bounds_end items.Struct =
+    led (in_type items.Struct places.Predicate types.Whole 0) (at items.Alone places.Alone spots.ItemEnd 0)
+    (Semicolon ∷ []) (λ more. refl) (item_end 0)
+bounds_end items.Tuple =
+    led (in_type items.Tuple places.Predicate types.Whole 0) (at items.Alone places.Alone spots.ItemEnd 0)
+    (Semicolon ∷ []) (λ more. refl) (item_end 0)
+bounds_end items.Braced =
+    led (in_type items.Braced places.Predicate types.Whole 0) (at items.Alone places.Alone spots.ItemEnd 0)
+    (Braces ∷ []) (λ more. refl) (item_end 0)
+
+outside : (item : Item) (rule : Rule) → GoesOn (in_type item rule types.Whole 0)
+outside item places.Alone = here (in_type item places.Alone types.Whole 0) refl
+outside item places.Fields = here (in_type item places.Fields types.Whole 0) refl
+outside item places.TupleFields = here (in_type item places.TupleFields types.Whole 0) refl
+outside item places.Parameter =
+    led (in_type item places.Parameter types.Whole 0) (at item places.Alone spots.AfterGenerics 0)
+    (Greater ∷ []) (λ more. refl) (after_generics item places.Alone 0)
+outside item places.TypeParameter =
+    led (in_type item places.TypeParameter types.Whole 0) (at item places.Alone spots.AfterGenerics 0)
+    (Greater ∷ []) (λ more. refl) (after_generics item places.Alone 0)
+outside item places.ConstParameter =
+    led (in_type item places.ConstParameter types.Whole 0) (at item places.Alone spots.AfterGenerics 0)
+    (Greater ∷ []) (λ more. refl) (after_generics item places.Alone 0)
+outside item places.Bounded =
+    led (in_type item places.Bounded types.Whole 0) (in_type item places.Predicate types.Whole 0)
+    (Colon ∷ Word ∷ []) (λ more. refl) (bounds_end item)
+outside item places.Predicate = bounds_end item
+
+-- a bracket that is open is closed
+closer : (item : Item) (rule : Rule) (depth : ℕ)
+    → step (in_type item rule types.Whole (suc depth)) Greater ≡ Some (in_type item rule types.Whole depth)
+closer item rule depth =
+    let inside : (suc depth == 0) ≡ false = grind (arith, nat_tests) in
+    let fewer : suc depth - 1 ≡ depth = omega arith in
+    rw (inside, fewer) refl
+
+whole : (item : Item) (rule : Rule) (depth : ℕ) → GoesOn (in_type item rule types.Whole depth)
+whole item rule zero = outside item rule
+whole item rule (suc depth) =
+    led (in_type item rule types.Whole (suc depth)) (in_type item rule types.Whole depth) (Greater ∷ [])
+    (λ more. walk-cons step (in_type item rule types.Whole (suc depth)) Greater more
+    ∙ ap (λ o. after step o more) (closer item rule depth)) (whole item rule depth)
+
+to_whole : (item : Item) (rule : Rule) (depth : ℕ) (place : Place) (front : List Class)
+    → ((more : List Class) → walk step place (front ++ more) ≡ walk step (in_type item rule types.Whole depth) more)
+    → GoesOn place
+to_whole item rule depth place front leads =
+    led place (in_type item rule types.Whole depth) front leads (whole item rule depth)
+
+to_close : (item : Item) (depth : ℕ) (place : Place) (front : List Class)
+    → ((more : List Class) → walk step place (front ++ more)
+    ≡ walk step (at item places.Alone spots.AfterGenerics depth) more)
+    → GoesOn place
+to_close item depth place front leads =
+    led place (at item places.Alone spots.AfterGenerics depth) front leads (after_generics item places.Alone depth)
+
+to_end : (depth : ℕ) (place : Place) (front : List Class)
+    → ((more : List Class) → walk step place (front ++ more)
+    ≡ walk step (at items.Alone places.Alone spots.ItemEnd depth) more)
+    → GoesOn place
+to_end depth place front leads =
+    led place (at items.Alone places.Alone spots.ItemEnd depth) front leads (item_end depth)
+
+from_type : (item : Item) (rule : Rule) (state : TypeState) (depth : ℕ) → GoesOn (in_type item rule state depth)
+from_type item rule types.Wanted depth =
+    to_whole item rule depth (in_type item rule types.Wanted depth) (Word ∷ []) (λ more. refl)
+from_type item rule types.Open depth =
+    to_whole item rule depth (in_type item rule types.Open depth) (Word ∷ []) (λ more. refl)
+from_type item rule types.MacroGroup depth =
+    to_whole item rule depth (in_type item rule types.MacroGroup depth) (Parentheses ∷ []) (λ more. refl)
+from_type item rule types.Pointer depth =
+    to_whole item rule depth (in_type item rule types.Pointer depth) (Const ∷ Word ∷ []) (λ more. refl)
+from_type item rule types.Tilde depth =
+    to_whole item rule depth (in_type item rule types.Tilde depth) (Const ∷ Word ∷ []) (λ more. refl)
+from_type item rule types.Abi depth =
+    to_whole item rule depth (in_type item rule types.Abi depth) (Word ∷ []) (λ more. refl)
+from_type item rule types.Minus depth =
+    to_whole item rule depth (in_type item rule types.Minus depth) (Literal ∷ []) (λ more. refl)
+from_type item rule types.For depth =
+    to_whole item rule depth (in_type item rule types.For depth) (Less ∷ Greater ∷ Word ∷ []) (λ more. refl)
+from_type item rule types.Binder depth =
+    to_whole item rule depth (in_type item rule types.Binder depth) (Greater ∷ Word ∷ []) (λ more. refl)
+from_type item rule types.Whole depth = whole item rule depth
+
+from_spot : (item : Item) (rule : Rule) (spot : Spot) (depth : ℕ) → GoesOn (at item rule spot depth)
+from_spot item rule spots.Attributes depth = here (at item rule spots.Attributes depth) refl
+from_spot item rule spots.Visibility depth = here (at item rule spots.Visibility depth) refl
+from_spot item rule spots.Public depth = here (at item rule spots.Public depth) refl
+from_spot item rule spots.Restricted depth = here (at item rule spots.Restricted depth) refl
+from_spot item rule spots.ItemEnd depth = here (at item rule spots.ItemEnd depth) refl
+from_spot item rule spots.AttributeHash depth =
+    led (at item rule spots.AttributeHash depth) (at item rule spots.Attributes depth) (Brackets ∷ []) (λ more. refl)
+    (here (at item rule spots.Attributes depth) refl)
+from_spot item rule spots.Field depth =
+    to_whole item rule depth (at item rule spots.Field depth) (Word ∷ Colon ∷ Word ∷ []) (λ more. refl)
+from_spot item rule spots.FieldHash depth =
+    to_whole item rule depth (at item rule spots.FieldHash depth) (Brackets ∷ Word ∷ Colon ∷ Word ∷ []) (λ more. refl)
+from_spot item rule spots.FieldAttributed depth =
+    to_whole item rule depth (at item rule spots.FieldAttributed depth) (Word ∷ Colon ∷ Word ∷ []) (λ more. refl)
+from_spot item rule spots.FieldPublic depth =
+    to_whole item rule depth (at item rule spots.FieldPublic depth) (Word ∷ Colon ∷ Word ∷ []) (λ more. refl)
+from_spot item rule spots.FieldVisible depth =
+    to_whole item rule depth (at item rule spots.FieldVisible depth) (Word ∷ Colon ∷ Word ∷ []) (λ more. refl)
+from_spot item rule spots.FieldName depth =
+    to_whole item rule depth (at item rule spots.FieldName depth) (Colon ∷ Word ∷ []) (λ more. refl)
+from_spot item rule spots.TupleField depth =
+    to_whole item rule depth (at item rule spots.TupleField depth) (Word ∷ []) (λ more. refl)
+from_spot item rule spots.TupleHash depth =
+    to_whole item rule depth (at item rule spots.TupleHash depth) (Brackets ∷ Word ∷ []) (λ more. refl)
+from_spot item rule spots.TupleAttributed depth =
+    to_whole item rule depth (at item rule spots.TupleAttributed depth) (Word ∷ []) (λ more. refl)
+from_spot item rule spots.TuplePublic depth =
+    to_whole item rule depth (at item rule spots.TuplePublic depth) (Word ∷ []) (λ more. refl)
+from_spot item rule spots.ConstName depth =
+    to_whole item places.ConstParameter depth (at item rule spots.ConstName depth) (Word ∷ Colon ∷ Word ∷ [])
+    (λ more. refl)
+from_spot item rule spots.ConstColon depth =
+    to_whole item places.ConstParameter depth (at item rule spots.ConstColon depth) (Colon ∷ Word ∷ []) (λ more. refl)
+from_spot item rule spots.Generics depth =
+    to_close item depth (at item rule spots.Generics depth) (Less ∷ Greater ∷ []) (λ more. refl)
+from_spot item rule spots.Parameter depth =
+    to_close item depth (at item rule spots.Parameter depth) (Greater ∷ []) (λ more. refl)
+from_spot item rule spots.ParameterHash depth =
+    to_close item depth (at item rule spots.ParameterHash depth) (Brackets ∷ Lifetime ∷ Greater ∷ []) (λ more. refl)
+from_spot item rule spots.ParameterAttributed depth =
+    to_close item depth (at item rule spots.ParameterAttributed depth) (Lifetime ∷ Greater ∷ []) (λ more. refl)
+from_spot item rule spots.LifetimeName depth =
+    to_close item depth (at item rule spots.LifetimeName depth) (Greater ∷ []) (λ more. refl)
+from_spot item rule spots.TypeName depth =
+    to_close item depth (at item rule spots.TypeName depth) (Greater ∷ []) (λ more. refl)
+from_spot item rule spots.ConstDefault depth =
+    to_close item depth (at item rule spots.ConstDefault depth) (Literal ∷ Greater ∷ []) (λ more. refl)
+from_spot item rule spots.ConstMinus depth =
+    to_close item depth (at item rule spots.ConstMinus depth) (Literal ∷ Greater ∷ []) (λ more. refl)
+from_spot item rule spots.ConstEnd depth =
+    to_close item depth (at item rule spots.ConstEnd depth) (Greater ∷ []) (λ more. refl)
+from_spot item rule spots.AfterGenerics depth = after_generics item rule depth
+from_spot item rule spots.Where depth =
+    led (at item rule spots.Where depth) (at item places.Alone spots.Predicate depth) (Where ∷ []) (λ more. refl)
+    (predicate item places.Alone depth)
+from_spot item rule spots.Predicate depth = predicate item rule depth
+from_spot item rule spots.Item depth =
+    to_end depth (at item rule spots.Item depth) (Struct ∷ Word ∷ Semicolon ∷ []) (λ more. refl)
+from_spot item rule spots.ItemHash depth =
+    to_end depth (at item rule spots.ItemHash depth) (Brackets ∷ Struct ∷ Word ∷ Semicolon ∷ []) (λ more. refl)
+from_spot item rule spots.ItemPublic depth =
+    to_end depth (at item rule spots.ItemPublic depth) (Struct ∷ Word ∷ Semicolon ∷ []) (λ more. refl)
+from_spot item rule spots.ItemVisible depth =
+    to_end depth (at item rule spots.ItemVisible depth) (Struct ∷ Word ∷ Semicolon ∷ []) (λ more. refl)
+from_spot item rule spots.StructName depth =
+    to_end depth (at item rule spots.StructName depth) (Word ∷ Semicolon ∷ []) (λ more. refl)
+from_spot item rule spots.BracedName depth =
+    to_end depth (at item rule spots.BracedName depth) (Word ∷ Braces ∷ []) (λ more. refl)
+from_spot item rule spots.VariantName depth = here (at item rule spots.VariantName depth) refl
+from_spot item rule spots.VariantEnd depth = here (at item rule spots.VariantEnd depth) refl
+from_spot item rule spots.Variant depth =
+    led (at item rule spots.Variant depth) (at item rule spots.VariantName depth) (Word ∷ []) (λ more. refl)
+    (here (at item rule spots.VariantName depth) refl)
+from_spot item rule spots.VariantHash depth =
+    led (at item rule spots.VariantHash depth) (at item rule spots.VariantName depth) (Brackets ∷ Word ∷ [])
+    (λ more. refl)
+    (here (at item rule spots.VariantName depth) refl)
+from_spot item rule spots.VariantPublic depth =
+    led (at item rule spots.VariantPublic depth) (at item rule spots.VariantName depth) (Word ∷ []) (λ more. refl)
+    (here (at item rule spots.VariantName depth) refl)
+from_spot item rule spots.VariantVisible depth =
+    led (at item rule spots.VariantVisible depth) (at item rule spots.VariantName depth) (Word ∷ []) (λ more. refl)
+    (here (at item rule spots.VariantName depth) refl)
+
+from_state : (item : Item) (rule : Rule) (state : State) (depth : ℕ)
+    → GoesOn (record { item = item; rule = rule; state = state; depth = depth })
+from_state item rule (states.Range state) depth = from_type item rule state depth
+from_state item rule (states.At spot) depth = from_spot item rule spot depth
+
+pub goes_on : (place : Place) → GoesOn place
+goes_on place = from_state place.item place.rule place.state place.depth

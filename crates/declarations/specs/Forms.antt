@@ -1,0 +1,68 @@
+-- The parts of declarations, by where a walk over them begins.
+use Rattle.std.specs.Prelude.{List}
+use Rattle.declarations.specs.Grammar.{step, ends}
+use Rattle.declarations.specs.Walk.{IsWalk}
+use Rattle.declarations.specs.declared.class.Class.{Class}
+use Rattle.declarations.specs.declared.grammar.Item.TheVariants as items
+use Rattle.declarations.specs.declared.grammar.Place.{Place}
+use Rattle.declarations.specs.declared.grammar.Rule.TheVariants as rules
+use Rattle.declarations.specs.declared.grammar.Rule.{Rule}
+use Rattle.declarations.specs.declared.grammar.State.{State}
+use Rattle.declarations.specs.declared.grammar.State.TheVariants as states
+use Rattle.declarations.specs.declared.grammar.Spot.TheVariants as spots
+use Rattle.declarations.specs.declared.types.TypeState.TheVariants as types
+
+-- what is read from a place on
+abbrev pub IsFrom : Place → List Class → List Class → Type 0
+IsFrom start = IsWalk step ends start
+
+abbrev pub start : Rule → State → Place
+start rule state = record { item = items.Alone; rule = rule; state = state; depth = 0 }
+
+-- a type begins where an operand is wanted, and ends where none is, with no angle bracket open
+abbrev pub IsType : List Class → List Class → Type 0
+IsType = IsFrom (start rules.Alone (states.Range types.Wanted))
+
+-- bounds, which may be none
+abbrev pub AreBounds : List Class → List Class → Type 0
+AreBounds = IsFrom (start rules.Alone (states.Range types.Open))
+
+-- attributes, any number of `#` and brackets
+abbrev pub AreAttributes : List Class → List Class → Type 0
+AreAttributes = IsFrom (start rules.Alone (states.At spots.Attributes))
+
+-- `pub`, perhaps with a restriction, or nothing
+abbrev pub IsVisibility : List Class → List Class → Type 0
+IsVisibility = IsFrom (start rules.Alone (states.At spots.Visibility))
+
+-- a field: attributes, a visibility, a name, `:` and a type
+abbrev pub IsField : List Class → List Class → Type 0
+IsField = IsFrom (start rules.Alone (states.At spots.Field))
+
+-- a field without a name: attributes, a visibility and a type
+abbrev pub IsTupleField : List Class → List Class → Type 0
+IsTupleField = IsFrom (start rules.Alone (states.At spots.TupleField))
+
+-- fields, with `,` between two and perhaps after the last
+abbrev pub AreFields : List Class → List Class → Type 0
+AreFields = IsFrom (start rules.Fields (states.At spots.Field))
+
+-- fields without names, with `,` between two and perhaps after the last
+abbrev pub AreTupleFields : List Class → List Class → Type 0
+AreTupleFields = IsFrom (start rules.TupleFields (states.At spots.TupleField))
+
+-- a variant up to its discriminant: attributes, a visibility, a name, and perhaps its fields
+abbrev pub IsVariant : List Class → List Class → Type 0
+IsVariant = IsFrom (start rules.Alone (states.At spots.Variant))
+
+-- generic parameters in angle brackets, or nothing
+abbrev pub AreGenerics : List Class → List Class → Type 0
+AreGenerics = IsFrom (start rules.Alone (states.At spots.Generics))
+
+-- a where clause, or nothing
+abbrev pub IsWhere : List Class → List Class → Type 0
+IsWhere = IsFrom (start rules.Alone (states.At spots.Where))
+
+-- a struct, an enum or a union: attributes, a visibility, its keyword and name, generics, where clause and body
+abbrev pub IsItem : List Class → List Class → Type 0
+IsItem = IsFrom (start rules.Alone (states.At spots.Item))

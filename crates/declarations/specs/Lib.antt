@@ -1,0 +1,6 @@
+pub mod TypeStep
+pub mod Walk
+pub mod Grammar
+pub mod Forms
+pub mod Signs
+pub mod Reading

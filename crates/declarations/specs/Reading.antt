@@ -1,0 +1,35 @@
+-- What is read of trees, and where none is.
+use Rattle.std.specs.Prelude.{◌≡◌, ℕ, List, [], ◌∷◌, ◌++◌, length}
+use Rattle.pm_stream.specs.declared.stream.TokenTree.{TokenTree}
+use Rattle.declarations.specs.Signs.{Sign, signs, classes_of, trees_of}
+use Rattle.declarations.specs.Walk.{IsFront}
+use Rattle.declarations.specs.declared.class.Class.{Class}
+
+-- the part stands at the front of the trees as the form says, and the rest follows it. Each tree is in one of them
+pub record Reads (form : List Class → List Class → Type 0) (trees part rest : List TokenTree) : Type 0 where
+  pub piece : List Sign
+  pub read : signs trees ≡ piece ++ signs rest
+  pub taken : part ≡ trees_of piece
+  pub whole : trees ≡ part ++ rest
+  pub stands : form (classes_of piece) (classes_of (signs rest))
+
+-- the front of the signs can't go on with the first of those that are left
+abbrev pub StopsBefore : (List Class → List Class → Type 0) → List Class → List Class → Type 0
+StopsBefore form front [] = Unit {0}
+StopsBefore form front (sign ∷ left) = IsFront form (front ++ sign ∷ []) → ⊥
+
+-- nothing is read, and so many trees are the longest front that some trees could follow for something to be read
+pub record FaultAt (form : List Class → List Class → Type 0) (trees : List TokenTree) (at : ℕ) : Type 0 where
+  pub front : List Sign
+  pub left : List TokenTree
+  pub read : signs trees ≡ front ++ signs left
+  pub whole : trees ≡ trees_of front ++ left
+  pub counted : at ≡ length (trees_of front)
+  pub goes_on : IsFront form (classes_of front)
+  pub longest : StopsBefore form (classes_of front) (classes_of (signs left))
+  pub nothing : (part rest : List TokenTree) → Reads form trees part rest → ⊥
+
+-- nothing else is read
+abbrev pub IsOnly : (List Class → List Class → Type 0) → List TokenTree → List TokenTree → List TokenTree → Type 0
+IsOnly form trees part rest =
+    (part2 rest2 : List TokenTree) → Reads form trees part2 rest2 → (part2 ≡ part) × (rest2 ≡ rest)

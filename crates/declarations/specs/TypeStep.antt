@@ -1,0 +1,137 @@
+-- The steps of the walk over a type.
+use Rattle.std.specs.Prelude.{Bool, true, false, Option, Some, None}
+use Rattle.declarations.specs.declared.class.Class.{Class}
+use Rattle.declarations.specs.declared.class.Class.TheVariants.{Word, Union, SelfValue, SelfType, Super, Crate}
+use Rattle.declarations.specs.declared.class.Class.TheVariants.{Underscore, Mut, Const, Extern, For, As, Truth}
+use Rattle.declarations.specs.declared.class.Class.TheVariants.{TypeFront, Literal, Lifetime, PathSeparator, Arrow}
+use Rattle.declarations.specs.declared.class.Class.TheVariants.{Restriction, Parentheses, Brackets, Braces, Invisible}
+use Rattle.declarations.specs.declared.class.Class.TheVariants.{Less, Greater, Comma, Colon, Equals, Plus, Minus}
+use Rattle.declarations.specs.declared.class.Class.TheVariants.{Star, And, Question, Exclamation, Tilde}
+use Rattle.declarations.specs.declared.types.Turn.{Turn}
+use Rattle.declarations.specs.declared.types.Turn.TheVariants as turns
+use Rattle.declarations.specs.declared.types.TypeState.{TypeState}
+use Rattle.declarations.specs.declared.types.TypeState.TheVariants as states
+use Rattle.declarations.specs.declared.types.TypeStep.{TypeStep}
+
+abbrev pub go : TypeState → Turn → Option TypeStep
+go state turn = Some (record { state = state; turn = turn })
+
+abbrev pub stay : TypeState → Option TypeStep
+stay state = go state turns.Stay
+
+-- only within angle brackets
+abbrev pub within : Bool → Option TypeStep → Option TypeStep
+within true step = None
+within false step = step
+
+-- the step where an operand may stand, outside of angle brackets or not
+abbrev pub operand : Class → Bool → Option TypeStep
+operand Word outside = stay states.Whole
+operand Union outside = stay states.Whole
+operand SelfValue outside = stay states.Whole
+operand SelfType outside = stay states.Whole
+operand Super outside = stay states.Whole
+operand Crate outside = stay states.Whole
+operand Underscore outside = stay states.Whole
+operand Restriction outside = stay states.Whole
+operand Parentheses outside = stay states.Whole
+operand Brackets outside = stay states.Whole
+operand Invisible outside = stay states.Whole
+operand Exclamation outside = stay states.Whole
+operand Truth outside = within outside (stay states.Whole)
+operand Literal outside = within outside (stay states.Whole)
+operand Braces outside = within outside (stay states.Whole)
+operand Mut outside = stay states.Wanted
+operand TypeFront outside = stay states.Wanted
+operand PathSeparator outside = stay states.Wanted
+operand And outside = stay states.Wanted
+operand Question outside = stay states.Wanted
+operand Extern outside = stay states.Abi
+operand For outside = stay states.For
+operand Lifetime outside = stay states.Open
+operand Star outside = stay states.Pointer
+operand Tilde outside = stay states.Tilde
+operand Minus outside = within outside (stay states.Minus)
+operand Less outside = go states.Open turns.Open
+operand _ outside = None
+
+-- the step after an operand
+abbrev pub continuation : Class → Bool → Option TypeStep
+continuation Restriction outside = stay states.Whole
+continuation Parentheses outside = stay states.Whole
+continuation PathSeparator outside = stay states.Wanted
+continuation Arrow outside = stay states.Wanted
+continuation Plus outside = stay states.Open
+continuation Exclamation outside = stay states.MacroGroup
+continuation As outside = within outside (stay states.Wanted)
+continuation Equals outside = within outside (stay states.Wanted)
+continuation Comma outside = within outside (stay states.Open)
+continuation Colon outside = within outside (stay states.Open)
+continuation Less outside = go states.Open turns.Open
+continuation Greater outside = within outside (go states.Whole turns.Close)
+continuation _ outside = None
+
+-- where an operand may stand, or what follows a whole type
+abbrev pub operand_or_end : Class → Bool → Option TypeStep
+operand_or_end Arrow outside = stay states.Wanted
+operand_or_end Plus outside = stay states.Open
+operand_or_end As outside = within outside (stay states.Wanted)
+operand_or_end Comma outside = within outside (stay states.Open)
+operand_or_end Colon outside = within outside (stay states.Open)
+operand_or_end Greater outside = within outside (go states.Whole turns.Close)
+operand_or_end class outside = operand class outside
+
+abbrev pub macro_group : Class → Option TypeStep
+macro_group Restriction = stay states.Whole
+macro_group Parentheses = stay states.Whole
+macro_group Brackets = stay states.Whole
+macro_group Braces = stay states.Whole
+macro_group _ = None
+
+abbrev pub pointer : Class → Option TypeStep
+pointer Const = stay states.Wanted
+pointer Mut = stay states.Wanted
+pointer _ = None
+
+abbrev pub tilde : Class → Option TypeStep
+tilde Const = stay states.Wanted
+tilde _ = None
+
+abbrev pub abi : Class → Bool → Option TypeStep
+abi Literal outside = stay states.Wanted
+abi class outside = operand class outside
+
+abbrev pub minus : Class → Option TypeStep
+minus Literal = stay states.Whole
+minus _ = None
+
+abbrev pub for_binder : Class → Option TypeStep
+for_binder Less = stay states.Binder
+for_binder _ = None
+
+abbrev pub binder : Class → Option TypeStep
+binder Lifetime = stay states.Binder
+binder Comma = stay states.Binder
+binder Colon = stay states.Binder
+binder Plus = stay states.Binder
+binder Greater = stay states.Wanted
+binder _ = None
+
+-- the step from a state, outside of angle brackets or not
+abbrev pub step_of : TypeState → Class → Bool → Option TypeStep
+step_of states.Wanted class outside = operand class outside
+step_of states.Open class outside = operand_or_end class outside
+step_of states.Whole class outside = continuation class outside
+step_of states.MacroGroup class outside = macro_group class
+step_of states.Pointer class outside = pointer class
+step_of states.Tilde class outside = tilde class
+step_of states.Abi class outside = abi class outside
+step_of states.Minus class outside = minus class
+step_of states.For class outside = for_binder class
+step_of states.Binder class outside = binder class
+
+-- whether a type may end there, outside of angle brackets
+abbrev pub may_end : TypeState → Bool
+may_end states.Whole = true
+may_end states.Open = true
+may_end _ = false

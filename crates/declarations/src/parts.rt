@@ -1,0 +1,221 @@
+//! The parts of declarations, each at the front of trees.
+ghost use Rattle.std.specs.Prelude.{IfErr, IfOk};
+ghost use Rattle.declarations.specs.Forms.{AreAttributes, AreBounds, AreFields, AreGenerics, AreTupleFields, IsField};
+ghost use Rattle.declarations.specs.Forms.{IsItem, IsTupleField, IsType, IsVisibility, IsWhere};
+ghost use Rattle.declarations.specs.Forms.{IsVariant};
+ghost use Rattle.declarations.specs.Reading.{FaultAt, IsOnly, Reads};
+
+use crate::fault::Fault;
+use crate::grammar::{Item, Place, Rule, Spot, State};
+use crate::types::TypeState;
+use crate::walk::split_from;
+use pm_stream::TokenTree;
+
+/// The type at the front of the trees, and the trees after it.
+///
+/// A type isn't parsed: its end is found. It is the first place outside of angle brackets where an operand stands and
+/// the next sign doesn't continue it. Of `Vec<A>, B` it is `Vec<A>`.
+pub fn split_type(trees: &[TokenTree]) -> Result<(&[TokenTree], &[TokenTree]), Fault>
+    ensures ok { IfOk result (λ found. Reads IsType trees.now found.0.now found.1.now) }
+    ensures only { IfOk result (λ found. IsOnly IsType trees.now found.0.now found.1.now) }
+    ensures fault { IfErr result (λ fault. FaultAt IsType trees.now fault.at) }
+{
+    let start = Place {
+        item: Item::Alone,
+        rule: Rule::Alone,
+        state: State::Range(TypeState::Wanted),
+        depth: 0,
+    };
+    split_from(trees, start)
+}
+
+/// The bounds at the front of the trees, which may be none, and the trees after them.
+///
+/// Their end is found as that of a type: of `A + 'b = C` they are `A + 'b`.
+pub fn split_bounds(trees: &[TokenTree]) -> Result<(&[TokenTree], &[TokenTree]), Fault>
+    ensures ok { IfOk result (λ found. Reads AreBounds trees.now found.0.now found.1.now) }
+    ensures only { IfOk result (λ found. IsOnly AreBounds trees.now found.0.now found.1.now) }
+    ensures fault { IfErr result (λ fault. FaultAt AreBounds trees.now fault.at) }
+{
+    let start = Place {
+        item: Item::Alone,
+        rule: Rule::Alone,
+        state: State::Range(TypeState::Open),
+        depth: 0,
+    };
+    split_from(trees, start)
+}
+
+/// The outer attributes at the front of the trees, which may be none, and the trees after them.
+///
+/// Of `#[a] #[b] pub x` they are `#[a] #[b]`. What stands in the brackets isn't read.
+pub fn split_attributes(trees: &[TokenTree]) -> Result<(&[TokenTree], &[TokenTree]), Fault>
+    ensures ok { IfOk result (λ found. Reads AreAttributes trees.now found.0.now found.1.now) }
+    ensures only { IfOk result (λ found. IsOnly AreAttributes trees.now found.0.now found.1.now) }
+    ensures fault { IfErr result (λ fault. FaultAt AreAttributes trees.now fault.at) }
+{
+    let start = Place {
+        item: Item::Alone,
+        rule: Rule::Alone,
+        state: State::At(Spot::Attributes),
+        depth: 0,
+    };
+    split_from(trees, start)
+}
+
+/// The visibility at the front of the trees, which may be left out, and the trees after it.
+///
+/// Parentheses after `pub` belong to it where they are `(crate)`, `(self)`, `(super)` or `(in ..)`: of `pub (A, B)` it
+/// is `pub`. The path after `in` isn't read.
+pub fn split_visibility(trees: &[TokenTree]) -> Result<(&[TokenTree], &[TokenTree]), Fault>
+    ensures ok { IfOk result (λ found. Reads IsVisibility trees.now found.0.now found.1.now) }
+    ensures only { IfOk result (λ found. IsOnly IsVisibility trees.now found.0.now found.1.now) }
+    ensures fault { IfErr result (λ fault. FaultAt IsVisibility trees.now fault.at) }
+{
+    let start = Place {
+        item: Item::Alone,
+        rule: Rule::Alone,
+        state: State::At(Spot::Visibility),
+        depth: 0,
+    };
+    split_from(trees, start)
+}
+
+/// The named field at the front of the trees, with its attributes and visibility, and the trees after it.
+///
+/// Of `#[a] pub x: Vec<A, B>, y: C` it is `#[a] pub x: Vec<A, B>`.
+pub fn split_field(trees: &[TokenTree]) -> Result<(&[TokenTree], &[TokenTree]), Fault>
+    ensures ok { IfOk result (λ found. Reads IsField trees.now found.0.now found.1.now) }
+    ensures only { IfOk result (λ found. IsOnly IsField trees.now found.0.now found.1.now) }
+    ensures fault { IfErr result (λ fault. FaultAt IsField trees.now fault.at) }
+{
+    let start = Place {
+        item: Item::Alone,
+        rule: Rule::Alone,
+        state: State::At(Spot::Field),
+        depth: 0,
+    };
+    split_from(trees, start)
+}
+
+/// The field without a name at the front of the trees, with its attributes and visibility, and the trees after it.
+///
+/// Of `pub (A, B), C` it is `pub (A, B)`, whose type is the parentheses.
+pub fn split_tuple_field(trees: &[TokenTree]) -> Result<(&[TokenTree], &[TokenTree]), Fault>
+    ensures ok { IfOk result (λ found. Reads IsTupleField trees.now found.0.now found.1.now) }
+    ensures only { IfOk result (λ found. IsOnly IsTupleField trees.now found.0.now found.1.now) }
+    ensures fault { IfErr result (λ fault. FaultAt IsTupleField trees.now fault.at) }
+{
+    let start = Place {
+        item: Item::Alone,
+        rule: Rule::Alone,
+        state: State::At(Spot::TupleField),
+        depth: 0,
+    };
+    split_from(trees, start)
+}
+
+/// The named fields at the front of the trees, with `,` between two and perhaps after the last, and the trees after
+/// them.
+///
+/// Of the trees within the braces of a struct they are all, or else the struct has a fault.
+pub fn split_fields(trees: &[TokenTree]) -> Result<(&[TokenTree], &[TokenTree]), Fault>
+    ensures ok { IfOk result (λ found. Reads AreFields trees.now found.0.now found.1.now) }
+    ensures only { IfOk result (λ found. IsOnly AreFields trees.now found.0.now found.1.now) }
+    ensures fault { IfErr result (λ fault. FaultAt AreFields trees.now fault.at) }
+{
+    let start = Place {
+        item: Item::Alone,
+        rule: Rule::Fields,
+        state: State::At(Spot::Field),
+        depth: 0,
+    };
+    split_from(trees, start)
+}
+
+/// The fields without names at the front of the trees, with `,` between two and perhaps after the last, and the trees
+/// after them.
+pub fn split_tuple_fields(trees: &[TokenTree]) -> Result<(&[TokenTree], &[TokenTree]), Fault>
+    ensures ok { IfOk result (λ found. Reads AreTupleFields trees.now found.0.now found.1.now) }
+    ensures only { IfOk result (λ found. IsOnly AreTupleFields trees.now found.0.now found.1.now) }
+    ensures fault { IfErr result (λ fault. FaultAt AreTupleFields trees.now fault.at) }
+{
+    let start = Place {
+        item: Item::Alone,
+        rule: Rule::TupleFields,
+        state: State::At(Spot::TupleField),
+        depth: 0,
+    };
+    split_from(trees, start)
+}
+
+/// The variant at the front of the trees up to its discriminant, with its attributes and visibility, and the trees
+/// after it.
+///
+/// Of `#[a] B { c: D } = 1` it is all before `=`. What stands within its braces or parentheses isn't read.
+pub fn split_variant(trees: &[TokenTree]) -> Result<(&[TokenTree], &[TokenTree]), Fault>
+    ensures ok { IfOk result (λ found. Reads IsVariant trees.now found.0.now found.1.now) }
+    ensures only { IfOk result (λ found. IsOnly IsVariant trees.now found.0.now found.1.now) }
+    ensures fault { IfErr result (λ fault. FaultAt IsVariant trees.now fault.at) }
+{
+    let start = Place {
+        item: Item::Alone,
+        rule: Rule::Alone,
+        state: State::At(Spot::Variant),
+        depth: 0,
+    };
+    split_from(trees, start)
+}
+
+/// The generic parameters at the front of the trees in their angle brackets, which may be left out, and the trees after
+/// them.
+///
+/// Of `<'a, T: A<B> = C, const N: usize = 3> where T: D` they are all before `where`.
+pub fn split_generics(trees: &[TokenTree]) -> Result<(&[TokenTree], &[TokenTree]), Fault>
+    ensures ok { IfOk result (λ found. Reads AreGenerics trees.now found.0.now found.1.now) }
+    ensures only { IfOk result (λ found. IsOnly AreGenerics trees.now found.0.now found.1.now) }
+    ensures fault { IfErr result (λ fault. FaultAt AreGenerics trees.now fault.at) }
+{
+    let start = Place {
+        item: Item::Alone,
+        rule: Rule::Alone,
+        state: State::At(Spot::Generics),
+        depth: 0,
+    };
+    split_from(trees, start)
+}
+
+/// The where clause at the front of the trees, which may be left out, and the trees after it.
+///
+/// Of `where T: A, [U; 2]: B { .. }` it is all before the braces.
+pub fn split_where(trees: &[TokenTree]) -> Result<(&[TokenTree], &[TokenTree]), Fault>
+    ensures ok { IfOk result (λ found. Reads IsWhere trees.now found.0.now found.1.now) }
+    ensures only { IfOk result (λ found. IsOnly IsWhere trees.now found.0.now found.1.now) }
+    ensures fault { IfErr result (λ fault. FaultAt IsWhere trees.now fault.at) }
+{
+    let start = Place {
+        item: Item::Alone,
+        rule: Rule::Alone,
+        state: State::At(Spot::Where),
+        depth: 0,
+    };
+    split_from(trees, start)
+}
+
+/// The struct, enum or union at the front of the trees, with its attributes and visibility, and the trees after it.
+///
+/// What stands within the braces or parentheses of its body isn't read: [`split_fields`] and [`split_tuple_fields`]
+/// read that.
+pub fn split_item(trees: &[TokenTree]) -> Result<(&[TokenTree], &[TokenTree]), Fault>
+    ensures ok { IfOk result (λ found. Reads IsItem trees.now found.0.now found.1.now) }
+    ensures only { IfOk result (λ found. IsOnly IsItem trees.now found.0.now found.1.now) }
+    ensures fault { IfErr result (λ fault. FaultAt IsItem trees.now fault.at) }
+{
+    let start = Place {
+        item: Item::Alone,
+        rule: Rule::Alone,
+        state: State::At(Spot::Item),
+        depth: 0,
+    };
+    split_from(trees, start)
+}
