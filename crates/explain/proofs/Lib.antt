@@ -14,3 +14,11 @@ pub mod LoneLemmas
 pub mod StuckLemmas
 pub mod LetterLemmas
 pub mod ExplainingLemmas
+pub mod Told
+pub mod ToldTextLemmas
+pub mod ToldQuoteLemmas
+pub mod ToldNumberLemmas
+pub mod PairedLemmas
+pub mod TakenLemmas
+pub mod OneContentLemmas
+pub mod ExclusiveLemmas

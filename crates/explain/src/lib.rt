@@ -11,6 +11,7 @@
 mod contents;
 mod explained;
 mod explaining;
+pub mod laws;
 mod letters;
 mod nesting;
 mod numbers;
