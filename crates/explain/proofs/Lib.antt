@@ -13,6 +13,7 @@ pub mod SingleLemmas
 pub mod LoneLemmas
 pub mod StuckLemmas
 pub mod LetterLemmas
+pub mod StandLemmas
 pub mod ExplainingLemmas
 pub mod Told
 pub mod ToldTextLemmas
