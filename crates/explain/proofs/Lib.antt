@@ -23,3 +23,7 @@ pub mod PairedLemmas
 pub mod TakenLemmas
 pub mod OneContentLemmas
 pub mod ExclusiveLemmas
+pub mod UnfoundLemmas
+pub mod UnfoundStringLemmas
+pub mod UnfoundQuoteLemmas
+pub mod NoPieceLemmas

@@ -53,25 +53,26 @@ many_stop rule clear (u ∷ us) (v ∷ vs) x y each other e none last =
 -- ---- strings
 
 -- up to the first fault stand units
-record IsPlace (kind : StringKind) (e : EscapeError) (text : List ℕ) : Type 0 where
-  units : List (List ℕ)
-  content : List ℕ
-  left : List ℕ
-  tail : List ℕ
-  whole : text ≡ string_front kind ++ (concat units ++ (content ++ (34 ∷ tail)))
-  each : Each (Stands (unit kind)) units (content ++ (34 ∷ tail))
-  none : HasNone (Stands (unit kind)) (content ++ (34 ∷ tail))
-  gives : StringFault kind e content left
-  closed : List ℕ
-  stands : Stands (closed_string kind) closed tail
-  all : text ≡ closed ++ tail
+pub record IsPlace (kind : StringKind) (e : EscapeError) (text : List ℕ) : Type 0 where
+  pub units : List (List ℕ)
+  pub content : List ℕ
+  pub left : List ℕ
+  pub tail : List ℕ
+  pub whole : text ≡ string_front kind ++ (concat units ++ (content ++ (34 ∷ tail)))
+  pub each : Each (Stands (unit kind)) units (content ++ (34 ∷ tail))
+  pub none : HasNone (Stands (unit kind)) (content ++ (34 ∷ tail))
+  pub gives : StringFault kind e content left
+  pub paired : Paired content
+  pub closed : List ℕ
+  pub stands : Stands (closed_string kind) closed tail
+  pub all : text ≡ closed ++ tail
 
-string_cancel : (kind : StringKind) (a b : List ℕ) → string_front kind ++ a ≡ string_front kind ++ b → a ≡ b
+pub string_cancel : (kind : StringKind) (a b : List ℕ) → string_front kind ++ a ≡ string_front kind ++ b → a ≡ b
 string_cancel kinds.Plain a b e = cc
 string_cancel kinds.Byte a b e = cc
 string_cancel kinds.C a b e = cc
 
-place_of : (kind : StringKind) (e : EscapeError) (f p r : List ℕ) → IsBadString kind e f p r
+pub place_of : (kind : StringKind) (e : EscapeError) (f p r : List ℕ) → IsBadString kind e f p r
     → IsPlace kind e (f ++ (p ++ r))
 place_of kind e f p r is =
     let content : List ℕ = (is.start ++ p) ++ is.left in
@@ -118,13 +119,14 @@ place_of kind e f p r is =
       none = no_unit_at kind e content is.left is.tail is.gives paired
           (ap (begins_any line_ends) (sym rest) ∙ is.apart);
       gives = is.gives;
+      paired = paired;
       closed = f ++ (p ++ (is.left ++ codes "\""));
       stands = closed;
       all = closed_whole kind e f p r is;
     }
 
 -- a fault is one
-one_fault : {U : Type 0} (read : Read U) (e o : EscapeError) (left rest : List ℕ) → read ≡ fault e left
+pub one_fault : {U : Type 0} (read : Read U) (e o : EscapeError) (left rest : List ℕ) → read ≡ fault e left
     → read ≡ fault o rest → e ≡ o
 one_fault {U = U} read e o left rest is other =
     let same : ◌≡◌ {A = Result U EscapeError} (Err e) (Err o) = ap (λ r. r.unit) (sym is ∙ other) in cc
@@ -168,17 +170,17 @@ one_string a b e o text is other =
 
 -- ---- raw strings
 
-record IsRawPlace (kind : StringKind) (e : EscapeError) (text : List ℕ) : Type 0 where
-  signed : IsSigned kind text
-  units : List (List ℕ)
-  character : ℕ
-  more : List ℕ
-  rest : signed.rest ≡ 34 ∷ (concat units ++ (character ∷ more))
-  each : Each (Stands (raw_strings.raw_unit (may_stand_raw kind) (34 ∷ signed.signs))) units (character ∷ more)
-  apart : begins_with (codes "\r\n") (character ∷ more) ≡ false
-  gives : raw_character kind character ≡ Err e
+pub record IsRawPlace (kind : StringKind) (e : EscapeError) (text : List ℕ) : Type 0 where
+  pub signed : IsSigned kind text
+  pub units : List (List ℕ)
+  pub character : ℕ
+  pub more : List ℕ
+  pub rest : signed.rest ≡ 34 ∷ (concat units ++ (character ∷ more))
+  pub each : Each (Stands (raw_strings.raw_unit (may_stand_raw kind) (34 ∷ signed.signs))) units (character ∷ more)
+  pub apart : begins_with (codes "\r\n") (character ∷ more) ≡ false
+  pub gives : raw_character kind character ≡ Err e
 
-raw_place_of : (kind : StringKind) (e : EscapeError) (f p r : List ℕ) → IsBadRaw kind e f p r
+pub raw_place_of : (kind : StringKind) (e : EscapeError) (f p r : List ℕ) → IsBadRaw kind e f p r
     → IsRawPlace kind e (f ++ (p ++ r))
 raw_place_of kind e f p r is =
     let letters = is.stands in
@@ -213,7 +215,7 @@ raw_place_of kind e f p r is =
     }
 
 -- a character that may stand there is one for the escaper
-raw_taken : (kind : StringKind) (c : ℕ) → may_stand_raw kind c ≡ true → (c == 13) ≡ false
+pub raw_taken : (kind : StringKind) (c : ℕ) → may_stand_raw kind c ≡ true → (c == 13) ≡ false
     → (u : ℕ) × (raw_character kind c ≡ Ok u)
 raw_taken kinds.Plain c may plain = (c, cond-false _ _ _ plain)
 raw_taken kinds.Byte c may plain = (c, cond-false _ _ _ plain ∙ cond-true _ _ _ may)
@@ -227,7 +229,7 @@ no_raw_fault kind c e may is =
     let clash : ◌≡◌ {A = Result ℕ EscapeError} (Ok taken.0) (Err e) = sym taken.1 ∙ is in
     cc
 
-no_raw_unit : (kind : StringKind) (close : List ℕ) (e : EscapeError) (c : ℕ) (more : List ℕ)
+pub no_raw_unit : (kind : StringKind) (close : List ℕ) (e : EscapeError) (c : ℕ) (more : List ℕ)
     → begins_with (codes "\r\n") (c ∷ more) ≡ false → raw_character kind c ≡ Err e
     → HasNone (Stands (raw_strings.raw_unit (may_stand_raw kind) close)) (c ∷ more)
 no_raw_unit kind close e c more apart gives p r split (inl one, here) =
@@ -272,7 +274,7 @@ one_raw a b e o text is other =
 -- ---- characters and bytes
 
 -- what stands between the quotes of a named character, by its own rule
-named_of : (p r : List ℕ) → Stands closed_named p r
+pub named_of : (p r : List ℕ) → Stands closed_named p r
     → Stands raw_named p r ⊎ (Stands plain_named p r ⊎ Stands digit_named p r)
 named_of p r (inl is) = inl is
 named_of p r (inr is) = elim is.second.first [
@@ -305,7 +307,7 @@ named_of p r (inr is) = elim is.second.first [
 ]
 
 module _ (text p r : List ℕ) (e : text ≡ p ++ r) where
-  raw_text : Stands raw_named p r → (rest : List ℕ) × (text ≡ 39 ∷ 114 ∷ 35 ∷ rest)
+  pub raw_text : Stands raw_named p r → (rest : List ℕ) × (text ≡ 39 ∷ 114 ∷ 35 ∷ rest)
   raw_text is = (_, e ∙ ap (λ t. t ++ r) (is.whole ∙ ap (λ t. t ++ is.back) is.first))
 
   -- after the quote, what stands up to the other
@@ -315,7 +317,7 @@ module _ (text p r : List ℕ) (e : text ≡ p ++ r) where
       e ∙ (ap (λ t. t ++ r) (whole ∙ ap₂ (λ a b. a ++ b) first last)
       ∙ ap (λ t. 39 ∷ t) (append_assoc rest (codes "'") r))
 
-  plain_text : Stands plain_named p r
+  pub plain_text : Stands plain_named p r
       → (c : ℕ) × (more : List ℕ) × (text ≡ 39 ∷ c ∷ (more ++ (39 ∷ r))) × (is_ident_start c ≡ true)
       × Stands (Run is_ident_continue) more (39 ∷ r)
   plain_text is =
@@ -332,7 +334,7 @@ module _ (text p r : List ℕ) (e : text ≡ p ++ r) where
         first.4,
       )
 
-  digit_text : Stands digit_named p r
+  pub digit_text : Stands digit_named p r
       → (c : ℕ) × (rest : List ℕ) × (text ≡ 39 ∷ c ∷ rest) × (is_ascii_digit c ≡ true)
   digit_text is =
       let inner = is.second in
@@ -370,7 +372,7 @@ module _ (text p q r s : List ℕ) (e : text ≡ p ++ r) (o : text ≡ q ++ s) w
       let first : digit.0 ≡ plain.0 = cc in
       no_both plain.0 plain.3 (ap is_ascii_digit (sym first) ∙ digit.3)
 
-one_named : (text p q r s : List ℕ) → text ≡ p ++ r → text ≡ q ++ s
+pub one_named : (text p q r s : List ℕ) → text ≡ p ++ r → text ≡ q ++ s
     → Stands raw_named p r ⊎ (Stands plain_named p r ⊎ Stands digit_named p r)
     → Stands raw_named q s ⊎ (Stands plain_named q s ⊎ Stands digit_named q s)
     → p ≡ q
@@ -394,7 +396,7 @@ not_single_named text rest p q r s lone e o is other =
     no_opening text rest lone (named_bars text rest lone (named_is text q s o other)) is.front (is.back ++ r)
     (e ∙ (ap (λ t. t ++ r) is.whole ∙ append_assoc is.front is.back r)) is.first
 
-one_character : (text rest p q r s : List ℕ) → text ≡ 39 ∷ rest → text ≡ p ++ r → text ≡ q ++ s
+pub one_character : (text rest p q r s : List ℕ) → text ≡ 39 ∷ rest → text ≡ p ++ r → text ≡ q ++ s
     → Stands closed_character p r → Stands closed_character q s → p ≡ q
 one_character text rest p q r s lone e o (inl is) (inl other) =
     (one_split closed_single (assumption) p q r s is other (sym e ∙ o)).0
@@ -406,21 +408,21 @@ one_character text rest p q r s lone e o (inr is) (inr other) =
     one_named text p q r s e o (named_of p r is) (named_of q s other)
 
 -- a byte is never named
-byte_single : (text rest p r : List ℕ) → text ≡ codes "b'" ++ rest → text ≡ p ++ r → Stands closed_character p r
+pub byte_single : (text rest p r : List ℕ) → text ≡ codes "b'" ++ rest → text ≡ p ++ r → Stands closed_character p r
     → Stands closed_single p r
 byte_single text rest p r byte e (inl is) = is
 byte_single text rest p r byte e (inr is) = absurd (barred (codes "b'") closed_named refl rest p r is (sym e ∙ byte))
 
 -- a character that ends begins the text, with a fault in its content
-record IsSinglePlace (kind : SingleKind) (e : EscapeError) (text : List ℕ) : Type 0 where
-  content : List ℕ
-  left : List ℕ
-  tail : List ℕ
-  whole : text ≡ (single_front kind ++ (content ++ codes "'")) ++ tail
-  closed : Stands closed_character (single_front kind ++ (content ++ codes "'")) tail
-  gives : SingleFault kind e content left
+pub record IsSinglePlace (kind : SingleKind) (e : EscapeError) (text : List ℕ) : Type 0 where
+  pub content : List ℕ
+  pub left : List ℕ
+  pub tail : List ℕ
+  pub whole : text ≡ (single_front kind ++ (content ++ codes "'")) ++ tail
+  pub closed : Stands closed_character (single_front kind ++ (content ++ codes "'")) tail
+  pub gives : SingleFault kind e content left
 
-single_place_of : (kind : SingleKind) (e : EscapeError) (f p r : List ℕ) → IsBadSingle kind e f p r
+pub single_place_of : (kind : SingleKind) (e : EscapeError) (f p r : List ℕ) → IsBadSingle kind e f p r
     → IsSinglePlace kind e (f ++ (p ++ r))
 single_place_of kind e f p r is = record {
   content = is.content;

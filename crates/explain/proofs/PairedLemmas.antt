@@ -4,7 +4,7 @@ use Rattle.std.proofs.Common.{refl, sym, ap, ap₂, ◌∙◌, ◌&&◌, subst, 
 use Rattle.std.specs.Char.{is_ascii_hexdigit, is_digit, digit_value}
 use Rattle.std.specs.List.{concat, list_all}
 use Rattle.std.proofs.lemmas.Bool.{and_parts, both_ways, false_from_ne_true, or_from, lt-ltb}
-use Rattle.lexical.specs.Form.{Each}
+use Rattle.lexical.specs.Form.{Each, Many}
 use Rattle.lexical.specs.Quoted as rule
 use Rattle.lexical.specs.Quoted.{escaped, hex_pair, is_code_digit, is_octal_digit, is_one_of, is_plain, unit}
 use Rattle.lexical.specs.Rule.{Stands}
@@ -168,6 +168,86 @@ past_units kind (u ∷ us) r text each is =
     past_units kind us r text each.1
     (past_unit kind (concat us ++ r) (concat us ++ text) u each.0
     (subst Paired (append_assoc u (concat us) text) is))
+
+-- ---- units are pairs
+
+more_all : (cs text : List ℕ) → list_all is_alone cs ≡ true → Paired text → Paired (cs ++ text)
+more_all [] text all is = is
+more_all (c ∷ cs) text all is =
+    let parts = and_parts (is_alone c) (list_all is_alone cs) all in
+    more_alone c (cs ++ text) parts.0 (more_all cs text parts.1 is)
+
+module _ (kind : StringKind) (r text : List ℕ) (is : Paired text) where
+  pub more_escaped : (v : List ℕ) → Stands (escaped kind) v r → Paired (92 ∷ (v ++ text))
+  more_escaped v (inl (inl feed)) = subst (λ t. Paired (92 ∷ (t ++ text))) (sym feed) (inr (refl, is))
+  more_escaped v (inl (inr return)) =
+      subst (λ t. Paired (92 ∷ (t ++ text))) (sym return) (inr (refl, more_alone 10 text refl is))
+  more_escaped v (inr (inl letter)) =
+      subst (λ t. Paired (92 ∷ (t ++ text))) (sym letter.1) (inr (refl, is))
+  more_escaped v (inr (inr (inl hex))) =
+      let digits = pair_of kind hex.back r hex.second in
+      subst (λ t. Paired (92 ∷ (t ++ text)))
+      (sym (hex.whole ∙ (ap (λ t. t ++ hex.back) hex.first ∙ ap (λ t. 120 ∷ t) digits.whole)))
+      (inr (refl, more_alone digits.high (digits.low ∷ text) (hex_alone digits.high digits.first)
+      (more_alone digits.low text (hex_alone digits.low digits.second) is)))
+  more_escaped v (inr (inr (inr code))) =
+      let inner = code.second in
+      let digits = inner.first.0 in
+      let one = digits.first in
+      let whole : v ++ text ≡ 117 ∷ 123 ∷ one.0 ∷ (digits.back ++ (125 ∷ text)) =
+      ap (λ t. t ++ text) (code.whole ∙ ap (λ t. t ++ code.back) code.first)
+      ∙ ap (λ t. 117 ∷ 123 ∷ t) (ap (λ t. t ++ text) (inner.whole ∙ ap (λ t. inner.front ++ t) inner.second)
+      ∙ (append_assoc inner.front (125 ∷ []) text
+      ∙ ap (λ t. t ++ (125 ∷ text)) (digits.whole ∙ ap (λ t. t ++ digits.back) one.1))) in
+      subst (λ t. Paired (92 ∷ t)) (sym whole)
+      (inr (refl, more_alone 123 (one.0 ∷ (digits.back ++ (125 ∷ text))) refl
+      (more_alone one.0 (digits.back ++ (125 ∷ text)) (hex_alone one.0 one.2)
+      (more_all digits.back (125 ∷ text) (code_alone digits.back digits.second.each)
+      (more_alone 125 text refl is)))))
+
+  more_unit : (v : List ℕ) → Stands (unit kind) v r → Paired (v ++ text)
+  more_unit v (inl one) =
+      subst (λ t. Paired (t ++ text)) (sym one.1) (more_alone one.0 text (plain_alone kind one.0 one.2) is)
+  more_unit v (inr (inl newline)) =
+      subst (λ t. Paired (t ++ text)) (sym newline) (more_alone 13 (10 ∷ text) refl (more_alone 10 text refl is))
+  more_unit v (inr (inr escape)) =
+      subst (λ t. Paired (t ++ text)) (sym (escape.whole ∙ ap (λ t. t ++ escape.back) escape.first))
+      (more_escaped escape.back escape.second)
+
+pub units_paired : (kind : StringKind) (us : List (List ℕ)) (r : List ℕ) → Each (Stands (unit kind)) us r
+    → Paired (concat us)
+units_paired kind [] r each = tt
+units_paired kind (u ∷ us) r each =
+    more_unit kind (concat us ++ r) (concat us) (units_paired kind us r each.1) u each.0
+
+-- the pairs of a text, as a list
+pub pairs_of : (text r : List ℕ) → Paired text → Many (Stands pair) text r
+pairs_of [] r is = record { units = []; whole = refl; each = tt }
+pairs_of (c ∷ []) r is =
+    record { units = (c ∷ []) ∷ []; whole = refl; each = (inl (c, refl, is), tt) }
+pairs_of (c ∷ (d ∷ text)) r (inl is) =
+    let more = pairs_of (d ∷ text) r is.1 in
+    record {
+      units = (c ∷ []) ∷ more.units;
+      whole = ap (λ t. c ∷ t) more.whole;
+      each = (inl (c, refl, is.0), more.each);
+    }
+pairs_of (c ∷ (d ∷ text)) r (inr is) =
+    let more = pairs_of text r is.1 in
+    record {
+      units = (c ∷ d ∷ []) ∷ more.units;
+      whole = ap (λ t. c ∷ d ∷ t) more.whole;
+      each = (
+        inr (record {
+          front = codes "\\";
+          back = d ∷ [];
+          whole = ap (λ x. x ∷ d ∷ []) is.0;
+          first = refl;
+          second = (d, refl, refl);
+        }),
+        more.each,
+      );
+    }
 
 -- ---- what stands before the quote
 

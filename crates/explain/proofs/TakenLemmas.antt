@@ -109,12 +109,12 @@ module _ {U : Type 0} (kind : Kind U) where
 
     -- an escape before the quote that closes the content
     pub escape_taken : (v r text tail : List ℕ) → Stands (escape_rule strings) v r → v ++ r ≡ text ++ (34 ∷ tail)
-        → Paired (92 ∷ text) → (rest : List ℕ) × Takes (escape kind text) rest
+        → Paired (92 ∷ text) → (rest : List ℕ) × (text ≡ v ++ rest) × Takes (escape kind text) rest
     escape_taken v r [] tail (inl letter) e paired = absurd (both_ways _ refl paired)
     escape_taken v r (d ∷ text) tail (inl letter) e paired =
         let same : letter.0 ∷ r ≡ d ∷ (text ++ (34 ∷ tail)) = ap (λ t. t ++ r) (sym letter.1) ∙ e in
         let first : letter.0 ≡ d = cc in
-        (text, takes.by_letter d text (ap (is_one_of (letters strings)) (sym first) ∙ letter.2))
+        (text, ap₂ (λ x t. x ∷ t) (sym first) refl ∙ ap (λ t. t ++ text) (sym letter.1), takes.by_letter d text (ap (is_one_of (letters strings)) (sym first) ∙ letter.2))
     escape_taken v r text tail (inr (inl hex)) e paired =
         let digits = pair_of strings hex.back r hex.second in
         let whole : v ≡ 120 ∷ digits.high ∷ digits.low ∷ [] =
@@ -123,6 +123,7 @@ module _ {U : Type 0} (kind : Kind U) where
         (ap₂ (λ a b. a && (b && true)) (hex_alone digits.high digits.first) (hex_alone digits.low digits.second))
         (ap (λ t. t ++ r) (sym whole) ∙ e) in (
           cut.0,
+          cut.1 ∙ ap (λ t. t ++ cut.0) (sym whole),
           subst (λ t. Takes (escape kind t) cut.0) (sym cut.1)
               (hex_taken digits.high digits.low cut.0 digits.first digits.second
               (takes.by_pair hex.back r digits hex.second)),
@@ -144,6 +145,7 @@ module _ {U : Type 0} (kind : Kind U) where
         let cut = before_quote (117 ∷ 123 ∷ (ds ++ codes "}")) r text tail alone (ap (λ t. t ++ r) (sym whole) ∙ e) in
         let unit = code_unit_is ds all (ap (is_code (allows strings)) (sym same) ∙ inner.first.1) in (
           cut.0,
+          cut.1 ∙ ap (λ t. t ++ cut.0) (sym whole),
           subst (λ t. Takes (escape kind t) cut.0)
               (sym (cut.1 ∙ ap (λ t. 117 ∷ 123 ∷ t) (append_assoc ds (codes "}") cut.0)))
               (code_taken one.0 digits.back cut.0 one.2 all unit.0 unit.1),
@@ -187,7 +189,7 @@ module _ {U : Type 0} (kind : Kind U) where
             let rest : w ++ r ≡ text ++ (34 ∷ tail) = cc in
             let taken = escape_taken w r text tail escape rest (subst (λ d. Paired (d ∷ text)) first paired) in
             no_fault (unit_front kind c text) e taken.0 left
-            (taken.1.0, cond-true (c == 92) _ _ (ap (λ d. d == 92) first) ∙ taken.1.1) is
+            (taken.2.0, cond-true (c == 92) _ _ (ap (λ d. d == 92) first) ∙ taken.2.1) is
 
 -- ---- the kinds
 

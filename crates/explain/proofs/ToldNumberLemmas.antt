@@ -46,7 +46,7 @@ prefix_cancel Binary x y e = cc
 prefix_cancel Octal x y e = cc
 prefix_cancel Hexadecimal x y e = cc
 
-based_in : (p r : List ℕ) → Stands based p r
+pub based_in : (p r : List ℕ) → Stands based p r
     → (base : Base) × Stands (Then (Exactly (base_prefix base)) (digits_in (radix base))) p r
 based_in p r (inl is) = (Hexadecimal, is)
 based_in p r (inr (inl is)) = (Octal, is)
@@ -62,12 +62,12 @@ bare_of Binary p r is = inl is
 bare_of Octal p r is = inr (inl is)
 bare_of Hexadecimal p r is = inr (inr is)
 
-based_begins : (base : Base) (rest : List ℕ) → begins_any base_prefixes (base_prefix base ++ rest) ≡ true
+pub based_begins : (base : Base) (rest : List ℕ) → begins_any base_prefixes (base_prefix base ++ rest) ≡ true
 based_begins Binary rest = refl
 based_begins Octal rest = refl
 based_begins Hexadecimal rest = refl
 
-base_digit : (base : Base) (rest : List ℕ) → (more : List ℕ) × (base_prefix base ++ rest ≡ 48 ∷ more)
+pub base_digit : (base : Base) (rest : List ℕ) → (more : List ℕ) × (base_prefix base ++ rest ≡ 48 ∷ more)
 base_digit Binary rest = (_, refl)
 base_digit Octal rest = (_, refl)
 base_digit Hexadecimal rest = (_, refl)
@@ -126,58 +126,73 @@ one_line = one_split (Run is_underscore) tt
 
 -- ---- the reasons
 
-pub no_digits_told : (base : Base) (f p r : List ℕ) → Begins (bare_prefix base) f p r
-    → told (f ++ (p ++ r)) ≡ reasons.NoDigits
-no_digits_told base f p r is =
-    let text : List ℕ = f ++ (p ++ r) in
-    let begin = at_front f p r is.0 in
-    let prefix = is.1.0 in
-    let whole : text ≡ base_prefix base ++ (prefix.back ++ r) =
-    begin ∙ (ap (λ t. t ++ r) (prefix.whole ∙ ap (λ t. t ++ prefix.back) prefix.first)
-    ∙ append_assoc (base_prefix base) prefix.back r) in
-    by_front text Digits (base_front_of base text _ whole)
-    ∙ (cond-false _ _ _ (lacks_has integer (assumption) text (no_integer base text _ whole (λ q s split stands.
-    let lines = stands.0 in
-    let after : q ++ s ≡ lines.front ++ (lines.back ++ s) =
-    ap (λ t. t ++ s) lines.whole ∙ append_assoc lines.front lines.back s in
-    let same : r ≡ lines.back ++ s =
-    (one_line prefix.back lines.front r (lines.back ++ s) prefix.second lines.first (split ∙ after)).1 in
-    both_ways _ is.1.1 (ap (first_passes (goes_on_base base)) same ∙ digits_go_on base lines.back s lines.second))))
-    ∙ cond-true _ _ _ (stands_has bare (assumption) text p r begin (bare_of base p r is.1)))
+module _ (base : Base) (f p r : List ℕ) (is : Begins (bare_prefix base) f p r) where
+  pub no_digits_whole : f ++ (p ++ r) ≡ base_prefix base ++ (is.1.0.back ++ r)
+  no_digits_whole =
+      at_front f p r is.0 ∙ (ap (λ t. t ++ r) (is.1.0.whole ∙ ap (λ t. t ++ is.1.0.back) is.1.0.first)
+      ∙ append_assoc (base_prefix base) is.1.0.back r)
 
-pub bad_digit_told : (base : Base) (f p r : List ℕ) → Follow (base_front base) (One is_ascii_digit) f p r
-    → told (f ++ (p ++ r)) ≡ reasons.BadDigit
-bad_digit_told base f p r is =
-    let text : List ℕ = f ++ (p ++ r) in
-    let prefix = is.0 in
-    let lines = prefix.second in
-    let digit = is.1 in
-    let rest : p ++ r ≡ digit.0 ∷ r = ap (λ t. t ++ r) digit.1 in
-    let inner : prefix.back ++ (p ++ r) ≡ lines.front ++ (lines.back ++ (p ++ r)) =
-    ap (λ t. t ++ (p ++ r)) lines.whole ∙ append_assoc lines.front lines.back (p ++ r) in
-    let whole : text ≡ base_prefix base ++ (prefix.back ++ (p ++ r)) =
-    ap (λ t. t ++ (p ++ r)) (prefix.whole ∙ ap (λ t. t ++ prefix.back) prefix.first)
-    ∙ append_assoc (base_prefix base) prefix.back (p ++ r) in
-    let goes_on : first_passes (goes_on_base base) (lines.back ++ (p ++ r)) ≡ true = elim lines.second [
-      | inl digits ↦ digits_go_on base lines.back (p ++ r) digits
-      | inr none ↦
-          ap (first_passes (goes_on_base base)) (ap (λ t. t ++ (p ++ r)) none.1 ∙ rest) ∙ or_right _ _ digit.2
-    ] in
-    by_front text Digits (base_front_of base text _ whole)
-    ∙ (cond-false _ _ _ (lacks_has integer (assumption) text (no_integer base text _ whole (λ q s split stands.
-    let others = stands.0 in
-    let after : q ++ s ≡ others.front ++ (others.back ++ s) =
-    ap (λ t. t ++ s) others.whole ∙ append_assoc others.front others.back s in
-    let same : lines.back ++ (p ++ r) ≡ others.back ++ s =
-    (one_line lines.front others.front (lines.back ++ (p ++ r)) (others.back ++ s) lines.first others.first
-    (sym inner ∙ (split ∙ after))).1 in
-    let end : p ++ r ≡ s = (one_split (perhaps (base_digits (radix base))) (assumption) lines.back others.back (p ++ r)
-    s lines.second (inl others.second) same).1 in
-    both_ways _ stands.1 (ap (first_passes is_ascii_digit) (sym end ∙ rest) ∙ digit.2))))
-    ∙ cond-false _ _ _ (lacks_has bare (assumption) text (no_bare base text _ whole (λ z s split run none.
-    let same : lines.back ++ (p ++ r) ≡ s =
-    (one_line lines.front z (lines.back ++ (p ++ r)) s lines.first run (sym inner ∙ split)).1 in
-    both_ways _ none (ap (first_passes (goes_on_base base)) (sym same) ∙ goes_on)))))
+  pub no_digits_integer : HasNone (Stands integer) (f ++ (p ++ r))
+  no_digits_integer =
+      no_integer base (f ++ (p ++ r)) _ no_digits_whole (λ q s split stands.
+      let lines = stands.0 in
+      let after : q ++ s ≡ lines.front ++ (lines.back ++ s) =
+      ap (λ t. t ++ s) lines.whole ∙ append_assoc lines.front lines.back s in
+      let same : r ≡ lines.back ++ s =
+      (one_line is.1.0.back lines.front r (lines.back ++ s) is.1.0.second lines.first (split ∙ after)).1 in
+      both_ways _ is.1.1 (ap (first_passes (goes_on_base base)) same ∙ digits_go_on base lines.back s lines.second))
+
+  pub no_digits_told : told (f ++ (p ++ r)) ≡ reasons.NoDigits
+  no_digits_told =
+      let text : List ℕ = f ++ (p ++ r) in
+      by_front text Digits (base_front_of base text _ no_digits_whole)
+      ∙ (cond-false _ _ _ (lacks_has integer (assumption) text no_digits_integer)
+      ∙ cond-true _ _ _ (stands_has bare (assumption) text p r (at_front f p r is.0) (bare_of base p r is.1)))
+
+module _ (base : Base) (f p r : List ℕ) (is : Follow (base_front base) (One is_ascii_digit) f p r) where
+  rest_is : p ++ r ≡ is.1.0 ∷ r
+  rest_is = ap (λ t. t ++ r) is.1.1
+
+  inner_is : is.0.back ++ (p ++ r) ≡ is.0.second.front ++ (is.0.second.back ++ (p ++ r))
+  inner_is =
+      ap (λ t. t ++ (p ++ r)) is.0.second.whole ∙ append_assoc is.0.second.front is.0.second.back (p ++ r)
+
+  pub bad_digit_whole : f ++ (p ++ r) ≡ base_prefix base ++ (is.0.back ++ (p ++ r))
+  bad_digit_whole =
+      ap (λ t. t ++ (p ++ r)) (is.0.whole ∙ ap (λ t. t ++ is.0.back) is.0.first)
+      ∙ append_assoc (base_prefix base) is.0.back (p ++ r)
+
+  goes_on : first_passes (goes_on_base base) (is.0.second.back ++ (p ++ r)) ≡ true
+  goes_on = elim is.0.second.second [
+    | inl digits ↦ digits_go_on base is.0.second.back (p ++ r) digits
+    | inr none ↦
+        ap (first_passes (goes_on_base base)) (ap (λ t. t ++ (p ++ r)) none.1 ∙ rest_is) ∙ or_right _ _ is.1.2
+  ]
+
+  pub bad_digit_integer : HasNone (Stands integer) (f ++ (p ++ r))
+  bad_digit_integer =
+      no_integer base (f ++ (p ++ r)) _ bad_digit_whole (λ q s split stands.
+      let lines = is.0.second in
+      let others = stands.0 in
+      let after : q ++ s ≡ others.front ++ (others.back ++ s) =
+      ap (λ t. t ++ s) others.whole ∙ append_assoc others.front others.back s in
+      let same : lines.back ++ (p ++ r) ≡ others.back ++ s =
+      (one_line lines.front others.front (lines.back ++ (p ++ r)) (others.back ++ s) lines.first others.first
+      (sym inner_is ∙ (split ∙ after))).1 in
+      let end : p ++ r ≡ s = (one_split (perhaps (base_digits (radix base))) (assumption) lines.back others.back
+      (p ++ r) s lines.second (inl others.second) same).1 in
+      both_ways _ stands.1 (ap (first_passes is_ascii_digit) (sym end ∙ rest_is) ∙ is.1.2))
+
+  pub bad_digit_told : told (f ++ (p ++ r)) ≡ reasons.BadDigit
+  bad_digit_told =
+      let text : List ℕ = f ++ (p ++ r) in
+      by_front text Digits (base_front_of base text _ bad_digit_whole)
+      ∙ (cond-false _ _ _ (lacks_has integer (assumption) text bad_digit_integer)
+      ∙ cond-false _ _ _ (lacks_has bare (assumption) text (no_bare base text _ bad_digit_whole (λ z s split run none.
+      let lines = is.0.second in
+      let same : lines.back ++ (p ++ r) ≡ s =
+      (one_line lines.front z (lines.back ++ (p ++ r)) s lines.first run (sym inner_is ∙ split)).1 in
+      both_ways _ none (ap (first_passes (goes_on_base base)) (sym same) ∙ goes_on)))))
 
 pub bad_end_told : (f p r : List ℕ) → Follow integer (One ends_badly) f p r
     → told (f ++ (p ++ r)) ≡ reasons.BadNumberEnd

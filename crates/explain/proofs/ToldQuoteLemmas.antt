@@ -232,7 +232,7 @@ ended : (r back : List ℕ) → r ≡ 39 ∷ back → first_passes is_quote r �
 ended r back e none = both_ways _ none (ap (first_passes is_quote) e)
 
 -- a lifetime that begins with a digit is no character
-digit_unnamed : (text r : List ℕ) (c : ℕ) (more : List ℕ) → text ≡ 39 ∷ c ∷ (more ++ r) → is_ascii_digit c ≡ true
+pub digit_unnamed : (text r : List ℕ) (c : ℕ) (more : List ℕ) → text ≡ 39 ∷ c ∷ (more ++ r) → is_ascii_digit c ≡ true
     → Stands (Run is_ident_continue) more r → first_passes is_quote r ≡ false → IsNamed text → ⊥
 digit_unnamed text r c more e digit run none (Raw named back whole is) =
     let same : 39 ∷ c ∷ (more ++ r) ≡ 39 ∷ 114 ∷ 35 ∷ (named ++ (39 ∷ back)) = sym e ∙ whole in
@@ -279,7 +279,7 @@ no_digit text rest c e start p r split is =
     no_both c start (ap is_ascii_digit first ∙ one.2)
 
 -- a lifetime with a hash sign after it is no character
-hash_unnamed : (text r : List ℕ) (c : ℕ) (more : List ℕ) → text ≡ 39 ∷ c ∷ (more ++ (35 ∷ r))
+pub hash_unnamed : (text r : List ℕ) (c : ℕ) (more : List ℕ) → text ≡ 39 ∷ c ∷ (more ++ (35 ∷ r))
     → is_ident_start c ≡ true → Stands (Run is_ident_continue) more (35 ∷ r)
     → HasNone (Stands raw_lifetime_start) text → IsNamed text → ⊥
 hash_unnamed text r c more e start run none (Raw named back whole is) =
@@ -334,7 +334,7 @@ stops_at_hash (c ∷ more) rest back is e =
     (ap is_ident_continue (sym first) ∙ (and_parts _ _ is.each).0)
 
 -- a reserved lifetime is no character
-reserved_unnamed : (text named r : List ℕ) → text ≡ codes "'r#" ++ (named ++ r) → Stands name named r
+pub reserved_unnamed : (text named r : List ℕ) → text ≡ codes "'r#" ++ (named ++ r) → Stands name named r
     → first_passes is_quote r ≡ false → IsNamed text → ⊥
 reserved_unnamed text named r e is none (Raw other back whole also) =
     let same : 39 ∷ 114 ∷ 35 ∷ (named ++ r) ≡ 39 ∷ 114 ∷ 35 ∷ (other ++ (39 ∷ back)) = sym e ∙ whole in

@@ -35,16 +35,21 @@ at_front f p r e = ap (λ t. t ++ (p ++ r)) e
 
 -- ---- comments
 
+-- no comment stands there
+pub unclosed_comment_none : (f p r : List ℕ) → Begins (Exactly (codes "/*")) f p r → Lacks block_comment f p r
+    → HasNone (Stands comment) (f ++ (p ++ r))
+unclosed_comment_none f p r is none q s split (inl line) =
+    barred (codes "/*") line_comment refl r q s line
+    (sym split ∙ (at_front f p r is.0 ∙ ap (λ t. t ++ r) is.1))
+unclosed_comment_none f p r is none q s split (inr block) = none q s split block
+
 pub unclosed_comment_told : (f p r : List ℕ) → Begins (Exactly (codes "/*")) f p r → Lacks block_comment f p r
     → told (f ++ (p ++ r)) ≡ reasons.UnclosedComment
 unclosed_comment_told f p r is none =
     let text : List ℕ = f ++ (p ++ r) in
     let e : text ≡ codes "/*" ++ r = at_front f p r is.0 ∙ ap (λ t. t ++ r) is.1 in
     by_front text Slash (ap front_of e)
-    ∙ cond-false _ _ _ (lacks_has comment (assumption) text (λ q s split stands. elim stands [
-      | inl line ↦ barred (codes "/*") line_comment refl r q s line (sym split ∙ e)
-      | inr block ↦ none q s split block
-    ]))
+    ∙ cond-false _ _ _ (lacks_has comment (assumption) text (unclosed_comment_none f p r is none))
 
 pub bare_return_told : (f p r : List ℕ) → IsBareReturn f p r → told (f ++ (p ++ r)) ≡ reasons.BareReturnInDoc
 bare_return_told f p r is =
@@ -139,7 +144,7 @@ unclosed_raw_told kind f p r is none =
     ∙ cond-false _ _ _ (lacks_has (closed_raw kind) (clear_closed kind) text none))
 
 -- an opening with too many hash signs is one
-long_opens : (kind : StringKind) (p r : List ℕ) → Stands (long_opening kind) p r → Stands (raw_opening kind) p r
+unfoldable pub long_opens : (kind : StringKind) (p r : List ℕ) → Stands (long_opening kind) p r → Stands (raw_opening kind) p r
 long_opens kind p r is = record {
   front = is.front;
   back = is.back;
@@ -212,29 +217,27 @@ bad_raw_told kind e f p r is =
     let many : 255 < length long.second.front = ltb-true 255 (length long.second.front) long.second.first.1 in
     omega (arith, few, many, ap length same)))))
 
-pub without_quote_told : (kind : StringKind) (f p r : List ℕ) → Follow (hashed_front kind) no_double_quote f p r
-    → Lacks raw_name_start f p r
-    → told (f ++ (p ++ r)) ≡ reasons.HashesWithoutQuote
-without_quote_told kind f p r is none =
-    let text : List ℕ = f ++ (p ++ r) in
+-- hash signs that no quote follows
+pub hashed_signed : (kind : StringKind) (f p r : List ℕ) → Follow (hashed_front kind) no_double_quote f p r
+    → (is : IsSigned kind (f ++ (p ++ r))) × (first_passes (λ c. c == 34) is.rest ≡ false) × (is.signs ≡ [] → ⊥)
+hashed_signed kind f p r is =
     let letters = is.0 in
     let signs = letters.second in
     let one = signs.first in
-    let signed : IsSigned kind text = record {
-      signs = letters.back;
-      rest = p ++ r;
-      whole = ap (λ t. t ++ (p ++ r)) (letters.whole ∙ ap (λ t. t ++ letters.back) letters.first)
-          ∙ append_assoc (raw_front kind) letters.back (p ++ r);
-      run = record {
-        each = ap (list_all is_hash) (signs.whole ∙ ap (λ t. t ++ signs.back) one.1) ∙ both one.0 signs.back one.2
-            signs.second.each;
-        stops = signs.second.stops;
-      };
-    } in
-    by_front text (Letters kind) (letters_front kind text _ signed.whole)
-    ∙ (cond-false _ _ _ (lacks_has (raw_opening kind) (assumption) text
-    (no_opening kind text signed (other (p ++ r) is.1.1)))
-    ∙ cond-false _ _ _ (lacks_has raw_name_start (assumption) text none))
+    let back : letters.back ≡ one.0 ∷ signs.back = signs.whole ∙ ap (λ t. t ++ signs.back) one.1 in (
+      record {
+        signs = letters.back;
+        rest = p ++ r;
+        whole = ap (λ t. t ++ (p ++ r)) (letters.whole ∙ ap (λ t. t ++ letters.back) letters.first)
+            ∙ append_assoc (raw_front kind) letters.back (p ++ r);
+        run = record {
+          each = ap (list_all is_hash) back ∙ both one.0 signs.back one.2 signs.second.each;
+          stops = signs.second.stops;
+        };
+      },
+      other (p ++ r) is.1.1,
+      λ none. let clash : ◌≡◌ {A = List ℕ} [] (one.0 ∷ signs.back) = sym none ∙ back in cc,
+    )
   where
     both : (c : ℕ) (back : List ℕ) → is_hash c ≡ true → list_all is_hash back ≡ true
         → list_all is_hash (c ∷ back) ≡ true
@@ -244,35 +247,57 @@ without_quote_told kind f p r is none =
     other [] e = refl
     other (c ∷ t) e = grind (arith, e)
 
-pub reserved_name_told : (f p r : List ℕ) → f ≡ [] → Stands (Then (Exactly (codes "r#")) (Where is_reserved name)) p r
-    → told (f ++ (p ++ r)) ≡ reasons.ReservedRawName
-reserved_name_told f p r start is =
+pub without_quote_told : (kind : StringKind) (f p r : List ℕ) → Follow (hashed_front kind) no_double_quote f p r
+    → Lacks raw_name_start f p r
+    → told (f ++ (p ++ r)) ≡ reasons.HashesWithoutQuote
+without_quote_told kind f p r is none =
     let text : List ℕ = f ++ (p ++ r) in
-    let named = is.second.0 in
-    let first = named.first in
-    let after : List ℕ = named.back ++ r in
-    let whole : text ≡ 114 ∷ 35 ∷ (first.0 ∷ after) =
-    at_front f p r start ∙ (ap (λ t. t ++ r) (is.whole ∙ ap (λ t. t ++ is.back) is.first)
-    ∙ ap (λ t. 114 ∷ 35 ∷ (t ++ r)) (named.whole ∙ ap (λ t. t ++ named.back) first.1)) in
-    let no : (k : ℕ) → is_ident_start k ≡ false → (first.0 == k) ≡ false = λ k out. false_from_ne_true _ (λ same.
-    both_ways _ out (ap is_ident_start (sym (eqb-true first.0 k same)) ∙ first.2)) in
-    let signed : IsSigned Plain text = record {
+    let signed = hashed_signed kind f p r is in
+    by_front text (Letters kind) (letters_front kind text _ signed.0.whole)
+    ∙ (cond-false _ _ _ (lacks_has (raw_opening kind) (assumption) text (no_opening kind text signed.0 signed.1))
+    ∙ cond-false _ _ _ (lacks_has raw_name_start (assumption) text none))
+
+module _ (f p r : List ℕ) (start : f ≡ []) (is : Stands (Then (Exactly (codes "r#")) (Where is_reserved name)) p r) where
+  abbrev after : List ℕ
+  after = is.second.0.back ++ r
+
+  reserved_whole : f ++ (p ++ r) ≡ 114 ∷ 35 ∷ (is.second.0.first.0 ∷ after)
+  reserved_whole =
+      at_front f p r start ∙ (ap (λ t. t ++ r) (is.whole ∙ ap (λ t. t ++ is.back) is.first)
+      ∙ ap (λ t. 114 ∷ 35 ∷ (t ++ r))
+      (is.second.0.whole ∙ ap (λ t. t ++ is.second.0.back) is.second.0.first.1))
+
+  other_first : (k : ℕ) → is_ident_start k ≡ false → (is.second.0.first.0 == k) ≡ false
+  other_first k out = false_from_ne_true _ (λ same.
+      both_ways _ out (ap is_ident_start (sym (eqb-true is.second.0.first.0 k same)) ∙ is.second.0.first.2))
+
+  -- one hash sign, and the name
+  pub reserved_signed : (signed : IsSigned Plain (f ++ (p ++ r))) × (first_passes (λ c. c == 34) signed.rest ≡ false)
+  reserved_signed = (
+    record {
       signs = 35 ∷ [];
-      rest = first.0 ∷ after;
-      whole = whole;
-      run = record { each = refl; stops = no 35 (ident_start_ascii 35 (omega arith)) };
-    } in
-    by_front text (Letters Plain) (letters_front Plain text _ signed.whole)
-    ∙ (cond-false _ _ _ (lacks_has (raw_opening Plain) (assumption) text
-    (no_opening Plain text signed (no 34 (ident_start_ascii 34 (omega arith)))))
-    ∙ cond-true _ _ _ (stands_has raw_name_start (assumption) text (codes "r#" ++ (first.0 ∷ [])) after whole
-    (record {
-      front = codes "r#";
-      back = first.0 ∷ [];
-      whole = refl;
-      first = refl;
-      second = (first.0, refl, first.2);
-    })))
+      rest = is.second.0.first.0 ∷ after;
+      whole = reserved_whole;
+      run = record { each = refl; stops = other_first 35 (ident_start_ascii 35 (omega arith)) };
+    },
+    other_first 34 (ident_start_ascii 34 (omega arith)),
+  )
+
+  pub reserved_name_told : told (f ++ (p ++ r)) ≡ reasons.ReservedRawName
+  reserved_name_told =
+      let text : List ℕ = f ++ (p ++ r) in
+      let signed = reserved_signed in
+      by_front text (Letters Plain) (letters_front Plain text _ signed.0.whole)
+      ∙ (cond-false _ _ _ (lacks_has (raw_opening Plain) (assumption) text (no_opening Plain text signed.0 signed.1))
+      ∙ cond-true _ _ _ (stands_has raw_name_start (assumption) text (codes "r#" ++ (is.second.0.first.0 ∷ [])) after
+      reserved_whole
+      (record {
+        front = codes "r#";
+        back = is.second.0.first.0 ∷ [];
+        whole = refl;
+        first = refl;
+        second = (is.second.0.first.0, refl, is.second.0.first.2);
+      })))
 
 -- ---- other characters
 
