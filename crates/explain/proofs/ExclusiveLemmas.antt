@@ -1,5 +1,5 @@
 -- At most one reason holds where a text begins.
-use Rattle.std.proofs.Common.{◌≡◌, ℕ, List, [], ◌∷◌, ◌++◌, ap, sym, ◌∙◌, inl, inr, ◌⊎◌, subst}
+use Rattle.std.proofs.Common.{◌≡◌, ℕ, List, ◌++◌, ap, sym, ◌∙◌, inl, inr, subst}
 use Rattle.literal_escaper.specs.declared.errors.EscapeError.{EscapeError}
 use Rattle.explain.specs.Reason.{Holds}
 use Rattle.explain.specs.declared.reason.Reason.{Reason}
@@ -8,7 +8,8 @@ use Rattle.explain.proofs.Told.{one_sort, sort, told}
 use Rattle.explain.proofs.ToldNumberLemmas.{bad_digit_told, bad_end_told, no_digits_told}
 use Rattle.explain.proofs.ToldQuoteLemmas.{bad_single_told, digit_lifetime_told, hash_after_told, reserved_told}
 use Rattle.explain.proofs.ToldQuoteLemmas.{unclosed_character_told}
-use Rattle.explain.proofs.ToldTextLemmas.{bad_raw_told, bad_string_told, bare_return_told, misplaced_told, no_token_told}
+use Rattle.explain.proofs.ToldTextLemmas.{bad_raw_told, bad_string_told, bare_return_told, misplaced_told}
+use Rattle.explain.proofs.ToldTextLemmas.{no_token_told}
 use Rattle.explain.proofs.ToldTextLemmas.{too_many_told, unclosed_comment_told, unclosed_raw_told, unclosed_string_told}
 use Rattle.explain.proofs.ToldTextLemmas.{without_quote_told}
 use Rattle.explain.proofs.OneContentLemmas.{one_content}

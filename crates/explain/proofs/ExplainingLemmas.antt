@@ -20,7 +20,8 @@ use Rattle.pm_stream.specs.OpenGroups.{Opened, FitsInnermost, unclosed_onto}
 use Rattle.pm_stream.proofs.ParseLemmas.{reads_on}
 use Rattle.pm_stream.proofs.ParserLemmas.{Reads, reads_none, reads_all, reads_open, reads_stray, reads_stuck}
 use Rattle.explain.specs.Explained.{IsExplained, IsOpenerOf, IsStretch, IsStuck, Parses, SaysLeftOpen}
-use Rattle.explain.specs.Open.{LeavesOpen, Loses, Refuses, RefusesFor, RefusesPiece, Steps, Waiting, WaitsAs, openers_of}
+use Rattle.explain.specs.Open.{LeavesOpen, Loses, Refuses, RefusesFor, RefusesPiece, Steps, Waiting, WaitsAs}
+use Rattle.explain.specs.Open.{openers_of}
 use Rattle.explain.specs.Open.{waiting}
 use Rattle.explain.specs.declared.explained.Explained.{Explained}
 use Rattle.explain.specs.declared.explained.Opener.{Opener}

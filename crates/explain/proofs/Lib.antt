@@ -27,3 +27,5 @@ pub mod UnfoundLemmas
 pub mod UnfoundStringLemmas
 pub mod UnfoundQuoteLemmas
 pub mod NoPieceLemmas
+pub mod OneExplanationLemmas
+pub mod OnePlaceLemmas

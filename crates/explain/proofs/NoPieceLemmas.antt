@@ -1,12 +1,12 @@
 -- Where a reason holds no piece stands.
-use Rattle.std.proofs.Common.{◌≡◌, ℕ, Bool, true, false, not, ◌||◌, ◌==◌, List, [], ◌∷◌, ◌++◌, Some, None, inl, inr, refl}
+use Rattle.std.proofs.Common.{◌≡◌, ℕ, Bool, true, false, ◌==◌, List, [], ◌∷◌, ◌++◌, Some, None, inl, inr, refl}
 use Rattle.std.proofs.Common.{sym, ap, ◌∙◌, eqb-true}
 use Rattle.std.proofs.lemmas.Bool.{both_ways, cond-false, false_from_ne_true, not-true, or_parts}
 use Rattle.lexical.specs.Class.{is_white, is_ident_start}
 use Rattle.lexical.specs.Finder.{Answer}
 use Rattle.lexical.specs.Mark.{is_mark}
 use Rattle.lexical.specs.Piece.{FrontMark, IsPiece, Kind}
-use Rattle.lexical.specs.PieceFinder.{Found, find_front_mark, found, found_from, front_mark_kind, piece_start, tagged}
+use Rattle.lexical.specs.PieceFinder.{Found, find_front_mark, found, front_mark_kind, piece_start, tagged}
 use Rattle.lexical.specs.Rule.{One, Exactly}
 use Rattle.lexical.specs.declared.class.PieceStart.TheVariants as starts
 use Rattle.lexical.proofs.AnswerLemmas.{at_start}
@@ -21,7 +21,8 @@ use Rattle.explain.proofs.UnfoundLemmas.{bad_digit_unfound, bad_end_unfound, bar
 use Rattle.explain.proofs.UnfoundLemmas.{unclosed_comment_unfound}
 use Rattle.explain.proofs.UnfoundQuoteLemmas.{bad_single_unfound, digit_lifetime_unfound, hash_after_unfound}
 use Rattle.explain.proofs.UnfoundQuoteLemmas.{reserved_unfound, unclosed_character_unfound}
-use Rattle.explain.proofs.UnfoundStringLemmas.{bad_raw_unfound, bad_string_unfound, too_many_unfound, unclosed_raw_unfound}
+use Rattle.explain.proofs.UnfoundStringLemmas.{bad_raw_unfound, bad_string_unfound, too_many_unfound}
+use Rattle.explain.proofs.UnfoundStringLemmas.{unclosed_raw_unfound}
 use Rattle.explain.proofs.UnfoundStringLemmas.{unclosed_string_unfound, without_quote_unfound}
 
 -- ---- a character with which no piece begins

@@ -1,19 +1,19 @@
 -- At most one thing is wrong first with a content.
-use Rattle.std.proofs.Common.{◌≡◌, ℕ, Bool, true, false, not, ◌&&◌, ◌||◌, ◌==◌, cond, List, [], ◌∷◌, ◌++◌, codes}
-use Rattle.std.proofs.Common.{Result, Ok, Err, inl, inr, ◌⊎◌, refl, sym, ap, ap₂, ◌∙◌, subst, arith, append_assoc}
+use Rattle.std.proofs.Common.{◌≡◌, ℕ, true, false, not, ◌&&◌, ◌==◌, List, [], ◌∷◌, ◌++◌, codes}
+use Rattle.std.proofs.Common.{Result, Ok, Err, inl, inr, ◌⊎◌, refl, sym, ap, ap₂, ◌∙◌, subst, append_assoc}
 use Rattle.std.proofs.Common.{append-nil}
 use Rattle.std.specs.List.{concat}
-use Rattle.std.specs.Char.{is_ascii, is_ascii_digit}
+use Rattle.std.specs.Char.{is_ascii_digit}
 use Rattle.std.proofs.lemmas.Bool.{and_parts, both_ways, cond-false, cond-true, not-true}
-use Rattle.std.proofs.lemmas.List.{append_cancel_left, append_cancel_right}
+use Rattle.std.proofs.lemmas.List.{append_cancel_right}
 use Rattle.lexical.specs.Class.{is_ident_continue, is_ident_start}
 use Rattle.lexical.specs.Form.{Each, HasNone}
 use Rattle.lexical.specs.Identifier.{name}
 use Rattle.lexical.specs.Quoted.{front as string_front, unit}
 use Rattle.lexical.specs.RawString.{may_stand_raw, raw_front}
 use Rattle.lexical.specs.RawString as raw_strings
-use Rattle.lexical.specs.Rule.{Rule, One, Run, Exactly, Then, Stands}
-use Rattle.lexical.specs.Text.{begins_any, begins_with, first_passes}
+use Rattle.lexical.specs.Rule.{Rule, Run, Stands}
+use Rattle.lexical.specs.Text.{begins_any, begins_with}
 use Rattle.lexical.specs.declared.quoted.StringKind.{StringKind}
 use Rattle.lexical.specs.declared.quoted.StringKind.TheVariants as kinds
 use Rattle.lexical.proofs.QuotedFinderLemmas.{clear_body, clear_raw_body}
@@ -23,9 +23,10 @@ use Rattle.literal_escaper.specs.Escape.{Read, fault}
 use Rattle.literal_escaper.specs.Items.{unit_front}
 use Rattle.literal_escaper.specs.Kind.{Kind, byte_kind, c_kind, string_kind}
 use Rattle.literal_escaper.specs.Single.{single}
-use Rattle.explain.specs.Content.{GivesFault, IsBadContent, IsBadRaw, IsBadSingle, IsBadString, SingleFault, StringFault}
+use Rattle.explain.specs.Content.{GivesFault, IsBadContent, IsBadRaw, IsBadSingle, IsBadString, SingleFault}
+use Rattle.explain.specs.Content.{StringFault}
 use Rattle.explain.specs.Content.{line_ends, raw_character}
-use Rattle.explain.specs.Shapes.{closed_character, closed_named, closed_single, closed_string, is_hash, single_front}
+use Rattle.explain.specs.Shapes.{closed_character, closed_named, closed_single, closed_string, single_front}
 use Rattle.explain.specs.declared.quotes.SingleKind.{SingleKind}
 use Rattle.explain.specs.declared.quotes.SingleKind.TheVariants as singles
 use Rattle.explain.proofs.PairedLemmas.{Paired, paired_of, past_units}
@@ -72,7 +73,7 @@ string_cancel kinds.Plain a b e = cc
 string_cancel kinds.Byte a b e = cc
 string_cancel kinds.C a b e = cc
 
-pub place_of : (kind : StringKind) (e : EscapeError) (f p r : List ℕ) → IsBadString kind e f p r
+unfoldable pub place_of : (kind : StringKind) (e : EscapeError) (f p r : List ℕ) → IsBadString kind e f p r
     → IsPlace kind e (f ++ (p ++ r))
 place_of kind e f p r is =
     let content : List ℕ = (is.start ++ p) ++ is.left in
@@ -142,24 +143,30 @@ one_string_fault kinds.Plain = one_given string_kind
 one_string_fault kinds.Byte = one_given byte_kind
 one_string_fault kinds.C = one_given c_kind
 
-one_place : (kind : StringKind) (e o : EscapeError) (text : List ℕ) → IsPlace kind e text → IsPlace kind o text → e ≡ o
-one_place kind e o text is other =
+-- the content and what follows it are one
+pub one_rest : (kind : StringKind) (e o : EscapeError) (text : List ℕ) (is : IsPlace kind e text)
+    (other : IsPlace kind o text) → (is.content ≡ other.content) × (is.tail ≡ other.tail)
+one_rest kind e o text is other =
     let rest : is.content ++ (34 ∷ is.tail) ≡ other.content ++ (34 ∷ other.tail) =
     many_stop (unit kind) (clear_body kind).0 is.units other.units _ _ is.each other.each
     (string_cancel kind _ _ (sym is.whole ∙ other.whole)) is.none other.none in
     let tail : is.tail ≡ other.tail =
     (one_split (closed_string kind) (assumption) is.closed other.closed is.tail other.tail is.stands other.stands
-    (sym is.all ∙ other.all)).1 in
-    let same : is.content ≡ other.content =
-    append_cancel_right _ _ (34 ∷ other.tail) (ap (λ t. is.content ++ (34 ∷ t)) (sym tail) ∙ rest) in
-    one_string_fault kind e o other.content is.left other.left
-    (subst (λ t. StringFault kind e t is.left) same is.gives) other.gives
+    (sym is.all ∙ other.all)).1 in (
+      append_cancel_right _ _ (34 ∷ other.tail) (ap (λ t. is.content ++ (34 ∷ t)) (sym tail) ∙ rest),
+      tail,
+    )
 
-place_front : (kind : StringKind) (e : EscapeError) (text : List ℕ) → IsPlace kind e text
+one_place : (kind : StringKind) (e o : EscapeError) (text : List ℕ) → IsPlace kind e text → IsPlace kind o text → e ≡ o
+one_place kind e o text is other =
+    one_string_fault kind e o other.content is.left other.left
+    (subst (λ t. StringFault kind e t is.left) (one_rest kind e o text is other).0 is.gives) other.gives
+
+pub place_front : (kind : StringKind) (e : EscapeError) (text : List ℕ) → IsPlace kind e text
     → front_of text ≡ Quotes kind
 place_front kind e text is = quotes_front kind text _ is.whole
 
-same_quotes : (a b : StringKind) (text : List ℕ) → front_of text ≡ Quotes a → front_of text ≡ Quotes b → a ≡ b
+pub same_quotes : (a b : StringKind) (text : List ℕ) → front_of text ≡ Quotes a → front_of text ≡ Quotes b → a ≡ b
 same_quotes a b text is other = let same : Quotes a ≡ Quotes b = sym is ∙ other in cc
 
 one_string : (a b : StringKind) (e o : EscapeError) (text : List ℕ) → IsPlace a e text → IsPlace b o text → e ≡ o
@@ -180,7 +187,7 @@ pub record IsRawPlace (kind : StringKind) (e : EscapeError) (text : List ℕ) : 
   pub apart : begins_with (codes "\r\n") (character ∷ more) ≡ false
   pub gives : raw_character kind character ≡ Err e
 
-pub raw_place_of : (kind : StringKind) (e : EscapeError) (f p r : List ℕ) → IsBadRaw kind e f p r
+unfoldable pub raw_place_of : (kind : StringKind) (e : EscapeError) (f p r : List ℕ) → IsBadRaw kind e f p r
     → IsRawPlace kind e (f ++ (p ++ r))
 raw_place_of kind e f p r is =
     let letters = is.stands in
@@ -239,9 +246,9 @@ no_raw_unit kind close e c more apart gives p r split (inl one, here) =
 no_raw_unit kind close e c more apart gives p r split (inr newline, here) =
     both_ways _ apart (ap (begins_with (codes "\r\n")) (split ∙ ap (λ t. t ++ r) newline))
 
-one_raw_place : (kind : StringKind) (e o : EscapeError) (text : List ℕ) → IsRawPlace kind e text
-    → IsRawPlace kind o text → e ≡ o
-one_raw_place kind e o text is other =
+pub one_raw_rest : (kind : StringKind) (e o : EscapeError) (text : List ℕ) (is : IsRawPlace kind e text)
+    (other : IsRawPlace kind o text) → is.character ∷ is.more ≡ other.character ∷ other.more
+one_raw_rest kind e o text is other =
     let signs = one_signed kind text is.signed other.signed in
     let body : 34 ∷ (concat is.units ++ (is.character ∷ is.more))
     ≡ 34 ∷ (concat other.units ++ (other.character ∷ other.more)) =
@@ -249,19 +256,23 @@ one_raw_place kind e o text is other =
     let inner : concat is.units ++ (is.character ∷ is.more)
     ≡ concat other.units ++ (other.character ∷ other.more) = cc in
     let close : List ℕ = 34 ∷ other.signed.signs in
-    let same : is.character ∷ is.more ≡ other.character ∷ other.more =
     many_stop (raw_strings.raw_unit (may_stand_raw kind) close) (clear_raw_body kind close).0 is.units other.units _ _
     (subst (λ s. Each (Stands (raw_strings.raw_unit (may_stand_raw kind) (34 ∷ s))) is.units (is.character ∷ is.more))
     signs.0 is.each)
     other.each inner
     (no_raw_unit kind close e is.character is.more is.apart is.gives)
-    (no_raw_unit kind close o other.character other.more other.apart other.gives) in
+    (no_raw_unit kind close o other.character other.more other.apart other.gives)
+
+one_raw_place : (kind : StringKind) (e o : EscapeError) (text : List ℕ) → IsRawPlace kind e text
+    → IsRawPlace kind o text → e ≡ o
+one_raw_place kind e o text is other =
+    let same : is.character ∷ is.more ≡ other.character ∷ other.more = one_raw_rest kind e o text is other in
     let first : is.character ≡ other.character = cc in
     let both : ◌≡◌ {A = Result ℕ EscapeError} (Err e) (Err o) =
     sym is.gives ∙ (ap (raw_character kind) first ∙ other.gives) in
     cc
 
-same_letters : (a b : StringKind) (text : List ℕ) → front_of text ≡ Letters a → front_of text ≡ Letters b → a ≡ b
+pub same_letters : (a b : StringKind) (text : List ℕ) → front_of text ≡ Letters a → front_of text ≡ Letters b → a ≡ b
 same_letters a b text is other = let same : Letters a ≡ Letters b = sym is ∙ other in cc
 
 one_raw : (a b : StringKind) (e o : EscapeError) (text : List ℕ) → IsRawPlace a e text → IsRawPlace b o text → e ≡ o
@@ -422,7 +433,7 @@ pub record IsSinglePlace (kind : SingleKind) (e : EscapeError) (text : List ℕ)
   pub closed : Stands closed_character (single_front kind ++ (content ++ codes "'")) tail
   pub gives : SingleFault kind e content left
 
-pub single_place_of : (kind : SingleKind) (e : EscapeError) (f p r : List ℕ) → IsBadSingle kind e f p r
+unfoldable pub single_place_of : (kind : SingleKind) (e : EscapeError) (f p r : List ℕ) → IsBadSingle kind e f p r
     → IsSinglePlace kind e (f ++ (p ++ r))
 single_place_of kind e f p r is = record {
   content = is.content;
@@ -433,12 +444,12 @@ single_place_of kind e f p r is = record {
   gives = is.gives;
 }
 
-one_single_fault : (kind : SingleKind) (e o : EscapeError) (content left rest : List ℕ) → SingleFault kind e content left
-    → SingleFault kind o content rest → e ≡ o
+one_single_fault : (kind : SingleKind) (e o : EscapeError) (content left rest : List ℕ)
+    → SingleFault kind e content left → SingleFault kind o content rest → e ≡ o
 one_single_fault singles.Character e o content left rest = one_fault (single string_kind content) e o left rest
 one_single_fault singles.Byte e o content left rest = one_fault (single byte_kind content) e o left rest
 
-one_single_content : (kind : SingleKind) (text : List ℕ) (e o : EscapeError) (is : IsSinglePlace kind e text)
+pub one_single_content : (kind : SingleKind) (text : List ℕ) (e o : EscapeError) (is : IsSinglePlace kind e text)
     (other : IsSinglePlace kind o text) → is.content ≡ other.content
 one_single_content singles.Character text e o is other =
     let same : 39 ∷ (is.content ++ codes "'") ≡ 39 ∷ (other.content ++ codes "'") =
@@ -459,14 +470,23 @@ one_single_place kind e o text is other =
     one_single_fault kind e o other.content is.left other.left
     (subst (λ t. SingleFault kind e t is.left) (one_single_content kind text e o is other) is.gives) other.gives
 
-abbrev single_begins : SingleKind → Front
+abbrev pub single_begins : SingleKind → Front
 single_begins singles.Character = Lone
 single_begins singles.Byte = Bytes
 
-single_place_front : (kind : SingleKind) (e : EscapeError) (text : List ℕ) → IsSinglePlace kind e text
+pub single_place_front : (kind : SingleKind) (e : EscapeError) (text : List ℕ) → IsSinglePlace kind e text
     → front_of text ≡ single_begins kind
 single_place_front singles.Character e text is = ap front_of is.whole
 single_place_front singles.Byte e text is = ap front_of is.whole
+
+pub same_singles : (a b : SingleKind) (text : List ℕ) → front_of text ≡ single_begins a
+    → front_of text ≡ single_begins b → a ≡ b
+same_singles singles.Character singles.Character text is other = refl
+same_singles singles.Byte singles.Byte text is other = refl
+same_singles singles.Character singles.Byte text is other =
+    let clash : Lone ≡ Bytes = sym is ∙ other in absurd (cc)
+same_singles singles.Byte singles.Character text is other =
+    let clash : Bytes ≡ Lone = sym is ∙ other in absurd (cc)
 
 one_single : (a b : SingleKind) (e o : EscapeError) (text : List ℕ) → IsSinglePlace a e text → IsSinglePlace b o text
     → e ≡ o
@@ -494,20 +514,20 @@ content_place_of e f p r (inl is) = inl (is.0, place_of is.0 e f p r is.1)
 content_place_of e f p r (inr (inl is)) = inr (inl (is.0, raw_place_of is.0 e f p r is.1))
 content_place_of e f p r (inr (inr is)) = inr (inr (is.0, single_place_of is.0 e f p r is.1))
 
-not_quotes_letters : (a b : StringKind) (text : List ℕ) → front_of text ≡ Quotes a → front_of text ≡ Letters b → ⊥
+pub not_quotes_letters : (a b : StringKind) (text : List ℕ) → front_of text ≡ Quotes a → front_of text ≡ Letters b → ⊥
 not_quotes_letters a b text is other = let clash : Quotes a ≡ Letters b = sym is ∙ other in cc
 
-not_quotes_single : (a : StringKind) (b : SingleKind) (text : List ℕ) → front_of text ≡ Quotes a
+pub not_quotes_single : (a : StringKind) (b : SingleKind) (text : List ℕ) → front_of text ≡ Quotes a
     → front_of text ≡ single_begins b → ⊥
 not_quotes_single a singles.Character text is other = let clash : Quotes a ≡ Lone = sym is ∙ other in cc
 not_quotes_single a singles.Byte text is other = let clash : Quotes a ≡ Bytes = sym is ∙ other in cc
 
-not_letters_single : (a : StringKind) (b : SingleKind) (text : List ℕ) → front_of text ≡ Letters a
+pub not_letters_single : (a : StringKind) (b : SingleKind) (text : List ℕ) → front_of text ≡ Letters a
     → front_of text ≡ single_begins b → ⊥
 not_letters_single a singles.Character text is other = let clash : Letters a ≡ Lone = sym is ∙ other in cc
 not_letters_single a singles.Byte text is other = let clash : Letters a ≡ Bytes = sym is ∙ other in cc
 
-raw_place_front : (kind : StringKind) (e : EscapeError) (text : List ℕ) → IsRawPlace kind e text
+pub raw_place_front : (kind : StringKind) (e : EscapeError) (text : List ℕ) → IsRawPlace kind e text
     → front_of text ≡ Letters kind
 raw_place_front kind e text is = letters_front kind text _ is.signed.whole
 

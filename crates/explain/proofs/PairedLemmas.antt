@@ -1,7 +1,7 @@
 -- Pairs, character by character, and the units among them.
-use Rattle.std.proofs.Common.{◌≡◌, ℕ, Bool, true, false, not, ◌||◌, ◌==◌, List, [], ◌∷◌, ◌++◌, codes, ◌⊎◌, inl, inr}
+use Rattle.std.proofs.Common.{◌≡◌, ℕ, Bool, true, false, not, ◌==◌, List, [], ◌∷◌, ◌++◌, codes, ◌⊎◌, inl, inr}
 use Rattle.std.proofs.Common.{refl, sym, ap, ap₂, ◌∙◌, ◌&&◌, subst, arith, append_assoc, eqb-true, ltb-true}
-use Rattle.std.specs.Char.{is_ascii_hexdigit, is_digit, digit_value}
+use Rattle.std.specs.Char.{is_ascii_hexdigit, digit_value}
 use Rattle.std.specs.List.{concat, list_all}
 use Rattle.std.proofs.lemmas.Bool.{and_parts, both_ways, false_from_ne_true, or_from, lt-ltb}
 use Rattle.lexical.specs.Form.{Each, Many}
@@ -188,8 +188,11 @@ module _ (kind : StringKind) (r text : List ℕ) (is : Paired text) where
       let digits = pair_of kind hex.back r hex.second in
       subst (λ t. Paired (92 ∷ (t ++ text)))
       (sym (hex.whole ∙ (ap (λ t. t ++ hex.back) hex.first ∙ ap (λ t. 120 ∷ t) digits.whole)))
-      (inr (refl, more_alone digits.high (digits.low ∷ text) (hex_alone digits.high digits.first)
-      (more_alone digits.low text (hex_alone digits.low digits.second) is)))
+      (inr (
+        refl,
+        more_alone digits.high (digits.low ∷ text) (hex_alone digits.high digits.first)
+            (more_alone digits.low text (hex_alone digits.low digits.second) is),
+      ))
   more_escaped v (inr (inr (inr code))) =
       let inner = code.second in
       let digits = inner.first.0 in
@@ -200,10 +203,13 @@ module _ (kind : StringKind) (r text : List ℕ) (is : Paired text) where
       ∙ (append_assoc inner.front (125 ∷ []) text
       ∙ ap (λ t. t ++ (125 ∷ text)) (digits.whole ∙ ap (λ t. t ++ digits.back) one.1))) in
       subst (λ t. Paired (92 ∷ t)) (sym whole)
-      (inr (refl, more_alone 123 (one.0 ∷ (digits.back ++ (125 ∷ text))) refl
-      (more_alone one.0 (digits.back ++ (125 ∷ text)) (hex_alone one.0 one.2)
-      (more_all digits.back (125 ∷ text) (code_alone digits.back digits.second.each)
-      (more_alone 125 text refl is)))))
+      (inr (
+        refl,
+        more_alone 123 (one.0 ∷ (digits.back ++ (125 ∷ text))) refl
+            (more_alone one.0 (digits.back ++ (125 ∷ text)) (hex_alone one.0 one.2)
+            (more_all digits.back (125 ∷ text) (code_alone digits.back digits.second.each)
+            (more_alone 125 text refl is))),
+      ))
 
   more_unit : (v : List ℕ) → Stands (unit kind) v r → Paired (v ++ text)
   more_unit v (inl one) =

@@ -1,5 +1,5 @@
 -- Where the openers stand that wait for a closer.
-use Rattle.std.proofs.Common.{◌≡◌, ℕ, ◌+◌, ◌&&◌, ◌==◌, Bool, true, List, [], ◌∷◌, ◌++◌, length, Option, Some, None, IfSome}
+use Rattle.std.proofs.Common.{◌≡◌, ℕ, ◌==◌, Bool, List, [], ◌∷◌, ◌++◌, Option, Some, None, IfSome}
 use Rattle.std.proofs.Common.{refl, sym, ap, ◌∙◌, subst}
 use Rattle.std.specs.List.{AllByRecursion}
 use Rattle.std.proofs.lemmas.Bool.{and_parts}
@@ -26,11 +26,13 @@ module _ (P : Opener → Type 0) where
   pub all_none : (openers : List Opener) → openers ≡ [] → AllByRecursion P openers
   all_none openers none = subst (AllByRecursion P) (sym none) tt
 
-  all_more : (openers : List Opener) (x : Opener) → AllByRecursion P openers → P x → AllByRecursion P (openers ++ x ∷ [])
+  all_more : (openers : List Opener) (x : Opener) → AllByRecursion P openers → P x
+      → AllByRecursion P (openers ++ x ∷ [])
   all_more [] x all is = (is, tt)
   all_more (o ∷ openers) x all is = (all.0, all_more openers x all.1 is)
 
-  all_less : (openers : List Opener) (x : Opener) → AllByRecursion P (openers ++ x ∷ []) → P x × AllByRecursion P openers
+  all_less : (openers : List Opener) (x : Opener) → AllByRecursion P (openers ++ x ∷ [])
+      → P x × AllByRecursion P openers
   all_less [] x all = (all.0, tt)
   all_less (o ∷ openers) x all = let more = all_less openers x all.1 in (more.0, (all.0, more.1))
 

@@ -1,12 +1,13 @@
 -- An escape or a unit of the grammar is one for the escaper.
-use Rattle.std.proofs.Common.{◌≡◌, ℕ, ◌*◌, ◌+◌, ◌<◌, Bool, true, false, not, ◌&&◌, ◌||◌, ◌==◌, nat_lt, nat_le, cond}
-use Rattle.std.proofs.Common.{List, [], ◌∷◌, ◌++◌, codes, length, Result, Ok, Err, inl, inr, refl, sym, ap, ap₂, ◌∙◌, subst}
-use Rattle.std.proofs.Common.{arith, append_assoc, eqb-true, ltb-true, leb-true}
+use Rattle.std.proofs.Common.{◌≡◌, ℕ, ◌*◌, ◌+◌, ◌<◌, Bool, true, false, not, ◌&&◌, ◌||◌, ◌==◌, nat_lt, nat_le}
+use Rattle.std.proofs.Common.{List, [], ◌∷◌, ◌++◌, codes, length, Result, Ok, Err, inl, inr, refl, sym, ap, ap₂, ◌∙◌}
+use Rattle.std.proofs.Common.{subst}
+use Rattle.std.proofs.Common.{arith, append_assoc, eqb-true, ltb-true}
 use Rattle.std.specs.Prelude.{filter}
-use Rattle.std.specs.Char.{digit_value, is_ascii, is_ascii_hexdigit}
+use Rattle.std.specs.Char.{digit_value, is_ascii_hexdigit}
 use Rattle.std.specs.List.{list_all}
-use Rattle.std.proofs.lemmas.Bool.{agree_below_at, and_from, and_parts, both_ways, cond_both, cond-false, cond-true}
-use Rattle.std.proofs.lemmas.Bool.{false_from_ne_true, lt-ltb, or_parts}
+use Rattle.std.proofs.lemmas.Bool.{agree_below_at, and_from, and_parts, both_ways, cond-false, cond-true}
+use Rattle.std.proofs.lemmas.Bool.{false_from_ne_true, lt-ltb}
 use Rattle.lexical.specs.Form.{HasNone}
 use Rattle.lexical.specs.Quoted as rule
 use Rattle.lexical.specs.Quoted.{allows, escape as escape_rule, hex_value, is_code, is_one_of, is_plain, is_scalar}
@@ -17,7 +18,7 @@ use Rattle.lexical.specs.declared.quoted.StringKind.{StringKind}
 use Rattle.lexical.specs.declared.quoted.StringKind.TheVariants as kinds
 use Rattle.lexical.proofs.ClassLemmas.{any_of}
 use Rattle.literal_escaper.specs.declared.errors.EscapeError.{EscapeError}
-use Rattle.literal_escaper.specs.Escape.{Read, closed, code_unit, coded, escape, fault, hex_escape, hex_number}
+use Rattle.literal_escaper.specs.Escape.{Read, closed, code_unit, coded, escape, fault, hex_escape}
 use Rattle.literal_escaper.specs.Escape.{is_code_character, is_hex, unicode_escape}
 use Rattle.literal_escaper.specs.Items.{plain, unit_front}
 use Rattle.literal_escaper.specs.Kind.{Kind, byte_kind, c_kind, character, string_kind}
@@ -113,8 +114,11 @@ module _ {U : Type 0} (kind : Kind U) where
     escape_taken v r [] tail (inl letter) e paired = absurd (both_ways _ refl paired)
     escape_taken v r (d ∷ text) tail (inl letter) e paired =
         let same : letter.0 ∷ r ≡ d ∷ (text ++ (34 ∷ tail)) = ap (λ t. t ++ r) (sym letter.1) ∙ e in
-        let first : letter.0 ≡ d = cc in
-        (text, ap₂ (λ x t. x ∷ t) (sym first) refl ∙ ap (λ t. t ++ text) (sym letter.1), takes.by_letter d text (ap (is_one_of (letters strings)) (sym first) ∙ letter.2))
+        let first : letter.0 ≡ d = cc in (
+          text,
+          ap (λ x. x ∷ text) (sym first) ∙ ap (λ t. t ++ text) (sym letter.1),
+          takes.by_letter d text (ap (is_one_of (letters strings)) (sym first) ∙ letter.2),
+        )
     escape_taken v r text tail (inr (inl hex)) e paired =
         let digits = pair_of strings hex.back r hex.second in
         let whole : v ≡ 120 ∷ digits.high ∷ digits.low ∷ [] =

@@ -1,20 +1,20 @@
 -- The reasons of numbers.
-use Rattle.std.proofs.Common.{◌≡◌, ℕ, Bool, true, false, not, ◌||◌, cond, List, [], ◌∷◌, ◌++◌, codes}
-use Rattle.std.proofs.Common.{inl, inr, refl, sym, ap, ◌∙◌, subst, arith, append_assoc, append-nil}
-use Rattle.std.specs.Char.{is_ascii_digit, is_digit}
+use Rattle.std.proofs.Common.{◌≡◌, ℕ, true, false, List, ◌∷◌, ◌++◌}
+use Rattle.std.proofs.Common.{inl, inr, refl, sym, ap, ◌∙◌, subst, arith, append_assoc}
+use Rattle.std.specs.Char.{is_ascii_digit}
 use Rattle.std.proofs.lemmas.Bool.{both_ways, cond-false, cond-true, or_left, or_right}
 use Rattle.lexical.specs.Bytes.{radix}
 use Rattle.lexical.specs.Form.{HasNone}
-use Rattle.lexical.specs.Number.{base_digits, base_prefixes, based, decimal, digits_in, integer, is_underscore}
-use Rattle.lexical.specs.Rule.{Rule, One, Run, Exactly, Then, Stands, perhaps}
+use Rattle.lexical.specs.Number.{base_digits, base_prefixes, based, digits_in, integer, is_underscore}
+use Rattle.lexical.specs.Rule.{One, Run, Exactly, Then, Stands, perhaps}
 use Rattle.lexical.specs.Text.{begins_any, first_passes}
 use Rattle.lexical.specs.declared.bytes.Base.{Base}
 use Rattle.lexical.specs.declared.bytes.Base.TheVariants.{Binary, Octal, Hexadecimal}
-use Rattle.lexical.proofs.RuleLemmas.{Clear, one_split}
+use Rattle.lexical.proofs.RuleLemmas.{one_split}
 use Rattle.explain.specs.Reason.{Begins, Follow}
 use Rattle.explain.specs.Shapes.{bare_prefix, base_front, base_prefix, ends_badly, goes_on_base}
 use Rattle.explain.specs.declared.reason.Reason.TheVariants as reasons
-use Rattle.explain.proofs.Told.{Digits, bare, by_front, digits_front, front_of, has, lacks_has, stands_has, told}
+use Rattle.explain.proofs.Told.{Digits, bare, by_front, digits_front, front_of, lacks_has, stands_has, told}
 use Rattle.explain.proofs.ToldTextLemmas.{at_front}
 
 -- ---- bases
@@ -38,7 +38,7 @@ one_base P Hexadecimal Binary x y e two eight sixteen =
 one_base P Hexadecimal Octal x y e two eight sixteen =
     let clash : ◌≡◌ {A = ℕ} 120 111 = cc in absurd (omega (arith, clash))
 
-same_base : (a b : Base) (x y : List ℕ) → base_prefix a ++ x ≡ base_prefix b ++ y → a ≡ b
+pub same_base : (a b : Base) (x y : List ℕ) → base_prefix a ++ x ≡ base_prefix b ++ y → a ≡ b
 same_base a b x y e = one_base (λ a b. a ≡ b) a b x y e refl refl refl
 
 prefix_cancel : (a : Base) (x y : List ℕ) → base_prefix a ++ x ≡ base_prefix a ++ y → x ≡ y

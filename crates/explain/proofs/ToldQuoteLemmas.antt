@@ -1,28 +1,25 @@
 -- The reasons of what begins with a quote.
-use Rattle.std.proofs.Common.{◌≡◌, ℕ, Bool, true, false, not, ◌==◌, ◌||◌, cond, List, [], ◌∷◌, ◌++◌, codes}
-use Rattle.std.proofs.Common.{inl, inr, refl, sym, ap, ◌∙◌, subst, arith, eqb-true, append_assoc}
+use Rattle.std.proofs.Common.{◌≡◌, ℕ, true, false, ◌||◌, List, [], ◌∷◌, ◌++◌, codes}
+use Rattle.std.proofs.Common.{inl, inr, refl, sym, ap, ◌∙◌, subst, arith, append_assoc}
 use Rattle.std.specs.Char.{is_ascii_digit}
-use Rattle.std.specs.List.{list_all}
-use Rattle.std.proofs.lemmas.Bool.{and_parts, both_ways, cond-false, cond-true, false_from_ne_true, or_from, or_left, or_right}
+use Rattle.std.proofs.lemmas.Bool.{and_parts, both_ways, cond-false, cond-true, or_from, or_left, or_right}
 use Rattle.lexical.specs.Class.{is_ident_start, is_ident_continue}
 use Rattle.lexical.specs.Form.{HasNone}
-use Rattle.lexical.specs.Identifier.{name, is_reserved}
-use Rattle.lexical.specs.Rule.{Rule, One, Run, Exactly, Then, NotBefore, Where, Either, Stands}
+use Rattle.lexical.specs.Identifier.{name}
+use Rattle.lexical.specs.Rule.{Rule, One, Run, Exactly, Then, Either, Stands}
 use Rattle.lexical.specs.Text.{first_passes}
-use Rattle.lexical.specs.declared.class.PieceStart.{PieceStart}
 use Rattle.lexical.specs.declared.class.PieceStart.TheVariants as starts
 use Rattle.lexical.proofs.ClassLemmas.{ident_continue_ascii, ident_start_ascii, start_digit, start_letter}
-use Rattle.lexical.proofs.RuleLemmas.{Clear, barred, one_split}
+use Rattle.lexical.proofs.RuleLemmas.{barred, one_split}
 use Rattle.literal_escaper.specs.declared.errors.EscapeError.{EscapeError}
 use Rattle.explain.specs.Content.{IsBadSingle}
 use Rattle.explain.specs.Reason.{Begins, Follow, Lacks}
-use Rattle.explain.specs.Shapes.{bars_character, closed_character, closed_named, closed_single, digit_lifetime, is_quote}
-use Rattle.explain.specs.Shapes.{lifetime, raw_lifetime_start, reserved_raw, single_front, single_opening}
+use Rattle.explain.specs.Shapes.{bars_character, closed_named, closed_single, digit_lifetime, is_quote}
+use Rattle.explain.specs.Shapes.{lifetime, raw_lifetime_start, reserved_raw, single_opening}
 use Rattle.explain.specs.declared.quotes.SingleKind.{SingleKind}
 use Rattle.explain.specs.declared.quotes.SingleKind.TheVariants.{Character, Byte}
-use Rattle.explain.specs.declared.reason.Reason.{Reason}
 use Rattle.explain.specs.declared.reason.Reason.TheVariants as reasons
-use Rattle.explain.proofs.Told.{Front, Bytes, Lone, by_front, content, front_of, has, has_named, lacks_has}
+use Rattle.explain.proofs.Told.{Bytes, Lone, by_front, content, front_of, has, has_named, lacks_has}
 use Rattle.explain.proofs.Told.{digit_named, plain_named, raw_named, stands_has, told, told_from}
 use Rattle.explain.proofs.ToldTextLemmas.{at_front, reserved_name_told}
 
@@ -93,34 +90,35 @@ named_is text p r e (inr is) = by_first is.second.first
 module _ (text : List ℕ) where
   pub named_has : (p r : List ℕ) → text ≡ p ++ r → Stands closed_named p r → has_named text ≡ true
   named_has p r e (inl is) = or_left (has raw_named text) _ (stands_has raw_named (assumption) text p r e is)
-  named_has p r e (inr is) = or_right (has raw_named text) (has plain_named text || has digit_named text) (elim is.second.first [
-    | inl named ↦ or_left (has plain_named text) _ (stands_has plain_named (assumption) text p r e (record {
-      front = is.front;
-      back = is.back;
-      whole = is.whole;
-      first = is.first;
-      second = record {
-        front = is.second.front;
-        back = is.second.back;
-        whole = is.second.whole;
-        first = named;
-        second = is.second.second;
-      };
-    }))
-    | inr digits ↦ or_right _ (has digit_named text) (stands_has digit_named (assumption) text p r e (record {
-      front = is.front;
-      back = is.back;
-      whole = is.whole;
-      first = is.first;
-      second = record {
-        front = is.second.front;
-        back = is.second.back;
-        whole = is.second.whole;
-        first = digits;
-        second = is.second.second;
-      };
-    }))
-  ])
+  named_has p r e (inr is) = or_right (has raw_named text) (has plain_named text || has digit_named text)
+      (elim is.second.first [
+        | inl named ↦ or_left (has plain_named text) _ (stands_has plain_named (assumption) text p r e (record {
+          front = is.front;
+          back = is.back;
+          whole = is.whole;
+          first = is.first;
+          second = record {
+            front = is.second.front;
+            back = is.second.back;
+            whole = is.second.whole;
+            first = named;
+            second = is.second.second;
+          };
+        }))
+        | inr digits ↦ or_right _ (has digit_named text) (stands_has digit_named (assumption) text p r e (record {
+          front = is.front;
+          back = is.back;
+          whole = is.whole;
+          first = is.first;
+          second = record {
+            front = is.second.front;
+            back = is.second.back;
+            whole = is.second.whole;
+            first = digits;
+            second = is.second.second;
+          };
+        }))
+      ])
 
   lacks_named : (IsNamed text → ⊥) → has_named text ≡ false
   lacks_named none =

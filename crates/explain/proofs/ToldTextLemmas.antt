@@ -1,6 +1,6 @@
 -- The reasons of comments, strings, raw strings and single characters.
-use Rattle.std.proofs.Common.{◌≡◌, ℕ, ◌<◌, ◌≤◌, Bool, true, false, not, ◌==◌, cond, List, [], ◌∷◌, ◌++◌, codes}
-use Rattle.std.proofs.Common.{inl, inr, refl, sym, ap, ◌∙◌, subst, arith, eqb-true, append_assoc, append-nil, length}
+use Rattle.std.proofs.Common.{◌≡◌, ℕ, ◌<◌, ◌≤◌, true, false, not, ◌==◌, List, [], ◌∷◌, ◌++◌, codes}
+use Rattle.std.proofs.Common.{inl, inr, refl, sym, ap, ◌∙◌, arith, eqb-true, append_assoc, length}
 use Rattle.std.proofs.Common.{ltb-true, leb-true}
 use Rattle.std.specs.Char.{is_ascii_digit}
 use Rattle.std.specs.List.{list_all}
@@ -12,22 +12,21 @@ use Rattle.lexical.specs.Identifier.{name, is_reserved}
 use Rattle.lexical.specs.Mark.{is_mark}
 use Rattle.lexical.specs.Quoted.{front as string_front}
 use Rattle.lexical.specs.RawString.{raw_front}
-use Rattle.lexical.specs.Rule.{Rule, One, Run, Exactly, Then, Where, Either, Stands, find, nothing}
+use Rattle.lexical.specs.Rule.{One, Run, Exactly, Then, Where, Stands}
 use Rattle.lexical.specs.Text.{begins_any, first_passes}
 use Rattle.lexical.specs.declared.quoted.StringKind.{StringKind}
 use Rattle.lexical.specs.declared.quoted.StringKind.TheVariants.{Plain, Byte, C}
 use Rattle.lexical.proofs.ClassLemmas.{ident_start_ascii}
-use Rattle.lexical.proofs.RuleLemmas.{Clear, barred, first_one, one_split}
+use Rattle.lexical.proofs.RuleLemmas.{barred, first_one, one_split}
 use Rattle.literal_escaper.specs.declared.errors.EscapeError.{EscapeError}
 use Rattle.explain.specs.Content.{IsBareReturn, IsBadString, IsBadRaw}
 use Rattle.explain.specs.Reason.{Begins, Follow, Has, Lacks}
 use Rattle.explain.specs.Shapes.{begins_nothing, closed_raw, closed_string, hashed_front, is_hash, long_opening}
 use Rattle.explain.specs.Shapes.{no_double_quote, raw_name_start, raw_opening}
-use Rattle.explain.specs.declared.reason.Reason.{Reason}
 use Rattle.explain.specs.declared.reason.Reason.TheVariants as reasons
 use Rattle.explain.proofs.QuoteLemmas.{clear_closed}
-use Rattle.explain.proofs.Told.{Front, Slash, Quotes, Letters, Misplaced, Other, by_front, content, front_of, has}
-use Rattle.explain.proofs.Told.{lacks_has, letters_front, not_lacks_has, quotes_front, stands_has, told, told_from}
+use Rattle.explain.proofs.Told.{Slash, Quotes, Letters, Misplaced, Other, by_front, content, front_of}
+use Rattle.explain.proofs.Told.{lacks_has, letters_front, not_lacks_has, quotes_front, stands_has, told}
 
 -- a piece right at the fault begins the text
 pub at_front : (f p r : List ℕ) → f ≡ [] → f ++ (p ++ r) ≡ p ++ r
@@ -144,7 +143,8 @@ unclosed_raw_told kind f p r is none =
     ∙ cond-false _ _ _ (lacks_has (closed_raw kind) (clear_closed kind) text none))
 
 -- an opening with too many hash signs is one
-unfoldable pub long_opens : (kind : StringKind) (p r : List ℕ) → Stands (long_opening kind) p r → Stands (raw_opening kind) p r
+unfoldable pub long_opens : (kind : StringKind) (p r : List ℕ) → Stands (long_opening kind) p r
+    → Stands (raw_opening kind) p r
 long_opens kind p r is = record {
   front = is.front;
   back = is.back;
@@ -159,7 +159,8 @@ long_opens kind p r is = record {
   };
 }
 
-pub too_many_told : (kind : StringKind) (f p r : List ℕ) → Begins (long_opening kind) f p r → Has (closed_raw kind) f p r
+pub too_many_told : (kind : StringKind) (f p r : List ℕ) → Begins (long_opening kind) f p r
+    → Has (closed_raw kind) f p r
     → told (f ++ (p ++ r)) ≡ reasons.TooManyHashes
 too_many_told kind f p r is some =
     let text : List ℕ = f ++ (p ++ r) in
@@ -257,47 +258,48 @@ without_quote_told kind f p r is none =
     ∙ (cond-false _ _ _ (lacks_has (raw_opening kind) (assumption) text (no_opening kind text signed.0 signed.1))
     ∙ cond-false _ _ _ (lacks_has raw_name_start (assumption) text none))
 
-module _ (f p r : List ℕ) (start : f ≡ []) (is : Stands (Then (Exactly (codes "r#")) (Where is_reserved name)) p r) where
-  abbrev after : List ℕ
-  after = is.second.0.back ++ r
+module _ (f p r : List ℕ) (start : f ≡ []) (is : Stands (Then (Exactly (codes "r#")) (Where is_reserved name)) p r)
+  where
+    abbrev after : List ℕ
+    after = is.second.0.back ++ r
 
-  reserved_whole : f ++ (p ++ r) ≡ 114 ∷ 35 ∷ (is.second.0.first.0 ∷ after)
-  reserved_whole =
-      at_front f p r start ∙ (ap (λ t. t ++ r) (is.whole ∙ ap (λ t. t ++ is.back) is.first)
-      ∙ ap (λ t. 114 ∷ 35 ∷ (t ++ r))
-      (is.second.0.whole ∙ ap (λ t. t ++ is.second.0.back) is.second.0.first.1))
+    reserved_whole : f ++ (p ++ r) ≡ 114 ∷ 35 ∷ (is.second.0.first.0 ∷ after)
+    reserved_whole =
+        at_front f p r start ∙ (ap (λ t. t ++ r) (is.whole ∙ ap (λ t. t ++ is.back) is.first)
+        ∙ ap (λ t. 114 ∷ 35 ∷ (t ++ r))
+        (is.second.0.whole ∙ ap (λ t. t ++ is.second.0.back) is.second.0.first.1))
 
-  other_first : (k : ℕ) → is_ident_start k ≡ false → (is.second.0.first.0 == k) ≡ false
-  other_first k out = false_from_ne_true _ (λ same.
-      both_ways _ out (ap is_ident_start (sym (eqb-true is.second.0.first.0 k same)) ∙ is.second.0.first.2))
+    other_first : (k : ℕ) → is_ident_start k ≡ false → (is.second.0.first.0 == k) ≡ false
+    other_first k out = false_from_ne_true _ (λ same.
+        both_ways _ out (ap is_ident_start (sym (eqb-true is.second.0.first.0 k same)) ∙ is.second.0.first.2))
 
-  -- one hash sign, and the name
-  pub reserved_signed : (signed : IsSigned Plain (f ++ (p ++ r))) × (first_passes (λ c. c == 34) signed.rest ≡ false)
-  reserved_signed = (
-    record {
-      signs = 35 ∷ [];
-      rest = is.second.0.first.0 ∷ after;
-      whole = reserved_whole;
-      run = record { each = refl; stops = other_first 35 (ident_start_ascii 35 (omega arith)) };
-    },
-    other_first 34 (ident_start_ascii 34 (omega arith)),
-  )
+    -- one hash sign, and the name
+    pub reserved_signed : (signed : IsSigned Plain (f ++ (p ++ r))) × (first_passes (λ c. c == 34) signed.rest ≡ false)
+    reserved_signed = (
+      record {
+        signs = 35 ∷ [];
+        rest = is.second.0.first.0 ∷ after;
+        whole = reserved_whole;
+        run = record { each = refl; stops = other_first 35 (ident_start_ascii 35 (omega arith)) };
+      },
+      other_first 34 (ident_start_ascii 34 (omega arith)),
+    )
 
-  pub reserved_name_told : told (f ++ (p ++ r)) ≡ reasons.ReservedRawName
-  reserved_name_told =
-      let text : List ℕ = f ++ (p ++ r) in
-      let signed = reserved_signed in
-      by_front text (Letters Plain) (letters_front Plain text _ signed.0.whole)
-      ∙ (cond-false _ _ _ (lacks_has (raw_opening Plain) (assumption) text (no_opening Plain text signed.0 signed.1))
-      ∙ cond-true _ _ _ (stands_has raw_name_start (assumption) text (codes "r#" ++ (is.second.0.first.0 ∷ [])) after
-      reserved_whole
-      (record {
-        front = codes "r#";
-        back = is.second.0.first.0 ∷ [];
-        whole = refl;
-        first = refl;
-        second = (is.second.0.first.0, refl, is.second.0.first.2);
-      })))
+    pub reserved_name_told : told (f ++ (p ++ r)) ≡ reasons.ReservedRawName
+    reserved_name_told =
+        let text : List ℕ = f ++ (p ++ r) in
+        let signed = reserved_signed in
+        by_front text (Letters Plain) (letters_front Plain text _ signed.0.whole)
+        ∙ (cond-false _ _ _ (lacks_has (raw_opening Plain) (assumption) text (no_opening Plain text signed.0 signed.1))
+        ∙ cond-true _ _ _ (stands_has raw_name_start (assumption) text (codes "r#" ++ (is.second.0.first.0 ∷ [])) after
+        reserved_whole
+        (record {
+          front = codes "r#";
+          back = is.second.0.first.0 ∷ [];
+          whole = refl;
+          first = refl;
+          second = (is.second.0.first.0, refl, is.second.0.first.2);
+        })))
 
 -- ---- other characters
 

@@ -1,20 +1,18 @@
 -- Where a reason of a comment or a number holds no piece stands.
-use Rattle.std.proofs.Common.{◌≡◌, ℕ, Bool, true, false, not, ◌&&◌, ◌||◌, ◌==◌, cond, List, [], ◌∷◌, ◌++◌, codes}
-use Rattle.std.proofs.Common.{drop, Some, None, inl, inr, refl, sym, ap, ap₂, ◌∙◌, subst, arith, append_assoc, eqb-true}
+use Rattle.std.proofs.Common.{◌≡◌, ℕ, Bool, true, false, not, List, [], ◌∷◌, ◌++◌, codes}
+use Rattle.std.proofs.Common.{drop, Some, None, inl, inr, refl, sym, ap, ◌∙◌, arith, append_assoc, eqb-true}
 use Rattle.std.specs.Char.{is_ascii_digit}
-use Rattle.std.proofs.lemmas.Bool.{and_parts, both_ways, cond-true, false_from_ne_true, not-true, or_cases, or_left}
+use Rattle.std.proofs.lemmas.Bool.{and_parts, both_ways, cond-true, false_from_ne_true, or_cases, or_left}
 use Rattle.std.proofs.lemmas.Bool.{or_right}
 use Rattle.std.proofs.lemmas.List.{append_cancel_right, drop_at}
 use Rattle.lexical.specs.Class.{is_ident_continue, is_ident_start}
 use Rattle.lexical.specs.Comment.{block_comment, closing, comment, has_bare_return}
 use Rattle.lexical.specs.CommentKind.{comment_kind, doc_text}
-use Rattle.lexical.specs.Finder.{Answer}
 use Rattle.lexical.specs.Form.{HasNone}
-use Rattle.lexical.specs.Identifier.{name}
 use Rattle.lexical.specs.Number.{base_prefixes, based, digits, end as number_end, float_tail, integer, number, tail}
-use Rattle.lexical.specs.PieceFinder.{Found, comment_found, found, found_from, literal_kind, piece_start, tagged, with_kind}
-use Rattle.lexical.specs.Rule.{Rule, One, Exactly, Then, Stands, find}
-use Rattle.lexical.specs.Text.{begins_any, begins_with, first_passes}
+use Rattle.lexical.specs.PieceFinder.{comment_found, found, literal_kind, tagged, with_kind}
+use Rattle.lexical.specs.Rule.{One, Exactly, Then, Stands, find}
+use Rattle.lexical.specs.Text.{begins_any, first_passes}
 use Rattle.lexical.specs.declared.bytes.Base.{Base}
 use Rattle.lexical.specs.declared.class.PieceStart.TheVariants as starts
 use Rattle.lexical.proofs.AnswerLemmas.{at_start}
@@ -110,9 +108,11 @@ bad_digit_unfound first base f p r is =
 module _ (c : ℕ) (bad : ends_badly c ≡ true) where
   bad_parts : (is_ident_continue c ≡ true) × (is_ident_start c ≡ false)
   bad_parts =
-      let parts = and_parts (is_ident_continue c) _ bad in
-      (parts.0, false_from_ne_true _ (λ start. both_ways _ (ap not (or_left (is_ident_start c) (is_ascii_digit c) start))
-      parts.1))
+      let parts = and_parts (is_ident_continue c) _ bad in (
+        parts.0,
+        false_from_ne_true _ (λ start. both_ways _ (ap not (or_left (is_ident_start c) (is_ascii_digit c) start))
+            parts.1),
+      )
 
   no_start : (k : ℕ) → is_ident_start k ≡ true → c ≡ k → ⊥
   no_start k start same = both_ways _ bad_parts.1 (ap is_ident_start same ∙ start)

@@ -1,22 +1,21 @@
 -- Where a reason of a character or a lifetime holds no piece stands.
-use Rattle.std.proofs.Common.{◌≡◌, ℕ, Bool, true, false, not, ◌&&◌, ◌||◌, ◌==◌, cond, List, [], ◌∷◌, ◌++◌, codes}
-use Rattle.std.proofs.Common.{Result, Ok, Err, Some, None, inl, inr, refl, sym, ap, ap₂, ◌∙◌, subst, arith, append_assoc}
+use Rattle.std.proofs.Common.{◌≡◌, ℕ, Bool, true, false, not, ◌&&◌, ◌==◌, List, [], ◌∷◌, ◌++◌, codes}
+use Rattle.std.proofs.Common.{Result, Ok, Err, None, inl, inr, refl, sym, ap, ap₂, ◌∙◌, subst, arith, append_assoc}
 use Rattle.std.proofs.Common.{eqb-true, append-nil, ◌⊎◌}
 use Rattle.std.specs.Char.{is_ascii, is_ascii_digit, is_ascii_hexdigit}
-use Rattle.std.specs.List.{concat, list_all, list_any}
+use Rattle.std.specs.List.{list_all}
 use Rattle.std.proofs.lemmas.Bool.{and_parts, both_ways, cond-false, cond-true, false_from_ne_true, or_from, or_left}
 use Rattle.std.proofs.lemmas.Bool.{or_cases, or_right}
 use Rattle.std.proofs.lemmas.List.{append_cancel_left, append_cancel_right}
-use Rattle.lexical.specs.Class.{is_ident_continue, is_ident_start}
+use Rattle.lexical.specs.Class.{is_ident_start}
 use Rattle.lexical.specs.Form.{HasNone, Many}
-use Rattle.lexical.specs.Identifier.{Named, identifier, is_reserved, literal_prefixes, name, raw_name}
-use Rattle.lexical.specs.Literal.{quoted_literal}
+use Rattle.lexical.specs.Identifier.{Named, is_reserved, literal_prefixes, name}
 use Rattle.lexical.specs.Mark.{FollowsQuote, LoneQuote, bars_quote, comment_fronts}
-use Rattle.lexical.specs.PieceFinder.{find_lone_quote, found, found_from, literal_kind, or_found, quote_kind, tagged}
+use Rattle.lexical.specs.PieceFinder.{find_lone_quote, found, literal_kind, or_found, quote_kind, tagged}
 use Rattle.lexical.specs.Quoted.{cooked, escape as escape_rule, is_code_digit, is_one_of}
 use Rattle.lexical.specs.Quoted as rule
 use Rattle.lexical.specs.RawString.{raw_string}
-use Rattle.lexical.specs.Rule.{Rule, One, Run, Exactly, Then, Where, Either, Stands, find}
+use Rattle.lexical.specs.Rule.{One, Exactly, Then, Where, Either, Stands}
 use Rattle.lexical.specs.SingleQuoted.{byte, character, is_byte_char_plain, is_char_plain}
 use Rattle.lexical.specs.Text.{begins_any, begins_with, first_passes}
 use Rattle.lexical.specs.Token.{raw_front}
@@ -30,20 +29,21 @@ use Rattle.lexical.proofs.NameFinderLemmas.{finds_lone_quote, named_begins, name
 use Rattle.lexical.proofs.QuotedFinderLemmas.{each_kind}
 use Rattle.lexical.proofs.RuleLemmas.{bars, one_split}
 use Rattle.literal_escaper.specs.declared.errors.EscapeError.{EscapeError}
-use Rattle.literal_escaper.specs.Escape.{Read, escape, fault}
+use Rattle.literal_escaper.specs.Escape.{Read}
 use Rattle.literal_escaper.specs.Kind.{Kind, byte_kind, string_kind}
 use Rattle.literal_escaper.specs.Single.{only, single, single_plain}
 use Rattle.explain.specs.Content.{IsBadSingle, SingleFault}
 use Rattle.explain.specs.Reason.{Begins, Follow, Lacks}
 use Rattle.explain.specs.Shapes.{bars_character, closed_character, closed_named, closed_single, closed_single_body}
-use Rattle.explain.specs.Shapes.{digit_lifetime, is_quote, lifetime, raw_lifetime_start, reserved_raw, single_front}
+use Rattle.explain.specs.Shapes.{digit_lifetime, lifetime, raw_lifetime_start, reserved_raw, single_front}
 use Rattle.explain.specs.Shapes.{single_opening, single_pair}
 use Rattle.explain.specs.declared.quotes.SingleKind.{SingleKind}
 use Rattle.explain.specs.declared.quotes.SingleKind.TheVariants as singles
 use Rattle.explain.proofs.OneContentLemmas.{byte_single, one_character}
-use Rattle.explain.proofs.PairedLemmas.{IsPairOf, Paired, more_escaped, pair_of}
-use Rattle.explain.proofs.TakenLemmas.{Takes, TakesAll, byte_takes, escape_taken, string_takes}
-use Rattle.explain.proofs.ToldQuoteLemmas.{IsNamed, Digit, Plain, Raw, digit_unnamed, hash_unnamed, name_first, named_is}
+use Rattle.explain.proofs.PairedLemmas.{Paired, more_escaped, pair_of}
+use Rattle.explain.proofs.TakenLemmas.{TakesAll, byte_takes, escape_taken, string_takes}
+use Rattle.explain.proofs.ToldQuoteLemmas.{IsNamed, Digit, Plain, Raw, digit_unnamed, hash_unnamed, name_first}
+use Rattle.explain.proofs.ToldQuoteLemmas.{named_is}
 use Rattle.explain.proofs.ToldQuoteLemmas.{no_both, no_opening, reserved_unnamed, stops_at_hash}
 use Rattle.explain.proofs.ToldTextLemmas.{at_front}
 use Rattle.explain.proofs.UnfoundStringLemmas.{Unquoted, barred_here, letter_found, prefixed, reserved_name_unfound}
@@ -515,14 +515,15 @@ character_named text rest e barring p r split stands =
     let is = character_whole text p r split stands in
     elim (character_closed text is) [
       | inl single ↦ absurd (no_opening text rest e barring single.front (single.back ++ is.tail)
-          (is.whole ∙ (ap (λ t. t ++ is.tail) single.whole ∙ append_assoc single.front single.back is.tail)) single.first)
+          (is.whole ∙ (ap (λ t. t ++ is.tail) single.whole ∙ append_assoc single.front single.back is.tail))
+          single.first)
       | inr named ↦ named_is text _ is.tail is.whole named
     ]
 
 -- ---- the reasons
 
-pub unclosed_character_unfound : (first : Bool) (f p r : List ℕ) → Begins single_opening f p r → Lacks closed_single f p r
-    → found first (f ++ (p ++ r)) ≡ None
+pub unclosed_character_unfound : (first : Bool) (f p r : List ℕ) → Begins single_opening f p r
+    → Lacks closed_single f p r → found first (f ++ (p ++ r)) ≡ None
 unclosed_character_unfound first f p r (start, inl is) none =
     let text : List ℕ = f ++ (p ++ r) in
     let e : text ≡ 39 ∷ r = at_front f p r start ∙ ap (λ t. t ++ r) is.0 in
@@ -575,8 +576,8 @@ named_no_follow text rest e (Plain named back whole is) h =
         let rest : r ≡ 39 ∷ back = (one_split name (assumption) other named r (39 ∷ back) stands.0 is e).1 in
         both_ways _ unbarred (ap (first_passes (bars_quote false)) rest)
 
-pub bad_single_unfound : (first : Bool) (kind : SingleKind) (e : EscapeError) (f p r : List ℕ) → IsBadSingle kind e f p r
-    → found first (f ++ (p ++ r)) ≡ None
+pub bad_single_unfound : (first : Bool) (kind : SingleKind) (e : EscapeError) (f p r : List ℕ)
+    → IsBadSingle kind e f p r → found first (f ++ (p ++ r)) ≡ None
 bad_single_unfound first singles.Byte e f p r is =
     let text : List ℕ = f ++ (p ++ r) in
     byte_found first text _ is.whole (λ q s split stands.
@@ -596,7 +597,8 @@ bad_single_unfound first singles.Character e f p r is =
     (λ h. elim is.closed [
       | inl single ↦ no_opening text rest lone (start_bars rest (follows_start rest h)) single.front
           (single.back ++ is.tail)
-          (is.whole ∙ (ap (λ t. t ++ is.tail) single.whole ∙ append_assoc single.front single.back is.tail)) single.first
+          (is.whole ∙ (ap (λ t. t ++ is.tail) single.whole ∙ append_assoc single.front single.back is.tail))
+          single.first
       | inr named ↦ named_no_follow text rest lone (named_is text _ is.tail is.whole named) h
     ])
     (λ q s split stands.

@@ -1,18 +1,19 @@
 -- Where a reason of a string or a raw string holds no piece stands.
-use Rattle.std.proofs.Common.{◌≡◌, ℕ, ◌<◌, ◌≤◌, Bool, true, false, not, ◌&&◌, ◌||◌, ◌==◌, cond, List, [], ◌∷◌, ◌++◌, codes}
-use Rattle.std.proofs.Common.{◌⊎◌, length, Result, Ok, Err, None, inl, inr, refl, sym, ap, ap₂, ◌∙◌, subst, arith, append_assoc}
-use Rattle.std.proofs.Common.{eqb-true, ltb-true, leb-true, append-nil}
+use Rattle.std.proofs.Common.{◌≡◌, ℕ, ◌<◌, ◌≤◌, Bool, true, false, not, ◌==◌, List, [], ◌∷◌, ◌++◌, codes}
+use Rattle.std.proofs.Common.{◌⊎◌, length, Result, Ok, Err, None, inl, inr, refl, sym, ap, ap₂, ◌∙◌, subst, arith}
+use Rattle.std.proofs.Common.{append_assoc}
+use Rattle.std.proofs.Common.{eqb-true, ltb-true, leb-true}
 use Rattle.std.specs.List.{concat, list_all}
-use Rattle.std.proofs.lemmas.Bool.{and_parts, both_ways, false_from_ne_true, or_left, or_parts}
+use Rattle.std.proofs.lemmas.Bool.{and_parts, both_ways, or_left}
 use Rattle.lexical.specs.Class.{is_ident_start}
 use Rattle.lexical.specs.Form.{Each, HasNone, Many}
-use Rattle.lexical.specs.Identifier.{identifier, is_allowed, is_reserved, literal_prefixes, name, raw_name}
+use Rattle.lexical.specs.Identifier.{identifier, is_reserved, literal_prefixes, name, raw_name}
 use Rattle.lexical.specs.Literal.{quoted_literal}
-use Rattle.lexical.specs.PieceFinder.{found, found_from, literal_kind, name_kind, or_found, piece_start, tagged}
+use Rattle.lexical.specs.PieceFinder.{found, literal_kind, name_kind, or_found, tagged}
 use Rattle.lexical.specs.Quoted.{cooked, front as string_front, unit}
 use Rattle.lexical.specs.RawString.{may_stand_raw, raw_front, raw_string}
 use Rattle.lexical.specs.RawString as raw_strings
-use Rattle.lexical.specs.Rule.{Rule, One, Run, Exactly, Then, Where, Stands, find}
+use Rattle.lexical.specs.Rule.{Rule, Exactly, Then, Where, Stands, find}
 use Rattle.lexical.specs.SingleQuoted.{byte, character}
 use Rattle.lexical.specs.Text.{begins_any, begins_with, first_passes}
 use Rattle.lexical.specs.declared.class.PieceStart.TheVariants as starts
@@ -31,11 +32,11 @@ use Rattle.explain.specs.Reason.{Begins, Follow, Lacks}
 use Rattle.explain.specs.Shapes.{closed_raw, closed_string, hashed_front, is_hash, long_opening, no_double_quote}
 use Rattle.explain.specs.Shapes.{raw_name_start, raw_opening}
 use Rattle.explain.specs.Shapes as shapes
-use Rattle.explain.proofs.OneContentLemmas.{IsPlace, IsRawPlace, many_stop, no_raw_unit, place_of, raw_place_of, raw_taken}
+use Rattle.explain.proofs.OneContentLemmas.{IsPlace, many_stop, no_raw_unit, place_of, raw_place_of, raw_taken}
 use Rattle.explain.proofs.OneContentLemmas.{string_cancel}
-use Rattle.explain.proofs.PairedLemmas.{Paired, is_alone, pairs_of, units_paired}
+use Rattle.explain.proofs.PairedLemmas.{Paired, pairs_of, units_paired}
 use Rattle.explain.proofs.StringLemmas.{no_unit}
-use Rattle.explain.proofs.ToldTextLemmas.{IsSigned, at_front, hashed_signed, long_opens, no_opening, one_signed}
+use Rattle.explain.proofs.ToldTextLemmas.{IsSigned, at_front, hashed_signed, long_opens, one_signed}
 use Rattle.explain.proofs.ToldTextLemmas.{opening_signed, reserved_signed}
 
 -- ---- where no literal between quotes stands
@@ -68,7 +69,8 @@ module _ (front rest text : List ℕ) (e : text ≡ front ++ rest) where
   Barred rule = bars front rule ≡ true
 
   pub only_string : (kind : StringKind) → HasNone (Stands (cooked kind)) text
-      → ((other : StringKind) → (other ≡ kind) ⊎ Barred (cooked other)) → ((other : StringKind) → Barred (raw_string other))
+      → ((other : StringKind) → (other ≡ kind) ⊎ Barred (cooked other))
+      → ((other : StringKind) → Barred (raw_string other))
       → Barred character → Barred byte → Unquoted text
   only_string kind none strings raw one two = record {
     strings = λ other. elim (strings other) [
@@ -81,7 +83,8 @@ module _ (front rest text : List ℕ) (e : text ≡ front ++ rest) where
   }
 
   pub only_raw : (kind : StringKind) → HasNone (Stands (raw_string kind)) text
-      → ((other : StringKind) → Barred (cooked other)) → ((other : StringKind) → (other ≡ kind) ⊎ Barred (raw_string other))
+      → ((other : StringKind) → Barred (cooked other))
+      → ((other : StringKind) → (other ≡ kind) ⊎ Barred (raw_string other))
       → Barred character → Barred byte → Unquoted text
   only_raw kind none strings raw one two = record {
     strings = λ other. barred_here front rest text e (cooked other) (strings other);
