@@ -11,20 +11,24 @@ use Rattle.lexical.proofs.ClassLemmas.{any_of, start_closer, start_opener}
 use Rattle.lexical.proofs.PieceFacts.{piece_not_empty}
 use Rattle.lexical.proofs.PieceLemmas.{one_piece}
 use Rattle.pm_token.specs.declared.delimiters.Delimiter.{Delimiter}
+use Rattle.pm_span.specs.Extent.{Extent}
 use Rattle.pm_stream.specs.Delimited.{delimiter_of}
 use Rattle.pm_stream.specs.Events.{Balanced, Event, expansion}
 use Rattle.pm_stream.specs.Parsing.{is_first}
 use Rattle.pm_stream.proofs.EventLemmas.{balanced_has_none}
 use Rattle.pm_stream.proofs.LawLemmas.{one_fault}
-use Rattle.explain.specs.Explained.{IsExplained, IsLeftOpen, IsOpenerOf, IsRefused, IsStuck}
+use Rattle.explain.specs.Explained.{IsExplained, IsLeftOpen, IsOpenerOf, IsRefused, IsStretch, IsStuck}
+use Rattle.explain.specs.Explained.{front_of}
 use Rattle.explain.specs.Open.{LeavesOpen, RefusesFor, Waiting, WaitsAs, waiting}
 use Rattle.explain.specs.Reason.{Holds}
 use Rattle.explain.specs.declared.explained.Explained.{Explained}
 use Rattle.explain.specs.declared.explained.Opener.{Opener}
+use Rattle.explain.specs.declared.explained.Stretch.{Stretch}
 use Rattle.explain.specs.declared.reason.Reason.{Reason}
 use Rattle.explain.specs.declared.reason.Reason.TheVariants as reasons
 use Rattle.explain.specs.Shapes.{begins_nothing}
 use Rattle.explain.proofs.ExclusiveLemmas.{one_reason, told_is}
+use Rattle.explain.proofs.OnePlaceLemmas.{one_place, same_size}
 use Rattle.explain.proofs.Told.{content, sort, sort_is, told}
 use Rattle.explain.proofs.ToldTextLemmas.{at_front}
 
@@ -198,12 +202,102 @@ module _ (base : ℕ) (source : List ℕ) (x y : Explained) (g : IsExplained bas
           ]
         ]
 
--- the reason is one
+-- ---- and what they tell of the place
+
+abbrev made : ℕ → ℕ → Extent → Stretch
+made start end span = record { start = start; end = end; span = span }
+
+-- the stretch of a part is one
+one_stretch : (base : ℕ) (behind part : List ℕ) (s t : Stretch) → IsStretch base behind part s
+    → IsStretch base behind part t
+    → s ≡ t
+one_stretch base behind part s t is other =
+    ap (λ n. made n s.end s.span) (is.start ∙ sym other.start)
+    ∙ (ap (λ n. made t.start n s.span) (is.end ∙ sym other.end)
+    ∙ ap (λ e. made t.start t.end e) (is.span ∙ sym other.span))
+
+same_stretch : (base : ℕ) (a b p q : List ℕ) (s t : Stretch) → a ≡ b → p ≡ q → IsStretch base a p s
+    → IsStretch base b q t
+    → s ≡ t
+same_stretch base a b p q s t behind part is other =
+    one_stretch base b q s t (subst (λ v. IsStretch base b v s) part (subst (λ v. IsStretch base v p s) behind is))
+    other
+
+abbrev SameTold : Explained → Explained → Type 0
+SameTold x y = (x.reason ≡ y.reason) × (x.before ≡ y.before) × (x.at ≡ y.at)
+
+module _ (base : ℕ) (source : List ℕ) (x y : Explained) (g : IsExplained base source x) (h : IsExplained base source y)
+  where
+    behinds : x.before.span.lo ≡ base + length g.behind → y.before.span.lo ≡ base + length h.behind
+        → g.behind ≡ h.behind
+    behinds a b =
+        (same_size g.behind h.behind g.rest h.rest (sym g.whole ∙ h.whole)
+        (omega (arith, a, b, place base source x y g h))).0
+
+    told_stuck : IsStuck base g.behind (is_first g.pieces) g.rest x
+        → IsStuck base h.behind (is_first h.pieces) h.rest y → SameTold x y
+    told_stuck stuck other =
+        let a = ap (λ s. s.lo) stuck.before.span in
+        let b = ap (λ s. s.lo) other.before.span in
+        let behind = behinds a b in
+        let text = sym stuck.split ∙ (rests base source x y g h a b ∙ other.split) in
+        let reason = both_stuck base source x y g h stuck other in
+        let at = one_place y.reason stuck.front stuck.part stuck.after other.front other.part other.after
+        (subst (λ z. Holds z stuck.front stuck.part stuck.after) reason stuck.holds) other.holds text in (
+          reason,
+          same_stretch base g.behind h.behind stuck.front other.front x.before y.before behind at.0 stuck.before
+              other.before,
+          same_stretch base (g.behind ++ stuck.front) (h.behind ++ other.front) stuck.part other.part x.at y.at
+              (ap₂ (λ v w. v ++ w) behind at.0) at.1 stuck.at other.at,
+        )
+
+    told_refused : IsRefused base g.behind (is_first g.pieces) g.rest x
+        → IsRefused base h.behind (is_first h.pieces) h.rest y → SameTold x y
+    told_refused refused other =
+        let a = ap (λ s. s.lo) refused.before.span in
+        let b = ap (λ s. s.lo) other.before.span in
+        let behind = behinds a b in
+        let one = refused.stands in
+        let two = other.stands in
+        let front : one.0 ∷ refused.after ≡ two.0 ∷ other.after =
+        ap (λ t. t ++ refused.after) (sym one.1) ∙ (sym refused.split ∙ (rests base source x y g h a b ∙ (other.split
+        ∙ ap (λ t. t ++ other.after) two.1))) in
+        let first : one.0 ≡ two.0 = cc in
+        let part : refused.part ≡ other.part = one.1 ∙ (ap (λ c. c ∷ []) first ∙ sym two.1) in (
+          both_refused base source x y g h refused other,
+          same_stretch base g.behind h.behind [] [] x.before y.before behind refl refused.before other.before,
+          same_stretch base g.behind h.behind refused.part other.part x.at y.at behind part refused.at other.at,
+        )
+
+    told_open : IsLeftOpen g.rest x → IsLeftOpen h.rest y → SameTold x y
+    told_open left other =
+        let mine = left.says in
+        let said = other.says in
+        let is : IsOpenerOf base source mine.opener =
+        subst (λ o. IfSome o (IsOpenerOf base source)) mine.innermost g.inmost in
+        let also : IsOpenerOf base source said.opener =
+        subst (λ o. IfSome o (IsOpenerOf base source)) said.innermost h.inmost in
+        let a : mine.opener.at.span.lo ≡ base + length is.behind = ap (λ s. s.lo) is.at.span in
+        let b : said.opener.at.span.lo ≡ base + length also.behind = ap (λ s. s.lo) also.at.span in
+        let c : x.before.span.lo ≡ mine.opener.at.span.lo = ap (λ s. s.span.lo) mine.before in
+        let d : y.before.span.lo ≡ said.opener.at.span.lo = ap (λ s. s.span.lo) said.before in
+        let both = same_size is.behind also.behind (is.character ∷ is.after) (also.character ∷ also.after)
+        (sym is.whole ∙ also.whole) (omega (arith, a, b, c, d, place base source x y g h)) in
+        let rest : is.character ∷ is.after ≡ also.character ∷ also.after = both.1 in
+        let first : is.character ≡ also.character = cc in
+        let same = same_stretch base is.behind also.behind (is.character ∷ []) (also.character ∷ []) mine.opener.at
+        said.opener.at both.0 (ap (λ v. v ∷ []) first) is.at also.at in (
+          mine.reason ∙ sym said.reason,
+          mine.before ∙ (ap front_of same ∙ sym said.before),
+          mine.at ∙ (same ∙ sym said.at),
+        )
+
+-- what is told of the place is one
 pub one_explanation : (base : ℕ) (source : List ℕ) (x y : Explained) → IsExplained base source x
-    → IsExplained base source y → x.reason ≡ y.reason
+    → IsExplained base source y → SameTold x y
 one_explanation base source x y g h = elim g.because [
   | inl stuck ↦ elim h.because [
-    | inl also ↦ both_stuck base source x y g h stuck also
+    | inl also ↦ told_stuck base source x y g h stuck also
     | inr other ↦ elim other [
       | inl refused ↦ absurd (not_stuck_refused base source x y g h stuck refused)
       | inr left ↦ absurd (not_stuck_open base source x y g h stuck left)
@@ -213,7 +307,7 @@ one_explanation base source x y g h = elim g.because [
     | inl refused ↦ elim h.because [
       | inl stuck ↦ absurd (not_stuck_refused base source y x h g stuck refused)
       | inr other ↦ elim other [
-        | inl also ↦ both_refused base source x y g h refused also
+        | inl also ↦ told_refused base source x y g h refused also
         | inr left ↦ absurd (not_refused_open base source x y g h refused left)
       ]
     ]
@@ -221,7 +315,7 @@ one_explanation base source x y g h = elim g.because [
       | inl stuck ↦ absurd (not_stuck_open base source y x h g stuck left)
       | inr other ↦ elim other [
         | inl refused ↦ absurd (not_refused_open base source y x h g refused left)
-        | inr also ↦ left.says.reason ∙ sym also.says.reason
+        | inr also ↦ told_open base source x y g h left also
       ]
     ]
   ]

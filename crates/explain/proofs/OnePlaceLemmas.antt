@@ -22,7 +22,8 @@ use Rattle.explain.specs.Content as contents
 use Rattle.explain.specs.Content.{GivesFault, IsAtFault, IsBadContent, IsBadRaw, IsBadSingle, IsBadString, IsBareReturn}
 use Rattle.explain.specs.Content.{IsPart, SingleFault, StringFault, is_of_last, is_of_literal}
 use Rattle.explain.specs.Reason.{Begins, Follow, Holds}
-use Rattle.explain.specs.Shapes.{bare_prefix, base_front, digit_lifetime, ends_badly, begins_nothing, hashed_front, lifetime}
+use Rattle.explain.specs.Shapes.{bare_prefix, base_front, digit_lifetime, ends_badly, begins_nothing, hashed_front}
+use Rattle.explain.specs.Shapes.{lifetime}
 use Rattle.explain.specs.Shapes.{long_opening, no_double_quote, raw_opening, reserved_raw, single_opening}
 use Rattle.explain.specs.Shapes.{single_front}
 use Rattle.explain.specs.declared.quotes.SingleKind.{SingleKind}
@@ -108,7 +109,7 @@ bad_digit_place a b f p r g q s is other e =
 
 -- ---- a CR in a doc comment
 
-same_size : (a b r s : List ℕ) → a ++ r ≡ b ++ s → length a ≡ length b → (a ≡ b) × (r ≡ s)
+pub same_size : (a b r s : List ℕ) → a ++ r ≡ b ++ s → length a ≡ length b → (a ≡ b) × (r ≡ s)
 same_size [] [] r s e size = (refl, e)
 same_size [] (y ∷ b) r s e size = absurd (omega (arith, size))
 same_size (x ∷ a) [] r s e size = absurd (omega (arith, size))
@@ -127,7 +128,8 @@ not_first c [] r s e plain none =
 not_first c (d ∷ b) r s e plain none =
     let first : c ≡ 13 = cc in
     let rest : r ≡ d ∷ (b ++ (13 ∷ s)) = cc in
-    let here : begins_with (codes "\n") (d ∷ (b ++ (13 ∷ s))) ≡ false = ap (begins_with (codes "\n")) (sym rest) ∙ plain in
+    let here : begins_with (codes "\n") (d ∷ (b ++ (13 ∷ s))) ≡ false = ap (begins_with (codes "\n")) (sym rest)
+    ∙ plain in
     let bare : begins_with (codes "\n") (d ∷ b) ≡ false = here in
     both_ways _ (ap (λ x. has_bare_return (x ∷ d ∷ b)) (sym first) ∙ none) (or_left _ _ (ap not bare))
 
@@ -264,7 +266,8 @@ bad_single_place kind e f p r g q s is other same =
     single_left kind e other.content is.left other.left (subst (λ t. SingleFault kind e t is.left) content is.gives)
     other.gives in
     single_place e (is_of_literal e) (single_front kind) other.content is.left f p other.left g q
-    (subst (λ t. contents.IsSinglePlace (is_of_literal e) e (single_front kind) t is.left f p) content is.place) other.place
+    (subst (λ t. contents.IsSinglePlace (is_of_literal e) e
+    (single_front kind) t is.left f p) content is.place) other.place
     left
 
 content_place : (e : EscapeError) (f p r g q s : List ℕ) → IsBadContent e f p r → IsBadContent e g q s

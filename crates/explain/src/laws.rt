@@ -29,9 +29,9 @@ pub fn no_piece()
         → f ++ (p ++ r) ≡ q ++ s → (kind ≡ FrontMark) × (x ≡ MisplacedMark) }
 {}
 
-/// At most one reason explains why a text doesn't parse: of two explanations, each as [`explain`](crate::explain)
-/// promises its own, the reasons are the same.
+/// At most one reason explains why a text doesn't parse, at one place: two explanations, each as `explain` promises its
+/// own, say the same reason, and the same of what is at fault, in bytes and as a span.
 pub fn one_explanation()
     ensures { (base : ℕ) (source : List ℕ) (x y : Explained) → IsExplained base source x → IsExplained base source y
-        → x.reason ≡ y.reason }
+        → (x.reason ≡ y.reason) × (x.before ≡ y.before) × (x.at ≡ y.at) }
 {}

@@ -17,7 +17,7 @@ pub fn one_place()
 pub fn no_piece()
 {}
 
-/// At most one reason explains why a text doesn't parse: of two explanations, each as [`explain`](crate::explain::explain)
-/// promises its own, the reasons are the same.
+/// At most one reason explains why a text doesn't parse, at one place: two explanations, each as `explain` promises its
+/// own, say the same reason, and the same of what is at fault, in bytes and as a span.
 pub fn one_explanation()
 {}
