@@ -52,7 +52,7 @@ past_value c e =
 past_hex : (c : ℕ) → nat_lt c 128 ≡ false → is_hex c ≡ false
 past_hex c e = ap (λ d. nat_lt d 16) (past_value c e)
 
-past_hexdigit : (c : ℕ) → nat_lt c 128 ≡ false → is_ascii_hexdigit c ≡ false
+pub past_hexdigit : (c : ℕ) → nat_lt c 128 ≡ false → is_ascii_hexdigit c ≡ false
 past_hexdigit c e =
     let far : 128 ≤ c = ltb-false c 128 e in
     let out : (a b : ℕ) → b < 128 → is_in_range a b c ≡ false = λ a b low. false_from_ne_true _ (λ h.
@@ -84,11 +84,11 @@ code_whole (c ∷ text) = by_test (is_code_character c) (code_whole text)
     by_test true more = ap (λ t. c ∷ t) more
     by_test false more = refl
 
-digits_same : (ds : List ℕ) → filter is_hex ds ≡ filter is_ascii_hexdigit ds
+pub digits_same : (ds : List ℕ) → filter is_hex ds ≡ filter is_ascii_hexdigit ds
 digits_same [] = refl
 digits_same (c ∷ ds) = ap₂ (λ b xs. cond b (c ∷ xs) xs) (hex_same c) (digits_same ds)
 
-passes_same : (ds : List ℕ) → list_all is_code_character ds ≡ list_all is_code_digit ds
+pub passes_same : (ds : List ℕ) → list_all is_code_character ds ≡ list_all is_code_digit ds
 passes_same [] = refl
 passes_same (c ∷ ds) = ap₂ (λ b more. (b || (c == 95)) && more) (hex_same c) (passes_same ds)
 
@@ -106,7 +106,7 @@ hex_step n c = 16 * n + digit_value c
 abbrev value_step : ℕ → ℕ → ℕ
 value_step n c = cond (c == 95) n (16 * n + digit_value c)
 
-number_same : (n : ℕ) (ds : List ℕ) → list_all is_code_character ds ≡ true
+pub number_same : (n : ℕ) (ds : List ℕ) → list_all is_code_character ds ≡ true
     → fold hex_step n (filter is_hex ds) ≡ fold value_step n ds
 number_same n [] all = refl
 number_same n (c ∷ ds) all =

@@ -2,6 +2,7 @@
 use Rattle.std.proofs.Common.{◌≡◌, ◌≢◌, ℕ, ◌+◌, Bool, true, false, List, [], ◌∷◌, ◌++◌, length, Option, Some, None}
 use Rattle.std.proofs.Common.{inl, inr}
 use Rattle.std.proofs.Common.{MatchOption, refl, sym, ap, ◌∙◌, subst, arith, append_assoc, length-append}
+use Rattle.std.specs.List.{AllByRecursion}
 use Rattle.lexical.specs.Cover.{onto, width}
 use Rattle.lexical.specs.Found.{IsPieceAt, kind_of}
 use Rattle.lexical.specs.Piece.{Piece, Close, IsPiece, HasNoPiece}
@@ -18,8 +19,9 @@ use Rattle.pm_stream.specs.Parsing.{FaultAt}
 use Rattle.pm_stream.specs.OpenGroups.{Opened, FitsInnermost, unclosed_onto}
 use Rattle.pm_stream.proofs.ParseLemmas.{reads_on}
 use Rattle.pm_stream.proofs.ParserLemmas.{Reads, reads_none, reads_all, reads_open, reads_stray, reads_stuck}
-use Rattle.explain.specs.Explained.{IsExplained, IsStretch, IsStuck, Parses, SaysLeftOpen}
-use Rattle.explain.specs.Open.{LeavesOpen, Refuses, RefusesFor, RefusesPiece, Steps, Waiting, WaitsAs, openers_of}
+use Rattle.explain.specs.Explained.{IsExplained, IsOpenerOf, IsStretch, IsStuck, Parses, SaysLeftOpen}
+use Rattle.explain.specs.Open.{LeavesOpen, Loses, Refuses, RefusesFor, RefusesPiece, Steps, Waiting, WaitsAs}
+use Rattle.explain.specs.Open.{openers_of}
 use Rattle.explain.specs.Open.{waiting}
 use Rattle.explain.specs.declared.explained.Explained.{Explained}
 use Rattle.explain.specs.declared.explained.Opener.{Opener}
@@ -27,6 +29,7 @@ use Rattle.explain.specs.declared.nesting.Refusal.{Refusal}
 use Rattle.explain.specs.declared.reason.Reason.{Reason}
 use Rattle.explain.specs.declared.reason.Reason.TheVariants.{MismatchedCloser}
 use Rattle.explain.proofs.OpenLemmas.{leaves_open}
+use Rattle.explain.proofs.StandLemmas.{AllStand, all_lost}
 
 -- the texts of the pieces, as far as they go
 onto_behind : (pieces : List Piece) (rest : List ℕ) → onto pieces rest ≡ onto pieces [] ++ rest
@@ -85,8 +88,8 @@ module _ (base : ℕ) (source rest : List ℕ) (at : ℕ) (first : Bool) (opener
   pub stuck_explained : (x : Explained) → rest ≢ [] → HasNoPiece first rest
       → ((base : ℕ) (behind : List ℕ) → source ≡ behind ++ rest → at ≡ base + length behind
       → IsStuck base behind first rest x)
-      → WaitsAs (waiting openers) x.innermost x.outer.items → IsExplained base source x
-  stuck_explained x more none stuck told = record {
+      → WaitsAs (waiting openers) x.innermost x.outer.items → AllStand base source x → IsExplained base source x
+  stuck_explained x more none stuck told stand = record {
     pieces = h.reads.pieces;
     behind = read;
     rest = rest;
@@ -95,6 +98,8 @@ module _ (base : ℕ) (source rest : List ℕ) (at : ℕ) (first : Bool) (opener
     waits = waiting openers;
     leaves = leaves;
     told = told;
+    inmost = stand.0;
+    others = stand.1;
     fault = subst (FaultAt base source)
         (read_at ∙ sym (ap (λ s. s.lo) (stuck base read read_whole read_at).before.span))
         (reads_stuck base source rest at first h.groups h.trees h.reads more none);
@@ -112,8 +117,8 @@ module _ (base : ℕ) (source rest : List ℕ) (at : ℕ) (first : Bool) (opener
 
   -- the innermost is
   pub left_explained : (x : Explained) → rest ≡ [] → SaysLeftOpen x
-      → WaitsAs (waiting openers) x.innermost x.outer.items → IsExplained base source x
-  left_explained x done says told = record {
+      → WaitsAs (waiting openers) x.innermost x.outer.items → AllStand base source x → IsExplained base source x
+  left_explained x done says told stand = record {
     pieces = h.reads.pieces;
     behind = read;
     rest = rest;
@@ -122,6 +127,8 @@ module _ (base : ℕ) (source rest : List ℕ) (at : ℕ) (first : Bool) (opener
     waits = waiting openers;
     leaves = leaves;
     told = told;
+    inmost = stand.0;
+    others = stand.1;
     fault = subst (FaultAt base source) (sym (ap (λ s. s.span.lo) says.before))
         (by_groups h.groups h.reads (sym h.around ∙ subst (λ o. WaitsAs
         (waiting openers) o x.outer.items) says.innermost told));
@@ -140,9 +147,9 @@ module _ (base : ℕ) (source rest : List ℕ) (at : ℕ) (first : Bool) (opener
   -- a closer can't stand there
   pub refused_explained : (x : Explained) (piece : Found) → (found : IsPieceAt first rest piece)
       → RefusesPiece piece.kind (record { reason = x.reason; innermost = x.innermost })
-      → WaitsAs (waiting openers) x.innermost x.outer.items
+      → WaitsAs (waiting openers) x.innermost x.outer.items → AllStand base source x
       → IsStretch base read [] x.before → IsStretch base read found.front x.at → IsExplained base source x
-  refused_explained x piece found refuses told before here =
+  refused_explained x piece found refuses told stand before here =
       let closer = closer_of piece.kind (record { reason = x.reason; innermost = x.innermost }) refuses in
       let stands = subst (λ k. IsPiece first (kind_of k found.front) found.front found.rest) closer.1 found.stands in
       record {
@@ -154,6 +161,8 @@ module _ (base : ℕ) (source rest : List ℕ) (at : ℕ) (first : Bool) (opener
         waits = waiting openers;
         leaves = leaves;
         told = told;
+        inmost = stand.0;
+        others = stand.1;
         fault = subst (FaultAt base source) (read_at ∙ (omega (arith) ∙ sym (ap (λ s. s.lo) before.span)))
             (reads_stray base source rest found.front found.rest at first h.groups h.trees closer.0 h.reads found.whole
             stands
@@ -220,13 +229,17 @@ whole_past text mid rest front part whole more =
 
 -- the end of the text
 pub left_answer : (base : ℕ) (source rest : List ℕ) (at : ℕ) (first : Bool) (openers : List Opener)
-    → ReadsOpen base source rest at first openers → rest ≡ [] → (answer : Option Explained)
+    → ReadsOpen base source rest at first openers → AllByRecursion (IsOpenerOf base source) openers → rest ≡ []
+    → (answer : Option Explained)
     → MatchOption answer (waiting openers ≡ [])
-    (λ x. SaysLeftOpen x × WaitsAs (waiting openers) x.innermost x.outer.items)
+    (λ x. SaysLeftOpen x × WaitsAs (waiting openers) x.innermost x.outer.items
+    × Loses openers x.innermost x.outer.items)
     → MatchOption answer (Parses base source) (IsExplained base source)
-left_answer base source rest at first openers h done None none = parsed base source rest at first openers h done none
-left_answer base source rest at first openers h done (Some x) told =
+left_answer base source rest at first openers h stand done None none =
+    parsed base source rest at first openers h done none
+left_answer base source rest at first openers h stand done (Some x) told =
     left_explained base source rest at first openers h x done told.0 told.1
+    (all_lost (IsOpenerOf base source) openers x.innermost x.outer.items told.2 stand)
 
 -- from another position
 pub answer_at : (base begin : ℕ) (source : List ℕ) (answer : Option Explained) → base ≡ begin

@@ -128,7 +128,7 @@ closes text none = by_suffix (find name text) none
     by_suffix None e = let clash : ◌≡◌ {A = Answer} (Some (34 ∷ [], text)) None = e in absurd (cc)
     by_suffix (Some x) e = let clash : ◌≡◌ {A = Answer} (Some (34 ∷ x.0, x.1)) None = e in absurd (cc)
 
-no_unit : (kind : StringKind) (text : List ℕ) → find (unit kind) (34 ∷ text) ≡ None
+pub no_unit : (kind : StringKind) (text : List ℕ) → find (unit kind) (34 ∷ text) ≡ None
 unfolding find
 no_unit kinds.Plain text = refl
 no_unit kinds.Byte text = refl

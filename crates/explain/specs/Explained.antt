@@ -1,7 +1,9 @@
 -- What an explanation says.
-use Rattle.std.specs.Prelude.{ℕ, Bool, ◌≡◌, ◌+◌, ◌⊎◌, List, [], ◌++◌, length, Some}
+use Rattle.std.specs.Prelude.{ℕ, Bool, ◌≡◌, ◌+◌, ◌⊎◌, true, List, [], ◌∷◌, ◌++◌, length, Some, IfSome}
+use Rattle.std.specs.List.{AllByRecursion}
 use Rattle.std.specs.Str.{encode_utf8_all}
 use Rattle.lexical.specs.Cover.{CoversUpTo}
+use Rattle.lexical.specs.Delimiter.{is_opener}
 use Rattle.lexical.specs.Piece.{Piece, Close, IsPiece, HasNoPiece}
 use Rattle.pm_stream.specs.Delimited.{delimiter_of}
 use Rattle.pm_stream.specs.Events.{expansion}
@@ -23,6 +25,16 @@ pub record IsStretch (base : ℕ) (behind part : List ℕ) (stretch : Stretch) :
   pub start : stretch.start ≡ length (encode_utf8_all behind)
   pub end : stretch.end ≡ length (encode_utf8_all (behind ++ part))
   pub span : stretch.span ≡ record { lo = base + length behind; hi = base + length (behind ++ part) }
+
+-- the opener stands in the source, of which the stretch is this one character
+pub record IsOpenerOf (base : ℕ) (source : List ℕ) (x : Opener) : Type 0 where
+  pub behind : List ℕ
+  pub character : ℕ
+  pub after : List ℕ
+  pub whole : source ≡ behind ++ (character ∷ after)
+  pub opens : is_opener character ≡ true
+  pub delimiter : x.delimiter ≡ delimiter_of character
+  pub at : IsStretch base behind (character ∷ []) x.at
 
 -- no piece stands at the rest of the text, for the reason
 pub record IsStuck (base : ℕ) (behind : List ℕ) (first : Bool) (rest : List ℕ) (x : Explained) : Type 0 where
@@ -77,6 +89,9 @@ pub record IsExplained (base : ℕ) (source : List ℕ) (x : Explained) : Type 0
   pub waits : List Waiting
   pub leaves : LeavesOpen (expansion base pieces) waits
   pub told : WaitsAs waits x.innermost x.outer.items
+  -- and each is told where it stands
+  pub inmost : IfSome x.innermost (IsOpenerOf base source)
+  pub others : AllByRecursion (IsOpenerOf base source) x.outer.items
   pub fault : FaultAt base source x.before.span.lo
   pub because : IsStuck base behind (is_first pieces) rest x
       ⊎ (IsRefused base behind (is_first pieces) rest x ⊎ IsLeftOpen rest x)

@@ -8,6 +8,7 @@ use Rattle.pm_stream.specs.Events.{Event, Opens, Balanced}
 use Rattle.pm_stream.specs.Forest.{Forest}
 use Rattle.pm_stream.specs.OpenGroups.{Opened, unclosed_onto}
 use Rattle.explain.specs.declared.explained.Opener.{Opener}
+use Rattle.explain.specs.declared.explained.Stretch.{Stretch}
 use Rattle.explain.specs.declared.nesting.Refusal.{Refusal}
 use Rattle.explain.specs.declared.reason.Reason.{Reason}
 use Rattle.explain.specs.declared.reason.Reason.TheVariants.{StrayCloser, MismatchedCloser}
@@ -53,6 +54,17 @@ Steps old new events =
 abbrev pub WaitsAs : List Waiting → Option Opener → List Opener → Type 0
 WaitsAs all None outer = (all ≡ []) × (outer ≡ [])
 WaitsAs all (Some x) outer = all ≡ (x.delimiter, x.at.span.lo) ∷ waiting outer
+
+-- the openers that wait after a piece, which stands there: one more, one less, or the same
+abbrev pub Gains : PieceKind → Stretch → List Opener → List Opener → Type 0
+Gains (kinds.Opener c) at old new = new ≡ old ++ (record { delimiter = delimiter_of c; at = at } ∷ [])
+Gains (kinds.Closer c) at old new = (x : Opener) × (old ≡ new ++ x ∷ [])
+Gains _ at old new = new ≡ old
+
+-- the innermost was taken out, if there is one
+abbrev pub Loses : List Opener → Option Opener → List Opener → Type 0
+Loses all None outer = (all ≡ []) × (outer ≡ [])
+Loses all (Some x) outer = all ≡ outer ++ x ∷ []
 
 -- a closer of this delimiter can't stand where this is the innermost opener, for this reason
 abbrev pub RefusesFor : Delimiter → Reason → Option Opener → Type 0

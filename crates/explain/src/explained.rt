@@ -16,7 +16,7 @@ pub struct Stretch {
     pub span: Span,
 }
 
-/// An opener that no closer matches.
+/// An opener that no closer matches: one character of the text.
 #[derive(Clone, Copy)]
 pub struct Opener {
     /// Which one it is.

@@ -5,7 +5,7 @@ ghost use Rattle.std.specs.Str.{chars, encode_utf8_all};
 ghost use Rattle.lexical.specs.Piece.{HasNoPiece};
 ghost use Rattle.pm_span.specs.Files.{Fits, new_map, next_lo};
 ghost use Rattle.explain.specs.Explained.{IsExplained, IsStretch, IsStuck, Parses, SaysLeftOpen};
-ghost use Rattle.explain.specs.Open.{WaitsAs, waiting};
+ghost use Rattle.explain.specs.Open.{Loses, WaitsAs, waiting};
 
 use crate::explained::{ExplainError, Explained, Opener, Stretch};
 use crate::nesting::{Refusal, take};
@@ -103,7 +103,8 @@ fn stretch(text: &str, from: &str, to: &str, lo: u32, hi: u32) -> Stretch
 /// That an opener is left open at the end of the text, if one is.
 fn left_open(openers: Vec<Opener>) -> Option<Explained>
     ensures { MatchOption result (waiting openers.items ≡ [])
-        (λ x. SaysLeftOpen x × WaitsAs (waiting openers.items) x.innermost x.outer.items) }
+        (λ x. SaysLeftOpen x × WaitsAs (waiting openers.items) x.innermost x.outer.items
+        × Loses openers.items x.innermost x.outer.items) }
 {
     let mut outer = openers;
     let opener = outer.pop()?;
@@ -131,6 +132,7 @@ fn stuck(text: &str, rest: &str, at: u32, first: bool, openers: Vec<Opener>) -> 
     ensures stuck { (base : ℕ) (behind : List ℕ) → chars text.now ≡ behind ++ chars rest.now
         → at ≡ base + length behind → IsStuck base behind first (chars rest.now) result }
     ensures open { WaitsAs (waiting openers.items) result.innermost result.outer.items }
+    ensures kept { Loses openers.items result.innermost result.outer.items }
 {
     let start = Cursor::new(rest);
     let trouble = reason_at(start, first);

@@ -1,9 +1,10 @@
 //! The openers that wait for a closer.
-ghost use Rattle.std.specs.Prelude.{◌≡◌, ◌∷◌, [], ℕ, List, IfOk, MatchOption};
+ghost use Rattle.std.specs.Prelude.{◌≡◌, ◌∷◌, ◌++◌, [], ℕ, List, IfOk, MatchOption};
 ghost use Rattle.lexical.specs.Found.{kind_of};
 ghost use Rattle.pm_stream.specs.Delimited.{delimiter_of};
 ghost use Rattle.pm_stream.specs.Events.{Closes, events_onto};
-ghost use Rattle.explain.specs.Open.{Refuses, RefusesPiece, Steps, WaitsAs, waiting};
+ghost use Rattle.explain.specs.Open.{Gains, Loses, Refuses, RefusesPiece, Steps, WaitsAs, waiting};
+ghost use Rattle.explain.specs.declared.explained.Opener.{Opener};
 
 use crate::explained::{Opener, Stretch};
 use crate::reason::Reason;
@@ -27,10 +28,13 @@ pub fn take(
     kind: PieceKind<'_>,
     at: Stretch,
 ) -> Result<Option<Refusal>, AllocError>
-    ensures { IfOk result (λ refused. MatchOption refused
+    ensures steps { IfOk result (λ refused. MatchOption refused
         ((front : List ℕ) → Steps openers.old.items openers.new.items (events_onto at.span.lo
         (kind_of kind.entry front) front []))
         (λ x. RefusesPiece kind.entry x × WaitsAs (waiting openers.old.items) x.innermost openers.new.items)) }
+    ensures kept { IfOk result (λ refused. MatchOption refused
+        (Gains kind.entry at openers.old.items openers.new.items)
+        (λ x. Loses openers.old.items x.innermost openers.new.items)) }
 {
     match kind {
         PieceKind::Opener(c) => {
@@ -45,9 +49,11 @@ pub fn take(
 
 /// Takes out the innermost opener, and answers why this closer doesn't match it, if it doesn't.
 fn close(openers: &mut Vec<Opener>, delimiter: Delimiter) -> Option<Refusal>
-    ensures { MatchOption result
+    ensures steps { MatchOption result
         ((hi : ℕ) → Steps openers.old.items openers.new.items (Closes delimiter hi ∷ []))
         (λ x. Refuses delimiter x × WaitsAs (waiting openers.old.items) x.innermost openers.new.items) }
+    ensures kept { MatchOption result ((x : Opener) × (openers.old.items ≡ openers.new.items ++ x ∷ []))
+        (λ x. Loses openers.old.items x.innermost openers.new.items) }
 {
     let Some(opener) = openers.pop() else {
         return Some(Refusal {

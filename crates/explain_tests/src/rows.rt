@@ -1,4 +1,4 @@
-use crate::checks::{check, check_none};
+use crate::checks::{check, check_none, check_openers};
 
 #[test]
 fn texts_that_parse(rt: HostRuntime) {
@@ -574,4 +574,14 @@ fn contents_of_characters_and_bytes_3(rt: HostRuntime) {
         11,
     );
     check(&rt, "let a = b''';\n", "Content(EscapeOnlyChar)", 10, 11);
+}
+
+#[test]
+fn openers(rt: HostRuntime) {
+    check_openers(&rt, "(a", "0..1");
+    check_openers(&rt, "é([{", "2..3 3..4 4..5");
+    check_openers(&rt, "{ (x) [y }", "0..1 6..7");
+    check_openers(&rt, "[ () \"\\q\"", "0..1");
+    check_openers(&rt, "a )", "");
+    check_openers(&rt, "[a] ('b", "4..5");
 }

@@ -4,13 +4,14 @@
 //! `explain` answers a [`Reason`] with what is at fault, as bytes and as a span. Proved is that one of the 19 reasons
 //! is answered at each fault, that it holds by its own definition in `specs/Reason.antt`, which is in the words of the
 //! grammar's rules and of the escaper's items, and that the bytes and the span are what the definition speaks of; that
-//! `None` is answered only for a text that parses; and which openers no closer matches up to the fault, by kind and
-//! first position. Not proved is that no other reason holds there, and the bytes of openers, those of an unclosed one
-//! among them.
+//! no other reason explains the text, each holds at one place of it, and none where a piece stands ([`laws`]); that
+//! `None` is answered only for a text that parses; and which openers no closer matches up to the fault, each by its
+//! kind, its bytes and its span.
 
 mod contents;
 mod explained;
 mod explaining;
+pub mod laws;
 mod letters;
 mod nesting;
 mod numbers;

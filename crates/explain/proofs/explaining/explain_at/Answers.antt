@@ -12,6 +12,7 @@ use Rattle.explain.specs.Explained.{IsExplained}
 use Rattle.explain.specs.Open.{Steps}
 use Rattle.explain.proofs.ExplainingLemmas.{open_none, open_past, read, read_whole, read_at, refused_explained}
 use Rattle.explain.proofs.ExplainingLemmas.{left_answer, stuck_explained}
+use Rattle.explain.proofs.StandLemmas.{all_gained, all_lost, all_none}
 use Rattle.explain.proofs.explaining.explain_at.Goals as goal
 
 pub loop-piece-init : goal.loop-piece-init
@@ -19,6 +20,7 @@ loop-piece-init c = record {
   utf8 = c.utf8.text;
   left = refl;
   reads = open_none c.args.base (chars c.args.text.now) _ c.new-openers.ensures.items;
+  stand = all_none _ _ c.new-openers.ensures.items;
 }
 
 pub range_from-tail-requires : goal.range_from-tail-requires
@@ -67,7 +69,8 @@ returns-in-Some-2 c =
     let h = c.loop-piece.invariant.reads in
     let found = c.in-Some.ensures.found in
     let refusal = c.in-Some-2.refusal in
-    let told = rw c.in-Some-2.is at c.in_ok-refusal.ensures in
+    let told = rw c.in-Some-2.is at c.in_ok-refusal.ensures.steps in
+    let kept = rw c.in-Some-2.is at c.in_ok-refusal.ensures.kept in
     let whole = read_whole _ _ _ _ _ _ h in
     let place = read_at _ _ _ _ _ _ h in
     let tail = ap chars c.range_from-tail.ensures.value
@@ -82,6 +85,8 @@ returns-in-Some-2 c =
       outer = c.take.new.openers;
     })
     c.in-Some.piece found told.0 told.1
+    (all_lost _ c.loop-piece.openers.items refusal.innermost c.take.new.openers.items kept
+    c.loop-piece.invariant.stand)
     (c.stretch-before.ensures base (read _ _ _ _ _ _ h) [] whole refl place (omega arith))
     (c.stretch-here.ensures base (read _ _ _ _ _ _ h) found.front whole
     (found.whole ∙ ap (λ t. found.front ++ t) (sym tail)) place (ap (λ n. c.loop-piece.at + n) found.chars)))
@@ -110,7 +115,8 @@ loop-piece-preserved c =
     c.range_from-tail.ensures.value c.past_white-white.ensures.passed in
     let tail = ap chars c.range_from-tail.ensures.value
     ∙ piece_rest _ c.loop-piece.rest.now c.in-Some.piece c.loop-piece.invariant.utf8 found in
-    let told = rw c.in_default-2.is at c.in_ok-refusal.ensures in
+    let told = rw c.in_default-2.is at c.in_ok-refusal.ensures.steps in
+    let kept = rw c.in_default-2.is at c.in_ok-refusal.ensures.kept in
     let place = read_at _ _ _ _ _ _ h in
     let here = c.stretch.ensures base (read _ _ _ _ _ _ h) found.front (read_whole _ _ _ _ _ _ h)
     (found.whole ∙ ap (λ t. found.front ++ t) (sym tail)) place (ap (λ n. c.loop-piece.at + n) found.chars) in
@@ -123,13 +129,17 @@ loop-piece-preserved c =
           (events_onto n (kind_of c.in-Some.piece.kind found.front) found.front []))
           (ap (λ s. s.lo) here.span ∙ sym place) (told found.front))
           c.past_white-white.ensures.passed;
+      stand = all_gained base (chars c.args.text.now) (chars c.loop-piece.rest.now) (read _ _ _ _ _ _ h)
+          c.loop-piece.first c.in-Some.piece found c.stretch.result (read_whole _ _ _ _ _ _ h) here
+          c.loop-piece.openers.items c.take.new.openers.items kept c.loop-piece.invariant.stand;
     }
 
 pub returns-then-is_empty : goal.returns-then-is_empty
 returns-then-is_empty c =
     let done = ap chars (nil_from_length c.loop-piece.rest.now (eqb-true _ _
     (sym c.if-is_empty.ensures))) ∙ chars-nil in
-    left_answer _ _ _ _ _ _ c.loop-piece.invariant.reads done c.left_open.result c.left_open.ensures
+    left_answer _ _ _ _ _ _ c.loop-piece.invariant.reads c.loop-piece.invariant.stand done c.left_open.result
+    c.left_open.ensures
 
 pub stuck-requires-clause-some : goal.stuck-requires-clause-some
 stuck-requires-clause-some c =
@@ -145,3 +155,5 @@ returns c =
     stuck_explained _ _ _ _ _ _ c.loop-piece.invariant.reads c.stuck.result
     (λ e. eqb-false _ _ (sym c.if-is_empty.ensures) (bytes_from_no_chars _ c.loop-piece.invariant.utf8 e))
     c.in_default.ensures.none c.stuck.ensures.stuck c.stuck.ensures.open
+    (all_lost _ c.loop-piece.openers.items c.stuck.result.innermost c.stuck.result.outer.items c.stuck.ensures.kept
+    c.loop-piece.invariant.stand)

@@ -5,8 +5,8 @@ use Rattle.explain.specs.Open.{Steps}
 use Rattle.explain.proofs.OpenLemmas.{steps_open, steps_plain}
 use Rattle.explain.proofs.nesting.take.Goals as goal
 
-pub returns-in_ok-push-in-Opener : goal.returns-in_ok-push-in-Opener
-returns-in_ok-push-in-Opener c = λ front.
+pub returns-in_ok-push-in-Opener-clause-steps : goal.returns-in_ok-push-in-Opener-clause-steps
+returns-in_ok-push-in-Opener-clause-steps c = λ front.
     let old = c.args.openers.now.items in
     let new = c.push.new.self.items in
     let lo = c.args.at.span.lo in
@@ -15,7 +15,7 @@ returns-in_ok-push-in-Opener c = λ front.
     (steps_open old new (record { delimiter = c.delimiter-delimiter.result; at = c.args.at })
     c.in_ok-push-in-Opener.ensures.items))
 
-pub returns-in_default : goal.returns-in_default
-returns-in_default c = λ front.
+pub returns-in_default-clause-steps : goal.returns-in_default-clause-steps
+returns-in_default-clause-steps c = λ front.
     steps_plain c.args.openers.now.items c.args.kind c.args.at.span.lo front c.in_default.not-Opener
     c.in_default.not-Closer

@@ -2,7 +2,7 @@
 
 use crate::shim::prelude::HostRuntime;
 
-use crate::explain_tests::checks::{check, check_none};
+use crate::explain_tests::checks::{check, check_none, check_openers};
 
 #[test]
 fn texts_that_parse() {
@@ -601,4 +601,15 @@ fn contents_of_characters_and_bytes_3() {
         11,
     );
     check(&rt, "let a = b''';\n", "Content(EscapeOnlyChar)", 10, 11);
+}
+
+#[test]
+fn openers() {
+    let rt = HostRuntime;
+    check_openers(&rt, "(a", "0..1");
+    check_openers(&rt, "é([{", "2..3 3..4 4..5");
+    check_openers(&rt, "{ (x) [y }", "0..1 6..7");
+    check_openers(&rt, "[ () \"\\q\"", "0..1");
+    check_openers(&rt, "a )", "");
+    check_openers(&rt, "[a] ('b", "4..5");
 }

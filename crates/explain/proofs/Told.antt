@@ -1,0 +1,178 @@
+-- The one reason that can hold where a text begins, whatever is wrong with a content.
+use Rattle.std.proofs.Common.{◌≡◌, ℕ, Bool, true, false, ◌==◌, ◌||◌, cond, List, [], ◌∷◌, ◌++◌, codes, Some, None}
+use Rattle.std.proofs.Common.{inl, inr, refl, sym, ap, ◌∙◌, ◌⊎◌}
+use Rattle.std.specs.Prelude.{is_some}
+use Rattle.std.specs.Char.{is_ascii_digit}
+use Rattle.std.proofs.lemmas.Bool.{cond-true, true_from_ne_false}
+use Rattle.lexical.specs.Class.{is_ident_continue}
+use Rattle.lexical.specs.Comment.{comment}
+use Rattle.lexical.specs.Finder.{Answer}
+use Rattle.lexical.specs.Form.{HasNone}
+use Rattle.lexical.specs.Identifier.{name}
+use Rattle.lexical.specs.Number.{integer}
+use Rattle.lexical.specs.Quoted.{front as string_front}
+use Rattle.lexical.specs.RawString.{raw_front}
+use Rattle.lexical.specs.Rule.{Rule, One, Run, Exactly, Then, Either, Stands, find}
+use Rattle.lexical.specs.declared.bytes.Base.TheVariants.{Binary, Octal, Hexadecimal}
+use Rattle.lexical.specs.declared.quoted.StringKind.{StringKind}
+use Rattle.lexical.specs.declared.quoted.StringKind.TheVariants.{Plain, Byte, C}
+use Rattle.lexical.proofs.FinderLemmas.{none_is}
+use Rattle.lexical.proofs.RuleLemmas.{Clear, exact, none_found}
+use Rattle.literal_escaper.specs.declared.errors.EscapeError.{EscapeError}
+use Rattle.literal_escaper.specs.declared.errors.EscapeError.TheVariants.{ZeroChars}
+use Rattle.explain.specs.Shapes.{bare_prefix, closed_raw, closed_single, closed_string, digit_lifetime}
+use Rattle.explain.specs.Shapes.{long_opening, raw_lifetime_start, raw_name_start, raw_opening, single_opening}
+use Rattle.explain.specs.declared.reason.Reason.{Reason}
+use Rattle.explain.specs.declared.reason.Reason.TheVariants as reasons
+
+-- ---- how a text begins
+
+-- what stands before what is at fault: a comment, a string or a raw string of a kind, a byte, a quote, a number,
+-- U+FEFF, or what begins nothing
+pub data Front : Type 0 where
+  Slash : Front
+  Quotes : StringKind → Front
+  Letters : StringKind → Front
+  Bytes : Front
+  Lone : Front
+  Digits : Front
+  Misplaced : Front
+  Other : Front
+
+-- after `b`
+abbrev pub after_b : List ℕ → Front
+after_b [] = Other
+after_b (d ∷ text) =
+    cond (d == 34) (Quotes Byte) (cond (d == 39) Bytes (cond (d == 114) (Letters Byte) Other))
+
+-- after `c`
+abbrev pub after_c : List ℕ → Front
+after_c [] = Other
+after_c (d ∷ text) = cond (d == 34) (Quotes C) (cond (d == 114) (Letters C) Other)
+
+abbrev pub front_of : List ℕ → Front
+front_of [] = Other
+front_of (c ∷ text) =
+    cond (is_ascii_digit c) Digits
+    (cond (c == 47) Slash
+    (cond (c == 34) (Quotes Plain)
+    (cond (c == 39) Lone
+    (cond (c == 98) (after_b text)
+    (cond (c == 99) (after_c text)
+    (cond (c == 114) (Letters Plain)
+    (cond (c == 0xFEFF) Misplaced Other)))))))
+
+-- ---- the reason that is left
+
+-- whether a piece of the rule stands there
+abbrev pub has : Rule → List ℕ → Bool
+has rule text = is_some (find rule text)
+
+-- the prefix of a base without digits
+abbrev pub bare : Rule
+bare = Either (bare_prefix Binary) (Either (bare_prefix Octal) (bare_prefix Hexadecimal))
+
+-- a character that ends, by what stands between its quotes: a raw name, a name, or what begins with a digit
+abbrev pub raw_named : Rule
+raw_named = Then (Exactly (codes "'r#")) (Then name (Exactly (codes "'")))
+
+abbrev pub plain_named : Rule
+plain_named = Then (Exactly (codes "'")) (Then name (Exactly (codes "'")))
+
+abbrev pub digit_named : Rule
+digit_named =
+    Then (Exactly (codes "'")) (Then (Then (One is_ascii_digit) (Run is_ident_continue)) (Exactly (codes "'")))
+
+-- whether one of them stands there
+abbrev pub has_named : List ℕ → Bool
+has_named text = has raw_named text || (has plain_named text || has digit_named text)
+
+-- that of a content, whatever is wrong with it
+abbrev pub content : Reason
+content = reasons.Content ZeroChars
+
+abbrev pub told_from : Front → List ℕ → Reason
+told_from Slash text = cond (has comment text) reasons.BareReturnInDoc reasons.UnclosedComment
+told_from (Quotes kind) text = cond (has (closed_string kind) text) content reasons.UnclosedString
+told_from (Letters kind) text =
+    cond (has (raw_opening kind) text)
+    (cond (has (closed_raw kind) text)
+    (cond (has (long_opening kind) text) reasons.TooManyHashes content) reasons.UnclosedRawString)
+    (cond (has raw_name_start text) reasons.ReservedRawName reasons.HashesWithoutQuote)
+told_from Bytes text = cond (has closed_single text) content reasons.UnclosedCharacter
+told_from Lone text =
+    cond (has single_opening text) (cond (has closed_single text) content reasons.UnclosedCharacter)
+    (cond (has_named text) content
+    (cond (has digit_lifetime text) reasons.DigitLifetime
+    (cond (has raw_lifetime_start text) reasons.ReservedRawName reasons.HashAfterLifetime)))
+told_from Digits text =
+    cond (has integer text) reasons.BadNumberEnd (cond (has bare text) reasons.NoDigits reasons.BadDigit)
+told_from Misplaced text = reasons.MisplacedMark
+told_from Other text = reasons.NoToken
+
+abbrev pub told : List ℕ → Reason
+told text = told_from (front_of text) text
+
+-- whatever is wrong with a content
+abbrev pub sort : Reason → Reason
+sort (reasons.Content e) = content
+sort reason = reason
+
+-- a reason is that of a content, or its own sort
+pub sort_is : (x : Reason) → (x ≡ sort x) ⊎ ((e : EscapeError) × (x ≡ reasons.Content e))
+sort_is (reasons.Content e) = inr (e, refl)
+sort_is x = inl refl
+
+-- two reasons of one sort are the same, or those of contents
+pub one_sort : (x y : Reason) → sort x ≡ sort y
+    → (x ≡ y) ⊎ ((e : EscapeError) × (o : EscapeError) × (x ≡ reasons.Content e) × (y ≡ reasons.Content o))
+one_sort x y same = elim (sort_is x) [
+  | inl here ↦ elim (sort_is y) [
+    | inl there ↦ inl (here ∙ (same ∙ sym there))
+    | inr there ↦ inr (ZeroChars, there.0, here ∙ (same ∙ ap sort there.1), there.1)
+  ]
+  | inr here ↦ elim (sort_is y) [
+    | inl there ↦ inr (here.0, ZeroChars, here.1, there ∙ (sym same ∙ ap sort here.1))
+    | inr there ↦ inr (here.0, there.0, here.1, there.1)
+  ]
+]
+
+-- ---- whether a piece stands
+
+pub stands_has : (rule : Rule) → Clear rule → (text p r : List ℕ) → text ≡ p ++ r → Stands rule p r
+    → has rule text ≡ true
+stands_has rule clear text p r e is = ap is_some (ap (find rule) e ∙ (exact rule clear).complete p r is)
+
+pub lacks_has : (rule : Rule) → Clear rule → (text : List ℕ) → HasNone (Stands rule) text → has rule text ≡ false
+lacks_has rule clear text none = ap is_some (none_found rule clear text none)
+
+none_of : (o : Answer) → is_some o ≡ false → o ≡ None
+none_of None e = refl
+none_of (Some x) e = absurd (cc)
+
+pub not_lacks_has : (rule : Rule) → Clear rule → (text : List ℕ) → (HasNone (Stands rule) text → ⊥)
+    → has rule text ≡ true
+not_lacks_has rule clear text some = true_from_ne_false _ (λ e.
+    some (none_is (find rule) (Stands rule) (exact rule clear) text (none_of (find rule text) e)))
+
+-- ---- what each front tells
+
+module _ (text : List ℕ) (s : Front) (from : front_of text ≡ s) where
+  pub by_front : told text ≡ told_from s text
+  by_front = ap (λ s. told_from s text) from
+
+pub quotes_front : (kind : StringKind) (text rest : List ℕ) → text ≡ string_front kind ++ rest
+    → front_of text ≡ Quotes kind
+quotes_front Plain text rest e = ap front_of e
+quotes_front Byte text rest e = ap front_of e
+quotes_front C text rest e = ap front_of e
+
+pub letters_front : (kind : StringKind) (text rest : List ℕ) → text ≡ raw_front kind ++ rest
+    → front_of text ≡ Letters kind
+letters_front Plain text rest e = ap front_of e
+letters_front Byte text rest e = ap front_of e
+letters_front C text rest e = ap front_of e
+
+pub digits_front : (c : ℕ) (text rest : List ℕ) → text ≡ c ∷ rest → is_ascii_digit c ≡ true
+    → front_of text ≡ Digits
+digits_front c text rest e digit = ap front_of e ∙ cond-true _ _ _ digit
