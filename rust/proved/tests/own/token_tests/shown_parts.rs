@@ -103,10 +103,30 @@ fn read_shows(rt: &impl Abort, alloc: Global, text: &str, want: &str) -> Result<
 fn a_literal_shows_its_text_as_it_is_written() -> Result<(), Fail> {
     let rt = HostRuntime;
     let alloc = rt.alloc();
-    made_shows(&rt, alloc, Literal::string(alloc, "a\n"), "Literal { lit: \"a\\n\" }")?;
-    made_shows(&rt, alloc, Literal::i8_suffixed(alloc, -1), "Literal { lit: -1i8 }")?;
-    read_shows(&rt, alloc, "b'x'", "Literal { lit: b'x', span: bytes(1..5) }")?;
-    read_shows(&rt, alloc, "-1u12", "Literal { lit: -1u12, span: bytes(1..6) }")?;
+    made_shows(
+        &rt,
+        alloc,
+        Literal::string(alloc, "a\n"),
+        "Literal { lit: \"a\\n\" }",
+    )?;
+    made_shows(
+        &rt,
+        alloc,
+        Literal::i8_suffixed(alloc, -1),
+        "Literal { lit: -1i8 }",
+    )?;
+    read_shows(
+        &rt,
+        alloc,
+        "b'x'",
+        "Literal { lit: b'x', span: bytes(1..5) }",
+    )?;
+    read_shows(
+        &rt,
+        alloc,
+        "-1u12",
+        "Literal { lit: -1u12, span: bytes(1..6) }",
+    )?;
     Ok(())
 }
 
