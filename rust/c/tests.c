@@ -206,6 +206,8 @@ static void reasons(void) {
     want_reason("[a (b", PM_REASON_UNCLOSED_OPENER, 3, 3, 4);
     want_reason("\"a\\q\"", PM_REASON_CONTENT, 0, 3, 4);
     want("the content's fault", pm_explain(TEXT("\"a\\q\"")).detail, PM_ESCAPE_INVALID_ESCAPE);
+    want("a digit to the base 16 in two", pm_explain(TEXT("\"\\x4g\"")).detail, PM_ESCAPE_INVALID_CHAR_IN_HEX_ESCAPE);
+    want("one in braces", pm_explain(TEXT("\"\\u{12g}\"")).detail, PM_ESCAPE_INVALID_CHAR_IN_UNICODE_ESCAPE);
     pm_explanation told = pm_explain(TEXT("{ [ (]"));
     want("the innermost opener", told.opener_start, 4);
     want("its end", told.opener_end, 5);

@@ -52,16 +52,25 @@ pub fn laid_out<C: Chooser>(
     }
 }
 
+/// Asserts the stream's text with this gap everywhere.
+fn check_gap(
+    rt: &(impl Abort + AllocGlobal),
+    stream: &TokenStream,
+    gap: Gap,
+    want: &str,
+) -> Result<(), Fail> {
+    let text = laid_out(rt, stream, &mut Always(gap))?;
+    assert_eq!(rt; text.as_str(), want);
+    Ok(())
+}
+
 #[test]
 fn the_chosen_gap_is_written(rt: HostRuntime) -> Result<(), Fail> {
     let stream = stream_of(&rt, "a+=b(c)")?;
-    let tight = laid_out(&rt, &stream, &mut Always(Gap::Nothing))?;
-    assert_eq!(rt; tight.as_str(), "a+=b(c)");
-    let spaces = laid_out(&rt, &stream, &mut Always(Gap::Space))?;
-    assert_eq!(rt; spaces.as_str(), " a += b ( c ) ");
-    let lines = laid_out(&rt, &stream, &mut Always(Gap::Line(2)))?;
-    assert_eq!(rt; lines.as_str(), "\n  a\n  +=\n  b\n  (\n  c\n  )\n  ");
-    Ok(())
+    check_gap(&rt, &stream, Gap::Nothing, "a+=b(c)")?;
+    check_gap(&rt, &stream, Gap::Space, " a += b ( c ) ")?;
+    let lines = "\n  a\n  +=\n  b\n  (\n  c\n  )\n  ";
+    check_gap(&rt, &stream, Gap::Line(2), lines)
 }
 
 #[test]
@@ -75,14 +84,25 @@ fn places_are_told_in_order(rt: HostRuntime) -> Result<(), Fail> {
     Ok(())
 }
 
-#[test]
-fn a_stream_that_is_not_well_spaced_is_refused(rt: HostRuntime) -> Result<(), Fail> {
+/// The stream of a mark that is Joint.
+fn joint_mark(rt: &(impl Abort + AllocGlobal)) -> Result<TokenStream, Fail> {
     assert!(rt; proc_macro2::Punct::is_punct_char('+'));
     let mark = proc_macro2::Punct::new('+', Spacing::Joint);
-    let stream = TokenStream::from_tree(rt.alloc(), proc_macro2::TokenTree::Punct(mark))?;
-    let mut written = Vec::new(rt.alloc());
+    Ok(TokenStream::from_tree(rt.alloc(), proc_macro2::TokenTree::Punct(mark))?)
+}
+
+#[test]
+fn a_stream_that_is_not_well_spaced_has_no_text(rt: HostRuntime) -> Result<(), Fail> {
+    let stream = joint_mark(&rt)?;
     let text = text_with(&stream, &mut Always(Gap::Space), rt.alloc());
     assert!(rt; matches!(&text, Err(LayoutError::NotWellSpaced)));
+    Ok(())
+}
+
+#[test]
+fn a_stream_that_is_not_well_spaced_is_not_written(rt: HostRuntime) -> Result<(), Fail> {
+    let stream = joint_mark(&rt)?;
+    let mut written = Vec::new(rt.alloc());
     let answer = write_with(&stream, &mut Always(Gap::Space), rt.alloc(), &mut written);
     assert!(rt; matches!(&answer, Err(LayoutError::NotWellSpaced)));
     assert!(rt; written.is_empty());

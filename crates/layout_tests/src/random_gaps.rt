@@ -79,21 +79,38 @@ fn check<C: Chooser>(
     Ok(())
 }
 
+/// Asserts that the stream comes back from its text with the tightest gaps, the loosest, and random ones twice.
+fn check_gaps(
+    rt: &(impl Abort + AllocGlobal),
+    stream: &TokenStream,
+    random: &mut Random,
+) -> Result<(), Fail> {
+    check(rt, stream, &mut Always(Gap::Nothing))?;
+    check(rt, stream, &mut Always(Gap::Line(1)))?;
+    check(rt, stream, random)?;
+    check(rt, stream, random)
+}
+
+/// Makes a text, and asserts so of its stream if it parses. Answers whether it does.
+fn check_text(rt: &(impl Abort + AllocGlobal), random: &mut Random) -> Result<bool, Fail> {
+    let text = random.text(rt.alloc())?;
+    match TokenStream::from_str(text.as_str(), &mut SourceMap::new(rt.alloc())) {
+        Ok(stream) => {
+            check_gaps(rt, &stream, random)?;
+            Ok(true)
+        }
+        Err(_) => Ok(false),
+    }
+}
+
 #[test]
 fn random_streams_come_back_from_random_gaps(rt: HostRuntime) -> Result<(), Fail> {
     let mut random = Random { state: 7 };
     let mut parsed: u32 = 0;
     for _ in 0..TEXTS {
-        let text = random.text(rt.alloc())?;
-        let Ok(stream) = TokenStream::from_str(text.as_str(), &mut SourceMap::new(rt.alloc()))
-        else {
-            continue;
-        };
-        parsed = parsed.saturating_add(1);
-        check(&rt, &stream, &mut Always(Gap::Nothing))?;
-        check(&rt, &stream, &mut Always(Gap::Line(1)))?;
-        check(&rt, &stream, &mut random)?;
-        check(&rt, &stream, &mut random)?;
+        if check_text(&rt, &mut random)? {
+            parsed = parsed.saturating_add(1);
+        }
     }
     assert_eq!(rt; parsed, PARSED);
     Ok(())

@@ -1,6 +1,7 @@
 // The tightest texts of short streams: where neighbours have to stay apart, and where they may touch.
 use crate::choosers::{Always, laid_out, stream_of};
 use layout::Gap;
+use std::process::Abort;
 use std::test::Fail;
 
 /// A source, and its text with no gap but where one has to stand.
@@ -39,14 +40,20 @@ const TIGHTEST: &[(&str, &str)] = &[
     ("a /// b\n c", "a #[doc=\" b\"]c"),
 ];
 
+/// Asserts the tightest text of the source's stream, and that it comes back.
+fn check_tightest(rt: &(impl Abort + AllocGlobal), source: &str, want: &str) -> Result<(), Fail> {
+    let stream = stream_of(rt, source)?;
+    let text = laid_out(rt, &stream, &mut Always(Gap::Nothing))?;
+    assert_eq!(rt; text.as_str(), want, "of {source}");
+    let back = stream_of(rt, want)?;
+    assert!(rt; stream.same_tokens(&back), "of {source}");
+    Ok(())
+}
+
 #[test]
 fn tightest_texts(rt: HostRuntime) -> Result<(), Fail> {
-    for (source, want) in TIGHTEST {
-        let stream = stream_of(&rt, source)?;
-        let text = laid_out(&rt, &stream, &mut Always(Gap::Nothing))?;
-        assert_eq!(rt; text.as_str(), *want, "of {source}");
-        let back = stream_of(&rt, text.as_str())?;
-        assert!(rt; stream.same_tokens(&back), "of {source}");
+    for &(source, want) in TIGHTEST {
+        check_tightest(&rt, source, want)?;
     }
     Ok(())
 }

@@ -1,21 +1,5 @@
-//! Tests of the lexer and of the items of contents, by texts and answers from outside, and a second lexer, `slow`, that
-//! the program `two_lexers` compares with the lexer.
-//!
-//! They stand in a crate of their own, since a crate that has tests is proved once more with them.
+//! A second lexer, `slow`, written plainly. The tests of the lexer compare it with the lexer, and so does the program
+//! `two_lexers` on many texts.
 #![tactic(auto)]
 
-#[cfg(test)]
-mod checks;
-#[cfg(test)]
-mod equalities;
-#[cfg(test)]
-mod escapes;
-#[cfg(test)]
-mod lexer;
-#[cfg(test)]
-mod lexer_literals;
-#[cfg(test)]
-mod shown_units;
 pub mod slow;
-#[cfg(test)]
-mod walk;

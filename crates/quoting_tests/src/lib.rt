@@ -1,4 +1,4 @@
-//! Tests of quotes: the uses of the README, what is printed of each kind of trees, templates, and trees at random.
+//! Tests of quotes: what is printed of each kind of trees, with the uses of the README, templates, and trees at random.
 #![tactic(auto)]
 
 #[cfg(test)]
@@ -8,4 +8,4 @@ mod rows;
 #[cfg(test)]
 mod templates;
 #[cfg(test)]
-mod uses;
+mod trees;

@@ -1,232 +1,300 @@
 // What comes out of trees of each kind. What is printed is parsed again and compared.
+use crate::trees::{Inner, Leaf, Tree, quoted};
 use proc_macro2::{
-    Delimiter, Group, Ident, Literal, ParseError, Punct, SourceMap, Spacing, Span, TokenStream,
-    TokenTree,
+    Delimiter, Group, ParseError, Punct, SourceMap, Spacing, Span, TokenStream, TokenTree,
 };
 use quoting::{Quote, QuoteError, TemplateError};
 use std::alloc::{AllocError, Global};
+use std::fmt::{Debug, Display};
 use std::process::Abort;
 use std::test::Fail;
 
-fn name(alloc: Global, text: &str) -> Result<TokenTree, Fail> {
-    Ok(TokenTree::Ident(Ident::new(alloc, text, Span::call_site())?))
+/// Trees, and what the quote of them is printed as. The first ones are the uses that the README shows.
+const PRINTED: &[(&[Tree], &str)] = &[
+    // A Joint mark before a name becomes Alone.
+    (
+        &[Tree::One(Leaf::Joint('&')), Tree::One(Leaf::Name("self"))],
+        "& self",
+    ),
+    // A lifetime holds together.
+    (
+        &[
+            Tree::One(Leaf::Alone('&')),
+            Tree::One(Leaf::Alone('\'')),
+            Tree::One(Leaf::Name("a")),
+            Tree::One(Leaf::Name("str")),
+        ],
+        "& 'a str",
+    ),
+    // A negative number is its sign and the rest.
+    (
+        &[Tree::One(Leaf::Joint('=')), Tree::One(Leaf::Number(-3))],
+        "=- 3i32",
+    ),
+    (&[Tree::One(Leaf::Number(-3))], "- 3i32"),
+    (
+        &[Tree::One(Leaf::Joint('+')), Tree::One(Leaf::Number(-3))],
+        "+- 3i32",
+    ),
+    // A quote is Joint, and a mark before a name is Alone.
+    (
+        &[
+            Tree::One(Leaf::Alone('\'')),
+            Tree::One(Leaf::Name("a")),
+            Tree::One(Leaf::Joint('+')),
+            Tree::One(Leaf::Name("x")),
+        ],
+        "'a + x",
+    ),
+    // Marks begin no comment.
+    (
+        &[
+            Tree::One(Leaf::Joint('/')),
+            Tree::One(Leaf::Joint('*')),
+            Tree::One(Leaf::Alone('=')),
+        ],
+        "/ *=",
+    ),
+    // Other marks than the last stay Joint, and marks stay before what they may touch.
+    (
+        &[Tree::One(Leaf::Joint(':')), Tree::One(Leaf::Joint(':'))],
+        "::",
+    ),
+    (
+        &[Tree::One(Leaf::Joint('+')), Tree::One(Leaf::Character('b'))],
+        "+'b'",
+    ),
+    (
+        &[Tree::One(Leaf::Alone('\'')), Tree::One(Leaf::Bytes("x"))],
+        "'b\"x\"",
+    ),
+    (&[], ""),
+];
+
+/// Trees for which no spacing serves, and whether the first fault is a `LoneQuote`. Else it is a `NoneGroup`.
+const REFUSED: &[(&[Tree], bool)] = &[
+    (&[Tree::One(Leaf::Joint('\''))], true),
+    (
+        &[
+            Tree::One(Leaf::Joint('\'')),
+            Tree::One(Leaf::Character('x')),
+        ],
+        true,
+    ),
+    (
+        &[Tree::Of(Delimiter::None, &[Inner::One(Leaf::Name("x"))])],
+        false,
+    ),
+    // The first fault in reading order is told.
+    (
+        &[Tree::Of(
+            Delimiter::Bracket,
+            &[Inner::Of(Delimiter::None, &[Leaf::Name("x")])],
+        )],
+        false,
+    ),
+    (
+        &[
+            Tree::Of(Delimiter::Parenthesis, &[Inner::One(Leaf::Joint('\''))]),
+            Tree::Of(Delimiter::None, &[]),
+        ],
+        true,
+    ),
+    (
+        &[Tree::Of(Delimiter::None, &[Inner::One(Leaf::Joint('\''))])],
+        false,
+    ),
+];
+
+/// `a { (b) [+] -> }` with marks that are Joint.
+const NESTED: &[Tree] = &[
+    Tree::One(Leaf::Name("a")),
+    Tree::Of(
+        Delimiter::Brace,
+        &[
+            Inner::Of(Delimiter::Parenthesis, &[Leaf::Name("b")]),
+            Inner::Of(Delimiter::Bracket, &[Leaf::Joint('+')]),
+            Inner::One(Leaf::Joint('-')),
+            Inner::One(Leaf::Joint('>')),
+        ],
+    ),
+];
+
+/// Whether the text parses to the same tokens as the stream.
+fn comes_back(alloc: Global, stream: &TokenStream, text: &str) -> Result<bool, ParseError> {
+    let back = TokenStream::from_str(text, &mut SourceMap::new(alloc))?;
+    Ok(stream.same_tokens(&back))
 }
 
-fn quoted(alloc: Global, trees: Vec<TokenTree>) -> Result<Quote, AllocError> {
-    let mut quote = Quote::new(alloc);
-    for tree in trees {
-        quote.push(tree)?;
-    }
-    Ok(quote)
-}
-
-fn group(
-    alloc: Global,
-    delimiter: Delimiter,
-    trees: Vec<TokenTree>,
-) -> Result<TokenTree, AllocError> {
-    let inside = TokenStream::from_trees(alloc, trees)?;
-    Ok(TokenTree::Group(Group::new(delimiter, inside)))
-}
-
-/// Asserts what is printed of the trees, and that it comes back.
-fn check_printed(
+/// Asserts what the stream is printed as, and that it comes back.
+fn check_stream(
     rt: &(impl Abort + AllocGlobal),
-    trees: Vec<TokenTree>,
+    stream: &TokenStream,
     want: &str,
-) -> Result<(), Fail> {
-    let alloc = rt.alloc();
-    let stream = quoted(alloc, trees)?.finish()?;
-    let text = format!(in alloc; "{stream}")?;
+) -> Result<(), ParseError> {
+    let text = format!(in rt.alloc(); "{stream}")?;
     assert_eq!(rt; text.as_str(), want);
-    let back = TokenStream::from_str(text.as_str(), &mut SourceMap::new(alloc))?;
-    assert!(rt; stream.same_tokens(&back), "of {want:?}");
+    assert!(rt;
+        comes_back(rt.alloc(), stream, text.as_str())?,
+        "of {want:?}"
+    );
     Ok(())
 }
 
-/// Asserts that the trees have a `LoneQuote` as their first fault.
-fn check_lone_quote(rt: &(impl Abort + AllocGlobal), trees: Vec<TokenTree>) -> Result<(), Fail> {
-    let quote = quoted(rt.alloc(), trees)?;
-    assert!(rt; matches!(quote.finish(), Err(QuoteError::LoneQuote)));
+/// Asserts what the quote is printed as, and that it comes back.
+pub fn check_quote(rt: &(impl Abort + AllocGlobal), quote: &Quote, want: &str) -> Result<(), Fail> {
+    let stream = quote.finish()?;
+    check_stream(rt, &stream, want)?;
     Ok(())
 }
 
-/// Asserts that the trees have a `NoneGroup` as their first fault.
-fn check_none_group(rt: &(impl Abort + AllocGlobal), trees: Vec<TokenTree>) -> Result<(), Fail> {
-    let quote = quoted(rt.alloc(), trees)?;
-    assert!(rt; matches!(quote.finish(), Err(QuoteError::NoneGroup)));
+/// Asserts what the quote of the trees is printed as, and that it comes back.
+fn check_printed(rt: &(impl Abort + AllocGlobal), trees: &[Tree], want: &str) -> Result<(), Fail> {
+    let quote = quoted(rt, trees)?;
+    check_quote(rt, &quote, want)
+}
+
+/// Asserts which fault the quote of the trees has first.
+fn check_refused(
+    rt: &(impl Abort + AllocGlobal),
+    trees: &[Tree],
+    is_lone_quote: bool,
+) -> Result<(), Fail> {
+    let quote = quoted(rt, trees)?;
+    match quote.finish() {
+        Err(QuoteError::LoneQuote) => assert!(rt; is_lone_quote),
+        Err(QuoteError::NoneGroup) => assert!(rt; !is_lone_quote),
+        _ => assert!(rt; false),
+    }
     Ok(())
 }
 
 #[test]
-fn a_quote_is_joint_and_a_mark_before_a_name_is_alone(rt: HostRuntime) -> Result<(), Fail> {
-    let alloc = rt.alloc();
-    let trees = vec![in alloc;
-        TokenTree::Punct(Punct::new('\'', Spacing::Alone)),
-        name(alloc, "a")?,
-        TokenTree::Punct(Punct::new('+', Spacing::Joint)),
-        name(alloc, "x")?,
-    ]?;
-    check_printed(&rt, trees, "'a + x")
+fn trees_are_printed_so_that_they_come_back(rt: HostRuntime) -> Result<(), Fail> {
+    for &(trees, want) in PRINTED {
+        check_printed(&rt, trees, want)?;
+    }
+    Ok(())
 }
 
 #[test]
-fn marks_begin_no_comment(rt: HostRuntime) -> Result<(), Fail> {
-    let trees = vec![in rt.alloc();
-        TokenTree::Punct(Punct::new('/', Spacing::Joint)),
-        TokenTree::Punct(Punct::new('*', Spacing::Joint)),
-        TokenTree::Punct(Punct::new('=', Spacing::Alone)),
-    ]?;
-    check_printed(&rt, trees, "/ *=")
+fn what_no_spacing_mends_is_told(rt: HostRuntime) -> Result<(), Fail> {
+    for &(trees, is_lone_quote) in REFUSED {
+        check_refused(&rt, trees, is_lone_quote)?;
+    }
+    Ok(())
+}
+
+/// What the quote of the trees shows of itself.
+fn shown(rt: &(impl Abort + AllocGlobal), trees: &[Tree]) -> Result<String, Fail> {
+    let stream = quoted(rt, trees)?.finish()?;
+    Ok(format!(in rt.alloc(); "{stream:?}")?)
 }
 
 #[test]
 fn the_last_mark_is_alone_and_others_stay_joint(rt: HostRuntime) -> Result<(), Fail> {
-    let alloc = rt.alloc();
-    let trees = vec![in alloc;
-        TokenTree::Punct(Punct::new(':', Spacing::Joint)),
-        TokenTree::Punct(Punct::new(':', Spacing::Joint)),
-    ]?;
-    let stream = quoted(alloc, trees)?.finish()?;
-    let shown = format!(in alloc; "{stream:?}")?;
+    let colons = &[Tree::One(Leaf::Joint(':')), Tree::One(Leaf::Joint(':'))];
+    let shown = shown(&rt, colons)?;
     let want =
         "TokenStream [Punct { char: ':', spacing: Joint }, Punct { char: ':', spacing: Alone }]";
     assert_eq!(rt; shown.as_str(), want);
-    let trees = vec![in alloc;
-        TokenTree::Punct(Punct::new(':', Spacing::Joint)),
-        TokenTree::Punct(Punct::new(':', Spacing::Joint)),
-    ]?;
-    check_printed(&rt, trees, "::")
-}
-
-#[test]
-fn marks_stay_before_what_they_may_touch(rt: HostRuntime) -> Result<(), Fail> {
-    let alloc = rt.alloc();
-    let trees = vec![in alloc;
-        TokenTree::Punct(Punct::new('+', Spacing::Joint)),
-        TokenTree::Literal(Literal::character(alloc, 'b')?),
-    ]?;
-    check_printed(&rt, trees, "+'b'")?;
-    let trees = vec![in alloc;
-        TokenTree::Punct(Punct::new('\'', Spacing::Alone)),
-        TokenTree::Literal(Literal::byte_string(alloc, b"x")?),
-    ]?;
-    check_printed(&rt, trees, "'b\"x\"")
-}
-
-#[test]
-fn a_negative_literal_is_two_trees(rt: HostRuntime) -> Result<(), Fail> {
-    let alloc = rt.alloc();
-    let trees = vec![in alloc; TokenTree::Literal(Literal::i32_suffixed(alloc, -3)?)]?;
-    check_printed(&rt, trees, "- 3i32")?;
-    let trees = vec![in alloc;
-        TokenTree::Punct(Punct::new('+', Spacing::Joint)),
-        TokenTree::Literal(Literal::i32_suffixed(alloc, -3)?),
-    ]?;
-    check_printed(&rt, trees, "+- 3i32")
-}
-
-#[test]
-fn a_quote_before_nothing_it_belongs_to_is_told(rt: HostRuntime) -> Result<(), Fail> {
-    let alloc = rt.alloc();
-    let trees = vec![in alloc; TokenTree::Punct(Punct::new('\'', Spacing::Joint))]?;
-    check_lone_quote(&rt, trees)?;
-    let trees = vec![in alloc;
-        TokenTree::Punct(Punct::new('\'', Spacing::Joint)),
-        TokenTree::Literal(Literal::character(alloc, 'x')?),
-    ]?;
-    check_lone_quote(&rt, trees)
-}
-
-#[test]
-fn the_first_fault_in_reading_order_is_told(rt: HostRuntime) -> Result<(), Fail> {
-    let alloc = rt.alloc();
-    let hidden = group(alloc, Delimiter::None, vec![in alloc; name(alloc, "x")?]?)?;
-    let trees = vec![in alloc; group(alloc, Delimiter::Bracket, vec![in alloc; hidden]?)?]?;
-    check_none_group(&rt, trees)?;
-
-    let lone = vec![in alloc; TokenTree::Punct(Punct::new('\'', Spacing::Joint))]?;
-    let hidden = group(alloc, Delimiter::None, Vec::new(alloc))?;
-    let trees = vec![in alloc; group(alloc, Delimiter::Parenthesis, lone)?, hidden]?;
-    check_lone_quote(&rt, trees)?;
-
-    let lone = vec![in alloc; TokenTree::Punct(Punct::new('\'', Spacing::Joint))]?;
-    check_none_group(&rt, vec![in alloc; group(alloc, Delimiter::None, lone)?]?)
-}
-
-#[test]
-fn nothing_gives_the_empty_stream(rt: HostRuntime) -> Result<(), Fail> {
-    check_printed(&rt, Vec::new(rt.alloc()), "")
+    Ok(())
 }
 
 #[test]
 fn marks_in_groups_are_respaced_and_the_quote_stays(rt: HostRuntime) -> Result<(), Fail> {
-    let alloc = rt.alloc();
-    let plus = vec![in alloc; TokenTree::Punct(Punct::new('+', Spacing::Joint))]?;
-    let kept = vec![in alloc; name(alloc, "b")?]?;
-    let inner = vec![in alloc;
-        group(alloc, Delimiter::Parenthesis, kept)?,
-        group(alloc, Delimiter::Bracket, plus)?,
-        TokenTree::Punct(Punct::new('-', Spacing::Joint)),
-        TokenTree::Punct(Punct::new('>', Spacing::Joint)),
-    ]?;
-    let quote = quoted(
-        alloc,
-        vec![in alloc; name(alloc, "a")?, group(alloc, Delimiter::Brace, inner)?]?,
-    )?;
+    let quote = quoted(&rt, NESTED)?;
     for _ in 0..2 {
-        let stream = quote.finish()?;
-        let text = format!(in alloc; "{stream}")?;
-        assert_eq!(rt; text.as_str(), "a { (b) [+] -> }");
-        assert!(rt; stream.is_well_spaced());
+        check_quote(&rt, &quote, "a { (b) [+] -> }")?;
     }
     Ok(())
 }
 
-#[test]
-fn deep_groups_are_respaced_without_a_deep_stack(rt: HostRuntime) -> Result<(), Fail> {
-    let alloc = rt.alloc();
+/// So many parentheses inside one another, around a mark that is Joint.
+fn deep_groups(alloc: Global, levels: u32) -> Result<TokenStream, Fail> {
     let mut stream = TokenStream::new(alloc);
     stream.extend_puncts([Punct::new('+', Spacing::Joint)])?;
-    for _ in 0..100_000 {
+    for _ in 0..levels {
         let group = Group::new(Delimiter::Parenthesis, stream);
         stream = TokenStream::from_tree(alloc, TokenTree::Group(group))?;
     }
+    Ok(stream)
+}
+
+/// The quote of the stream.
+pub fn quote_of(alloc: Global, stream: TokenStream) -> Result<Quote, Fail> {
     let mut quote = Quote::new(alloc);
     quote.push_stream(stream)?;
-    assert!(rt; quote.finish()?.is_well_spaced());
-    Ok(())
-}
-
-#[test]
-fn errors_say_why(rt: HostRuntime) -> Result<(), Fail> {
-    let alloc = rt.alloc();
-    let text = format!(in alloc; "{}", QuoteError::NoneGroup)?;
-    assert_eq!(rt; text.as_str(), "a group has no delimiters");
-    let text = format!(in alloc; "{:?}", QuoteError::LoneQuote)?;
-    assert_eq!(rt; text.as_str(), "LoneQuote");
-    let text = format!(in alloc; "{:?}", TemplateError::NoHole(Span::call_site()))?;
-    assert_eq!(rt; text.as_str(), "NoHole(bytes(0..0))");
-    let text = format!(in alloc; "{:?}", TemplateError::Parse(ParseError::MapFull))?;
-    assert_eq!(rt; text.as_str(), "Parse(MapFull)");
-    Ok(())
-}
-
-/// A quote of so many marks and groups of a name, in turn. Each mark is Joint, so that it is made Alone.
-fn long_quote(alloc: Global, pairs: u32) -> Result<Quote, Fail> {
-    let mut quote = Quote::new(alloc);
-    for _ in 0..pairs {
-        quote.push(TokenTree::Punct(Punct::new('+', Spacing::Joint)))?;
-        let inside = TokenStream::from_tree(alloc, name(alloc, "x")?)?;
-        quote.push(TokenTree::Group(Group::new(Delimiter::Parenthesis, inside)))?;
-    }
     Ok(quote)
 }
 
 #[test]
+fn deep_groups_are_respaced_without_a_deep_stack(rt: HostRuntime) -> Result<(), Fail> {
+    let quote = quote_of(rt.alloc(), deep_groups(rt.alloc(), 100_000)?)?;
+    assert!(rt; quote.finish()?.is_well_spaced());
+    Ok(())
+}
+
+/// Asserts what the error says.
+fn says<T: Display>(
+    rt: &(impl Abort + AllocGlobal),
+    error: &T,
+    want: &str,
+) -> Result<(), AllocError> {
+    let text = format!(in rt.alloc(); "{error}")?;
+    assert_eq!(rt; text.as_str(), want);
+    Ok(())
+}
+
+/// Asserts what the error shows of itself.
+fn shows<T: Debug>(
+    rt: &(impl Abort + AllocGlobal),
+    error: &T,
+    want: &str,
+) -> Result<(), AllocError> {
+    let text = format!(in rt.alloc(); "{error:?}")?;
+    assert_eq!(rt; text.as_str(), want);
+    Ok(())
+}
+
+#[test]
+fn errors_say_why(rt: HostRuntime) -> Result<(), AllocError> {
+    says(&rt, &QuoteError::NoneGroup, "a group has no delimiters")?;
+    shows(&rt, &QuoteError::LoneQuote, "LoneQuote")?;
+    let no_hole = TemplateError::NoHole(Span::call_site());
+    shows(&rt, &no_hole, "NoHole(bytes(0..0))")?;
+    let map_full = TemplateError::Parse(ParseError::MapFull);
+    shows(&rt, &map_full, "Parse(MapFull)")
+}
+
+/// Adds a mark that is Joint, so that it is made Alone, and a group of a name to the quote.
+fn push_pair(rt: &(impl Abort + AllocGlobal), quote: &mut Quote) -> Result<(), Fail> {
+    quote.push(TokenTree::Punct(Punct::new('+', Spacing::Joint)))?;
+    let name = TokenStream::from_str("x", &mut SourceMap::new(rt.alloc()))?;
+    quote.push(TokenTree::Group(Group::new(Delimiter::Parenthesis, name)))?;
+    Ok(())
+}
+
+#[test]
 fn forty_thousand_trees_are_finished(rt: HostRuntime) -> Result<(), Fail> {
-    let stream = long_quote(rt.alloc(), 20_000)?.finish()?;
+    let mut quote = Quote::new(rt.alloc());
+    for _ in 0..20_000 {
+        push_pair(&rt, &mut quote)?;
+    }
+    let stream = quote.finish()?;
     assert_eq!(rt; stream.trees().len(), 40_000);
     assert!(rt; stream.is_well_spaced());
     Ok(())
+}
+
+#[test]
+fn the_trees_of_a_text_go_between_others(rt: HostRuntime) -> Result<(), Fail> {
+    let mut quote = quoted(
+        &rt,
+        &[Tree::One(Leaf::Name("x")), Tree::One(Leaf::Alone(':'))],
+    )?;
+    let kind = TokenStream::from_str("std::vec::Vec<u8>", &mut SourceMap::new(rt.alloc()))?;
+    quote.push_stream(kind)?;
+    quote.push(TokenTree::Punct(Punct::new(',', Spacing::Joint)))?;
+    check_quote(&rt, &quote, "x : std :: vec :: Vec < u8 > ,")
 }

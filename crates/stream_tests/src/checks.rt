@@ -1,27 +1,10 @@
 //! Assertions that the rows of the tests share, each about one text that is parsed.
 //!
 //! They stand in functions of their own, since a long function is dear to prove.
-use pm_span::parts::bounds;
 use proc_macro2::{ParseError, SourceMap, TokenStream};
 use std::alloc::{AllocError, Global};
 use std::fmt::{Debug, Display};
 use std::process::Abort;
-
-/// Asserts that `text` parses in a new map, and is printed as `want`.
-pub fn check_printed(rt: &(impl Abort + AllocGlobal), text: &str, want: &str) {
-    let found = printed(rt.alloc(), text).expect(rt, text);
-    assert_eq!(rt; found.as_str(), want, "of {text:?}");
-}
-
-/// Asserts that `text` is printed as `want`, and that this text is printed as itself and gives the
-/// same tokens, which are well spaced.
-pub fn check_printed_twice(rt: &(impl Abort + AllocGlobal), text: &str, want: &str) {
-    check_printed(rt, text, want);
-    check_printed(rt, want, want);
-    check_same(rt, text, want, true);
-    let spaced = parses_well_spaced(rt.alloc(), text).expect(rt, text);
-    assert!(rt; spaced, "of {text:?}");
-}
 
 /// Asserts whether two texts, each parsed in a new map, give the same tokens.
 pub fn check_same(rt: &(impl Abort + AllocGlobal), text: &str, other: &str, same: bool) {
@@ -29,23 +12,10 @@ pub fn check_same(rt: &(impl Abort + AllocGlobal), text: &str, other: &str, same
     assert_eq!(rt; found, same, "of {text:?} and {other:?}");
 }
 
-/// Asserts that `text` parses to so many trees, and is printed as `want`.
-pub fn check_trees(rt: &(impl Abort + AllocGlobal), text: &str, want: &str, trees: usize) {
-    let found = count_trees(rt.alloc(), text);
-    assert_eq!(rt; found, Some(trees), "of {text:?}");
-    check_printed(rt, text, want);
-}
-
 /// Asserts that the stream of `text`, as the next text of the map, is shown as `want`.
 pub fn check_shown(rt: &(impl Abort + AllocGlobal), map: &mut SourceMap, text: &str, want: &str) {
     let found = shown(rt.alloc(), map, text).expect(rt, text);
     assert_eq!(rt; found.as_str(), want, "of {text:?}");
-}
-
-/// Asserts that `text`, in a new map, has a fault that begins and ends at the position `at`.
-pub fn check_fault(rt: &(impl Abort + AllocGlobal), text: &str, at: u32) {
-    let found = fault_bounds(rt.alloc(), text);
-    assert_eq!(rt; found, (at, at), "of {text:?}");
 }
 
 /// The text that the stream of `text`, parsed in a new map, is printed as.
@@ -83,15 +53,6 @@ pub fn count_trees(alloc: Global, text: &str) -> Option<usize> {
     }
 }
 
-// The bounds of the fault of `text`, or 0 and 0 where it has none.
-fn fault_bounds(alloc: Global, text: &str) -> (u32, u32) {
-    let mut map = SourceMap::new(alloc);
-    match TokenStream::from_str(text, &mut map) {
-        Err(ParseError::Lex(fault)) => bounds(fault.span()),
-        _ => (0, 0),
-    }
-}
-
 /// Asserts that the value is displayed as this text.
 pub fn displays<T: Display>(
     rt: &impl Abort,
@@ -102,6 +63,16 @@ pub fn displays<T: Display>(
     let found = format!(in alloc; "{value}")?;
     assert_eq!(rt; found.as_str(), want);
     Ok(())
+}
+
+/// Asserts that the value, which is given away, is displayed as this text.
+pub fn prints<T: Display + Drop>(
+    rt: &impl Abort,
+    alloc: Global,
+    value: T,
+    want: &str,
+) -> Result<(), AllocError> {
+    displays(rt, alloc, &value, want)
 }
 
 /// Asserts that the value shows its parts as this text.

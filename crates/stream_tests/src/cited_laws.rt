@@ -11,7 +11,6 @@ ghost use Rattle.proc_macro2.specs.Printed.{printed};
 ghost use Rattle.proc_macro2.specs.Text.{IsText};
 ghost use Rattle.proc_macro2.specs.WellSpaced.{IsWellSpaced};
 
-use crate::checks::check_printed_twice;
 use proc_macro2::{
     Group, Ident, Literal, ParseError, Punct, SourceMap, TokenStream, TokenTree, laws,
 };
@@ -122,6 +121,5 @@ fn what_laws_say_of_a_stream_is_seen_in_its_printed_text(rt: HostRuntime) -> Res
     for tree in stream.trees() {
         kind_is_built(tree);
     }
-    check_printed_twice(&rt, "a+=(1)", "a += (1)");
     Ok(())
 }

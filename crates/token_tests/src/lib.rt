@@ -1,4 +1,5 @@
-//! Tests of the source map, of identifiers and of literals: texts and answers from outside.
+//! Tests of the lexer, of contents, of tokens, of spans and of the source map, by texts and answers from outside, where
+//! the recorded answers of `conformance` show nothing.
 //!
 //! They stand in a crate of their own, since a crate that has tests is proved once more with them.
 #![tactic(auto)]
@@ -14,9 +15,17 @@ mod integers;
 #[cfg(test)]
 mod lengths;
 #[cfg(test)]
+mod lexer;
+#[cfg(test)]
+mod lexer_literals;
+#[cfg(test)]
 mod line_columns;
 #[cfg(test)]
 mod marks;
+#[cfg(test)]
+mod piece_checks;
+#[cfg(test)]
+mod piece_equalities;
 #[cfg(test)]
 mod quoted;
 #[cfg(test)]
@@ -26,6 +35,8 @@ mod shown_parts;
 #[cfg(test)]
 mod shown_tokens;
 #[cfg(test)]
+mod shown_units;
+#[cfg(test)]
 mod single_values;
 #[cfg(test)]
 mod sizes;
@@ -34,6 +45,8 @@ mod source_map;
 #[cfg(test)]
 mod subspans;
 #[cfg(test)]
-mod values;
+mod units;
+#[cfg(test)]
+mod walk;
 #[cfg(test)]
 mod whole_literals;

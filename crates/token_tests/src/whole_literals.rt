@@ -100,6 +100,7 @@ fn any_other_text_is_refused_nowhere(rt: HostRuntime) {
         "-",
         " 0",
         "0 ",
+        "1 ",
         "0 1",
         "0// c",
         "/**/0",

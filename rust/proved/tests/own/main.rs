@@ -1,13 +1,10 @@
 //! The library's own tests, erased as the library is.
 #![allow(clippy::all, dead_code, unreachable_code, unused_imports, unused_variables)]
 
-mod building_tests;
-#[cfg(feature = "explain")]
-mod explain_tests;
 mod lexical_tests;
 #[cfg(feature = "quoting")]
 mod quoting_tests;
 mod shim;
-mod span_tests;
+#[cfg(all(feature = "token_buffer", feature = "explain"))]
 mod stream_tests;
 mod token_tests;

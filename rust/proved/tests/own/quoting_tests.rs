@@ -1,5 +1,5 @@
 // Made from crates/quoting_tests/src/lib.rt by rust/erase: change that file, not this one.
-//! Tests of quotes: the uses of the README, what is printed of each kind of trees, templates, and trees at random.
+//! Tests of quotes: what is printed of each kind of trees, with the uses of the README, templates, and trees at random.
 
 #[cfg(test)]
 mod random_trees;
@@ -8,4 +8,4 @@ mod rows;
 #[cfg(test)]
 mod templates;
 #[cfg(test)]
-mod uses;
+mod trees;

@@ -57,6 +57,8 @@ pub mod test {
     }
 
     from!(AllocError ConversionErrorKind IdentError ParseError);
+    #[cfg(feature = "token_buffer")]
+    from!(proved::token_buffer::BufferError);
     #[cfg(feature = "quoting")]
     from!(proved::quoting::QuoteError proved::quoting::TemplateError);
 }

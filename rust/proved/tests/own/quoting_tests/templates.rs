@@ -1,24 +1,119 @@
 // Made from crates/quoting_tests/src/templates.rt by rust/erase: change that file, not this one.
 
-use crate::shim::prelude::{AllocGlobal, Clone, HostRuntime, Repeat, String, format};
+use crate::shim::prelude::{AllocGlobal, HostRuntime, String, Vec, format};
 
 // Templates as a program that writes code uses them.
+use crate::quoting_tests::rows::check_quote;
 use proved::proc_macro2::{SourceMap, Span, TokenStream, TokenTree};
 use proved::quoting::{Hole, Quote, TemplateError};
-use crate::shim::alloc::Global;
+use crate::shim::alloc::{AllocError, Global};
 use crate::shim::process::Abort;
 use crate::shim::test::Fail;
+
+/// What the holes of a template are filled with: the name and the text of each that stands for one stream, and the name
+/// and the texts of each that stands for a list.
+#[derive(Clone, Copy)]
+struct Given {
+    ones: &'static [(&'static str, &'static str)],
+    lists: &'static [(&'static str, &'static [&'static str])],
+}
+
+/// What the texts of given holes parse to.
+struct Fillings {
+    ones: Vec<TokenStream>,
+    lists: Vec<Vec<TokenStream>>,
+}
 
 fn parsed(alloc: Global, text: &str) -> Result<TokenStream, Fail> {
     Ok(TokenStream::from_str(text, &mut SourceMap::new(alloc))?)
 }
 
-// What a quote of the filled template prints.
-fn filled(alloc: Global, template: &str, holes: &[Hole<'_>]) -> Result<String, Fail> {
+fn parsed_list(alloc: Global, texts: &[&str]) -> Result<Vec<TokenStream>, Fail> {
+    let mut streams = Vec::new(alloc);
+    for text in texts {
+        streams.push(parsed(alloc, text)?)?;
+    }
+    Ok(streams)
+}
+
+fn parsed_ones(alloc: Global, ones: &[(&str, &str)]) -> Result<Vec<TokenStream>, Fail> {
+    let mut streams = Vec::new(alloc);
+    for &(_, text) in ones {
+        streams.push(parsed(alloc, text)?)?;
+    }
+    Ok(streams)
+}
+
+fn parsed_lists(alloc: Global, lists: &[(&str, &[&str])]) -> Result<Vec<Vec<TokenStream>>, Fail> {
+    let mut parsed = Vec::new(alloc);
+    for &(_, texts) in lists {
+        parsed.push(parsed_list(alloc, texts)?)?;
+    }
+    Ok(parsed)
+}
+
+fn parsed_holes(alloc: Global, given: Given) -> Result<Fillings, Fail> {
+    let ones = parsed_ones(alloc, given.ones)?;
+    let lists = parsed_lists(alloc, given.lists)?;
+    Ok(Fillings { ones, lists })
+}
+
+// The holes of these names, each for what its texts parsed to.
+fn holes<'a>(
+    alloc: Global,
+    given: Given,
+    fillings: &'a Fillings,
+) -> Result<Vec<Hole<'a>>, AllocError> {
+    let mut holes = Vec::new(alloc);
+    for (&(name, _), stream) in given.ones.iter().zip(fillings.ones.iter()) {
+        holes.push(Hole::one(name, stream))?;
+    }
+    for (&(name, _), streams) in given.lists.iter().zip(fillings.lists.iter()) {
+        holes.push(Hole::each(name, streams.as_slice()))?;
+    }
+    Ok(holes)
+}
+
+// What a quote of the template prints that these holes fill.
+fn filled_by(alloc: Global, template: &str, holes: &[Hole<'_>]) -> Result<String, Fail> {
     let mut quote = Quote::new(alloc);
     quote.parse(template, &mut SourceMap::new(alloc), holes)?;
     let stream = quote.finish()?;
     Ok(format!(in alloc; "{stream}")?)
+}
+
+// What a quote of the filled template prints.
+fn filled(alloc: Global, template: &str, given: Given) -> Result<String, Fail> {
+    let fillings = parsed_holes(alloc, given)?;
+    let holes = holes(alloc, given, &fillings)?;
+    filled_by(alloc, template, holes.as_slice())
+}
+
+/// Asserts what a quote of the filled template prints.
+fn check_filled(
+    rt: &(impl Abort + AllocGlobal),
+    template: &str,
+    given: Given,
+    want: &str,
+) -> Result<(), Fail> {
+    let code = filled(rt.alloc(), template, given)?;
+    assert_eq!(code.as_str(), want, "of {template:?}");
+    Ok(())
+}
+
+// What is wrong with a template, and where it is.
+fn told(
+    alloc: Global,
+    error: &TemplateError,
+    map: &SourceMap,
+) -> Result<Option<(String, usize, usize)>, AllocError> {
+    let message = format!(in alloc; "{error}")?;
+    Ok(match span_of(error) {
+        Some(span) if map.holds(span) => {
+            Some((message, span.start(map).column, span.end(map).column))
+        }
+        _ => None,
+    })
 }
 
 // Where the fault of the template is, and what it is.
@@ -26,19 +121,13 @@ fn fault(
     alloc: Global,
     template: &str,
     holes: &[Hole<'_>],
-) -> Result<Option<(String, usize, usize)>, Fail> {
+) -> Result<Option<(String, usize, usize)>, AllocError> {
     let mut map = SourceMap::new(alloc);
     let mut quote = Quote::new(alloc);
-    let Err(error) = quote.parse(template, &mut map, holes) else {
-        return Ok(None);
-    };
-    let message = format!(in alloc; "{error}")?;
-    Ok(match span_of(&error) {
-        Some(span) if map.holds(span) => {
-            Some((message, span.start(&map).column, span.end(&map).column))
-        }
-        _ => None,
-    })
+    match quote.parse(template, &mut map, holes) {
+        Ok(()) => Ok(None),
+        Err(error) => told(alloc, &error, &map),
+    }
 }
 
 fn span_of(error: &TemplateError) -> Option<Span> {
@@ -68,7 +157,7 @@ fn check_fault(
     template: &str,
     holes: &[Hole<'_>],
     want: (&str, usize, usize),
-) -> Result<(), Fail> {
+) -> Result<(), AllocError> {
     match fault(rt.alloc(), template, holes)? {
         Some((message, start, end)) => {
             assert_eq!(message.as_str(), want.0, "of {template:?}");
@@ -79,95 +168,92 @@ fn check_fault(
     Ok(())
 }
 
-#[test]
-fn the_getters_of_a_struct_are_one_repetition() -> Result<(), Fail> {
-    let rt = HostRuntime;
-    let alloc = rt.alloc();
-    let name = parsed(alloc, "Point")?;
-    let fields = [parsed(alloc, "x")?, parsed(alloc, "label")?];
-    let kinds = [parsed(alloc, "u32")?, parsed(alloc, "Vec<u8>")?];
-    let holes = [
-        Hole::one("name", &name),
-        Hole::each("field", &fields),
-        Hole::each("kind", &kinds),
-    ];
-    let code = filled(
-        alloc,
-        "impl #name { #( pub fn #field(&self) -> &#kind { &self.#field } )* }",
-        &holes,
-    )?;
-    assert_eq!(code.as_str(),
-        "impl Point { pub fn x (& self) -> & u32 { & self . x } \
-         pub fn label (& self) -> & Vec < u8 > { & self . label } }"
-    );
-    Ok(())
-}
-
-#[test]
-fn a_comma_stands_between_arguments_and_not_after_the_last() -> Result<(), Fail> {
-    let rt = HostRuntime;
-    let alloc = rt.alloc();
-    let three = [
-        parsed(alloc, "1")?,
-        parsed(alloc, "a + b")?,
-        parsed(alloc, "'c'")?,
-    ];
-    for (count, want) in [(0, "f () ;"), (1, "f (1) ;"), (3, "f (1 , a + b , 'c') ;")] {
-        let code = filled(
-            alloc,
-            "f(#(#argument),*);",
-            &[Hole::each("argument", &three[..count])],
-        )?;
-        assert_eq!(code.as_str(), want);
+/// Asserts the fault of each template, where the same holes are given.
+fn check_faults(
+    rt: &(impl Abort + AllocGlobal),
+    given: Given,
+    rows: &[(&str, (&str, usize, usize))],
+) -> Result<(), Fail> {
+    let fillings = parsed_holes(rt.alloc(), given)?;
+    let holes = holes(rt.alloc(), given, &fillings)?;
+    for &(template, want) in rows {
+        check_fault(rt, template, holes.as_slice(), want)?;
     }
     Ok(())
 }
 
-#[test]
-fn a_hole_stands_inside_groups_and_by_number() -> Result<(), Fail> {
-    let rt = HostRuntime;
-    let alloc = rt.alloc();
-    let (key, value) = (parsed(alloc, "\"k\"")?, parsed(alloc, "{ 7 }")?);
-    let holes = [
-        Hole::one("0", &key),
-        Hole::one("1", &value),
-        Hole::one("r#in", &key),
-    ];
-    let code = filled(alloc, "vec![(#0, [#1]), (# r#in, #0)]", &holes)?;
-    assert_eq!(code.as_str(),
-        "vec ! [(\"k\" , [{ 7 }]) , (\"k\" , \"k\")]"
-    );
-    Ok(())
-}
-
-#[test]
-fn a_mark_joins_nothing_that_comes_for_a_hole() -> Result<(), Fail> {
-    let rt = HostRuntime;
-    let alloc = rt.alloc();
-    let borrowed = parsed(alloc, "&b")?;
-    let lists = [borrowed.clone()?, borrowed.clone()?];
-    let holes = [Hole::one("x", &borrowed), Hole::each("xs", &lists)];
-    assert_eq!(filled(alloc, "a &#x && #x &&#x", &holes)?.as_str(),
-        "a & & b && & b && & b"
-    );
-    assert_eq!(filled(alloc, "&#(#xs)*", &holes)?.as_str(), "& & b & b");
-    assert_eq!(filled(alloc, "&#(#xs)&*", &holes)?.as_str(), "& & b & & b");
-    Ok(())
-}
-
-#[test]
-fn any_other_hash_sign_is_kept() -> Result<(), Fail> {
-    let rt = HostRuntime;
-    let alloc = rt.alloc();
-    let name = parsed(alloc, "S")?;
-    let code = filled(
-        alloc,
+/// Templates, what their holes are filled with, and what is printed.
+const FILLED: &[(&str, Given, &str)] = &[
+    // The getters of a struct are one repetition.
+    (
+        "impl #name { #( pub fn #field(&self) -> &#kind { &self.#field } )* }",
+        Given {
+            ones: &[("name", "Point")],
+            lists: &[("field", &["x", "label"]), ("kind", &["u32", "Vec<u8>"])],
+        },
+        "impl Point { pub fn x (& self) -> & u32 { & self . x } \
+         pub fn label (& self) -> & Vec < u8 > { & self . label } }",
+    ),
+    // A comma stands between arguments and not after the last.
+    (
+        "f(#(#argument),*);",
+        Given {
+            ones: &[],
+            lists: &[("argument", &[])],
+        },
+        "f () ;",
+    ),
+    (
+        "f(#(#argument),*);",
+        Given {
+            ones: &[],
+            lists: &[("argument", &["1"])],
+        },
+        "f (1) ;",
+    ),
+    (
+        "f(#(#argument),*);",
+        Given {
+            ones: &[],
+            lists: &[("argument", &["1", "a + b", "'c'"])],
+        },
+        "f (1 , a + b , 'c') ;",
+    ),
+    // A hole stands inside groups and by number.
+    (
+        "vec![(#0, [#1]), (# r#in, #0)]",
+        Given {
+            ones: &[("0", "\"k\""), ("1", "{ 7 }"), ("r#in", "\"k\"")],
+            lists: &[],
+        },
+        "vec ! [(\"k\" , [{ 7 }]) , (\"k\" , \"k\")]",
+    ),
+    // A mark joins nothing that comes for a hole.
+    ("a &#x && #x &&#x", BORROWED, "a & & b && & b && & b"),
+    ("&#(#xs)*", BORROWED, "& & b & b"),
+    ("&#(#xs)&*", BORROWED, "& & b & & b"),
+    // Any other hash sign is kept.
+    (
         "#![allow(x)] #[derive(Debug)] struct #name; m!(# #(#name) + #1u8 #\"s\" #)",
-        &[Hole::one("name", &name)],
-    )?;
-    assert_eq!(code.as_str(),
-        "#! [allow (x)] # [derive (Debug)] struct S ; m ! (# # (S) + # 1u8 # \"s\" #)"
-    );
+        Given {
+            ones: &[("name", "S")],
+            lists: &[],
+        },
+        "#! [allow (x)] # [derive (Debug)] struct S ; m ! (# # (S) + # 1u8 # \"s\" #)",
+    ),
+];
+
+const BORROWED: Given = Given {
+    ones: &[("x", "&b")],
+    lists: &[("xs", &["&b", "&b"])],
+};
+
+#[test]
+fn templates_are_filled() -> Result<(), Fail> {
+    let rt = HostRuntime;
+    for &(template, given, want) in FILLED {
+        check_filled(&rt, template, given, want)?;
+    }
     Ok(())
 }
 
@@ -196,20 +282,19 @@ fn tokens_of_the_template_and_of_the_holes_keep_their_spans() -> Result<(), Fail
     Ok(())
 }
 
+/// A hole for one stream, and lists of two, three and no streams.
+const HOLES: Given = Given {
+    ones: &[("x", "a")],
+    lists: &[
+        ("two", &["a", "a"]),
+        ("three", &["a", "a", "a"]),
+        ("none", &[]),
+    ],
+};
+
 #[test]
 fn each_fault_has_its_span() -> Result<(), Fail> {
     let rt = HostRuntime;
-    let alloc = rt.alloc();
-    let one = parsed(alloc, "a")?;
-    let (two, three) = (
-        [one.clone()?, one.clone()?],
-        [one.clone()?, one.clone()?, one.clone()?],
-    );
-    let holes = [
-        Hole::one("x", &one),
-        Hole::each("two", &two),
-        Hole::each("three", &three),
-    ];
     let rows = [
         ("#x + #y", ("no hole of this name", 6, 7)),
         ("#r#x", ("no hole of this name", 1, 4)),
@@ -225,27 +310,12 @@ fn each_fault_has_its_span() -> Result<(), Fail> {
         ),
         ("#( #two #z #three )*", ("no hole of this name", 9, 10)),
     ];
-    for (template, want) in rows {
-        check_fault(&rt, template, &holes, want)?;
-    }
-    Ok(())
+    check_faults(&rt, HOLES, &rows)
 }
 
 #[test]
 fn parentheses_come_before_what_is_wrong_inside() -> Result<(), Fail> {
     let rt = HostRuntime;
-    let alloc = rt.alloc();
-    let one = parsed(alloc, "a")?;
-    let (two, three) = (
-        [one.clone()?, one.clone()?],
-        [one.clone()?, one.clone()?, one.clone()?],
-    );
-    let holes = [
-        Hole::one("x", &one),
-        Hole::each("two", &two),
-        Hole::each("three", &three),
-        Hole::each("none", &[]),
-    ];
     let no_hole = "no hole of this name";
     let no_list = "a repetition that names no list";
     let nested = "a repetition inside a repetition";
@@ -276,19 +346,43 @@ fn parentheses_come_before_what_is_wrong_inside() -> Result<(), Fail> {
         ("#( #x )* #missing", (no_list, 1, 7)),
         ("(#two) #( #x )*", ("a list outside of a repetition", 2, 5)),
     ];
-    for (template, want) in rows {
-        check_fault(&rt, template, &holes, want)?;
+    check_faults(&rt, HOLES, &rows)
+}
+
+/// A text inside so many parentheses, between two others.
+fn deep(
+    alloc: Global,
+    before: &str,
+    inside: &str,
+    after: &str,
+    levels: usize,
+) -> Result<String, AllocError> {
+    let mut text = String::from_str(alloc, before)?;
+    for _ in 0..levels {
+        text.push('(')?;
     }
-    Ok(())
+    text.push_str(inside)?;
+    for _ in 0..levels {
+        text.push(')')?;
+    }
+    text.push_str(after)?;
+    Ok(text)
+}
+
+/// Asserts the fault of a template whose middle stands inside so many parentheses.
+fn check_deep(
+    rt: &(impl Abort + AllocGlobal),
+    (before, inside, after): (&str, &str, &str),
+    levels: usize,
+    want: (&str, usize, usize),
+) -> Result<(), Fail> {
+    let template = deep(rt.alloc(), before, inside, after, levels)?;
+    check_faults(rt, HOLES, &[(template.as_str(), want)])
 }
 
 #[test]
 fn a_list_is_found_deeper_than_groups_may_nest() -> Result<(), Fail> {
     let rt = HostRuntime;
-    let alloc = rt.alloc();
-    let one = parsed(alloc, "a")?;
-    let two = [one.clone()?, one.clone()?];
-    let holes = [Hole::one("x", &one), Hole::each("two", &two)];
     let too_deep = "groups nested too deep";
     let rows = [
         ("#( ", "#two", " )*", 64, (too_deep, 66, 72)),
@@ -310,11 +404,8 @@ fn a_list_is_found_deeper_than_groups_may_nest() -> Result<(), Fail> {
         ),
         ("", "#( #two [#x] )*", "", 63, (too_deep, 71, 75)),
     ];
-    for (before, inside, after, deep, want) in rows {
-        let open = "(".repeated(alloc, deep)?;
-        let close = ")".repeated(alloc, deep)?;
-        let template = format!(in alloc; "{before}{open}{inside}{close}{after}")?;
-        check_fault(&rt, template.as_str(), &holes, want)?;
+    for (before, inside, after, levels, want) in rows {
+        check_deep(&rt, (before, inside, after), levels, want)?;
     }
     Ok(())
 }
@@ -322,36 +413,38 @@ fn a_list_is_found_deeper_than_groups_may_nest() -> Result<(), Fail> {
 #[test]
 fn groups_nest_64_deep() -> Result<(), Fail> {
     let rt = HostRuntime;
-    let alloc = rt.alloc();
-    let open = "(".repeated(alloc, 65)?;
-    let close = ")".repeated(alloc, 65)?;
-    let template = format!(in alloc; "{}x{}", &open[1..], &close[1..])?;
-    assert!(filled(alloc, template.as_str(), &[])?.len() == 129);
-    let template = format!(in alloc; "{open}x{close}")?;
-    check_fault(
-        &rt,
-        template.as_str(),
-        &[],
-        ("groups nested too deep", 64, 67),
-    )
+    let template = deep(rt.alloc(), "", "x", "", 64)?;
+    let code = filled_by(rt.alloc(), template.as_str(), &[])?;
+    assert_eq!(code.len(), 129);
+    check_deep(&rt, ("", "x", ""), 65, ("groups nested too deep", 64, 67))
 }
 
-#[test]
-fn a_fault_leaves_the_quote_as_it_was() -> Result<(), Fail> {
-    let rt = HostRuntime;
-    let alloc = rt.alloc();
-    let mut map = SourceMap::new(alloc);
-    let one = parsed(alloc, "a")?;
-    let mut quote = Quote::new(alloc);
-    quote.fill(&parsed(alloc, "#x;")?, &[Hole::one("x", &one)])?;
+/// Asserts that neither a hole that is missing nor a fault of the template's text is accepted.
+fn check_refused(rt: &(impl Abort + AllocGlobal), quote: &mut Quote) {
+    let mut map = SourceMap::new(rt.alloc());
     assert!(quote.parse("b #y", &mut map, &[]).is_err());
     assert!(matches!(
             quote.parse("b (", &mut map, &[]),
             Err(TemplateError::Parse(_))
         )
     );
-    let stream = quote.finish()?;
-    assert_eq!(format!(in alloc; "{stream}")?.as_str(), "a ;");
-    assert!(matches!(stream.trees().first(), Some(TokenTree::Ident(_))));
+}
+
+/// Adds the template `#x;` with `a` for its hole to the quote.
+fn fill(alloc: Global, quote: &mut Quote) -> Result<(), Fail> {
+    let one = parsed(alloc, "a")?;
+    let template = parsed(alloc, "#x;")?;
+    quote.fill(&template, &[Hole::one("x", &one)])?;
+    Ok(())
+}
+
+#[test]
+fn a_fault_leaves_the_quote_as_it_was() -> Result<(), Fail> {
+    let rt = HostRuntime;
+    let mut quote = Quote::new(rt.alloc());
+    fill(rt.alloc(), &mut quote)?;
+    check_refused(&rt, &mut quote);
+    check_quote(&rt, &quote, "a ;")?;
+    assert!(matches!(quote.finish()?.trees().first(), Some(TokenTree::Ident(_))));
     Ok(())
 }

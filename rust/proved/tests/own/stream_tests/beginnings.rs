@@ -128,6 +128,11 @@ const PARSED: &[&str] = &[
     "\"a\u{e9}b\u{13015}c\"",
     "c\"\\x80\"",
     "\"\u{e9}\" a",
+    "{}{x}[x](x)",
+    "r#\"a\"#r cr##\"Hello \"world\"!\"## b'x' c\"\\x80\"",
+    "1.0e+-5 999r#u256 0x1e+5",
+    "&'a r#b",
+    "a+=(1)",
 ];
 
 /// Texts that have a fault.
@@ -196,6 +201,9 @@ const FAULTY: &[&str] = &[
     "b'ab'",
     "a (]",
     "a (",
+    "'\r\n'",
+    "\"a\"\u{301}",
+    "''''",
 ];
 
 /// The stream of the text, in a new map.

@@ -4,6 +4,7 @@ use crate::shim::prelude::{HostRuntime, format, vec};
 
 // Streams that no text gives: groups without delimiters, trees that stand in no file.
 
+use crate::stream_tests::checks::{prints, shows};
 use proved::pm_span::Span;
 use proved::pm_span::parts::span_of;
 use proved::pm_stream::parts::{group, stream};
@@ -11,7 +12,6 @@ use proved::pm_stream::{TokenStream, TokenTree};
 use proved::pm_token::parts::{ident, punct};
 use proved::pm_token::{Delimiter, Spacing};
 use crate::shim::alloc::{AllocError, Global};
-use crate::shim::fmt::Display;
 use crate::shim::process::Abort;
 
 fn name(alloc: Global, span: Span) -> Result<TokenTree, AllocError>
@@ -69,24 +69,6 @@ fn name_between(alloc: Global, delimiter: Delimiter) -> Result<TokenTree, AllocE
     Ok(grouped(delimiter, inside, Span::call_site()))
 }
 
-/// Asserts that this text was found.
-fn check(rt: &impl Abort, found: &str, want: &str, what: &str) {
-    assert_eq!(found, want, "{what}");
-}
-
-/// Asserts what a tree or a stream is printed as.
-fn check_printed<T: Display>(
-    rt: &impl Abort,
-    alloc: Global,
-    printed: T,
-    want: &str,
-    what: &str,
-) -> Result<(), AllocError> {
-    let text = format!(in alloc; "{printed}")?;
-    check(rt, text.as_str(), want, what);
-    Ok(())
-}
-
 /// Asserts what a group is printed as when it is empty, and when it has a name in it.
 fn check_delimiter(
     rt: &impl Abort,
@@ -95,20 +77,8 @@ fn check_delimiter(
     empty: &str,
     full: &str,
 ) -> Result<(), AllocError> {
-    check_printed(
-        rt,
-        alloc,
-        empty_group(alloc, delimiter),
-        empty,
-        "an empty group",
-    )?;
-    check_printed(
-        rt,
-        alloc,
-        name_between(alloc, delimiter)?,
-        full,
-        "a group of a name",
-    )
+    prints(rt, alloc, empty_group(alloc, delimiter), empty)?;
+    prints(rt, alloc, name_between(alloc, delimiter)?, full)
 }
 
 #[test]
@@ -119,32 +89,6 @@ fn a_group_is_printed_by_its_delimiter() -> Result<(), AllocError> {
     check_delimiter(&rt, alloc, Delimiter::Brace, "{ }", "{ _ }")?;
     check_delimiter(&rt, alloc, Delimiter::Bracket, "[]", "[_]")?;
     check_delimiter(&rt, alloc, Delimiter::None, "", "_")
-}
-
-fn around_nothing(alloc: Global) -> Result<TokenStream, AllocError> {
-    let before = name(alloc, Span::call_site())?;
-    let behind = name(alloc, Span::call_site())?;
-    three(alloc, before, empty_group(alloc, Delimiter::None), behind)
-}
-
-fn marks_and_a_name(alloc: Global) -> Result<TokenStream, AllocError> {
-    let behind = name(alloc, Span::call_site())?;
-    three(alloc, plus(Spacing::Joint), plus(Spacing::Alone), behind)
-}
-
-#[test]
-fn trees_are_printed_with_a_space_between_them() -> Result<(), AllocError> {
-    let rt = HostRuntime;
-    let alloc = rt.alloc();
-    let what = "around a group that is written as nothing";
-    check_printed(&rt, alloc, around_nothing(alloc)?, "_  _", what)?;
-    check_printed(
-        &rt,
-        alloc,
-        marks_and_a_name(alloc)?,
-        "++ _",
-        "behind a joint mark",
-    )
 }
 
 fn name_in_parentheses(alloc: Global) -> Result<TokenStream, AllocError> {
@@ -158,30 +102,37 @@ fn name_in_parentheses(alloc: Global) -> Result<TokenStream, AllocError> {
 #[test]
 fn trees_are_shown_with_their_spans() -> Result<(), AllocError> {
     let rt = HostRuntime;
-    let alloc = rt.alloc();
-    let stream = name_in_parentheses(alloc)?;
-    let shown = format!(in alloc; "{stream:?}")?;
-    let expected = "TokenStream [Group { delimiter: Parenthesis, stream: TokenStream [\
+    let stream = name_in_parentheses(rt.alloc())?;
+    let want = "TokenStream [Group { delimiter: Parenthesis, stream: TokenStream [\
         Ident { sym: _, span: bytes(2..3) }], span: bytes(1..4) }]";
-    check(&rt, shown.as_str(), expected, "with spans");
-    let stream = one(alloc, plus(Spacing::Alone))?;
-    let shown = format!(in alloc; "{stream:#?}")?;
-    let expected =
-        "TokenStream [\n    Punct {\n        char: '+',\n        spacing: Alone,\n    },\n]";
-    check(&rt, shown.as_str(), expected, "with no span, on lines");
+    shows(&rt, rt.alloc(), &stream, want)
+}
+
+#[test]
+fn a_mark_with_no_span_is_shown_on_lines() -> Result<(), AllocError> {
+    let rt = HostRuntime;
+    let stream = one(rt.alloc(), plus(Spacing::Alone))?;
+    let shown = format!(in rt.alloc(); "{stream:#?}")?;
+    let want = "TokenStream [\n    Punct {\n        char: '+',\n        spacing: Alone,\n    },\n]";
+    assert_eq!(shown.as_str(), want);
     Ok(())
+}
+
+/// So many brackets inside one another, each level with marks before and after it.
+fn deep(alloc: Global, levels: u32) -> Result<TokenStream, AllocError> {
+    let mut stream = TokenStream::new(alloc);
+    for _ in 0..levels {
+        let deep = grouped(Delimiter::Bracket, stream, Span::call_site());
+        stream = three(alloc, plus(Spacing::Joint), deep, plus(Spacing::Joint))?;
+    }
+    Ok(stream)
 }
 
 #[test]
 fn groups_nest_deep_without_stack() -> Result<(), AllocError> {
     let rt = HostRuntime;
-    let alloc = rt.alloc();
-    let mut stream = TokenStream::new(alloc);
-    for _ in 0..300000 {
-        let deep = grouped(Delimiter::Bracket, stream, Span::call_site());
-        stream = three(alloc, plus(Spacing::Joint), deep, plus(Spacing::Joint))?;
-    }
-    let printed = format!(in alloc; "{stream}")?;
+    let stream = deep(rt.alloc(), 300000)?;
+    let printed = format!(in rt.alloc(); "{stream}")?;
     assert_eq!(printed.as_str().len(), 5 * 300000, "each level is `+[] +`");
     Ok(())
 }

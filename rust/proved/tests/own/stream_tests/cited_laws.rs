@@ -5,7 +5,6 @@ use crate::shim::prelude::HostRuntime;
 // What callers prove of streams by public items alone: by what the readers promise, and by the laws. None of
 // these functions has a proof file.
 
-use crate::stream_tests::checks::check_printed_twice;
 use proved::proc_macro2::{
     Group, Ident, Literal, ParseError, Punct, SourceMap, TokenStream, TokenTree, laws,
 };
@@ -103,6 +102,5 @@ fn what_laws_say_of_a_stream_is_seen_in_its_printed_text() -> Result<(), Fail> {
     for tree in stream.trees() {
         kind_is_built(tree);
     }
-    check_printed_twice(&rt, "a+=(1)", "a += (1)");
     Ok(())
 }

@@ -3,7 +3,7 @@
 use crate::shim::prelude::HostRuntime;
 
 // Groups and trees that are made by hand.
-use crate::stream_tests::checks::{displays, shows};
+use crate::stream_tests::checks::{displays, prints, shows};
 use proved::proc_macro2::{
     Delimiter, Group, Ident, Literal, Punct, SourceMap, Spacing, Span, TokenStream, TokenTree,
 };
@@ -42,17 +42,21 @@ fn a_group_keeps_the_trees_of_its_stream() -> Result<(), Fail> {
     Ok(())
 }
 
+/// The raw identifier `r#fn`.
+fn raw_fn(alloc: Global) -> Result<TokenTree, Fail> {
+    Ok(TokenTree::from(Ident::new_raw(alloc, "fn", Span::call_site())?))
+}
+
 #[test]
 fn each_kind_of_token_becomes_a_tree() -> Result<(), Fail> {
     let rt = HostRuntime;
     let alloc = rt.alloc();
     let group = Group::new(Delimiter::Bracket, TokenStream::new(alloc));
-    displays(&rt, alloc, &TokenTree::from(group), "[]")?;
-    let ident = Ident::new_raw(alloc, "fn", Span::call_site())?;
-    displays(&rt, alloc, &TokenTree::from(ident), "r#fn")?;
+    prints(&rt, alloc, TokenTree::from(group), "[]")?;
+    prints(&rt, alloc, raw_fn(alloc)?, "r#fn")?;
     let punct = Punct::new('+', Spacing::Joint);
-    displays(&rt, alloc, &TokenTree::from(punct), "+")?;
+    prints(&rt, alloc, TokenTree::from(punct), "+")?;
     let literal = Literal::u8_suffixed(alloc, 7)?;
-    displays(&rt, alloc, &TokenTree::from(literal), "7u8")?;
+    prints(&rt, alloc, TokenTree::from(literal), "7u8")?;
     Ok(())
 }

@@ -2,7 +2,6 @@
 
 use crate::shim::prelude::{AllocGlobal, HostRuntime, String, format};
 
-use crate::stream_tests::checks::{check_fault, check_printed};
 use proved::pm_span::SourceMap;
 use proved::pm_span::parts::span_of;
 use proved::pm_stream::TokenStream;
@@ -10,39 +9,6 @@ use proved::pm_stream::reprinting::reprint;
 use proved::pm_token::ParseError;
 use crate::shim::alloc::{AllocError, Global};
 use crate::shim::process::Abort;
-
-#[test]
-fn tokens_are_printed_with_their_spacing() {
-    let rt = HostRuntime;
-    check_printed(&rt, "", "");
-    check_printed(&rt, "a+b", "a + b");
-    check_printed(&rt, "a += b", "a += b");
-    check_printed(&rt, "<<=", "<<=");
-    check_printed(&rt, "fn f(x) { x + y }", "fn f (x) { x + y }");
-    check_printed(&rt, "1..2", "1 .. 2");
-    check_printed(&rt, "1.f32", "1 . f32");
-    check_printed(&rt, "1.", "1.");
-    check_printed(&rt, "0E--0", "0E -- 0");
-    check_printed(&rt, "tuple.0.0", "tuple . 0.0");
-}
-
-#[test]
-fn a_fault_stands_before_what_cannot_be_read() {
-    let rt = HostRuntime;
-    check_fault(&rt, "a\"", 2);
-    check_fault(&rt, "b\"", 1);
-    check_fault(&rt, "0b12", 1);
-    check_fault(&rt, "0x_", 1);
-    check_fault(&rt, "1.5\u{301}", 3);
-    check_fault(&rt, "( \"", 3);
-    check_fault(&rt, "foo\u{FEFF}", 4);
-    check_fault(&rt, "///\r", 1);
-    check_fault(&rt, "///\r \n", 1);
-    check_fault(&rt, "(]", 2);
-    check_fault(&rt, ")", 1);
-    check_fault(&rt, "a ( [ b", 5);
-    check_fault(&rt, "( /* x", 3);
-}
 
 // Whether the text parses in a map of the limit, whether the map then holds its four characters,
 // whether it refuses the empty text, since it is full, and whether it holds one more position.

@@ -4,7 +4,7 @@ use crate::shim::prelude::{HostRuntime, String, format};
 
 // What streams and trees show of themselves, and what an empty stream prints.
 use crate::stream_tests::built_streams::{empty_group, grouped, one};
-use crate::stream_tests::checks::{check_shown, displays, has_no_width, shows};
+use crate::stream_tests::checks::{displays, has_no_width, shows};
 use proved::proc_macro2::{Delimiter, Ident, SourceMap, Span, TokenStream, TokenTree};
 use crate::shim::alloc::{AllocError, Global};
 use crate::shim::process::Abort;
@@ -45,23 +45,6 @@ fn a_group_at_0_to_0_shows_no_span() -> Result<(), Fail> {
         "Group { delimiter: Parenthesis, stream: TokenStream [Ident { sym: r#ab }] }",
     )?;
     Ok(())
-}
-
-#[test]
-fn each_kind_of_tree_shows_its_parts_and_span() {
-    let rt = HostRuntime;
-    check_shown(
-        &rt,
-        &mut SourceMap::new(rt.alloc()),
-        "\nr#a + 1 []{ 'b }",
-        "TokenStream [Ident { sym: r#a, span: bytes(2..5) }, \
-         Punct { char: '+', spacing: Alone, span: bytes(6..7) }, \
-         Literal { lit: 1, span: bytes(8..9) }, \
-         Group { delimiter: Bracket, stream: TokenStream [], span: bytes(10..12) }, \
-         Group { delimiter: Brace, stream: TokenStream [\
-         Punct { char: '\\'', spacing: Joint, span: bytes(14..15) }, \
-         Ident { sym: b, span: bytes(15..16) }], span: bytes(12..18) }]",
-    );
 }
 
 /// The stream of the text in a new map, as it is shown on lines.

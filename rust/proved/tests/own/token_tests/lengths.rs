@@ -3,28 +3,70 @@
 use crate::shim::prelude::{Clone, HostRuntime, String, format};
 
 // A text of at most 22 bytes stands in its token, and a longer one behind a pointer. Both are kept and copied.
-use crate::token_tests::checks::displays;
+use crate::token_tests::checks::check_same;
 use proved::pm_span::Span;
-use proved::pm_token::{Ident, Literal};
+use proved::pm_token::{Ident, IdentError, Literal};
 use crate::shim::alloc::{AllocError, Global};
 use crate::shim::process::Abort;
 use crate::shim::test::Fail;
 
-/// Asserts how a copy of the plain identifier of the name is written, and one of the raw one.
-fn is_kept(rt: &impl Abort, alloc: Global, name: &str) -> Result<(), Fail> {
-    let plain = Ident::new(alloc, name, Span::call_site())?;
-    displays(rt, alloc, &plain.clone()?, name)?;
-    let raw = Ident::new_raw(alloc, name, Span::call_site())?;
-    let text = format!(in alloc; "r#{name}")?;
-    displays(rt, alloc, &raw.clone()?, text.as_str())?;
+/// A copy of the identifier of the name.
+fn copied(alloc: Global, name: &str, raw: bool) -> Result<Ident, IdentError> {
+    let ident = if raw {
+        Ident::new_raw(alloc, name, Span::call_site())?
+    } else {
+        Ident::new(alloc, name, Span::call_site())?
+    };
+    Ok(ident.clone()?)
+}
+
+/// A copy of the string literal of the text.
+fn copied_literal(alloc: Global, text: &str) -> Result<Literal, AllocError> {
+    let literal = Literal::string(alloc, text)?;
+    literal.clone()
+}
+
+/// What a copy of the identifier of the name is written as.
+fn written(alloc: Global, name: &str, raw: bool) -> Result<String, IdentError> {
+    let copy = copied(alloc, name, raw)?;
+    Ok(format!(in alloc; "{copy}")?)
+}
+
+/// What a copy of the string literal of the text is written as.
+fn written_literal(alloc: Global, text: &str) -> Result<String, AllocError> {
+    let copy = copied_literal(alloc, text)?;
+    format!(in alloc; "{copy}")
+}
+
+/// Asserts how a copy of the plain identifier of the name is written.
+fn is_kept(rt: &impl Abort, alloc: Global, name: &str) -> Result<(), IdentError> {
+    let plain = written(alloc, name, false)?;
+    check_same(rt, name, &plain.as_str(), &name);
+    Ok(())
+}
+
+/// Asserts how a copy of the raw identifier of the name is written.
+fn is_kept_raw(rt: &impl Abort, alloc: Global, name: &str) -> Result<(), IdentError> {
+    let raw = written(alloc, name, true)?;
+    check_same(rt, name, &raw.as_str().strip_prefix("r#"), &Some(name));
     Ok(())
 }
 
 /// Asserts how a copy of the string literal of the text is written.
 fn is_quoted(rt: &impl Abort, alloc: Global, text: &str) -> Result<(), AllocError> {
-    let literal = Literal::string(alloc, text)?;
-    let quoted = format!(in alloc; "\"{text}\"")?;
-    displays(rt, alloc, &literal.clone()?, quoted.as_str())
+    let quoted = written_literal(alloc, text)?;
+    let inside = quoted.as_str().strip_prefix('"').unwrap_or("");
+    check_same(rt, text, &inside.strip_suffix('"'), &Some(text));
+    Ok(())
+}
+
+/// A text of 100,000 bytes.
+fn long_text(alloc: Global) -> Result<String, AllocError> {
+    let mut text = String::new(alloc);
+    for _ in 0..10_000 {
+        text.push_str("abcdefghij")?;
+    }
+    Ok(text)
 }
 
 #[test]
@@ -40,6 +82,7 @@ fn a_name_of_any_length_is_kept() -> Result<(), Fail> {
     ];
     for name in &names {
         is_kept(&rt, rt.alloc(), name)?;
+        is_kept_raw(&rt, rt.alloc(), name)?;
     }
     Ok(())
 }
@@ -56,11 +99,9 @@ fn a_literal_of_any_length_is_kept() -> Result<(), AllocError> {
 #[test]
 fn a_text_of_100000_bytes_is_kept() -> Result<(), Fail> {
     let rt = HostRuntime;
-    let mut text = String::new(rt.alloc());
-    for _ in 0..10_000 {
-        text.push_str("abcdefghij")?;
-    }
+    let text = long_text(rt.alloc())?;
     is_kept(&rt, rt.alloc(), text.as_str())?;
+    is_kept_raw(&rt, rt.alloc(), text.as_str())?;
     is_quoted(&rt, rt.alloc(), text.as_str())?;
     Ok(())
 }

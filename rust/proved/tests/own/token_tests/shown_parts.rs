@@ -81,19 +81,52 @@ fn read(alloc: Global, text: &str) -> Result<Literal, ParseError> {
     Literal::from_str(text, &mut map)
 }
 
+/// Asserts what the literal shows of itself, if it was made.
+fn made_shows(
+    rt: &impl Abort,
+    alloc: Global,
+    made: Result<Literal, AllocError>,
+    want: &str,
+) -> Result<(), AllocError> {
+    let literal = made?;
+    shows(rt, alloc, &literal, want)
+}
+
+/// Asserts what the literal of the text shows of itself.
+fn read_shows(rt: &impl Abort, alloc: Global, text: &str, want: &str) -> Result<(), ParseError> {
+    let literal = read(alloc, text)?;
+    shows(rt, alloc, &literal, want)?;
+    Ok(())
+}
+
 #[test]
 fn a_literal_shows_its_text_as_it_is_written() -> Result<(), Fail> {
     let rt = HostRuntime;
     let alloc = rt.alloc();
-    let rows = [
-        (Literal::string(alloc, "a\n")?, "Literal { lit: \"a\\n\" }"),
-        (Literal::i8_suffixed(alloc, -1)?, "Literal { lit: -1i8 }"),
-        (
-            read(alloc, "b'x'")?,
-            "Literal { lit: b'x', span: bytes(1..5) }",
-        ),
-    ];
-    are_shown(&rt, alloc, &rows)?;
+    made_shows(
+        &rt,
+        alloc,
+        Literal::string(alloc, "a\n"),
+        "Literal { lit: \"a\\n\" }",
+    )?;
+    made_shows(
+        &rt,
+        alloc,
+        Literal::i8_suffixed(alloc, -1),
+        "Literal { lit: -1i8 }",
+    )?;
+    read_shows(
+        &rt,
+        alloc,
+        "b'x'",
+        "Literal { lit: b'x', span: bytes(1..5) }",
+    )?;
+    read_shows(
+        &rt,
+        alloc,
+        "-1u12",
+        "Literal { lit: -1u12, span: bytes(1..6) }",
+    )?;
     Ok(())
 }
 

@@ -107,6 +107,7 @@ fn any_other_text_is_refused_nowhere() {
         "-",
         " 0",
         "0 ",
+        "1 ",
         "0 1",
         "0// c",
         "/**/0",

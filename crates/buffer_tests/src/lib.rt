@@ -1,5 +1,0 @@
-//! Tests of token buffers, by texts and answers from outside.
-#![tactic(auto)]
-
-#[cfg(test)]
-mod cursors;

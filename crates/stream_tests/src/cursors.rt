@@ -1,0 +1,99 @@
+// What cursors answer on texts by hand, each call once at least.
+
+use pm_span::parts::bounds;
+use pm_stream::TokenStream;
+use pm_token::{Delimiter, ParseError, Spacing};
+use std::alloc::{AllocError, Global};
+use std::process::Abort;
+use std::test::Fail;
+use token_buffer::{Cursor, LiteralText, TokenBuffer, TokenText};
+
+/// Asserts what the cursor at the front of `r#f += 'é (\"x\")` answers up to the group.
+fn check_names_and_marks<'a>(rt: &impl Abort, cursor: Cursor<'a>) -> Option<Cursor<'a>> {
+    assert!(rt; !cursor.eof());
+    assert_eq!(rt; cursor.span().map(bounds), Some((1, 4)));
+    let (name, rest) = cursor.ident()?;
+    assert!(rt; name.raw);
+    assert_eq!(rt; name.text, "f");
+    let (plus, spacing, rest) = rest.punct()?;
+    assert_eq!(rt; plus, '+');
+    assert_eq!(rt; spacing, Spacing::Joint);
+    let (name, rest) = rest.skip()?.lifetime()?;
+    assert_eq!(rt; name.text, "é");
+    Some(rest)
+}
+
+/// Asserts what the cursor before `(\"x\")` answers.
+fn check_group(rt: &impl Abort, cursor: Cursor<'_>) -> Option<()> {
+    assert_eq!(rt; cursor.span().map(bounds), Some((11, 16)));
+    let (inside, after) = cursor.group(Delimiter::Parenthesis)?;
+    assert!(rt; after.eof());
+    assert!(rt; cursor.group(Delimiter::Bracket).is_none());
+    assert!(rt; cursor.any_group().is_some());
+    let (literal, end) = inside.literal()?;
+    assert!(rt; matches!(literal, LiteralText::Source("\"x\"")));
+    assert!(rt; end.eof());
+    assert!(rt; end.next().is_none());
+    Some(())
+}
+
+#[test]
+fn tokens_come_one_after_another(rt: HostRuntime) -> Result<(), Fail> {
+    let buffer = TokenBuffer::new(rt.alloc(), "r#f += 'é (\"x\")")?;
+    let rest = check_names_and_marks(&rt, buffer.begin());
+    assert!(rt; rest.is_some());
+    if let Some(rest) = rest {
+        assert!(rt; check_group(&rt, rest).is_some());
+    }
+    Ok(())
+}
+
+/// Asserts what the cursor at the front of `//! d`, CR and LF answers. The comment has the CR before its line feed, and
+/// what it says does not.
+fn check_doc(rt: &impl Abort, cursor: Cursor<'_>) -> Option<()> {
+    let rest = cursor.skip()?.skip()?;
+    assert_eq!(rt; rest.span().map(bounds), Some((1, 7)));
+    let (_, inside, _) = rest.any_group()?;
+    let (name, inside) = inside.ident()?;
+    assert_eq!(rt; name.text, "doc");
+    let (mark, _, inside) = inside.punct()?;
+    assert_eq!(rt; mark, '=');
+    assert_eq!(rt; inside.span().map(bounds), Some((1, 7)));
+    let (text, _) = inside.next()?;
+    assert!(rt; matches!(text, TokenText::Literal(LiteralText::Doc(" d"))));
+    Some(())
+}
+
+#[test]
+fn a_doc_comment_is_its_tokens(rt: HostRuntime) -> Result<(), Fail> {
+    let buffer = TokenBuffer::new(rt.alloc(), "//! d\r\n")?;
+    assert!(rt; check_doc(&rt, buffer.begin()).is_some());
+    Ok(())
+}
+
+/// What is printed of the cursor's tokens.
+fn printed(alloc: Global, cursor: Cursor<'_>) -> Result<String, AllocError> {
+    let stream = cursor.to_stream(alloc)?;
+    stream.to_string(alloc)
+}
+
+/// Whether the cursor's tokens are those that the text parses to.
+fn are_those_of(alloc: Global, cursor: Cursor<'_>, text: &str) -> Result<bool, ParseError> {
+    let stream = cursor.to_stream(alloc)?;
+    let parsed = TokenStream::parse_unmapped(alloc, text)?;
+    Ok(stream.same_tokens(&parsed))
+}
+
+#[test]
+fn what_is_left_is_a_stream(rt: HostRuntime) -> Result<(), Fail> {
+    let text = "a (b + [c]) //! d\n'x 1.0";
+    let buffer = TokenBuffer::new(rt.alloc(), text)?;
+    assert!(rt; are_those_of(rt.alloc(), buffer.begin(), text)?);
+    let rest = buffer.begin().skip();
+    assert!(rt; rest.is_some());
+    if let Some(rest) = rest {
+        let text = printed(rt.alloc(), rest)?;
+        assert_eq!(rt; text.as_str(), "(b + [c]) # ! [doc = \" d\"] 'x 1.0");
+    }
+    Ok(())
+}
