@@ -1,0 +1,5 @@
+mod StandLemmas
+mod CoverLemmas
+mod WhiteLemmas
+mod RelaidLemmas
+mod ChoiceLemmas

@@ -1,0 +1,3 @@
+pub mod Relayout
+pub mod Written
+pub mod Relaid
