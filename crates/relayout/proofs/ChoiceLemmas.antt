@@ -233,8 +233,7 @@ chosen_becomes first choices line white (x ∷ ps) stand all feed = elim (cases_
   | inr solid ↦
       subst (λ (xs : List Spaced × List ℕ). Becomes line xs.0 xs.1 (chosen choices line xs.0) (chosen_last choices line xs.0 xs.1))
       (sym (ap₂ (λ xs last. (xs, last)) (cond-false (is_white_gap x) (spaced (white ++ x.1) ps) ((white, x) ∷ spaced [] ps) solid)
-      (cond-false (is_white_gap x) (last_white (white ++ x.1) ps) (last_white [] ps) solid)))
-      (
+      (cond-false (is_white_gap x) (last_white (white ++ x.1) ps) (last_white [] ps) solid))) (
         refl,
         may_place (next_choice choices) line white all (λ l. feed_front white (x.1 ++ onto ps []) (feed l)),
         chosen_becomes false (choices_left choices white) (is_line x) [] ps stand.1 refl (fed first x (onto ps []) stand.0),

@@ -3,3 +3,4 @@ mod CoverLemmas
 mod WhiteLemmas
 mod RelaidLemmas
 mod ChoiceLemmas
+mod TokenLemmas

@@ -5,6 +5,7 @@
 #![tactic(auto)]
 
 mod errors;
+pub mod laws;
 mod relaying;
 mod white;
 

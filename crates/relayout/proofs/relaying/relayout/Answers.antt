@@ -4,6 +4,7 @@ use Rattle.relayout.specs.Relaid.{IsRelaid}
 use Rattle.relayout.proofs.ChoiceLemmas.{relaid_cover}
 use Rattle.relayout.proofs.RelaidLemmas.{cover_none, goes_all, goes_piece, goes_start, goes_white, no_chars, some_chars}
 use Rattle.relayout.proofs.RelaidLemmas.{string_chars}
+use Rattle.relayout.proofs.TokenLemmas.{keeps_tokens}
 use Rattle.relayout.proofs.relaying.relayout.Goals as goal
 
 pub loop-next-init : goal.loop-next-init
@@ -62,4 +63,5 @@ returns-clause-ok c =
       pieces_now = now.0;
       covers_now = now.1;
       same = now.2;
+      tokens = keeps_tokens (chars c.args.text.now) _ all.0 now.0 all.1 now.1 now.2;
     })
