@@ -1,5 +1,6 @@
 -- Chosen white space, as pieces that cover what is written.
-use Rattle.std.proofs.Common.{◌≡◌, ◌⊎◌, ℕ, zero, suc, Bool, true, false, not, ◌&&◌, ◌||◌, ◌==◌, List, [], ◌∷◌, ◌++◌, codes}
+use Rattle.std.proofs.Common.{◌≡◌, ◌⊎◌, ℕ, zero, suc, Bool, true, false, not, ◌&&◌, ◌||◌, ◌==◌, List, [], ◌∷◌, ◌++◌}
+use Rattle.std.proofs.Common.{codes}
 use Rattle.std.proofs.Common.{refl, sym, ap, ap₂, ◌∙◌, subst, inl, inr, append_assoc, append-nil}
 use Rattle.std.specs.Prelude.{if◌then◌else◌}
 use Rattle.std.specs.List.{list_all}
@@ -155,7 +156,8 @@ may_place choice line [] all feed = refl
 may_place Kept line (c ∷ white) all feed =
     may_from line c white c white all all (λ l. eqb-true c 10 (not-false _ (feed l)))
 may_place Space true (c ∷ white) all feed = may_from true c white 10 [] all refl (λ l. refl)
-may_place Space false (c ∷ white) all feed = may_from false c white 32 [] all refl (λ l. absurd (both_ways false refl l))
+may_place Space false (c ∷ white) all feed =
+    may_from false c white 32 [] all refl (λ l. absurd (both_ways false refl l))
 may_place (Lines tabs spaces) line (c ∷ white) all feed = elim (cases_Bool (ends_line (c ∷ white))) [
   | inl some ↦ subst (λ t. may_become line (c ∷ white) t ≡ true) (sym (cond-true _ _ _ some)) (by_line line feed some)
   | inr none ↦ subst (λ t. may_become line (c ∷ white) t ≡ true) (sym (cond-false _ _ _ none))
@@ -225,18 +227,23 @@ chosen_becomes first choices line white (x ∷ ps) stand all feed = elim (cases_
       let is = gap_is first x (onto ps []) stand.0 gap in
       let more : list_all is_white (white ++ x.1) ≡ true =
       all_append is_white white x.1 all (ap (λ y. list_all is_white y.1) is.1 ∙ and_from _ _ is.2 refl) in
-      subst (λ (xs : List Spaced × List ℕ). Becomes line xs.0 xs.1 (chosen choices line xs.0) (chosen_last choices line xs.0 xs.1))
-      (sym (ap₂ (λ xs last. (xs, last)) (cond-true (is_white_gap x) (spaced (white ++ x.1) ps) ((white, x) ∷ spaced [] ps) gap)
+      subst (λ (xs : List Spaced × List ℕ). Becomes line xs.0 xs.1 (chosen choices line xs.0)
+      (chosen_last choices line xs.0 xs.1))
+      (sym (ap₂ (λ xs last. (xs, last))
+      (cond-true (is_white_gap x) (spaced (white ++ x.1) ps) ((white, x) ∷ spaced [] ps) gap)
       (cond-true (is_white_gap x) (last_white (white ++ x.1) ps) (last_white [] ps) gap)))
       (chosen_becomes false choices line (white ++ x.1) ps stand.1 more
       (λ l. ap (first_passes (λ c. not (c == 10))) (append_assoc white x.1 (onto ps [])) ∙ feed l))
   | inr solid ↦
-      subst (λ (xs : List Spaced × List ℕ). Becomes line xs.0 xs.1 (chosen choices line xs.0) (chosen_last choices line xs.0 xs.1))
-      (sym (ap₂ (λ xs last. (xs, last)) (cond-false (is_white_gap x) (spaced (white ++ x.1) ps) ((white, x) ∷ spaced [] ps) solid)
+      subst (λ (xs : List Spaced × List ℕ). Becomes line xs.0 xs.1 (chosen choices line xs.0)
+      (chosen_last choices line xs.0 xs.1))
+      (sym (ap₂ (λ xs last. (xs, last))
+      (cond-false (is_white_gap x) (spaced (white ++ x.1) ps) ((white, x) ∷ spaced [] ps) solid)
       (cond-false (is_white_gap x) (last_white (white ++ x.1) ps) (last_white [] ps) solid))) (
         refl,
         may_place (next_choice choices) line white all (λ l. feed_front white (x.1 ++ onto ps []) (feed l)),
-        chosen_becomes false (choices_left choices white) (is_line x) [] ps stand.1 refl (fed first x (onto ps []) stand.0),
+        chosen_becomes false (choices_left choices white) (is_line x) [] ps stand.1 refl
+            (fed first x (onto ps []) stand.0),
       )
 ]
 

@@ -112,7 +112,8 @@ near_piece line first old new x us vs (inr (d, before, c, after, was, is, white_
     }
 
 -- what stands after white characters
-past_white : (first : Bool) (white : List ℕ) (ps : List Piece) (r : List ℕ) → StandBefore first (white_pieces white ps) r
+past_white : (first : Bool) (white : List ℕ) (ps : List Piece) (r : List ℕ)
+    → StandBefore first (white_pieces white ps) r
     → ((white ≡ []) × StandBefore first ps r) ⊎ StandBefore false ps r
 past_white first [] ps r stand = inl (refl, stand)
 past_white first (c ∷ []) ps r stand = inr stand.1
@@ -138,7 +139,8 @@ near_all line first [] old [] new stand h = near_end line old new (change line o
 near_all line first [] old (y ∷ ys) new stand h = absurd h
 near_all line first (x ∷ xs) old [] new stand h = absurd h
 near_all line first (x ∷ xs) old (y ∷ ys) new stand h =
-    let after : StandBefore false (pieces_of xs old) [] = elim (past_white first x.0 (x.1 ∷ pieces_of xs old) [] stand) [
+    let after : StandBefore false (pieces_of xs old) [] =
+    elim (past_white first x.0 (x.1 ∷ pieces_of xs old) [] stand) [
       | inl none ↦ none.1.1
       | inr more ↦ more.1
     ] in

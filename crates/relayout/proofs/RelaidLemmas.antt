@@ -119,7 +119,8 @@ pub goes_white : (source : List ℕ) (choices left : List White) (line : Bool) (
 goes_white source choices left line from at next to out is white so = record {
   white = so.white ++ chars next.text.now;
   since =
-      so.since ∙ (ap (λ r. so.white ++ r) is.whole ∙ sym (append_assoc so.white (chars next.text.now) (chars to.rest.now)));
+      so.since ∙ (ap (λ r. so.white ++ r) is.whole
+      ∙ sym (append_assoc so.white (chars next.text.now) (chars to.rest.now)));
   only = λ cover. cover_past at next to is (so.only cover);
   all = λ ps e stand.
       let piece : Piece = (kind_of next.piece.kind (chars next.text.now), chars next.text.now) in
@@ -154,7 +155,8 @@ goes_piece source choices left after line now from run at next to out filled new
           let before = so.all (piece ∷ ps) more.0 more.1 in
           let tail : List ℕ → List ℕ = λ w. written (choices_left left w) (is_line piece) [] ps in
           let same : new ++ written after now [] ps ≡ out ++ written left line so.white (piece ∷ ps) =
-          ap₂ (λ n t. n ++ t) (push ∙ ap (λ f. f ++ piece.1) (fill ∙ ap (λ w. out ++ placed (next_choice left) line w) white))
+          ap₂ (λ n t. n ++ t)
+          (push ∙ ap (λ f. f ++ piece.1) (fill ∙ ap (λ w. out ++ placed (next_choice left) line w) white))
           (ap₂ (λ c l. written c l [] ps) (rest ∙ ap (choices_left left) white) lines)
           ∙ (append_assoc (out ++ placed (next_choice left) line so.white) piece.1 (tail so.white)
           ∙ (append_assoc out (placed (next_choice left) line so.white) (piece.1 ++ tail so.white)

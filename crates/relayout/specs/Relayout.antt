@@ -1,5 +1,5 @@
 -- Texts whose white space becomes other white space.
-use Rattle.std.specs.Prelude.{ℕ, Bool, true, false, not, ◌&&◌, ◌||◌, ◌==◌, ◌≡◌, List, [], ◌∷◌, ◌++◌, IsTrue, codes}
+use Rattle.std.specs.Prelude.{ℕ, Bool, true, false, not, ◌&&◌, ◌||◌, ◌==◌, ◌≡◌, List, [], ◌∷◌, IsTrue, codes}
 use Rattle.std.specs.List.{list_all}
 use Rattle.lexical.specs.Class.{is_white}
 use Rattle.lexical.specs.Text.{begins_with}
@@ -43,7 +43,8 @@ abbrev pub may_become : Bool → List ℕ → List ℕ → Bool
 may_become line [] [] = true
 may_become line [] (c ∷ new) = false
 may_become line (d ∷ old) [] = false
-may_become line (d ∷ old) (c ∷ new) = list_all is_white (d ∷ old) && (list_all is_white (c ∷ new) && (not line || (c == 10)))
+may_become line (d ∷ old) (c ∷ new) =
+    list_all is_white (d ∷ old) && (list_all is_white (c ∷ new) && (not line || (c == 10)))
 
 -- the same pieces with such white space between them and at the end
 abbrev pub Becomes : Bool → List Spaced → List ℕ → List Spaced → List ℕ → Type 0

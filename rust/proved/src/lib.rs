@@ -61,4 +61,6 @@ erased! {
     layout
     #[cfg(feature = "pretty_printer")]
     pretty_printer
+    #[cfg(feature = "relayout")]
+    relayout
 }

@@ -44,7 +44,8 @@ returns-then-not-is_empty-clause-no_piece c = λ all covers.
     let some = some_chars c.loop-next.here.now c.loop-next.invariant.here_text
     (sym c.is_empty.ensures ∙ c.if-not-is_empty.true) in
     cover_none c.loop-next.walk.at_front (chars c.loop-next.walk.rest.now) c.in_default.ensures.none
-    (λ e. let clash : ◌≡◌ {A = List ℕ} (some.0 ∷ some.1) [] = sym some.2 ∙ (ap chars c.loop-next.invariant.same ∙ e) in cc)
+    (λ e.
+    let clash : ◌≡◌ {A = List ℕ} (some.0 ∷ some.1) [] = sym some.2 ∙ (ap chars c.loop-next.invariant.same ∙ e) in cc)
     (c.loop-next.invariant.goes.only (record { pieces = all; whole = covers.whole; stand = covers.stand }))
 
 pub returns-clause-ok : goal.returns-clause-ok
