@@ -11,8 +11,8 @@ pub enum White {
     Kept,
     /// A space, or LF right after a line comment.
     Space,
-    /// The run's line ends, each LF or CR LF, with nothing before them, and after the last of them tabs and then spaces.
-    /// A run without a line end stays as it is.
+    /// The run's line ends, each LF or CR LF, with nothing before them, and after the last one tabs and then spaces. A
+    /// run without a line end stays as it is.
     Lines {
         /// How many tabs.
         tabs: usize,
