@@ -1,19 +1,13 @@
 -- What the comparison of two texts answers.
-use Rattle.std.proofs.Common.{◌≡◌, ◌≢◌, ◌↔◌, ℕ, Bool, true, false, IsTrue, List, [], ◌∷◌, ◌++◌, Option, Some, None}
-use Rattle.std.proofs.Common.{refl, sym, ap, ◌∙◌, subst}
+use Rattle.std.proofs.Common.{◌≡◌, ℕ, Bool, true, false, List, [], ◌∷◌, ◌++◌, Option, Some, None}
+use Rattle.std.proofs.Common.{refl, sym, ap, ◌∙◌}
 use Rattle.std.specs.Borrow.{Bor}
 use Rattle.std.proofs.lemmas.Bool.{both_ways}
 use Rattle.std.proofs.lemmas.List.{append_cancel_left}
-use Rattle.lexical.specs.Cover.{IsCover}
-use Rattle.lexical.specs.Piece.{Piece}
-use Rattle.pm_stream.specs.Forest.{Forest}
-use Rattle.pm_stream.specs.Parsing.{ParsesTo}
-use Rattle.pm_stream.specs.Same.{Same}
 use Rattle.same.specs.Answer.{AreSame}
 use Rattle.same.specs.Difference.{DifferAt, bare, first_word}
 use Rattle.same.specs.Said.{Placed, Word}
 use Rattle.same.specs.Same.{ComparesTexts}
-use Rattle.same.specs.Words.{words}
 use Rattle.same.proofs.ComparingLemmas.{bare-append}
 use Rattle.same.proofs.TokenLemmas.{same_trees}
 

@@ -1,13 +1,12 @@
 -- The words of texts and their trees.
-use Rattle.std.proofs.Common.{◌≡◌, ◌↔◌, ℕ, Bool, true, false, List, [], ◌∷◌, ◌++◌, refl, sym, ap, ap₂, ◌∙◌, subst}
-use Rattle.lexical.specs.Cover.{onto, IsCover}
+use Rattle.std.proofs.Common.{◌≡◌, ◌↔◌, ℕ, true, false, List, [], ◌∷◌, ◌++◌, refl, sym, ap, ap₂, ◌∙◌, subst}
+use Rattle.lexical.specs.Cover.{onto}
 use Rattle.lexical.specs.Piece.{Kind, Piece, FrontMark, Gap, Doc, Open, Close, Leaf}
 use Rattle.pm_stream.specs.Events.{Event, One, Opens, Closes}
 use Rattle.pm_stream.specs.Forest.{Forest, nil, leaf, group, flat_onto, flattening}
 use Rattle.pm_stream.specs.Parsing.{ParsesTo}
 use Rattle.pm_stream.specs.Same.{Same, erased}
 use Rattle.pm_stream.proofs.EventLemmas.{one_stream}
-use Rattle.pm_stream.proofs.LawLemmas.{one_cover}
 use Rattle.proc_macro2.proofs.EventSpans.{said, said_onto, said_parsed, same_from_said}
 use Rattle.proc_macro2.proofs.EventSpans.{bare as bare_events}
 use Rattle.same.specs.Difference.{bare}

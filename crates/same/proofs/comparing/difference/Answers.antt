@@ -1,5 +1,4 @@
-use Rattle.std.proofs.Common.{◌≡◌, ◌∙◌, sym}
-use Rattle.same.proofs.ComparingLemmas.{all_same, differ_end, differ_word, goes_on, goes_start, next_of}
+use Rattle.same.proofs.ComparingLemmas.{goes_on, goes_start, next_of}
 use Rattle.same.proofs.comparing.difference.Goals as goal
 
 pub loop-one-init : goal.loop-one-init

@@ -1,4 +1,3 @@
-use Rattle.std.proofs.Common.{◌≡◌, ◌∙◌, sym}
 use Rattle.same.proofs.ComparingLemmas.{comments_same, docs_same, literals_same, names_same, same_bools, texts_same}
 use Rattle.same.proofs.comparing.is_alike.Goals as goal
 

@@ -1,4 +1,4 @@
-use Rattle.std.proofs.Common.{◌≡◌, ◌∙◌, ◌++◌, sym, ap, string_bytes}
+use Rattle.std.proofs.Common.{◌∙◌, ◌++◌, ap}
 use Rattle.std.specs.Str.{chars}
 use Rattle.pm_token.specs.Escaped.{string_text}
 use Rattle.same.proofs.ComparingLemmas.{string_same}

@@ -1,6 +1,6 @@
-use Rattle.std.proofs.Common.{◌≡◌, ◌∙◌, sym, ap}
+use Rattle.std.proofs.Common.{ap}
 use Rattle.std.specs.Str.{chars}
-use Rattle.same.proofs.WordLemmas.{size_step, stands_none, stands_skip, stands_word, step_first}
+use Rattle.same.proofs.WordLemmas.{size_step, stands_none, stands_skip, stands_word}
 use Rattle.same.proofs.words.Words.next.Goals as goal
 
 pub returns-in-Some-clause-smaller : goal.returns-in-Some-clause-smaller
