@@ -1,21 +1,21 @@
 -- Chosen white space, as pieces that cover what is written.
-use Rattle.std.proofs.Common.{◌≡◌, ◌⊎◌, ℕ, zero, suc, Bool, true, false, not, ◌&&◌, ◌||◌, ◌==◌, List, [], ◌∷◌, ◌++◌}
+use Rattle.std.proofs.Common.{◌≡◌, ℕ, zero, suc, Bool, true, false, not, ◌&&◌, ◌||◌, ◌==◌, List, [], ◌∷◌, ◌++◌}
 use Rattle.std.proofs.Common.{codes}
 use Rattle.std.proofs.Common.{refl, sym, ap, ap₂, ◌∙◌, subst, inl, inr, append_assoc, append-nil}
 use Rattle.std.specs.Prelude.{if◌then◌else◌}
 use Rattle.std.specs.List.{list_all}
-use Rattle.std.proofs.lemmas.Bool.{both_ways, and_parts, and_from, and_right, or_cases, cases_Bool, not-true, eqb-true}
-use Rattle.std.proofs.lemmas.Bool.{cond-true, cond-false, false_from_ne_true, not_from_true, not_from_false, not-false}
+use Rattle.std.proofs.lemmas.Bool.{both_ways, and_parts, and_from, and_right, cases_Bool, eqb-true}
+use Rattle.std.proofs.lemmas.Bool.{cond-true, cond-false, not-false}
 use Rattle.lexical.specs.Class.{is_white}
 use Rattle.lexical.specs.Comment.{Comment}
 use Rattle.lexical.specs.Cover.{onto, StandBefore, IsCover}
-use Rattle.lexical.specs.Piece.{Kind, Piece, FrontMark, Gap, Doc, Open, Close, Leaf, IsPiece}
+use Rattle.lexical.specs.Piece.{Piece, FrontMark, Gap, Doc, Open, Close, Leaf, IsPiece}
 use Rattle.lexical.specs.Text.{begins_with, first_passes}
 use Rattle.lexical.proofs.CommentKindLemmas.{comment_first, front_is}
 use Rattle.grammar_laws.proofs.StableLemmas.{all_append}
-use Rattle.relayout.specs.Relayout.{AllWhite, Becomes, Spaced, is_line, may_become, pieces_of, white_pieces}
+use Rattle.relayout.specs.Relayout.{Becomes, Spaced, is_line, may_become, pieces_of, white_pieces}
 use Rattle.relayout.specs.Written.{choices_left, ends_line, is_white_gap, line_end, line_ends, next_choice, placed}
-use Rattle.relayout.specs.Written.{repeated, solid_pieces, white_text, written}
+use Rattle.relayout.specs.Written.{repeated, solid_pieces, written}
 use Rattle.relayout.specs.declared.white.White.{White}
 use Rattle.relayout.specs.declared.white.White.TheVariants.{Kept, Space, Lines}
 use Rattle.relayout.proofs.CoverLemmas.{change, onto_white, still_cover}

@@ -1,15 +1,14 @@
 -- A cover with other white space between its pieces.
-use Rattle.std.proofs.Common.{◌≡◌, ◌⊎◌, ℕ, Bool, true, false, not, ◌||◌, ◌&&◌, ◌==◌, List, [], ◌∷◌, ◌++◌, codes, refl}
-use Rattle.std.proofs.Common.{sym, ap, ap₂, ◌∙◌, subst, inl, inr, append_assoc, eqb-true}
+use Rattle.std.proofs.Common.{◌≡◌, ◌⊎◌, ℕ, Bool, true, false, not, ◌||◌, ◌==◌, List, [], ◌∷◌, ◌++◌, refl}
+use Rattle.std.proofs.Common.{sym, ap, ◌∙◌, subst, inl, inr, append_assoc, eqb-true}
 use Rattle.std.specs.List.{list_all}
-use Rattle.std.proofs.lemmas.Bool.{both_ways, and_parts, or_cases, not-true}
+use Rattle.std.proofs.lemmas.Bool.{both_ways, and_parts}
 use Rattle.lexical.specs.Class.{is_white}
-use Rattle.lexical.specs.Text.{begins_with, first_passes}
-use Rattle.lexical.specs.Piece.{Piece, Gap, IsPiece}
-use Rattle.lexical.specs.Cover.{onto, StandBefore, CoversUpTo, IsCover}
+use Rattle.lexical.specs.Piece.{Piece, IsPiece}
+use Rattle.lexical.specs.Cover.{onto, StandBefore, IsCover}
 use Rattle.lexical.proofs.PieceFacts.{piece_not_empty}
 use Rattle.relayout.specs.Relayout.{Spaced, white_pieces, pieces_of, is_line, may_become, Becomes, AllWhite}
-use Rattle.relayout.proofs.StandLemmas.{Calm, Feeds, piece_near, solid_char}
+use Rattle.relayout.proofs.StandLemmas.{Calm, piece_near}
 
 -- ---- texts
 

@@ -1,10 +1,8 @@
 -- What is written of a text, as pieces with other white space.
-use Rattle.std.proofs.Common.{◌≡◌, ◌⊎◌, ℕ, Bool, true, false, not, ◌&&◌, ◌||◌, ◌==◌, List, [], ◌∷◌, ◌++◌, codes, refl}
-use Rattle.std.proofs.Common.{sym, ap, ap₂, ◌∙◌, subst, inl, inr, append_assoc, append-nil, length, encode_utf8}
-use Rattle.std.specs.Prelude.{if◌then◌else◌}
-use Rattle.std.specs.List.{list_all}
+use Rattle.std.proofs.Common.{◌≡◌, ℕ, Bool, true, false, ◌==◌, List, [], ◌∷◌, ◌++◌, refl}
+use Rattle.std.proofs.Common.{sym, ap, ap₂, ◌∙◌, subst, append_assoc, append-nil, length}
 use Rattle.std.specs.Str.{chars, IsUtf8, encode_utf8_all}
-use Rattle.std.proofs.lemmas.Bool.{both_ways, and_parts, and_from, or_cases, cases_Bool, not-true, eqb-true, cond-true}
+use Rattle.std.proofs.lemmas.Bool.{both_ways, eqb-true, cond-true}
 use Rattle.std.proofs.lemmas.Bool.{cond-false}
 use Rattle.std.proofs.lemmas.List.{nil_from_length}
 use Rattle.std.proofs.lemmas.Str.{chars-nil, encodes-chars, encodes_same, IsUtf8-string_bytes}

@@ -1,15 +1,13 @@
 -- Pieces that stand where the white space after them becomes other white space.
-use Rattle.std.proofs.Common.{◌≡◌, ◌⊎◌, ℕ, Bool, true, false, not, ◌||◌, ◌&&◌, ◌==◌, List, [], ◌∷◌, ◌++◌, codes, refl}
+use Rattle.std.proofs.Common.{◌≡◌, ◌⊎◌, ℕ, Bool, true, false, not, ◌&&◌, ◌==◌, List, [], ◌∷◌, ◌++◌, codes, refl}
 use Rattle.std.proofs.Common.{sym, ap, ap₂, ◌∙◌, subst, inl, inr, append_assoc, eqb-true}
 use Rattle.std.specs.List.{list_all, list_any}
-use Rattle.std.specs.Prelude.{if◌then◌else◌}
-use Rattle.std.proofs.lemmas.Bool.{both_ways, and_parts, and_from, and_left, or_cases, cases_Bool, not-true}
-use Rattle.std.proofs.lemmas.Bool.{false_from_ne_true, or_parts, not-false, not_from_false}
+use Rattle.std.proofs.lemmas.Bool.{both_ways, and_parts, or_cases, not-true}
 use Rattle.lexical.specs.Class.{is_white, is_ident_start, is_ident_continue}
 use Rattle.lexical.specs.Text.{begins_with, begins_any, first_passes}
 use Rattle.lexical.specs.Token.{Name, Mark, Literal, raw_front}
 use Rattle.lexical.specs.Block.{block_signs, BlockBody, Empty, Nested, Single}
-use Rattle.lexical.specs.Comment.{Comment, closing, Doc, PlainComment, LineComment, BlockComment}
+use Rattle.lexical.specs.Comment.{Comment, Doc, PlainComment, LineComment, BlockComment}
 use Rattle.lexical.specs.Delimiter.{error_literal}
 use Rattle.lexical.specs.Identifier as identifiers
 use Rattle.lexical.specs.Identifier.{Named, Identifier, literal_prefixes}
@@ -26,7 +24,7 @@ use Rattle.grammar_laws.proofs.IntegerLemmas.{number_cut}
 use Rattle.grammar_laws.proofs.LiteralLemmas.{quoted_stable}
 use Rattle.grammar_laws.proofs.NumberLemmas.{goes_on, continue_goes_on}
 use Rattle.grammar_laws.proofs.QuietLemmas.{white_dead}
-use Rattle.grammar_laws.proofs.StableLemmas.{Within, all_in, inside, stable, stops_within}
+use Rattle.grammar_laws.proofs.StableLemmas.{all_in, inside, stable, stops_within}
 use Rattle.relayout.specs.Relayout.{is_line}
 
 -- ---- white characters

@@ -1,4 +1,4 @@
-use Rattle.std.proofs.Common.{◌≡◌, ◌∙◌, [], refl, sym, ap, append-nil}
+use Rattle.std.proofs.Common.{◌≡◌, ◌∙◌, [], refl, sym, append-nil}
 use Rattle.std.specs.Str.{chars}
 use Rattle.relayout.proofs.RelaidLemmas.{no_chars, run_chosen, some_chars}
 use Rattle.relayout.proofs.relaying.push_run.Goals as goal

@@ -1,6 +1,5 @@
-use Rattle.std.proofs.Common.{◌≡◌, ◌∙◌, ◌∷◌, ◌++◌, [], List, ℕ, refl, sym, ap, string_bytes}
+use Rattle.std.proofs.Common.{◌≡◌, ◌∙◌, ◌∷◌, ◌++◌, [], List, ℕ, refl, sym, ap}
 use Rattle.std.specs.Str.{chars}
-use Rattle.relayout.specs.Relaid.{IsRelaid}
 use Rattle.relayout.proofs.ChoiceLemmas.{relaid_cover}
 use Rattle.relayout.proofs.RelaidLemmas.{cover_none, goes_all, goes_piece, goes_start, goes_white, no_chars, some_chars}
 use Rattle.relayout.proofs.RelaidLemmas.{string_chars}
