@@ -66,7 +66,7 @@ programs() {
     try "cargo install of rust/tools" cargo install --offline --quiet --path tools --root "$room/installed"
     stored() {
         local name words wanted status
-        for name in tokens highlight find_calls pretty rust_check; do
+        for name in tokens highlight find_calls pretty rust_check same; do
             words=()
             wanted=0
             status=0
@@ -88,7 +88,7 @@ programs() {
         refused 'a\0377' 2 '-: error: not UTF-8 at byte 1\n' highlight html
     if command -v python3 > /dev/null; then
         try "the rows of checks/programs on rust/tools" \
-            env "CARGO_BUILD=$built" ../checks/programs tokens highlight find_calls pretty rust_check
+            env "CARGO_BUILD=$built" ../checks/programs tokens highlight find_calls pretty rust_check same
         try "the commands of README.md print what it shows" ../checks/pages "$built" ../README.md
     fi
     tools() { (cd tools && cargo "$@"); }

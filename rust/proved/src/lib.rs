@@ -224,6 +224,8 @@ erased! {
     layout
     #[cfg(feature = "pretty_printer")]
     pretty_printer
+    #[cfg(feature = "relayout")]
+    relayout
 }
 
 /// The examples of the page that describes this package.

@@ -1,4 +1,4 @@
-//! What the programs `tokens`, `highlight`, `find_calls`, `pretty` and `rust_check` call.
+//! What the programs `tokens`, `highlight`, `find_calls`, `pretty`, `rust_check` and `same` call.
 //!
 //! Each module is a crate of `crates/`, made into plain Rust by `rust/erase` as those of [`proved`] are. A program's
 //! `main` is by hand, in `src/bin`: what `main.rt` of its crate does, over the streams and words of
@@ -69,4 +69,14 @@ pub mod rust_check {
     mod told;
     mod words;
     mod writing;
+}
+
+/// The program `same`, but for its `main`.
+#[allow(dead_code, unreachable_code, unused_imports, clippy::complexity, clippy::style)]
+pub mod same {
+    pub mod answer;
+    mod comparing;
+    mod place;
+    mod said;
+    mod words;
 }

@@ -1,0 +1,6 @@
+mod StandLemmas
+mod CoverLemmas
+mod WhiteLemmas
+mod RelaidLemmas
+mod ChoiceLemmas
+mod TokenLemmas

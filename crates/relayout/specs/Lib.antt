@@ -1,0 +1,4 @@
+pub mod Relayout
+pub mod Written
+pub mod Relaid
+pub mod Laws

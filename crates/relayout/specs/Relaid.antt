@@ -1,0 +1,29 @@
+-- A text with other white space, and what it has in common with the first one.
+use Rattle.std.specs.Prelude.{ℕ, ◌≡◌, false, List, []}
+use Rattle.lexical.specs.Cover.{IsCover}
+use Rattle.lexical.specs.Piece.{Piece}
+use Rattle.relayout.specs.Laws.{KeepsTokens}
+use Rattle.relayout.specs.Written.{solid_pieces, written}
+use Rattle.relayout.specs.declared.errors.RelayoutError.{RelayoutError}
+use Rattle.relayout.specs.declared.errors.RelayoutError.TheVariants.{NoPiece, Memory}
+use Rattle.relayout.specs.declared.white.White.{White}
+
+-- no pieces cover the source
+abbrev pub HasNoCover : List ℕ → Type 0
+HasNoCover source = (all : List Piece) → IsCover all source → ⊥
+
+-- the text is the source with these choices; it is covered by the same pieces but for white characters, and gives the
+-- same tokens up to spans
+pub record IsRelaid (choices : List White) (source text : List ℕ) : Type 0 where
+  pub pieces : List Piece
+  pub covers : IsCover pieces source
+  pub is : text ≡ written choices false [] pieces
+  pub pieces_now : List Piece
+  pub covers_now : IsCover pieces_now text
+  pub same : solid_pieces pieces_now ≡ solid_pieces pieces
+  pub tokens : KeepsTokens source text
+
+-- what holds if the error is that no piece stands somewhere
+abbrev pub IfNoPiece : Type 0 → RelayoutError → Type 0
+IfNoPiece holds NoPiece = holds
+IfNoPiece holds (Memory refused) = Unit {0}

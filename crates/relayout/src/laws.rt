@@ -1,0 +1,18 @@
+//! What is proved of texts with other white space. The functions compute nothing: their contracts are the laws, which
+//! `specs/Laws.antt` states.
+
+ghost use Rattle.relayout.specs.Laws.{PiecesStay, TokensStay};
+
+/// Where white space becomes other white space, the pieces are the same: some has to stand where some stood and none
+/// where none did, and what follows a line comment begins with LF. Nothing else is asked of it, as no piece looks past
+/// the white space after it.
+///
+/// `a  +b // c` and LF may become `a`, LF, `+b`, tab, `// c` and two LFs.
+pub fn pieces_stay()
+    ensures { PiecesStay }
+{}
+
+/// Texts with the same pieces but for white characters parse to the same tokens up to spans.
+pub fn tokens_stay()
+    ensures { TokensStay }
+{}

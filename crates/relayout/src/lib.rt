@@ -1,0 +1,14 @@
+//! Other white space between the tokens and comments of a text.
+//!
+//! [`relayout`] writes a text with white space that is chosen, run by run, and keeps everything else: whatever is
+//! chosen, the tokens are the same, and so are the comments.
+#![tactic(auto)]
+
+mod errors;
+pub mod laws;
+mod relaying;
+mod white;
+
+pub use errors::RelayoutError;
+pub use relaying::relayout;
+pub use white::White;

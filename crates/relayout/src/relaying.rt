@@ -1,0 +1,104 @@
+//! Writes a text with other white space.
+ghost use Rattle.std.specs.Prelude.{◌≡◌, ◌++◌, IfErr, IfOk, Bool, ℕ, List, string_bytes};
+ghost use Rattle.std.specs.Str.{chars};
+ghost use Rattle.lexical.specs.Found.{kind_of};
+ghost use Rattle.relayout.specs.Relayout.{is_line};
+ghost use Rattle.relayout.specs.Relaid.{HasNoCover, IfNoPiece, IsRelaid};
+ghost use Rattle.relayout.specs.Written.{choices_left, is_white_gap, next_choice, placed};
+
+use crate::errors::RelayoutError;
+use crate::white::{White, push_white};
+use lexical::parts::{before, begins};
+use lexical::{PieceKind, PlacedPiece, pieces};
+use pm_token::parts::TextBuilder;
+use std::alloc::{AllocError, Global};
+
+/// The text with other white space between its tokens and comments, which stay as they are.
+///
+/// Each run of white characters becomes what the next of the choices says, and stays where there are no more of them.
+/// So some white space stands wherever some stood, and none where none did, and a line comment keeps its line end: the
+/// pieces of the text are the same but for white characters, and it parses to the same tokens up to spans, whatever is
+/// chosen.
+///
+/// Fails with `NoPiece` where no pieces cover the text, and with `Memory`. Delimiters need not match. It takes time
+/// proportional to the length of the text and of what is written.
+///
+/// Of `a  +\n// b\n c` with `Space`, `Lines` with 4 spaces and `Space` it is `a +\n    // b\nc`.
+pub fn relayout(alloc: Global, text: &str, choices: &[White]) -> Result<String, RelayoutError>
+    ensures ok { IfOk result (λ out. IsRelaid choices.now (chars text.now) (chars (string_bytes out))) }
+    ensures no_piece { IfErr result (IfNoPiece (HasNoCover (chars text.now))) }
+{
+    let mut out = TextBuilder::with_room(alloc, text.len())?;
+    let mut left = choices;
+    let mut line = false;
+    let mut from = text;
+    let mut here = text;
+    let mut walk = pieces(text);
+    while let Some(next) = walk.next_piece() {
+        let run = before(from, here);
+        here = walk.rest();
+        if is_white(next) {
+            continue;
+        }
+        left = push_run(&mut out, left, line, run)?;
+        out.push_text(next.text)?;
+        line = is_line(next);
+        from = here;
+    }
+    if !here.is_empty() {
+        return Err(RelayoutError::NoPiece);
+    }
+    push_run(&mut out, left, line, from)?;
+    Ok(out.into_string())
+}
+
+// Whether the piece is a white character.
+fn is_white(next: PlacedPiece<'_>) -> bool
+    ensures { result ≡ is_white_gap (
+      kind_of next.entry.piece.kind (chars next.entry.text.now),
+      chars next.entry.text.now,
+    ) }
+{
+    match next.piece.kind {
+        PieceKind::Gap => !begins(next.text, "/"),
+        _ => false,
+    }
+}
+
+// Whether it is a line comment.
+fn is_line(next: PlacedPiece<'_>) -> bool
+    ensures { result ≡ is_line (
+      kind_of next.entry.piece.kind (chars next.entry.text.now),
+      chars next.entry.text.now,
+    ) }
+{
+    match next.piece.kind {
+        PieceKind::Gap | PieceKind::Doc { .. } => begins(next.text, "//"),
+        _ => false,
+    }
+}
+
+// Writes what is chosen for a run of white characters, if there are any, and answers the choices for those after it.
+fn push_run<'a>(
+    out: &mut TextBuilder,
+    choices: &'a [White],
+    line: bool,
+    run: &str,
+) -> Result<&'a [White], AllocError>
+    ensures { IfOk result (λ left. (left.now ≡ choices_left choices.now (chars run.now))
+        × (out.new ≡ out.old ++ placed (next_choice choices.now) line (chars run.now))) }
+{
+    if run.is_empty() {
+        return Ok(choices);
+    }
+    match choices.split_first() {
+        Some((choice, left)) => {
+            push_white(out, *choice, line, run)?;
+            Ok(left)
+        }
+        None => {
+            out.push_text(run)?;
+            Ok(choices)
+        }
+    }
+}

@@ -1,0 +1,98 @@
+//! White space, and what stands in its place.
+ghost use Rattle.std.specs.Prelude.{◌≡◌, ◌++◌, IfOk, OnOk, false};
+ghost use Rattle.std.specs.Str.{chars};
+ghost use Rattle.relayout.specs.Written.{ends_line, line_end, line_ends, repeated, white_text};
+
+use pm_token::parts::TextBuilder;
+use std::alloc::AllocError;
+
+/// What is to stand in the place of a run of white characters.
+#[derive(Clone, Copy, Debug, PartialEq, Eq)]
+pub enum White {
+    /// The run as it is.
+    Kept,
+    /// A space, or LF right after a line comment.
+    Space,
+    /// The run's line ends, each LF or CR LF, with nothing before them, and after the last one tabs and then spaces. A
+    /// run without a line end stays as it is.
+    Lines {
+        /// How many tabs.
+        tabs: usize,
+        /// How many spaces.
+        spaces: usize,
+    },
+}
+
+// Writes what is chosen for a run, which may stand right after a line comment.
+pub(crate) fn push_white(
+    out: &mut TextBuilder,
+    choice: White,
+    line: bool,
+    run: &str,
+) -> Result<(), AllocError>
+    ensures { OnOk result (out.new ≡ out.old ++ white_text choice line (chars run.now)) }
+{
+    match choice {
+        White::Kept => out.push_text(run),
+        White::Space if line => out.push('\n'),
+        White::Space => out.push(' '),
+        White::Lines { tabs, spaces } => push_lines(out, tabs, spaces, run),
+    }
+}
+
+// Writes the run's line ends, and then tabs and spaces. A run without a line end is written as it is.
+fn push_lines(
+    out: &mut TextBuilder,
+    tabs: usize,
+    spaces: usize,
+    run: &str,
+) -> Result<(), AllocError>
+    ensures { OnOk result (out.new ≡ out.old ++ white_text (White.Lines tabs spaces) false (chars run.now)) }
+{
+    if !push_line_ends(out, run)? {
+        return out.push_text(run);
+    }
+    push_times(out, '\t', tabs)?;
+    push_times(out, ' ', spaces)
+}
+
+// Writes the run's line ends, and answers whether there are any.
+fn push_line_ends(out: &mut TextBuilder, run: &str) -> Result<bool, AllocError>
+    ensures { IfOk result (λ ended. (ended ≡ ends_line (chars run.now))
+        × (out.new ≡ out.old ++ line_ends false (chars run.now))) }
+{
+    let mut ended = false;
+    let mut returned = false;
+    for c in run.chars() {
+        push_line_end(out, returned, c)?;
+        ended = ended || c == '\n';
+        returned = c == '\r';
+    }
+    Ok(ended)
+}
+
+// Writes the character if it is LF, after CR or not.
+fn push_line_end(out: &mut TextBuilder, returned: bool, c: char) -> Result<(), AllocError>
+    ensures { OnOk result (out.new ≡ out.old ++ line_end returned c) }
+{
+    match c {
+        '\n' if returned => {
+            out.push('\r')?;
+            out.push('\n')
+        }
+        '\n' => out.push('\n'),
+        _ => Ok(()),
+    }
+}
+
+// Writes the character so many times.
+fn push_times(out: &mut TextBuilder, c: char, count: usize) -> Result<(), AllocError>
+    ensures { OnOk result (out.new ≡ out.old ++ repeated c count) }
+{
+    let mut left = count;
+    while left > 0 {
+        out.push(c)?;
+        left -= 1;
+    }
+    Ok(())
+}

@@ -1,0 +1,4 @@
+mod WordLemmas
+mod ComparingLemmas
+mod TokenLemmas
+mod AnswerLemmas

@@ -1,0 +1,34 @@
+-- Where words differ first.
+use Rattle.std.specs.Prelude.{ℕ, ◌≡◌, ◌≢◌, List, [], ◌∷◌, ◌++◌, Option, Some, None}
+use Rattle.same.specs.Said.{Placed, Word}
+
+-- the words themselves
+abbrev pub bare : List Placed → List Word
+bare [] = []
+bare (x ∷ xs) = x.0 ∷ bare xs
+
+abbrev pub first_word : List Placed → Option Word
+first_word [] = None
+first_word (x ∷ xs) = Some x.0
+
+-- the text from the first of them on, nothing at the end
+abbrev pub first_place : List Placed → List ℕ
+first_place [] = []
+first_place (x ∷ xs) = x.1
+
+-- both go on from the same words
+pub record SoFar (xs ys : List Placed) (more others : List Placed) : Type 0 where
+  pub front : List Placed
+  pub other_front : List Placed
+  pub first : xs ≡ front ++ more
+  pub second : ys ≡ other_front ++ others
+  pub same : bare front ≡ bare other_front
+
+-- after the same words come different ones, or none in one of them; these texts begin there
+pub record DifferAt (xs ys : List Placed) (first second : List ℕ) : Type 0 where
+  pub more : List Placed
+  pub others : List Placed
+  pub so_far : SoFar xs ys more others
+  pub differ : first_word more ≢ first_word others
+  pub first_is : first ≡ first_place more
+  pub second_is : second ≡ first_place others

@@ -1,0 +1,5 @@
+pub mod Said
+pub mod Words
+pub mod Difference
+pub mod Same
+pub mod Answer

@@ -1,0 +1,88 @@
+//! Compares two texts, word by word.
+ghost use Rattle.std.specs.Prelude.{◌≡◌, ◌↔◌, IfOk, IfSome, IsTrue, Some, option_map};
+ghost use Rattle.std.specs.Str.{chars};
+ghost use Rattle.pm_token.specs.Escaped.{string_text};
+ghost use Rattle.same.specs.Said.{HasText, word_of};
+ghost use Rattle.same.specs.Same.{ComparesTexts};
+
+use crate::said::Said;
+use crate::words::Words;
+use pm_token::parts::TextBuilder;
+use std::alloc::{AllocError, Global};
+
+/// Where two texts differ first in their tokens, and in their comments too if `comments` says so: what each has from
+/// there on, or nothing where it ends before. None where they are the same.
+pub fn difference<'a>(
+    alloc: Global,
+    comments: bool,
+    first: &'a str,
+    second: &'a str,
+) -> Result<Option<(&'a str, &'a str)>, AllocError>
+    ensures { IfOk result (ComparesTexts comments (chars first.now) (chars second.now)) }
+{
+    let mut ones = Words::new(first, comments);
+    let mut others = Words::new(second, comments);
+    while let Some(one) = ones.next() {
+        let other = others.next();
+        if !is_same(alloc, one, other)? {
+            return Ok(Some((ones.here, others.here)));
+        }
+    }
+    match others.next() {
+        Some(_) => Ok(Some((ones.here, others.here))),
+        None => Ok(None),
+    }
+}
+
+// Whether the other is the same word.
+fn is_same(alloc: Global, one: Said<'_>, other: Option<Said<'_>>) -> Result<bool, AllocError>
+    requires one { HasText one }
+    requires other { IfSome other HasText }
+    ensures { IfOk result (λ same. IsTrue same ↔ Some (word_of one.entry) ≡ option_map word_of other.entry) }
+{
+    match other {
+        Some(other) => is_alike(alloc, one, other),
+        None => Ok(false),
+    }
+}
+
+// Whether both are the same word.
+fn is_alike(alloc: Global, one: Said<'_>, other: Said<'_>) -> Result<bool, AllocError>
+    requires one { HasText one }
+    requires other { HasText other }
+    ensures { IfOk result (λ same. IsTrue same ↔ word_of one.entry ≡ word_of other.entry) }
+{
+    Ok(match (one, other) {
+        (
+            Said::Name { raw, name },
+            Said::Name {
+                raw: other_raw,
+                name: other,
+            },
+        ) => { raw == other_raw && name == other }
+        (
+            Said::Mark { joint, mark },
+            Said::Mark {
+                joint: other_joint,
+                mark: other,
+            },
+        ) => { joint == other_joint && mark == other }
+        (Said::Literal(text), Said::Literal(other)) => text == other,
+        (Said::DocText(text), Said::DocText(other)) => text == other,
+        (Said::DocText(text), Said::Literal(literal)) => is_string_of(alloc, text, literal)?,
+        (Said::Literal(literal), Said::DocText(text)) => is_string_of(alloc, text, literal)?,
+        (Said::Opener(delimiter), Said::Opener(other)) => delimiter == other,
+        (Said::Closer(delimiter), Said::Closer(other)) => delimiter == other,
+        (Said::Comment(text), Said::Comment(other)) => text == other,
+        _ => false,
+    })
+}
+
+// Whether the literal is the string literal of the text.
+fn is_string_of(alloc: Global, text: &str, literal: &str) -> Result<bool, AllocError>
+    ensures { IfOk result (λ same. IsTrue same ↔ string_text (chars text.now) ≡ chars literal.now) }
+{
+    let mut string = TextBuilder::with_room(alloc, 0)?;
+    string.push_string(text)?;
+    Ok(string.into_string().as_str() == literal)
+}

@@ -1,0 +1,141 @@
+//! What is compared of a text: its tokens, one after another, and perhaps its comments.
+ghost use Rattle.std.specs.Prelude.{◌≡◌, ◌+◌, ◌*◌, ◌<◌, ◌∷◌, [], Bool, IfNone, IfSome, List, ℕ, None, length, true};
+ghost use Rattle.std.specs.Str.{IsUtf8, chars};
+ghost use Rattle.lexical.specs.Piece.{Piece};
+ghost use Rattle.lexical.specs.Found.{LendsText, kind_of};
+
+use crate::said::{DocStep, Said, after, alone, delimiter};
+use lexical::parts::begins;
+use lexical::{PieceKind, PieceWalk, PlacedPiece, pieces};
+use pm_token::Delimiter;
+
+/// The words of a text that are left.
+#[derive(Drop)]
+pub struct Words<'a> {
+    walk: PieceWalk<'a>,
+    comments: bool,
+    // What is left of a doc comment, and what it says.
+    step: Option<DocStep>,
+    doc: &'a str,
+    ghost doc_text: { ∥ IsUtf8 doc.now ∥₁ },
+    /// The text from the last word on.
+    pub here: &'a str,
+}
+
+impl<'a> Words<'a> {
+    ghost use Rattle.same.specs.Said.{HasText, Placed, doc_from, doc_left, step_after, word_of};
+    ghost use Rattle.same.specs.Words.{ComesFirst, Covers, piece_words, placed_onto, size, words_left};
+
+    /// All words of a text: its tokens, and its comments too if `comments` says so. Then a doc comment is a comment,
+    /// and else the attribute that it stands for.
+    pub fn new(text: &'a str, comments: bool) -> Words<'a>
+        ensures walk { result.walk.rest.now ≡ text.now }
+        ensures front { result.walk.at_front ≡ true }
+        ensures comments { result.comments ≡ comments }
+        ensures step { result.step ≡ None }
+    {
+        Words {
+            walk: pieces(text),
+            comments,
+            step: None,
+            doc: "",
+            here: text,
+        }
+    }
+    /// The next word, from which `here` is the text then on. None at the end, where `here` is empty.
+    pub fn next(&mut self) -> Option<Said<'a>>
+        ensures first { IfSome result (λ said. (xs : List Piece) → Covers self.old.walk xs
+            → ComesFirst self.old said self.new xs) }
+        ensures text { IfSome result HasText }
+        ensures none { IfNone result ((xs : List Piece) → Covers self.old.walk xs → (words_left self.old xs ≡ [])
+            × (chars self.new.here.now ≡ [])) }
+        ensures smaller { IfSome result (λ _. size self.new < size self.old) }
+    {
+        if let Some(step) = self.step {
+            return Some(self.take_step(step));
+        }
+        self.here = self.walk.rest();
+        while let Some(next) = self.walk.next_piece() {
+            if let Some(said) = self.begin(next) {
+                return Some(said);
+            }
+            self.here = self.walk.rest();
+        }
+        None
+    }
+
+    // The first word of the piece, if it has one.
+    fn begin(&mut self, next: PlacedPiece<'a>) -> Option<Said<'a>>
+        requires lends { LendsText next.piece.kind }
+        requires piece { IsUtf8 next.text.now }
+        requires no_step { self.now.step ≡ None }
+        ensures some { IfSome result (λ said. (here : List ℕ) (more : List Placed) → piece_words self.old.comments
+            (kind_of next.entry.piece.kind (chars next.entry.text.now)) (chars next.entry.text.now) here more
+            ≡ (word_of said, here) ∷ placed_onto (doc_left self.new.step (chars self.new.doc.now)) here more) }
+        ensures none { IfNone result ((here : List ℕ) (more : List Placed) → piece_words self.old.comments
+            (kind_of next.entry.piece.kind (chars next.entry.text.now)) (chars next.entry.text.now) here more ≡ more) }
+        ensures step { IfNone result (self.new.step ≡ None) }
+        ensures text { IfSome result HasText }
+        ensures walk { self.new.walk ≡ self.old.walk }
+        ensures comments { self.new.comments ≡ self.old.comments }
+        ensures here { self.new.here ≡ self.old.here }
+    {
+        match next.piece.kind {
+            PieceKind::FrontMark => None,
+            PieceKind::Gap if self.comments && begins(next.text, "/") => Some(Said::Comment(
+                next.text,
+            )),
+            PieceKind::Gap => None,
+            PieceKind::Doc { .. } if self.comments => Some(Said::Comment(next.text)),
+            PieceKind::Doc { inner, text } => {
+                self.doc = text;
+                let step = if inner {
+                    DocStep::InnerHash
+                } else {
+                    DocStep::Hash
+                };
+                Some(self.take_step(step))
+            }
+            PieceKind::Opener(c) => Some(Said::Opener(delimiter(c))),
+            PieceKind::Closer(c) => Some(Said::Closer(delimiter(c))),
+            PieceKind::Literal => Some(Said::Literal(next.text)),
+            PieceKind::Mark { joint, mark } => Some(Said::Mark { joint, mark }),
+            PieceKind::Name { raw, name } => Some(Said::Name { raw, name }),
+        }
+    }
+
+    // The token of this step of the doc comment.
+    fn take_step(&mut self, step: DocStep) -> Said<'a>
+        ensures first { (here : List ℕ) (more : List Placed)
+            → placed_onto (doc_from step (chars self.old.doc.now)) here more
+            ≡ (word_of result, here) ∷ placed_onto (doc_left self.new.step (chars self.new.doc.now)) here more }
+        ensures text { HasText result }
+        ensures step { self.new.step ≡ step_after step }
+        ensures doc { self.new.doc ≡ self.old.doc }
+        ensures walk { self.new.walk ≡ self.old.walk }
+        ensures comments { self.new.comments ≡ self.old.comments }
+        ensures here { self.new.here ≡ self.old.here }
+    {
+        self.step = after(step);
+        match step {
+            DocStep::Hash | DocStep::InnerHash => alone('#'),
+            DocStep::Bang => alone('!'),
+            DocStep::Opener => Said::Opener(Delimiter::Bracket),
+            DocStep::Name => Said::Name {
+                raw: false,
+                name: "doc",
+            },
+            DocStep::Equals => alone('='),
+            DocStep::Text => Said::DocText(self.doc_text()),
+            DocStep::Closer => Said::Closer(Delimiter::Bracket),
+        }
+    }
+
+    // What the doc comment says.
+    fn doc_text(&self) -> &'a str
+        ensures same { result.now ≡ self.now.doc.now }
+        ensures utf8 { IsUtf8 result.now }
+    {
+        self.doc
+    }
+}

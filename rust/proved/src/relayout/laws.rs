@@ -1,0 +1,15 @@
+// Made from crates/relayout/src/laws.rt by rust/erase: change that file, not this one.
+//! What is proved of texts with other white space. The functions compute nothing: their contracts are the laws, which
+//! `specs/Laws.antt` states.
+
+/// Where white space becomes other white space, the pieces are the same: some has to stand where some stood and none
+/// where none did, and what follows a line comment begins with LF. Nothing else is asked of it, as no piece looks past
+/// the white space after it.
+///
+/// `a  +b // c` and LF may become `a`, LF, `+b`, tab, `// c` and two LFs.
+pub fn pieces_stay()
+{}
+
+/// Texts with the same pieces but for white characters parse to the same tokens up to spans.
+pub fn tokens_stay()
+{}

@@ -1,0 +1,74 @@
+// Made from crates/same/src/answer.rt by rust/erase: change that file, not this one.
+//! What the program answers of two texts, and what it writes.
+
+use crate::same::comparing::difference;
+use crate::same::place::place_at;
+use proved::explain::{ExplainError, explain};
+use crate::messages::Failure;
+use proved::proc_macro2::LineColumn;
+use proved::shim::alloc::Global;
+use proved::shim::io;
+use proved::shim::io::Write;
+
+/// A text, and the path that it is read from.
+#[derive(Clone, Copy)]
+pub struct Source<'a> {
+    /// The path.
+    pub path: &'a str,
+    /// The text.
+    pub text: &'a str,
+}
+
+/// Whether two texts have the same tokens, and the same comments too if `comments` says so. Where they don't, both
+/// places of the first that differs are written.
+///
+/// Fails with `Memory` and with `Write`.
+pub fn compare<W: Write>(
+    alloc: Global,
+    comments: bool,
+    first: Source<'_>,
+    second: Source<'_>,
+    writer: &mut W,
+) -> Result<bool, Failure>
+{
+    match difference(alloc, comments, first.text, second.text)? {
+        None => Ok(true),
+        Some((one, other)) => {
+            let at = place_at(first.text, first.text.len().saturating_sub(one.len()));
+            let other_at = place_at(second.text, second.text.len().saturating_sub(other.len()));
+            write_places(first.path, at, second.path, other_at, writer)?;
+            Ok(false)
+        }
+    }
+}
+
+// Writes both places, the lines and the columns from 1.
+fn write_places<W: Write>(
+    path: &str,
+    at: LineColumn,
+    other: &str,
+    other_at: LineColumn,
+    writer: &mut W,
+) -> io::Result<()>
+{
+    let line = at.line;
+    // As wide as the sums need.
+    let column = at.column as u128 + 1;
+    let other_line = other_at.line;
+    let other_column = other_at.column as u128 + 1;
+    writeln!(
+        writer,
+        "{path}:{line}:{column}: differs from {other}:{other_line}:{other_column}"
+    )
+}
+
+/// Fails with `Fault` where a text doesn't parse, with the place of what is at fault, with `MapFull` where it is too
+/// long, and with `Memory`.
+pub fn check_text(alloc: Global, text: &str) -> Result<(), Failure> {
+    match explain(alloc, text) {
+        Ok(None) => Ok(()),
+        Ok(Some(explained)) => Err(Failure::Fault(place_at(text, explained.at.start))),
+        Err(ExplainError::MapFull) => Err(Failure::MapFull),
+        Err(ExplainError::Memory(_)) => Err(Failure::Memory),
+    }
+}

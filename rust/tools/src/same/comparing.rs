@@ -1,0 +1,76 @@
+// Made from crates/same/src/comparing.rt by rust/erase: change that file, not this one.
+//! Compares two texts, word by word.
+
+use crate::same::said::Said;
+use crate::same::words::Words;
+use proved::pm_token::parts::TextBuilder;
+use proved::shim::alloc::{AllocError, Global};
+
+/// Where two texts differ first in their tokens, and in their comments too if `comments` says so: what each has from
+/// there on, or nothing where it ends before. None where they are the same.
+pub fn difference<'a>(
+    alloc: Global,
+    comments: bool,
+    first: &'a str,
+    second: &'a str,
+) -> Result<Option<(&'a str, &'a str)>, AllocError>
+{
+    let mut ones = Words::new(first, comments);
+    let mut others = Words::new(second, comments);
+    while let Some(one) = ones.next() {
+        let other = others.next();
+        if !is_same(alloc, one, other)? {
+            return Ok(Some((ones.here, others.here)));
+        }
+    }
+    match others.next() {
+        Some(_) => Ok(Some((ones.here, others.here))),
+        None => Ok(None),
+    }
+}
+
+// Whether the other is the same word.
+fn is_same(alloc: Global, one: Said<'_>, other: Option<Said<'_>>) -> Result<bool, AllocError>
+{
+    match other {
+        Some(other) => is_alike(alloc, one, other),
+        None => Ok(false),
+    }
+}
+
+// Whether both are the same word.
+fn is_alike(alloc: Global, one: Said<'_>, other: Said<'_>) -> Result<bool, AllocError>
+{
+    Ok(match (one, other) {
+        (
+            Said::Name { raw, name },
+            Said::Name {
+                raw: other_raw,
+                name: other,
+            },
+        ) => { raw == other_raw && name == other }
+        (
+            Said::Mark { joint, mark },
+            Said::Mark {
+                joint: other_joint,
+                mark: other,
+            },
+        ) => { joint == other_joint && mark == other }
+        (Said::Literal(text), Said::Literal(other)) => text == other,
+        (Said::DocText(text), Said::DocText(other)) => text == other,
+        (Said::DocText(text), Said::Literal(literal)) => is_string_of(alloc, text, literal)?,
+        (Said::Literal(literal), Said::DocText(text)) => is_string_of(alloc, text, literal)?,
+        (Said::Opener(delimiter), Said::Opener(other)) => delimiter == other,
+        (Said::Closer(delimiter), Said::Closer(other)) => delimiter == other,
+        (Said::Comment(text), Said::Comment(other)) => text == other,
+        _ => false,
+    })
+}
+
+// Whether the literal is the string literal of the text.
+fn is_string_of(alloc: Global, text: &str, literal: &str) -> Result<bool, AllocError>
+{
+    let mut string = TextBuilder::with_room(alloc, 0)?;
+    string.push_string(text)?;
+    Ok(string.into_string().as_str() == literal)
+}
