@@ -489,8 +489,8 @@ def display(file):
         impl fmt::Display for A { fn fmt<W: fmt::Write>(&self, f: &mut fmt::Formatter<W>) -> fmt::Result { Ok(()) } }
         => impl fmt::Display for A { fn fmt<W: fmt::Write>(&self, f: &mut fmt::Formatter<W>) -> fmt::Result { Ok(()) } }
            shim::display!(A);
-        impl<'a> fmt::Display for B<'a> { fn fmt<W: fmt::Write>(&self, f: &mut fmt::Formatter<W>) -> fmt::Result { Ok(()) } }
-        => impl<'a> fmt::Display for B<'a> { fn fmt<W: fmt::Write>(&self, f: &mut fmt::Formatter<W>) -> fmt::Result { Ok(()) } }
+        impl<'a> fmt::Display for B<'a> { fn fmt<W: fmt::Write>(&self, f: &mut fmt::Formatter<W>) -> fmt::Result {} }
+        => impl<'a> fmt::Display for B<'a> { fn fmt<W: fmt::Write>(&self, f: &mut fmt::Formatter<W>) -> fmt::Result {} }
            shim::display!(B<'a>);
     """
     tokens, edits = file.tokens, {}
