@@ -8,4 +8,3 @@ mod MerelyBuiltLemmas
 mod MadeLemmas
 mod PartLemmas
 mod StringLemmas
-mod ArgumentLemmas

@@ -1,17 +1,15 @@
 -- String literals of texts.
-use Rattle.std.proofs.Common.{◌≡◌, ◌↔◌, ℕ, List, [], ◌∷◌, ◌++◌, codes, length, Option, Some, None, refl, sym}
+use Rattle.std.proofs.Common.{◌≡◌, ◌↔◌, ℕ, List, [], ◌∷◌, ◌++◌, codes, length, refl, sym}
 use Rattle.std.proofs.Common.{Bool, IsTrue, nat_eq, ap, ◌∙◌, append_assoc, arith}
 use Rattle.std.specs.Prelude.{encode_utf8}
 use Rattle.std.specs.Cmp.Lexicographic.{pointwise}
 use Rattle.std.specs.Str.{chars, encode_utf8_all, IsUtf8}
-use Rattle.std.proofs.lemmas.List.{append_cancel_left}
 use Rattle.std.proofs.lemmas.Str.{chars-nil, chars_past_char, encodes-chars, scalars-chars}
 use Rattle.std.proofs.lemmas.Slice.Eq.{bytes_eq-Decides}
-use denote.Bor.{Bor}
 use Rattle.pm_token.specs.Escaped.{content, string_text, written, written_char}
 use Rattle.pm_token.specs.Text.{IsText}
 use Rattle.pm_token.proofs.ValueLawLemmas.{strings_come_back}
-use Rattle.token_buffer.specs.Strings.{IsAfter, escape_text}
+use Rattle.token_buffer.specs.Strings.{escape_text}
 use Rattle.token_buffer.specs.declared.string.Escape.{Escape}
 
 -- texts with the same literal are the same
@@ -25,19 +23,6 @@ pub same_literals : (s t : List ℕ) → IsUtf8 s → IsUtf8 t → string_text (
     → chars s ≡ chars t
 same_literals s t utf8 utf8-other same =
     string_text-inj (chars s) (chars t) (scalars-chars s utf8) (scalars-chars t utf8-other) same
-
--- ---- what follows a front
-
--- a text that doesn't begin with one front doesn't with it and another
-pub after_none : (a b text : List ℕ) → IsAfter a text None → IsAfter (a ++ b) text None
-after_none a b text none = λ rest e. none (b ++ rest) (e ∙ append_assoc a b rest)
-
--- one front and then another
-pub after_more : (a b text between : List ℕ) (result : Option (Bor (List ℕ))) → text ≡ a ++ between
-    → IsAfter b between result → IsAfter (a ++ b) text result
-after_more a b text between None is h = λ rest e.
-    h rest (append_cancel_left a between (b ++ rest) (sym is ∙ (e ∙ append_assoc a b rest)))
-after_more a b text between (Some rest) is h = is ∙ (ap (λ x. a ++ x) h ∙ sym (append_assoc a b (chars rest.now)))
 
 -- ---- a text, character by character
 

@@ -1,5 +1,6 @@
 -- Where generic arguments end.
-use Rattle.std.specs.Prelude.{ℕ, suc, ◌==◌, ◌-◌, ◌^◌, nat_lt, ◌&&◌, Bool, true, false, not, Option, Some, None, if◌then◌else◌}
+use Rattle.std.specs.Prelude.{ℕ, suc, ◌==◌, ◌-◌, ◌^◌, nat_lt, ◌&&◌, Bool, true, false, not, Option, Some, None}
+use Rattle.std.specs.Prelude.{if◌then◌else◌}
 use Rattle.lexical.specs.Token.{Token, Name, Mark, Literal}
 use Rattle.pm_token.specs.Leaf.{is_joint}
 use Rattle.pm_stream.specs.Forest.{Forest, nil, leaf, group}

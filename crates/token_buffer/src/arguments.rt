@@ -10,8 +10,8 @@ impl<'a> Cursor<'a> {
     ghost use Rattle.token_buffer.specs.Reads.{left};
 
     /// The trees after the generic arguments that come first, `<` and all up to its `>`, if they do. A `>` closes the
-    /// last `<` that is open, but for the one of `->`; of more than 4294967295 open ones there is no end. It takes time in
-    /// proportion to how many trees it passes.
+    /// last `<` that is open, but for the one of `->`; where more than 4294967295 are open there is no end. It takes
+    /// time in proportion to how many trees it passes.
     ///
     /// Of `<Vec<T>, fn() -> T> (x)` it is `(x)`. Of `< (x)` there is none.
     pub fn generic_arguments(self) -> Option<Cursor<'a>>
