@@ -38,8 +38,8 @@ fn files(folder: &Path, found: &mut Vec<PathBuf>) -> io::Result<()> {
     Ok(())
 }
 
-/// Some 3 MB of what `read` makes of the folder's files, and of those again where they are fewer. It answers `None` of a
-/// file that is left out.
+/// Some 3 MB of what `read` makes of the folder's files, and of those again where they are fewer. It answers `None` of
+/// a file that is left out.
 pub fn source(folder: &Path, read: impl Fn(String) -> Option<String>) -> Result<String, Box<dyn Error>> {
     let mut found = Vec::new();
     files(folder, &mut found)?;
