@@ -75,7 +75,7 @@ fn what_is_left_is_a_stream(rt: HostRuntime) -> Result<(), Fail> {
 const PRINTED: [(&str, &str); 8] = [
     ("a+=(b)", "+= (b)"),
     ("a {x}{}", "{ x } { }"),
-    ("(a) r#f [1.0,'b]", "r#f [1.0 , 'b]"),
+    ("(a) r#f [1.0, 'b]", "r#f [1.0 , 'b]"),
     ("a", ""),
     ("a/// b", "# [doc = \" b\"]"),
     ("a//!\té\"\\", "# ! [doc = \"\\té\\\"\\\\\"]"),
