@@ -13,15 +13,16 @@ cd "$(dirname "$0")"
 room=$(mktemp -d)
 trap 'rm -rf "$room"' EXIT
 
-mkdir -p "$room/bench/.cargo"
-cp -r bench_flat/Cargo.toml bench_flat/src "$room/bench"
-sed -i "s|path = \"../proved\"|path = \"$PWD/proved\"|" "$room/bench/Cargo.toml"
-cat > "$room/bench/.cargo/config.toml" << END
+mkdir -p "$room/bench" "$room/bench_flat/.cargo"
+cp -r bench/src "$room/bench"
+cp -r bench_flat/Cargo.toml bench_flat/src "$room/bench_flat"
+sed -i "s|path = \"../proved\"|path = \"$PWD/proved\"|" "$room/bench_flat/Cargo.toml"
+cat > "$room/bench_flat/.cargo/config.toml" << END
 [source.crates-io]
 replace-with = "here"
 [source.here]
 directory = "$registry"
 END
-cd "$room/bench"
+cd "$room/bench_flat"
 cargo build --release --offline --quiet
 target/release/flat-bench "$sources"

@@ -29,7 +29,7 @@ METHODS = set('''
     range read read_to_end remove reserve resize rev reverse saturating_add saturating_mul saturating_sub size_hint
     skip stdin split split_at split_first split_last split_off split_once starts_with strip_prefix strip_suffix
     take to_digit to_string trim truncate unsigned_abs unwrap_or utf8_chunks utf8_error
-    valid valid_up_to width write write_all write_str
+    valid valid_up_to width write write_all write_char write_str
 '''.split())
 
 # Those of them that are methods of traits alone, which take `&mut self`. A trait may have one of this name that takes

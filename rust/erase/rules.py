@@ -489,10 +489,13 @@ def display(file):
         impl fmt::Display for A { fn fmt<W: fmt::Write>(&self, f: &mut fmt::Formatter<W>) -> fmt::Result { Ok(()) } }
         => impl fmt::Display for A { fn fmt<W: fmt::Write>(&self, f: &mut fmt::Formatter<W>) -> fmt::Result { Ok(()) } }
            shim::display!(A);
+        impl<'a> fmt::Display for B<'a> { fn fmt<W: fmt::Write>(&self, f: &mut fmt::Formatter<W>) -> fmt::Result {} }
+        => impl<'a> fmt::Display for B<'a> { fn fmt<W: fmt::Write>(&self, f: &mut fmt::Formatter<W>) -> fmt::Result {} }
+           shim::display!(B<'a>);
     """
     tokens, edits = file.tokens, {}
     for at, _, closer, name in impls(tokens, 'Display'):
-        if not re.fullmatch(r'\w+', name):
+        if not re.fullmatch(r"\w+(<'\w+>)?", name):
             raise Rejected(tokens[at].line, f'a `Display` for {name}, a type with parameters')
         edits[closer, closer] = '}\n\nshim::display!(%s);' % name
         file.count('display')

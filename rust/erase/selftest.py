@@ -58,7 +58,7 @@ REJECTED = [
     ('use std::fmt; use std::fmt::Display; impl fmt::Debug for A { fn fmt<W: fmt::Write>(&self, f: '
      '&mut fmt::Formatter<W>) -> fmt::Result { self.0.fmt(f) } }', 'of `Debug` or of `Display`'),
     ('fn f() { g(&[E::Memory(AllocError)]); }', 'a last row of the error of memory'),
-    ("impl<'a> fmt::Display for A<'a> { fn fmt<W: fmt::Write>(&self, f: &mut fmt::Formatter<W>) -> fmt::Result { } }",
+    ("impl<T> fmt::Display for A<T> { fn fmt<W: fmt::Write>(&self, f: &mut fmt::Formatter<W>) -> fmt::Result { } }",
      'a type with parameters'),
     ('impl Model for A { fn f() {} }', 'a `Model` that holds code'),
     ('fn f() /* a */ {}', 'a block comment'),

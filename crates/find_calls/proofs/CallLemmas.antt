@@ -1,7 +1,8 @@
 -- What is left to find of the calls.
 use Rattle.std.proofs.Common.{◌≡◌, ℕ, zero, suc, ◌+◌, ◌*◌, ◌<◌, ◌≤◌, Bool, true, false, not, ◌&&◌, List, [], ◌∷◌}
 use Rattle.std.proofs.Common.{◌++◌, drop, length}
-use Rattle.std.proofs.Common.{Option, Some, None, refl, sym, ap, ap₂, ◌∙◌, arith, get_or, ◌==◌, ne_eqb, if◌then◌else◌}
+use Rattle.std.proofs.Common.{Option, Some, None, refl, sym, ap, ap₂, subst, ◌∙◌, arith, get_or, ◌==◌, ne_eqb}
+use Rattle.std.proofs.Common.{if◌then◌else◌}
 use Rattle.std.proofs.Math.Seq.{drop-cons}
 use Rattle.std.proofs.KnownBytes.{Appends-nil}
 use Rattle.std.specs.Io.KnownBytes.{Appends}
@@ -9,7 +10,8 @@ use Rattle.std.specs.List.{AllByRecursion as Each}
 use Rattle.std.specs.Option.{option_to_list}
 use Rattle.lexical.specs.Token.{Token, Name, Mark, Literal}
 use Rattle.pm_span.specs.Extent.{Extent}
-use Rattle.pm_span.specs.Files.{Holds, new_map, next_lo, with_file}
+use Rattle.std.specs.declared.alloc.AllocError.{AllocError}
+use Rattle.pm_span.specs.Files.{Files, Fits, Holds, new_map, next_lo, with_file}
 use Rattle.pm_stream.specs.Forest.{Forest, nil, leaf, group}
 use Rattle.pm_stream.specs.InOrder.{token_tree, in_order}
 use Rattle.pm_stream.specs.Parsing.{ParsesTo}
@@ -18,7 +20,22 @@ use Rattle.pm_stream.specs.TreeSpan.{extent_of}
 use Rattle.pm_stream.proofs.InOrderLemmas.{each_parts}
 use Rattle.pm_stream.proofs.LineColumnLemmas.{parsed_line_columns}
 use Rattle.token_buffer.specs.Reads.{left}
+use Rattle.token_buffer.specs.Refused.{IfParse}
+use Rattle.token_buffer.specs.declared.errors.BufferError.{BufferError}
+use Rattle.token_buffer.specs.declared.errors.BufferError.TheVariants.{Parse}
 use Rattle.token_buffer.specs.declared.cursor.Cursor.{Cursor}
+use Rattle.proc_macro2.specs.declared.LineColumn.{LineColumn}
+use Rattle.pm_span.specs.Lookup.{StartsAt}
+use Rattle.pm_token.specs.Outcome.{IfLex}
+use Rattle.pm_token.specs.declared.errors.ParseError.{ParseError}
+use Rattle.pm_token.specs.declared.errors.ParseError.TheVariants.{Lex, MapFull, Memory}
+use Rattle.pm_stream.specs.Parsing.{FaultAt}
+use Rattle.pm_stream.proofs.FaultLemmas.{fault_held}
+use Rattle.pm_stream.proofs.LineColumnLemmas.{fault_starts}
+use Rattle.messages.specs.Parsed.{MayFail}
+use Rattle.messages.specs.declared.errors.Failure.{Failure}
+use Rattle.messages.specs.declared.errors.Failure.TheVariants.{Fault, MapFull as TooLong, Memory as NoMemory}
+use Rattle.messages.proofs.ParsedLemmas.{Keeps-same}
 use Rattle.find_calls.specs.Answer.{StartsIn, are_some, lines}
 use Rattle.find_calls.specs.Calls.{calls, calls_onto, is_called, is_fn, is_named}
 
@@ -107,3 +124,32 @@ pub some_if : (spans : List Extent) (empty : Bool) → empty ≡ (length spans =
 some_if [] empty is = ap not is
 some_if (span ∷ spans) empty is =
     ap not (is ∙ ne_eqb (length (span ∷ spans)) 0 (λ clash. omega (arith, clash)))
+
+-- ---- a text that wasn't read
+
+-- what the buffer's error says of the text's
+pub lex_of : (failure : BufferError) (error : ParseError) → failure ≡ Parse error → (P : Extent → Type 0)
+    → IfParse failure (λ parse. IfLex parse P) → IfLex error P
+lex_of failure error is P h = subst (λ e. IfParse e (λ parse. IfLex parse P)) is h
+
+-- the map of the text holds its fault
+pub fault_is_held : (map : Files) (text : List ℕ) (error : ParseError) → map ≡ with_file new_map text
+    → IfLex error (λ fault. (fault.lo ≡ fault.hi) × FaultAt (next_lo new_map) text fault.lo) → IfLex error (Holds map)
+fault_is_held map text (Lex fault) is h = subst (λ m. Holds m fault) (sym is) (fault_held new_map text fault h.0 h.1)
+fault_is_held map text MapFull is h = tt
+fault_is_held map text (Memory refused) is h = tt
+
+-- and so what is said of it may be said
+pub unread_may_fail : (text : List ℕ) (known : Option (List ℕ)) (map : Files) (error : ParseError) (failure : Failure)
+    → map ≡ with_file new_map text
+    → IfLex error (λ fault. (fault.lo ≡ fault.hi) × FaultAt (next_lo new_map) text fault.lo)
+    → (error ≡ MapFull → Fits new_map (length text) → ⊥)
+    → IfLex error (λ fault. (start : LineColumn) × (failure ≡ Fault start) × StartsAt map fault start)
+    → (error ≡ MapFull → failure ≡ TooLong) → ((refused : AllocError) → error ≡ Memory refused → failure ≡ NoMemory)
+    → MayFail text known known failure
+unread_may_fail text known map (Lex fault) failure is stands full (start, said, starts) too_long no_memory =
+    rw said (fault.lo, stands.1, fault_starts new_map map text fault start is stands starts, Keeps-same known)
+unread_may_fail text known map MapFull failure is stands full said too_long no_memory =
+    rw (too_long refl) (full refl, Keeps-same known)
+unread_may_fail text known map (Memory refused) failure is stands full said too_long no_memory =
+    rw (no_memory refused refl) tt

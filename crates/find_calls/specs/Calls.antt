@@ -1,5 +1,5 @@
 -- Which calls trees have.
-use Rattle.std.specs.Prelude.{ℕ, Bool, true, false, not, ◌==◌, ◌&&◌, List, [], ◌++◌, codes, Option, Some, None}
+use Rattle.std.specs.Prelude.{ℕ, Bool, true, false, not, ◌&&◌, ◌||◌, List, [], ◌++◌, codes, Option, Some, None}
 use Rattle.std.specs.Prelude.{is_some, if◌then◌else◌}
 use Rattle.std.specs.Option.{option_to_list}
 use Rattle.std.specs.Str.{bytes_eq, encode_utf8_all}
@@ -8,6 +8,7 @@ use Rattle.pm_span.specs.Extent.{Extent}
 use Rattle.pm_token.specs.declared.delimiters.Delimiter.{Delimiter}
 use Rattle.pm_token.specs.declared.delimiters.Delimiter.TheVariants.{Parenthesis}
 use Rattle.pm_stream.specs.Forest.{Forest, nil, leaf, group}
+use Rattle.token_buffer.specs.Arguments.{after_turbofish, is_token_mark}
 use Rattle.token_buffer.specs.Reads.{group_first}
 
 -- whether the token is an identifier of this name, raw or not. A name is its bytes
@@ -22,20 +23,28 @@ is_fn (Name raw text) = not raw && bytes_eq (encode_utf8_all text) (codes "fn")
 is_fn (Mark c joint) = false
 is_fn (Literal text) = false
 
--- whether it is the mark `!` (33)
-abbrev pub is_bang : Token → Bool
-is_bang (Name raw text) = false
-is_bang (Mark c joint) = c == 33
-is_bang (Literal text) = false
-
 abbrev pub is_parenthesis : Delimiter → Bool
 is_parenthesis Parenthesis = true
 is_parenthesis _ = false
 
--- what stands right after a name makes it a call: a group in parentheses, or `!` and a group
+-- whether a group in parentheses comes first
+abbrev pub has_arguments : Forest → Bool
+has_arguments nil = false
+has_arguments (leaf token lo hi rest) = false
+has_arguments (group d lo hi inside rest) = is_parenthesis d
+
+-- the same of what is left, if anything is known to be
+abbrev pub has_arguments_there : Option Forest → Bool
+has_arguments_there None = false
+has_arguments_there (Some rest) = has_arguments rest
+
+-- what stands right after a name makes it a call: a group in parentheses, perhaps after a turbofish (`::` and generic
+-- arguments); or `!` (33) and a group
 abbrev pub is_called : Forest → Bool
 is_called nil = false
-is_called (leaf token lo hi rest) = is_bang token && is_some (group_first rest)
+is_called (leaf token lo hi rest) =
+    (is_token_mark 33 token && is_some (group_first rest))
+    || has_arguments_there (after_turbofish (leaf token lo hi rest))
 is_called (group d lo hi inside rest) = is_parenthesis d
 
 -- where the first tree stands, if it is a call of this name, and doesn't define the name after `fn`

@@ -1,9 +1,10 @@
 //! Finds the calls of a function or a macro by its name, in source texts.
 //!
 //! `find_calls NAME [FILE..]` writes a line `FILE:L:C` for each call, in reading order: where an identifier of this
-//! name stands right before a group in parentheses, or before `!` and a group, and not right after `fn`. So names in
-//! comments and literals are none, nor is one before `::<`. A tuple struct, a variant and their patterns look like
-//! calls, and are found too. The name is written without `r#`, and found with it too.
+//! name stands right before a group in parentheses, before `!` and a group, or before a turbofish (`::<`, and all up to
+//! its `>`) and a group in parentheses, and not right after `fn`. So names in comments and literals are none. A tuple
+//! struct, a variant and their patterns look like calls, and are found too. The name is written without `r#`, and found
+//! with it too.
 //!
 //! Standard input is the file `-`, and is searched where no file is named. Lines and columns count from 1, columns in
 //! characters. A text in which the name doesn't stand has no calls, and its tokens aren't looked at. The status is 0
@@ -40,8 +41,7 @@ fn run(rt: &HostRuntime) -> Result<u8, Failure> {
         return Err(Failure::Usage(USAGE));
     };
     let mut writer = BufWriter::new(rt.alloc(), rt.stdout())?;
-    let mut found = false;
-    let mut failed = false;
+    let (mut found, mut failed) = (false, false);
     for path in paths {
         match search(rt, name.as_str(), path.as_str(), &mut writer) {
             Ok(any) => found = found || any,
@@ -57,12 +57,6 @@ fn run(rt: &HostRuntime) -> Result<u8, Failure> {
 }
 
 // Writes the calls in the text at the path, and answers whether there are any.
-fn search<W: Write>(
-    rt: &HostRuntime,
-    name: &str,
-    path: &str,
-    writer: &mut W,
-) -> Result<bool, Failure> {
-    let text = read_text(rt, path)?;
-    print_calls(rt.alloc(), path, name, text.as_str(), writer)
+fn search<W: Write>(rt: &HostRuntime, name: &str, path: &str, to: &mut W) -> Result<bool, Failure> {
+    print_calls(rt.alloc(), path, name, read_text(rt, path)?.as_str(), to)
 }

@@ -3,19 +3,21 @@ ghost use Rattle.std.specs.Prelude.{◌≡◌, ◌≢◌, ◌+◌, ◌<◌, ◌^
 ghost use Rattle.std.specs.Prelude.{◌↔◌, OnOk, IfOk, IfErr, false};
 ghost use Rattle.std.specs.Str.{chars, encode_utf8_all};
 ghost use Rattle.lexical.specs.Found.{IsPieceAt, kind_of};
-ghost use Rattle.lexical.specs.Token.{Token, token_text};
+ghost use Rattle.lexical.specs.Token.{Mark, Token, token_text};
 ghost use Rattle.pm_span.specs.Files.{Fits, new_map, next_lo};
 ghost use Rattle.pm_token.specs.Outcome.{IfLex};
 ghost use Rattle.pm_stream.specs.Parsing.{FaultAt, HasNoFault, IsOnlyFault};
 ghost use Rattle.pm_stream.specs.Events.{One, Opens, Closes, doc_onto, events_onto};
 ghost use Rattle.pm_stream.specs.Fault.{IsFault, IsFaultFor, IsOpenFault, IsStray};
 ghost use Rattle.pm_stream.specs.Forest.{Forest};
+ghost use Rattle.pm_stream.specs.Delimited.{opening};
 ghost use Rattle.pm_stream.specs.Printed.{parts, printed, space};
+ghost use Rattle.pm_stream.specs.PrintedTree.{ending};
 ghost use Rattle.pm_stream.specs.PrinterState.{Prints, PrintsEvents, doc_front};
 ghost use Rattle.pm_stream.specs.PrintsText.{PrintsText};
 ghost use Rattle.pm_stream.specs.OpenGroups.{FitsInnermost, Opened};
 
-use crate::display::{closer, is_brace, opener};
+use crate::display::is_brace;
 use crate::parse::{delimiter, fault_at};
 use lexical::{Piece, PieceKind, past_white, piece_at};
 use pm_span::parts::fits_new;
@@ -118,10 +120,7 @@ impl Printer {
             PieceKind::Opener(c) => self.open(delimiter(c), lo)?,
             PieceKind::Closer(c) => self.close(delimiter(c), lo)?,
             PieceKind::Doc { inner, text } => self.push_doc(inner, text)?,
-            PieceKind::Mark { joint, mark } => {
-                let _ = mark;
-                self.push_token(&text[..piece.bytes], !joint)?;
-            }
+            PieceKind::Mark { joint, mark } => self.push_mark(mark, joint)?,
             PieceKind::Name { raw, name } => {
                 let _ = raw;
                 let _ = name;
@@ -142,6 +141,26 @@ impl Printer {
             self.draft.push(' ')?;
         }
         self.draft.push_text(text)
+    }
+
+    /// Prints the character, after a space if one goes before it. It costs less than a text of one character.
+    fn write_char(&mut self, c: char) -> Result<(), AllocError>
+        ensures ok { OnOk result (self.new.draft ≡ self.old.draft ++ (space self.old.gap ++ c ∷ [])) }
+        ensures kept { self.new.groups ≡ self.old.groups }
+    {
+        if self.gap {
+            self.draft.push(' ')?;
+        }
+        self.draft.push(c)
+    }
+
+    /// Prints a mark.
+    fn push_mark(&mut self, mark: char, joint: bool) -> Result<(), AllocError>
+        ensures ok { OnOk result ((lo hi : ℕ) → PrintsEvents self.old self.new (One (Mark mark joint) lo hi ∷ [])) }
+    {
+        self.write_char(mark)?;
+        self.gap = !joint;
+        Ok(())
     }
 
     /// Prints a token of this text. `gap` says whether a space goes after it.
@@ -167,11 +186,24 @@ impl Printer {
         Ok(())
     }
 
+    /// Prints what a group begins with, after a space if one goes before it.
+    fn write_opening(&mut self, delimiter: Delimiter) -> Result<(), AllocError>
+        ensures ok { OnOk result (self.new.draft ≡ self.old.draft ++ (space self.old.gap ++ opening delimiter)) }
+        ensures kept { self.new.groups ≡ self.old.groups }
+    {
+        match delimiter {
+            Delimiter::Parenthesis => self.write_char('('),
+            Delimiter::Brace => self.write_char('{'),
+            Delimiter::Bracket => self.write_char('['),
+            Delimiter::None => self.write(""),
+        }
+    }
+
     /// Prints an opener that begins at `lo`.
     fn open(&mut self, delimiter: Delimiter, lo: u32) -> Result<(), AllocError>
         ensures ok { OnOk result (PrintsEvents self.old self.new (Opens delimiter lo ∷ [])) }
     {
-        self.write(opener(delimiter))?;
+        self.write_opening(delimiter)?;
         self.gap = is_brace(delimiter);
         self.groups.push(OpenGroup { delimiter, lo })?;
         Ok(())
@@ -189,7 +221,7 @@ impl Printer {
         if group.delimiter != delimiter {
             return Err(fault_at(lo));
         }
-        self.draft.push_text(closer(delimiter))?;
+        push_ending(&mut self.draft, delimiter)?;
         self.gap = true;
         Ok(())
     }
@@ -215,6 +247,21 @@ impl Printer {
             return Err(fault_at(group.lo));
         }
         Ok(draft.into_string())
+    }
+}
+
+/// Prints what a group ends with, and in a Brace the space before it.
+fn push_ending(draft: &mut TextBuilder, delimiter: Delimiter) -> Result<(), AllocError>
+    ensures { OnOk result (draft.new ≡ draft.old ++ ending delimiter) }
+{
+    match delimiter {
+        Delimiter::Parenthesis => draft.push(')'),
+        Delimiter::Brace => {
+            draft.push(' ')?;
+            draft.push('}')
+        }
+        Delimiter::Bracket => draft.push(']'),
+        Delimiter::None => Ok(()),
     }
 }
 

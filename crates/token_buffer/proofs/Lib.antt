@@ -6,3 +6,5 @@ pub mod FilledLemmas
 pub mod LifetimeLemmas
 mod MerelyBuiltLemmas
 mod MadeLemmas
+mod PartLemmas
+mod StringLemmas

@@ -8,3 +8,7 @@ pub mod Many
 pub mod Message
 pub mod Reads
 pub mod Made
+pub mod Parts
+pub mod Strings
+pub mod Compared
+pub mod Arguments

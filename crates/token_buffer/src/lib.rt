@@ -5,11 +5,16 @@
 //! named by its label in backquotes, such as `parses-to`; `docs/GRAMMAR.md` has all of them.
 #![tactic(auto)]
 
+mod arguments;
 mod buffer;
+mod compared;
 mod cursor;
+mod display;
 mod entry;
 pub mod errors;
 mod filling;
+mod part;
+mod string;
 mod trees;
 
 pub use buffer::TokenBuffer;

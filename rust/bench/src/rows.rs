@@ -1,5 +1,5 @@
 //! Times of calls of a few nanoseconds: each is made many times over, and the least mean of some rounds counts.
-use crate::now;
+use crate::measure::now;
 use proc_macro2::{Delimiter, Group, Ident, Literal, Punct, Spacing, Span, TokenStream, TokenTree};
 use quote::quote;
 use std::hint::black_box;

@@ -2,72 +2,28 @@
 //! public crate's trees and walked, and the public crate's trees parsed and walked.
 //!
 //! For each the least of some runs is printed, in nanoseconds of processor time.
+#[path = "../../bench/src/measure.rs"]
+mod measure;
+
 use proc_macro2::{TokenStream, TokenTree};
 use proved::shim::alloc::Global;
 use proved::token_buffer::{Cursor, TokenBuffer, TokenText};
+use std::env;
 use std::error::Error;
 use std::hint::black_box;
-use std::path::{Path, PathBuf};
-use std::{env, fs, io};
 use syn::buffer::{Cursor as SynCursor, TokenBuffer as SynBuffer};
-
-const RUNS: u32 = 15;
-const BYTES: usize = 3_000_000;
-
-extern "C" {
-    fn clock() -> std::ffi::c_long;
-}
-
-/// The processor time of this process, in nanoseconds.
-fn now() -> u64 {
-    unsafe { clock() as u64 * 1000 }
-}
 
 /// Prints the least time of some runs, each of which answers how many trees there are.
 fn least(what: &str, trees: usize, mut run: impl FnMut() -> usize) {
-    let times = (0..RUNS).map(|_| {
-        let start = now();
-        assert_eq!(black_box(run()), trees, "{what} counts other trees");
-        now() - start
-    });
-    println!("{what} {}", times.min().expect("there are runs"));
+    let time = measure::least(|| assert_eq!(black_box(run()), trees, "{what} counts other trees"));
+    println!("{what} {time}");
 }
 
-/// All files of Rust in a folder, and in those inside it.
-fn files(folder: &Path, found: &mut Vec<PathBuf>) -> io::Result<()> {
-    for entry in fs::read_dir(folder)? {
-        let path = entry?.path();
-        if path.is_dir() {
-            files(&path, found)?;
-        } else if path.extension().is_some_and(|extension| extension == "rs") {
-            found.push(path);
-        }
-    }
-    Ok(())
-}
-
-/// Some 3 MB of the files that both libraries read, and those again where they are fewer.
-fn source(folder: &Path) -> Result<String, Box<dyn Error>> {
-    let mut found = Vec::new();
-    files(folder, &mut found)?;
-    found.sort();
-    let texts = found.iter().filter_map(|path| {
-        let text = fs::read_to_string(path).ok()? + "\n";
-        let is_read = text.parse::<TokenStream>().is_ok() && TokenBuffer::new(Global, &text).is_ok();
-        is_read.then_some(text)
-    });
-    let texts: Vec<String> = texts.collect();
-    if texts.is_empty() {
-        return Err("both libraries can read none of the files".into());
-    }
-    let mut text = String::new();
-    for one in texts.iter().cycle() {
-        text.push_str(one);
-        if text.len() >= BYTES {
-            break;
-        }
-    }
-    Ok(text)
+/// A text that both libraries read, and a line feed.
+fn read(text: String) -> Option<String> {
+    let text = text + "\n";
+    let is_read = text.parse::<TokenStream>().is_ok() && TokenBuffer::new(Global, &text).is_ok();
+    is_read.then_some(text)
 }
 
 /// How many trees there are, those in groups too.
@@ -113,7 +69,7 @@ fn walk_trees(stream: TokenStream) -> usize {
 
 fn main() -> Result<(), Box<dyn Error>> {
     let folder = env::args().nth(1).ok_or("name a folder with files of Rust")?;
-    let text = source(folder.as_ref())?;
+    let text = measure::source(folder.as_ref(), read)?;
     let stream: TokenStream = text.parse()?;
     let trees = walk_trees(stream.clone());
     let buffer = TokenBuffer::new(Global, &text).map_err(|error| format!("{error:?}"))?;

@@ -5,11 +5,16 @@
 //! source. A cursor is copied freely: what reads tokens goes on by a new cursor, and backs up by an old one. A rule is
 //! named by its label in backquotes, such as `parses-to`; `docs/GRAMMAR.md` has all of them.
 
+mod arguments;
 mod buffer;
+mod compared;
 mod cursor;
+mod display;
 mod entry;
 pub mod errors;
 mod filling;
+mod part;
+mod string;
 mod trees;
 
 pub use buffer::TokenBuffer;

@@ -3,7 +3,7 @@
 
 use crate::shim::prelude::{String, Vec};
 
-use crate::pm_stream::display::{closer, is_brace, opener};
+use crate::pm_stream::display::is_brace;
 use crate::pm_stream::parse::{delimiter, fault_at};
 use crate::lexical::{Piece, PieceKind, past_white, piece_at};
 use crate::pm_span::parts::fits_new;
@@ -84,10 +84,7 @@ impl Printer {
             PieceKind::Opener(c) => self.open(delimiter(c), lo)?,
             PieceKind::Closer(c) => self.close(delimiter(c), lo)?,
             PieceKind::Doc { inner, text } => self.push_doc(inner, text)?,
-            PieceKind::Mark { joint, mark } => {
-                let _ = mark;
-                self.push_token(&text[..piece.bytes], !joint)?;
-            }
+            PieceKind::Mark { joint, mark } => self.push_mark(mark, joint)?,
             PieceKind::Name { raw, name } => {
                 let _ = raw;
                 let _ = name;
@@ -106,6 +103,23 @@ impl Printer {
             self.draft.push(' ')?;
         }
         self.draft.push_text(text)
+    }
+
+    /// Prints the character, after a space if one goes before it. It costs less than a text of one character.
+    fn write_char(&mut self, c: char) -> Result<(), AllocError>
+    {
+        if self.gap {
+            self.draft.push(' ')?;
+        }
+        self.draft.push(c)
+    }
+
+    /// Prints a mark.
+    fn push_mark(&mut self, mark: char, joint: bool) -> Result<(), AllocError>
+    {
+        self.write_char(mark)?;
+        self.gap = !joint;
+        Ok(())
     }
 
     /// Prints a token of this text. `gap` says whether a space goes after it.
@@ -127,10 +141,21 @@ impl Printer {
         Ok(())
     }
 
+    /// Prints what a group begins with, after a space if one goes before it.
+    fn write_opening(&mut self, delimiter: Delimiter) -> Result<(), AllocError>
+    {
+        match delimiter {
+            Delimiter::Parenthesis => self.write_char('('),
+            Delimiter::Brace => self.write_char('{'),
+            Delimiter::Bracket => self.write_char('['),
+            Delimiter::None => self.write(""),
+        }
+    }
+
     /// Prints an opener that begins at `lo`.
     fn open(&mut self, delimiter: Delimiter, lo: u32) -> Result<(), AllocError>
     {
-        self.write(opener(delimiter))?;
+        self.write_opening(delimiter)?;
         self.gap = is_brace(delimiter);
         self.groups.push(OpenGroup { delimiter, lo })?;
         Ok(())
@@ -145,7 +170,7 @@ impl Printer {
         if group.delimiter != delimiter {
             return Err(fault_at(lo));
         }
-        self.draft.push_text(closer(delimiter))?;
+        push_ending(&mut self.draft, delimiter)?;
         self.gap = true;
         Ok(())
     }
@@ -165,6 +190,20 @@ impl Printer {
             return Err(fault_at(group.lo));
         }
         Ok(draft.into_string())
+    }
+}
+
+/// Prints what a group ends with, and in a Brace the space before it.
+fn push_ending(draft: &mut TextBuilder, delimiter: Delimiter) -> Result<(), AllocError>
+{
+    match delimiter {
+        Delimiter::Parenthesis => draft.push(')'),
+        Delimiter::Brace => {
+            draft.push(' ')?;
+            draft.push('}')
+        }
+        Delimiter::Bracket => draft.push(']'),
+        Delimiter::None => Ok(()),
     }
 }
 

@@ -20,6 +20,12 @@ impl<W: Write> Formatter<W> {
         self.out.write_str(text)
     }
 
+    /// Contract: writes the character, or answers the writer's error.
+    #[inline(always)]
+    pub fn write_char(&mut self, c: char) -> Result {
+        self.out.write_char(c)
+    }
+
     /// Contract: writes what `write!` is told, or answers the writer's error.
     #[inline]
     pub fn write_fmt(&mut self, told: core::fmt::Arguments<'_>) -> Result {
@@ -54,12 +60,12 @@ pub fn print_to<T: Display, W: Write>(value: &T, out: W) -> core::result::Result
     Ok(f.out)
 }
 
-/// Gives Rust's `Display` to a type that has Rattle's.
+/// Gives Rust's `Display` to a type that has Rattle's. It may have one lifetime.
 #[doc(hidden)]
 #[macro_export]
 macro_rules! display_by_shim {
-    ($name:ident) => {
-        impl ::core::fmt::Display for $name {
+    ($name:ident $(<$lifetime:lifetime>)?) => {
+        impl $(<$lifetime>)? ::core::fmt::Display for $name $(<$lifetime>)? {
             #[inline]
             fn fmt(&self, f: &mut ::core::fmt::Formatter<'_>) -> ::core::fmt::Result {
                 $crate::shim::fmt::print(self, f)

@@ -10,14 +10,10 @@ use crate::pm_token::{Delimiter, Spacing};
 ///
 /// What reads trees goes on by the cursors that the calls answer, and backs up by an older one. Each call takes the
 /// same time whatever is left, and no memory, but those that say otherwise.
-///
-/// Cursors have no `==`. A doc comment and the attribute that it stands for are the same trees by other entries, so
-/// entries can't be compared one by one, and what a doc comment says would have to be escaped, which takes memory.
-/// Whether two have the same left but for spans is asked of their streams: `to_stream`, and then `same_tokens`.
 #[derive(Clone, Copy)]
 pub struct Cursor<'a> {
-    text: &'a str,
-    entries: &'a [Entry],
+    pub(crate) text: &'a str,
+    pub(crate) entries: &'a [Entry],
 }
 
 /// An identifier.
@@ -34,7 +30,7 @@ pub struct Name<'a> {
 pub enum LiteralText<'a> {
     /// The literal as it is written.
     Source(&'a str),
-    /// What a doc comment says. The literal is the string of it (`string-literal`), which isn't written anywhere.
+    /// What a doc comment says. The literal is the string of it (`string-text`), which isn't written anywhere.
     Doc(&'a str),
 }
 
@@ -67,6 +63,7 @@ impl<'a> Cursor<'a> {
     /// The first tree and those after it. None at the end.
     ///
     /// Of `a (b)` it is the identifier `a`, and what is left is the group.
+    #[inline(always)]
     pub fn next(self) -> Option<(TokenText<'a>, Cursor<'a>)>
     {
         let text = self.text;

@@ -42,6 +42,7 @@ impl Filling {
 
     /// Takes a piece that stands at the byte offset `lo` and the position `at`. A closer that doesn't close the
     /// innermost open group is a fault.
+    #[inline(always)]
     pub fn take(&mut self, piece: Piece, lo: u32, at: u32) -> Result<(), BufferError>
     {
         let hi = lo + piece.bytes as u32;

@@ -6,7 +6,7 @@ use proved::shim::memchr::memmem;
 use crate::messages::Failure;
 use proved::pm_span::Span;
 use proved::pm_span::parts::{add_file, fits};
-use proved::proc_macro2::{SourceMap, TokenStream};
+use proved::proc_macro2::SourceMap;
 use proved::shim::alloc::Global;
 use proved::shim::io;
 use proved::shim::io::Write;
@@ -33,53 +33,31 @@ pub fn print_calls<W: Write>(
     if fits(&map, text).is_none() {
         return Err(Failure::MapFull);
     }
+    add_file(&mut map, text)?;
     let buffer = match TokenBuffer::new(alloc, text) {
         Ok(buffer) => buffer,
         Err(BufferError::TooLong) => return Err(Failure::MapFull),
-        Err(BufferError::Parse(_)) => return Err(unread(alloc, text)),
+        Err(BufferError::Parse(error)) => return Err(Failure::unparsed(error, &map)),
     };
     let spans = calls(alloc, name, buffer.begin())?;
-    add_file(&mut map, text)?;
     print_lines(path, spans.as_slice(), &map, writer)?;
     Ok(!spans.is_empty())
 }
 
 // Writes the lines of calls whose names have these spans, which the map holds.
-fn print_lines<W: Write>(
-    path: &str,
-    spans: &[Span],
-    map: &SourceMap,
-    writer: &mut W,
-) -> io::Result<()>
+fn print_lines<W: Write>(path: &str, spans: &[Span], map: &SourceMap, to: &mut W) -> io::Result<()>
 {
     for span in spans {
         let start = span.start(map);
-        let line = start.line;
         // As wide as the sum needs.
         let column = start.column as u128 + 1;
-        writeln!(writer, "{path}:{line}:{column}")?;
+        writeln!(to, "{path}:{}:{column}", start.line)?;
     }
     Ok(())
-}
-
-// Why no buffer was made of the text: its fault, or that it is too long. Where it has neither, memory ran out.
-fn unread(alloc: Global, text: &str) -> Failure
-{
-    let mut map = SourceMap::new(alloc);
-    match TokenStream::from_str(text, &mut map) {
-        Ok(_) => Failure::Memory,
-        Err(error) => Failure::unparsed(error, &map),
-    }
 }
 
 /// The status of the program: 2 where a file failed, else 0 where a call was found, and 1 where none was.
 pub fn status(found: bool, failed: bool) -> u8
 {
-    if failed {
-        2
-    } else if found {
-        0
-    } else {
-        1
-    }
+    if failed { 2 } else { u8::from(!found) }
 }

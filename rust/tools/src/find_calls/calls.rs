@@ -6,87 +6,71 @@ use proved::shim::prelude::Vec;
 use proved::pm_span::Span;
 use proved::pm_token::Delimiter;
 use proved::shim::alloc::{AllocError, Global};
-use proved::token_buffer::{Cursor, TokenText};
+use proved::token_buffer::{Cursor, Name, TokenText};
 
 /// Where the calls of this name stand that the cursor has, those inside groups too, in reading order: the spans of
 /// their names.
 ///
 /// Of `f(g!(f(1)))` and the name `f` they are 1..2 and 6..7.
-pub fn calls(alloc: Global, name: &str, cursor: Cursor<'_>) -> Result<Vec<Span>, AllocError>
+pub fn calls(alloc: Global, name: &str, mut cursor: Cursor<'_>) -> Result<Vec<Span>, AllocError>
 {
     let mut spans = Vec::new(alloc);
     let mut outer = Vec::new(alloc);
-    let mut here = cursor;
     let mut defined = false;
     loop {
-        if let Some((ident, after)) = here.ident() {
-            push_call(&mut spans, name, defined, ident.text, here, after)?;
-            defined = is_fn(ident.raw, ident.text);
-            here = after;
-            continue;
-        }
+        let follows_fn = defined;
         defined = false;
-        match here.next() {
-            Some((TokenText::Group(_, inside), after)) => {
-                outer.push(after)?;
-                here = inside;
+        let Some((first, after)) = cursor.next() else {
+            let Some(after) = outer.pop() else {
+                return Ok(spans);
+            };
+            cursor = after;
+            continue;
+        };
+        match first {
+            TokenText::Ident(ident) => {
+                defined = is_fn(ident);
+                if is_text(ident.text, name) && !follows_fn && is_called(after) {
+                    push_span(&mut spans, cursor)?;
+                }
+                cursor = after;
             }
-            Some((_, after)) => here = after,
-            None => match outer.pop() {
-                Some(after) => here = after,
-                None => return Ok(spans),
-            },
+            TokenText::Group(_, inside) => {
+                outer.push(after)?;
+                cursor = inside;
+            }
+            _ => cursor = after,
         }
     }
 }
 
-// Puts in the span of this identifier, which comes first, if it is a call of this name, and no function is defined
-// there.
-fn push_call(
-    spans: &mut Vec<Span>,
-    name: &str,
-    defined: bool,
-    text: &str,
-    here: Cursor<'_>,
-    after: Cursor<'_>,
-) -> Result<(), AllocError>
+// Puts in the span of the first tree, if there is one.
+fn push_span(spans: &mut Vec<Span>, here: Cursor<'_>) -> Result<(), AllocError>
 {
-    if let Some(span) = call_at(name, defined, text, here, after) {
+    if let Some(span) = here.span() {
         spans.push(span)?;
     }
     Ok(())
 }
 
-// The span of this identifier, which comes first, if it is a call of this name, and no function is defined there.
-fn call_at(
-    name: &str,
-    defined: bool,
-    text: &str,
-    here: Cursor<'_>,
-    after: Cursor<'_>,
-) -> Option<Span>
-{
-    if is_text(text, name) && !defined && is_called(after) {
-        here.span()
-    } else {
-        None
-    }
-}
-
-// Whether what stands right after a name makes it a call: arguments, or `!` and those of a macro.
+// Whether what stands right after a name makes it a call: arguments, `!` and those of a macro, or a turbofish and
+// arguments.
 fn is_called(after: Cursor<'_>) -> bool
 {
     match after.next() {
         Some((TokenText::Group(delimiter, _), _)) => delimiter == Delimiter::Parenthesis,
         Some((TokenText::Punct('!', _), arguments)) => arguments.any_group().is_some(),
-        _ => false,
+        _ => match after.turbofish() {
+            Some(arguments) => arguments.group(Delimiter::Parenthesis).is_some(),
+            None => false,
+        },
     }
 }
 
 // Whether it is the keyword `fn`.
-fn is_fn(raw: bool, text: &str) -> bool
+fn is_fn(ident: Name<'_>) -> bool
 {
-    !raw && is_text(text, "fn")
+    !ident.raw && is_text(ident.text, "fn")
 }
 
 // Whether both are the same.

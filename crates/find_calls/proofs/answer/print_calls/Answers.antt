@@ -1,4 +1,4 @@
-use Rattle.std.proofs.Common.{◌≡◌, ◌∙◌, None, refl, sym, ap, ap₂, subst, arith, rules, inl, inr}
+use Rattle.std.proofs.Common.{◌≡◌, ◌∙◌, Err, None, refl, sym, ap, subst, rules, inl, inr}
 use Rattle.std.specs.List.{AllByRecursion as Each}
 use Rattle.std.specs.Str.{chars}
 use Rattle.std.specs.Io.KnownBytes.{Appends}
@@ -7,7 +7,8 @@ use Rattle.pm_span.specs.Files.{Files, Holds, new_map, with_file}
 use Rattle.messages.proofs.ParsedLemmas.{Keeps-same}
 use Rattle.find_calls.specs.Answer.{StartsIn, are_some, lines}
 use Rattle.find_calls.specs.Calls.{calls}
-use Rattle.find_calls.proofs.CallLemmas.{both_held, some_if}
+use Rattle.token_buffer.specs.declared.errors.BufferError.TheVariants.{Parse}
+use Rattle.find_calls.proofs.CallLemmas.{both_held, fault_is_held, lex_of, some_if, unread_may_fail}
 use Rattle.find_calls.proofs.answer.print_calls.Goals as goal
 
 pub returns-then-is_none-clause-ok : goal.returns-then-is_none-clause-ok
@@ -16,6 +17,21 @@ returns-then-is_none-clause-ok g c =
     let found : FindsNeedle c.args.text.now c.args.name.now 0 c.find.result
     = rw (c.as_bytes.ensures.value, c.as_bytes-2.ensures.value) at c.find.ensures in
     inl (subst (FindsNeedle c.args.text.now c.args.name.now 0) none found, Keeps-same _, refl)
+
+pub unparsed-requires : goal.unparsed-requires
+unparsed-requires g c =
+    let map = c.in_ok-add_file.ensures.ok ∙ ap (λ (m : Files). with_file m (chars c.args.text.now)) c.new-map.ensures in
+    let is = c.in-Err-Parse.field-0-is ∙ ap Parse (sym c.in-Err-Parse.error-is) in
+    fault_is_held _ (chars c.args.text.now) _ map (lex_of c.in-Err-Parse.field-0 _ is _ c.in-Err-Parse.ensures.lex)
+
+pub returns-in-Err-Parse-clause-err : goal.returns-in-Err-Parse-clause-err
+returns-in-Err-Parse-clause-err g c =
+    let map = c.in_ok-add_file.ensures.ok ∙ ap (λ (m : Files). with_file m (chars c.args.text.now)) c.new-map.ensures in
+    let is = c.in-Err-Parse.field-0-is ∙ ap Parse (sym c.in-Err-Parse.error-is) in
+    inl (unread_may_fail (chars c.args.text.now) _ _ _ _ map
+    (lex_of c.in-Err-Parse.field-0 _ is _ c.in-Err-Parse.ensures.lex)
+    (λ full. (c.in-Err-Parse.ensures.map_full.0 (ap Err (is ∙ ap Parse full))).1) c.unparsed.ensures.fault
+    c.unparsed.ensures.map_full c.unparsed.ensures.memory)
 
 pub print_lines-requires : goal.print_lines-requires
 print_lines-requires g c =
@@ -35,7 +51,7 @@ returns-clause-ok g c =
     inr (
       c.in-Ok.buffer,
       c.in-Ok.ensures.ok,
-      subst (λ xs. Appends (g.W.Write.contents c.args.writer.now) (g.W.Write.contents c.print_lines.new.writer)
+      subst (λ xs. Appends (g.W.Write.contents c.args.writer.now) (g.W.Write.contents c.print_lines.new.to)
           (lines c.args.path.now (chars c.args.text.now) xs)) spans
           (c.in_ok-print_lines.ensures (chars c.args.text.now) starts),
       some_if c.in_ok-spans.spans.items c.is_empty.result (search (rules, c.is_empty.ensures))

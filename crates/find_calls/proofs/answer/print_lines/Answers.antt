@@ -1,4 +1,4 @@
-use Rattle.std.proofs.Common.{◌≡◌, ◌+◌, ◌∷◌, [], drop, refl, sym, ap, ◌∙◌, subst, arith, rules}
+use Rattle.std.proofs.Common.{◌≡◌, ◌+◌, ◌∷◌, drop, subst}
 use Rattle.std.proofs.KnownBytes.{Appends-trans}
 use Rattle.std.specs.Io.KnownBytes.{Appends}
 use Rattle.std.specs.List.{AllByRecursion as Each}
@@ -19,7 +19,7 @@ loop-span-preserved g c =
           let starts = subst (Each (StartsIn c.args.map.now text)) at was.0 in (
             starts.1,
             λ new more. was.1 new (rw at (Appends-trans _ _ _ _ _
-                (subst (λ start. Appends (g.W.Write.contents c.loop-span.writer)
+                (subst (λ start. Appends (g.W.Write.contents c.loop-span.to)
                 (g.W.Write.contents c.writeln.new.self) (line_of c.args.path.now start))
                 (starts.0 _ c.start-start.ensures) c.in_ok-writeln.ensures.bytes) more)),
           ),
@@ -27,5 +27,5 @@ loop-span-preserved g c =
 
 pub returns : goal.returns
 returns g c = λ text all.
-    written_nothing (g.W.Write.contents c.args.writer.now) (g.W.Write.contents c.loop-span.writer) c.args.path.now text
+    written_nothing (g.W.Write.contents c.args.to.now) (g.W.Write.contents c.loop-span.to) c.args.path.now text
     c.args.spans.now c.loop-span.span-index c.loop-span-test.false (c.loop-span.invariant.1 text all).1

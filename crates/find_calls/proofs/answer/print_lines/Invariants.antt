@@ -12,5 +12,5 @@ invariant-loop-span g l =
     Each (Holds l.map) (drop l.span-index l.spans)
     × ((text : List ℕ) → Each (StartsIn l.map text) l.spans
     → Each (StartsIn l.map text) (drop l.span-index l.spans)
-    × ((new : Option (List ℕ)) → Appends (bytes l.writer) new (lines l.path text (drop l.span-index l.spans))
-    → Appends (bytes l.initial.writer) new (lines l.path text l.spans)))
+    × ((new : Option (List ℕ)) → Appends (bytes l.to) new (lines l.path text (drop l.span-index l.spans))
+    → Appends (bytes l.initial.to) new (lines l.path text l.spans)))

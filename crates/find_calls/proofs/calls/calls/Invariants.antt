@@ -5,9 +5,9 @@ use Rattle.find_calls.specs.Calls.{calls}
 use Rattle.find_calls.proofs.CallLemmas.{AreAll, rests_steps}
 use Rattle.find_calls.proofs.calls.calls.Given as goal
 
-abbrev pub invariant-loop-ident : goal.invariant-loop-ident
-invariant-loop-ident l =
-    AreAll l.name l.spans.items l.defined (left l.here) (reverse l.outer.items) (calls l.fn.name (left l.fn.cursor))
+abbrev pub invariant-loop-first : goal.invariant-loop-first
+invariant-loop-first l =
+    AreAll l.name l.spans.items l.defined (left l.cursor) (reverse l.outer.items) (calls l.fn.name (left l.fn.cursor))
 
-abbrev pub decreases-loop-ident : goal.decreases-loop-ident
-decreases-loop-ident l = 2 * count (left l.here) + rests_steps (reverse l.outer.items)
+abbrev pub decreases-loop-first : goal.decreases-loop-first
+decreases-loop-first l = 2 * count (left l.cursor) + rests_steps (reverse l.outer.items)

@@ -1,6 +1,6 @@
 use Rattle.std.proofs.Common.{◌+◌, [], ◌∷◌, length, refl, ap, inl, inr}
 use Rattle.std.specs.Str.{chars}
-use Rattle.lexical.specs.Token.{Name, Mark, Literal}
+use Rattle.lexical.specs.Token.{Name, Literal}
 use Rattle.lexical.specs.declared.piece.PieceKind.TheVariants as kinds
 use Rattle.lexical.proofs.PieceFacts.{piece_boundary}
 use Rattle.pm_stream.specs.Events.{Opens, Closes}
@@ -10,16 +10,12 @@ use Rattle.pm_stream.proofs.reprinting.Printer.take.Goals as goal
 use Rattle.pm_stream.proofs.reprinting.Printer.take.Goals.{in-Opener+in_ok-open-in-Opener}
 use Rattle.pm_stream.proofs.reprinting.Printer.take.Goals.{in-Closer+in_ok-close-in-Closer}
 use Rattle.pm_stream.proofs.reprinting.Printer.take.Goals.{in-Doc+in_ok-push_doc-in-Doc}
-use Rattle.pm_stream.proofs.reprinting.Printer.take.Goals.{in-Mark+in_ok-push_token-in-Mark}
+use Rattle.pm_stream.proofs.reprinting.Printer.take.Goals.{in-Mark+in_ok-push_mark-in-Mark}
 use Rattle.pm_stream.proofs.reprinting.Printer.take.Goals.{in-Name+in_ok-push_token-in-Name}
 use Rattle.pm_stream.proofs.reprinting.Printer.take.Goals.{in-Literal+in_ok-push_token-in-Literal, in-FrontMark}
 
 pub range-requires-clause-end_boundary : goal.range-requires-clause-end_boundary
 range-requires-clause-end_boundary c = piece_boundary _ c.args.text.now c.args.piece c.utf8.text c.requires.stands.1
-
-pub range-requires-in-Name-clause-end_boundary : goal.range-requires-in-Name-clause-end_boundary
-range-requires-in-Name-clause-end_boundary c =
-    piece_boundary _ c.args.text.now c.args.piece c.utf8.text c.requires.stands.1
 
 pub range-requires-in-Literal-clause-end_boundary : goal.range-requires-in-Literal-clause-end_boundary
 range-requires-in-Literal-clause-end_boundary c =
@@ -40,18 +36,14 @@ returns-clause-ok c = λ front rest whole e.
           (ap (λ d. Closes d hi ∷ []) w.delimiter-in-Closer.ensures)
       | in-Doc+in_ok-push_doc-in-Doc w ↦
           prints_by old _ _ _ _ _ lo front w.self-is (w.in_ok-push_doc-in-Doc.ensures.ok lo hi) w.in-Doc.is refl
-      | in-Mark+in_ok-push_token-in-Mark w ↦
-          prints_by old _ _ _ _ _ lo front w.self-is
-          (w.in_ok-push_token-in-Mark.ensures.ok (Mark w.in-Mark.mark w.in-Mark.joint) lo hi
-          (token_found _ c.args.text.now w.range.result.now c.args.piece (Mark w.in-Mark.mark w.in-Mark.joint)
-          (kinds.Mark w.in-Mark.joint w.in-Mark.mark) c.utf8.text found w.range.ensures.value w.in-Mark.is refl)
-          refl) w.in-Mark.is refl
+      | in-Mark+in_ok-push_mark-in-Mark w ↦
+          prints_by old _ _ _ _ _ lo front w.self-is (w.in_ok-push_mark-in-Mark.ensures.ok lo hi) w.in-Mark.is refl
       | in-Name+in_ok-push_token-in-Name w ↦
           prints_by old _ _ _ _ _ lo front w.self-is
           (w.in_ok-push_token-in-Name.ensures.ok (Name w.in-Name.raw (chars w.in-Name.name.now)) lo hi
-          (token_found _ c.args.text.now w.range-in-Name.result.now c.args.piece
+          (token_found _ c.args.text.now w.range.result.now c.args.piece
           (Name w.in-Name.raw (chars w.in-Name.name.now))
-          (kinds.Name w.in-Name.raw w.in-Name.name) c.utf8.text found w.range-in-Name.ensures.value w.in-Name.is refl)
+          (kinds.Name w.in-Name.raw w.in-Name.name) c.utf8.text found w.range.ensures.value w.in-Name.is refl)
           refl) w.in-Name.is refl
       | in-Literal+in_ok-push_token-in-Literal w ↦
           prints_by old _ _ _ _ _ lo front w.self-is

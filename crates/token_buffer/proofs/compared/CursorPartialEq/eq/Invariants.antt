@@ -1,0 +1,16 @@
+use Rattle.std.proofs.Common.{◌≡◌, ◌↔◌, length}
+use Rattle.token_buffer.specs.Entries.{AreWithin}
+use Rattle.token_buffer.proofs.PartLemmas.{said}
+use Rattle.token_buffer.proofs.compared.CursorPartialEq.eq.Given as goal
+
+-- all entries say the same where those that are left do
+abbrev pub invariant-loop-entry : goal.invariant-loop-entry
+invariant-loop-entry l = record {
+  same : (said l.fn.self.text.now l.fn.self.entries.now ≡ said l.fn.other.text.now l.fn.other.entries.now)
+      ↔ (said l.fn.self.text.now l.entries ≡ said l.fn.other.text.now l.others);
+  within : AreWithin l.fn.self.text.now l.entries;
+  other : AreWithin l.fn.other.text.now l.others;
+}
+
+abbrev pub decreases-loop-entry : goal.decreases-loop-entry
+decreases-loop-entry l = length l.entries

@@ -1,0 +1,16 @@
+use Rattle.std.proofs.Common.{◌≡◌, ◌≤◌, ℕ, List, ◌++◌}
+use Rattle.std.specs.Char.Iter.{escape_rest, escape_end}
+use Rattle.std.specs.Fmt.{HasWritten, IsPlainFormatter}
+use Rattle.std.specs.Str.{encode_utf8_all}
+use Rattle.token_buffer.proofs.string.write_unicode.Given as goal
+
+-- what is written, and what is left of the escape
+abbrev pub invariant-loop-unit : goal.invariant-loop-unit
+invariant-loop-unit g l = record {
+  written :
+      IsPlainFormatter l.fn.f
+      → (done : List ℕ)
+      × HasWritten g.W.Write.write_str_gives l.fn.f (encode_utf8_all done) l.f
+      × (done ++ escape_rest l.unit-iterator ≡ escape_rest l.initial.unit-iterator);
+  bound : escape_end l.unit-iterator ≤ 10;
+}

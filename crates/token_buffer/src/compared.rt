@@ -1,0 +1,76 @@
+//! Whether two cursors have the same trees left.
+ghost use Rattle.std.specs.Prelude.{◌≡◌, ◌↔◌, IsTrue};
+ghost use Rattle.std.specs.Cmp.{partial_equiv_from_equiv};
+ghost use Rattle.pm_stream.specs.Same.{Same};
+ghost use Rattle.token_buffer.specs.Compared.{cursor_eq, cursor_eq_equiv};
+ghost use Rattle.token_buffer.specs.Parts.{part_event};
+ghost use Rattle.token_buffer.specs.Reads.{left, literal_text};
+
+use crate::cursor::{Cursor, LiteralText};
+use crate::part::{Part, part_of};
+use crate::string::{is_same, is_string_of};
+
+/// Two cursors are equal if they have the `same` trees left but for their spans, whatever texts they are in.
+impl<'a> PartialEq for Cursor<'a> {
+    ghost eq = { cursor_eq };
+
+    ghost laws = { partial_equiv_from_equiv cursor_eq_equiv };
+
+    /// It takes no memory, and time in proportion to the entries and texts of the one that has less.
+    ///
+    /// What is left of `/// a` and of `# [doc = " a"]` is equal. `+ =` and `+=` are not.
+    fn eq(&self, other: &Cursor<'a>) -> bool
+        ensures value { result ≡ cursor_eq self.now other.now }
+        ensures same { IsTrue result ↔ Same (left self.now) (left other.now) }
+    {
+        let text = self.text;
+        let other_text = other.text;
+        let mut entries = self.entries;
+        let mut others = other.entries;
+        while let Some((entry, after)) = entries.split_first() {
+            let Some((other_entry, other_after)) = others.split_first() else {
+                return false;
+            };
+            if !are_same(part_of(text, *entry), part_of(other_text, *other_entry)) {
+                return false;
+            }
+            entries = after;
+            others = other_after;
+        }
+        others.is_empty()
+    }
+}
+
+impl<'a> Eq for Cursor<'a> {
+    ghost laws = { cursor_eq_equiv };
+}
+
+/// Whether both are the same.
+fn are_same(part: Part<'_>, other: Part<'_>) -> bool
+    ensures { IsTrue result ↔ (part_event part.entry ≡ part_event other.entry) }
+{
+    match (part, other) {
+        (Part::Ident(name), Part::Ident(other)) => {
+            name.raw == other.raw && is_same(name.text, other.text)
+        }
+        (Part::Punct(mark, joint), Part::Punct(other, other_joint)) => {
+            mark == other && joint == other_joint
+        }
+        (Part::Literal(literal), Part::Literal(other)) => are_same_literals(literal, other),
+        (Part::Open(delimiter), Part::Open(other)) => delimiter == other,
+        (Part::Close(delimiter), Part::Close(other)) => delimiter == other,
+        _ => false,
+    }
+}
+
+/// Whether both literals have the same text.
+fn are_same_literals(literal: LiteralText<'_>, other: LiteralText<'_>) -> bool
+    ensures { IsTrue result ↔ (literal_text literal.entry ≡ literal_text other.entry) }
+{
+    match (literal, other) {
+        (LiteralText::Source(text), LiteralText::Source(other)) => is_same(text, other),
+        (LiteralText::Doc(text), LiteralText::Doc(other)) => is_same(text, other),
+        (LiteralText::Source(text), LiteralText::Doc(said)) => is_string_of(text, said),
+        (LiteralText::Doc(said), LiteralText::Source(text)) => is_string_of(text, said),
+    }
+}

@@ -1,0 +1,62 @@
+// Made from crates/token_buffer/src/compared.rt by rust/erase: change that file, not this one.
+//! Whether two cursors have the same trees left.
+
+use crate::token_buffer::cursor::{Cursor, LiteralText};
+use crate::token_buffer::part::{Part, part_of};
+use crate::token_buffer::string::{is_same, is_string_of};
+
+/// Two cursors are equal if they have the `same` trees left but for their spans, whatever texts they are in.
+impl<'a> PartialEq for Cursor<'a> {
+    /// It takes no memory, and time in proportion to the entries and texts of the one that has less.
+    ///
+    /// What is left of `/// a` and of `# [doc = " a"]` is equal. `+ =` and `+=` are not.
+    fn eq(&self, other: &Cursor<'a>) -> bool
+    {
+        let text = self.text;
+        let other_text = other.text;
+        let mut entries = self.entries;
+        let mut others = other.entries;
+        while let Some((entry, after)) = entries.split_first() {
+            let Some((other_entry, other_after)) = others.split_first() else {
+                return false;
+            };
+            if !are_same(part_of(text, *entry), part_of(other_text, *other_entry)) {
+                return false;
+            }
+            entries = after;
+            others = other_after;
+        }
+        others.is_empty()
+    }
+}
+
+impl<'a> Eq for Cursor<'a> {
+}
+
+/// Whether both are the same.
+fn are_same(part: Part<'_>, other: Part<'_>) -> bool
+{
+    match (part, other) {
+        (Part::Ident(name), Part::Ident(other)) => {
+            name.raw == other.raw && is_same(name.text, other.text)
+        }
+        (Part::Punct(mark, joint), Part::Punct(other, other_joint)) => {
+            mark == other && joint == other_joint
+        }
+        (Part::Literal(literal), Part::Literal(other)) => are_same_literals(literal, other),
+        (Part::Open(delimiter), Part::Open(other)) => delimiter == other,
+        (Part::Close(delimiter), Part::Close(other)) => delimiter == other,
+        _ => false,
+    }
+}
+
+/// Whether both literals have the same text.
+fn are_same_literals(literal: LiteralText<'_>, other: LiteralText<'_>) -> bool
+{
+    match (literal, other) {
+        (LiteralText::Source(text), LiteralText::Source(other)) => is_same(text, other),
+        (LiteralText::Doc(text), LiteralText::Doc(other)) => is_same(text, other),
+        (LiteralText::Source(text), LiteralText::Doc(said)) => is_string_of(text, said),
+        (LiteralText::Doc(said), LiteralText::Source(text)) => is_string_of(text, said),
+    }
+}

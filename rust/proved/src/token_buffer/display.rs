@@ -1,0 +1,100 @@
+// Made from crates/token_buffer/src/display.rt by rust/erase: change that file, not this one.
+//! What is printed of the trees that a cursor has left, with no trees made of them.
+
+use crate::token_buffer::cursor::{Cursor, LiteralText, Name};
+use crate::token_buffer::part::{Part, part_of};
+use crate::token_buffer::string::{write_one, write_string, write_text};
+use crate::pm_token::Delimiter;
+use crate::shim::fmt;
+
+/// The trees that are left by the rule `printed`, as their stream is displayed. It takes no memory, and time in
+/// proportion to what is written. Fails only where the writer does; the text may be written in part then.
+///
+/// Of `a+=(b)` after `a` it is `+= (b)`.
+impl<'a> fmt::Display for Cursor<'a> {
+    fn fmt<W: fmt::Write>(&self, f: &mut fmt::Formatter<W>) -> fmt::Result {
+        let text = self.text;
+        let mut entries = self.entries;
+        let mut gap = false;
+        while let Some((entry, after)) = entries.split_first() {
+            let first = part_of(text, *entry);
+            print_part(first, gap, f)?;
+            gap = gap_after(first);
+            entries = after;
+        }
+        Ok(())
+    }
+}
+
+crate::shim::display!(Cursor<'a>);
+
+/// Prints a part, after a space if gap and it isn't the end of a group.
+fn print_part<W: fmt::Write>(part: Part<'_>, gap: bool, f: &mut fmt::Formatter<W>) -> fmt::Result
+{
+    print_space(gap_before(part, gap), f)?;
+    match part {
+        Part::Ident(name) => print_name(name, f),
+        Part::Punct(mark, _) => write_one(mark, f),
+        Part::Literal(LiteralText::Source(text)) => write_text(text, f),
+        Part::Literal(LiteralText::Doc(text)) => write_string(text, f),
+        Part::Open(delimiter) => f.write_str(opener(delimiter)),
+        Part::Close(delimiter) => f.write_str(closer(delimiter)),
+    }
+}
+
+/// Prints a space if gap.
+fn print_space<W: fmt::Write>(gap: bool, f: &mut fmt::Formatter<W>) -> fmt::Result
+{
+    if gap { f.write_str(" ") } else { Ok(()) }
+}
+
+/// Prints an identifier.
+fn print_name<W: fmt::Write>(name: Name<'_>, f: &mut fmt::Formatter<W>) -> fmt::Result
+{
+    if name.raw {
+        f.write_str("r#")?;
+        return write_text(name.text, f);
+    }
+    write_text(name.text, f)
+}
+
+/// Whether a space goes before the part, where one goes after what came last.
+fn gap_before(part: Part<'_>, gap: bool) -> bool
+{
+    match part {
+        Part::Close(_) => false,
+        _ => gap,
+    }
+}
+
+/// Whether a space goes after the part.
+fn gap_after(part: Part<'_>) -> bool
+{
+    match part {
+        Part::Punct(_, joint) => !joint,
+        Part::Open(delimiter) => delimiter == Delimiter::Brace,
+        _ => true,
+    }
+}
+
+/// What a group begins with.
+fn opener(delimiter: Delimiter) -> &'static str
+{
+    match delimiter {
+        Delimiter::Parenthesis => "(",
+        Delimiter::Brace => "{",
+        Delimiter::Bracket => "[",
+        Delimiter::None => "",
+    }
+}
+
+/// What a group ends with, and in a Brace the space before it.
+fn closer(delimiter: Delimiter) -> &'static str
+{
+    match delimiter {
+        Delimiter::Parenthesis => ")",
+        Delimiter::Brace => " }",
+        Delimiter::Bracket => "]",
+        Delimiter::None => "",
+    }
+}

@@ -1,0 +1,168 @@
+// Made from crates/token_buffer/src/string.rt by rust/erase: change that file, not this one.
+//! The string literal of what a doc comment says, which is written nowhere.
+
+use crate::shim::fmt;
+use crate::shim::ucd_category::GeneralCategory;
+
+/// How a character is written in a string literal.
+#[derive(Clone, Copy)]
+enum Escape {
+    /// The character stands for itself.
+    Bare(char),
+    /// A backslash, and this character.
+    Short(char),
+    /// `\x00`.
+    LongZero,
+    /// The character's number, as `\u{1f}`.
+    Unicode(char),
+}
+
+/// Writes the string literal of the text.
+pub fn write_string<W: fmt::Write>(text: &str, f: &mut fmt::Formatter<W>) -> fmt::Result
+{
+    write_one('"', f)?;
+    let mut rest = text.chars();
+    while let Some(c) = rest.next() {
+        write_escape(escape_of(c, rest.as_str()), f)?;
+    }
+    write_one('"', f)
+}
+
+/// Writes the text.
+pub fn write_text<W: fmt::Write>(text: &str, f: &mut fmt::Formatter<W>) -> fmt::Result
+{
+    f.write_str(text)
+}
+
+/// Writes the character.
+pub fn write_one<W: fmt::Write>(c: char, f: &mut fmt::Formatter<W>) -> fmt::Result
+{
+    f.write_char(c)
+}
+
+/// Whether the texts are the same, and so are their string literals.
+pub fn is_same(text: &str, other: &str) -> bool
+{
+    text == other
+}
+
+/// Whether the literal is the string literal of the text.
+pub fn is_string_of(literal: &str, text: &str) -> bool
+{
+    let Some(mut left) = after(literal, '"') else {
+        return false;
+    };
+    let mut rest = text.chars();
+    while let Some(c) = rest.next() {
+        let Some(next) = after_escape(left, escape_of(c, rest.as_str())) else {
+            return false;
+        };
+        left = next;
+    }
+    left == "\""
+}
+
+/// Writes a character as this says.
+fn write_escape<W: fmt::Write>(escape: Escape, f: &mut fmt::Formatter<W>) -> fmt::Result
+{
+    match escape {
+        Escape::Bare(c) => write_one(c, f),
+        Escape::Short(c) => {
+            write_one('\\', f)?;
+            write_one(c, f)
+        }
+        Escape::LongZero => f.write_str("\\x00"),
+        Escape::Unicode(c) => write_unicode(c, f),
+    }
+}
+
+/// Writes the character by its number, as `\u{1f}`.
+fn write_unicode<W: fmt::Write>(c: char, f: &mut fmt::Formatter<W>) -> fmt::Result
+{
+    for unit in c.escape_unicode() {
+        write_one(unit, f)?;
+    }
+    Ok(())
+}
+
+/// What follows a character that is written as this says, if the text begins so.
+fn after_escape(text: &str, escape: Escape) -> Option<&str>
+{
+    match escape {
+        Escape::Bare(c) => after(text, c),
+        Escape::Short(c) => after(after(text, '\\')?, c),
+        Escape::LongZero => after(after(after(after(text, '\\')?, 'x')?, '0')?, '0'),
+        Escape::Unicode(c) => after_unicode(text, c),
+    }
+}
+
+/// What follows the number of the character, as `\u{1f}`, if the text begins so.
+fn after_unicode(text: &str, c: char) -> Option<&str>
+{
+    let mut rest = text;
+    for unit in c.escape_unicode() {
+        rest = after(rest, unit)?;
+    }
+    Some(rest)
+}
+
+/// What follows the character, if the text begins with it.
+fn after(text: &str, c: char) -> Option<&str>
+{
+    let mut rest = text.chars();
+    match rest.next() {
+        Some(first) if first == c => Some(rest.as_str()),
+        _ => None,
+    }
+}
+
+/// How a character is written where the rest of the text follows.
+fn escape_of(c: char, rest: &str) -> Escape
+{
+    match c {
+        '\0' if begins_octal(rest) => Escape::LongZero,
+        '\0' => Escape::Short('0'),
+        '\t' => Escape::Short('t'),
+        '\r' => Escape::Short('r'),
+        '\n' => Escape::Short('n'),
+        '\\' => Escape::Short('\\'),
+        '"' => Escape::Short('"'),
+        _ if is_bare(c) => Escape::Bare(c),
+        _ => Escape::Unicode(c),
+    }
+}
+
+/// Whether the text begins with one of the digits 0 to 7.
+fn begins_octal(text: &str) -> bool
+{
+    match text.chars().next() {
+        Some(c) => c.is_digit(8),
+        None => false,
+    }
+}
+
+/// Whether the character stands for itself, by the rule `bare`.
+fn is_bare(c: char) -> bool
+{
+    if c.is_ascii() {
+        return c >= ' ' && c != '\u{7F}';
+    }
+    !hides(GeneralCategory::for_char(c))
+}
+
+/// Whether characters of the category show on their neighbours or not at all, by the rule `hidden`.
+fn hides(category: GeneralCategory) -> bool
+{
+    matches!(
+        category,
+        GeneralCategory::NonspacingMark
+            | GeneralCategory::EnclosingMark
+            | GeneralCategory::SpaceSeparator
+            | GeneralCategory::LineSeparator
+            | GeneralCategory::ParagraphSeparator
+            | GeneralCategory::Control
+            | GeneralCategory::Format
+            | GeneralCategory::PrivateUse
+            | GeneralCategory::Unassigned
+    )
+}
