@@ -110,18 +110,28 @@ const PRINTED: [(&str, &str); 8] = [
     ("a/**\07\0*/", "# [doc = \"\\x007\\0\"]"),
 ];
 
+/// Asserts what the trees of a text but the first are printed as, by their cursor and by their stream.
+fn check_printed(
+    rt: &(impl Abort + AllocGlobal),
+    cursor: Cursor<'_>,
+    want: &str,
+) -> Result<(), AllocError> {
+    let text = format!(in rt.alloc(); "{cursor}")?;
+    assert_eq!(rt; text.as_str(), want);
+    let text = printed(rt.alloc(), cursor)?;
+    assert_eq!(rt; text.as_str(), want, "by the stream");
+    Ok(())
+}
+
 #[test]
 fn a_cursor_is_printed_as_its_stream(rt: HostRuntime) -> Result<(), Fail> {
     for (text, want) in PRINTED {
         let buffer = TokenBuffer::new(rt.alloc(), text)?;
-        let rest = buffer.begin().skip().ok_or("a tree")?;
-        assert_eq!(rt; rest.to_string(rt.alloc())?.as_str(), want, "of {text:?}");
-        let stream = rest.to_stream(rt.alloc())?;
-        assert_eq!(rt;
-            stream.to_string(rt.alloc())?.as_str(),
-            want,
-            "the stream of {text:?}"
-        );
+        let rest = buffer.begin().skip();
+        assert!(rt; rest.is_some(), "{text:?} has a tree");
+        if let Some(rest) = rest {
+            check_printed(&rt, rest, want)?;
+        }
     }
     Ok(())
 }
@@ -148,49 +158,56 @@ const COMPARED: [(&str, &str, bool); 18] = [
     ("/// \u{200b}", "#[doc = \" \\u{200B}\"]", false),
 ];
 
+/// Whether the two cursors' streams are the same up to spans.
+fn have_same_streams(
+    alloc: Global,
+    cursor: Cursor<'_>,
+    other: Cursor<'_>,
+) -> Result<bool, AllocError> {
+    let stream = cursor.to_stream(alloc)?;
+    let others = other.to_stream(alloc)?;
+    Ok(stream.same_tokens(&others))
+}
+
 #[test]
 fn cursors_are_equal_up_to_spans(rt: HostRuntime) -> Result<(), Fail> {
     for (text, other, want) in COMPARED {
         let buffer = TokenBuffer::new(rt.alloc(), text)?;
         let others = TokenBuffer::new(rt.alloc(), other)?;
-        assert_eq!(rt;
-            buffer.begin() == others.begin(),
-            want,
-            "{text:?} and {other:?}"
-        );
-        assert_eq!(rt;
-            others.begin() == buffer.begin(),
-            want,
-            "{other:?} and {text:?}"
-        );
-        let stream = buffer.begin().to_stream(rt.alloc())?;
-        let same = stream.same_tokens(&others.begin().to_stream(rt.alloc())?);
+        let (left, right) = (buffer.begin(), others.begin());
+        assert_eq!(rt; left == right, want, "{text:?} and {other:?}");
+        assert_eq!(rt; right == left, want, "{other:?} and {text:?}");
+        let same = have_same_streams(rt.alloc(), left, right)?;
         assert_eq!(rt; same, want, "the streams of {text:?} and {other:?}");
     }
     Ok(())
 }
 
+// A text that begins with generic arguments, and what is printed of the trees after them, or `none` where it doesn't.
+const TURBOFISHES: [(&str, &str); 7] = [
+    ("::<Vec<T>>(x)", "(x)"),
+    ("::<fn() -> T, 'a> = 1", "= 1"),
+    ("::<>", ""),
+    ("::<T (x)", "none"),
+    (":: f", "none"),
+    (": :<T>(x)", "none"),
+    ("<T>(x)", "none"),
+];
+
+/// What is printed of the trees after generic arguments, or `none`.
+fn after_turbofish(alloc: Global, cursor: Cursor<'_>) -> Result<String, AllocError> {
+    match cursor.turbofish() {
+        Some(rest) => printed(alloc, rest),
+        None => String::from_str(alloc, "none"),
+    }
+}
+
 #[test]
 fn generic_arguments_end_at_their_mark(rt: HostRuntime) -> Result<(), Fail> {
-    let rows = [
-        ("::<Vec<T>>(x)", Some("(x)")),
-        ("::<fn() -> T, 'a> = 1", Some("= 1")),
-        ("::<>", Some("")),
-        ("::<T (x)", None),
-        (":: f", None),
-        (": :<T>(x)", None),
-        ("<T>(x)", None),
-    ];
-    for (text, want) in rows {
+    for (text, want) in TURBOFISHES {
         let buffer = TokenBuffer::new(rt.alloc(), text)?;
-        match (buffer.begin().turbofish(), want) {
-            (Some(rest), Some(want)) => assert_eq!(rt;
-                rest.to_string(rt.alloc())?.as_str(),
-                want,
-                "of {text:?}"
-            ),
-            (rest, want) => assert_eq!(rt; rest.is_some(), want.is_some(), "of {text:?}"),
-        }
+        let found = after_turbofish(rt.alloc(), buffer.begin())?;
+        assert_eq!(rt; found.as_str(), want, "of {text:?}");
     }
     Ok(())
 }

@@ -25,6 +25,8 @@ mod iterators;
 #[cfg(test)]
 mod new_trees;
 #[cfg(test)]
+mod openers;
+#[cfg(test)]
 mod parsing;
 #[cfg(test)]
 mod printing;

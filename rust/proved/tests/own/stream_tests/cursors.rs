@@ -1,6 +1,6 @@
 // Made from crates/stream_tests/src/cursors.rt by rust/erase: change that file, not this one.
 
-use crate::shim::prelude::{HostRuntime, String, format};
+use crate::shim::prelude::{AllocGlobal, HostRuntime, String, format};
 
 // What cursors answer on texts by hand, each call once at least.
 
@@ -101,6 +101,123 @@ fn what_is_left_is_a_stream() -> Result<(), Fail> {
     if let Some(rest) = rest {
         let text = printed(rt.alloc(), rest)?;
         assert_eq!(text.as_str(), "(b + [c]) # ! [doc = \" d\"] 'x 1.0");
+    }
+    Ok(())
+}
+
+// A text, and what is printed of the trees after its first.
+const PRINTED: [(&str, &str); 8] = [
+    ("a+=(b)", "+= (b)"),
+    ("a {x}{}", "{ x } { }"),
+    ("(a) r#f [1.0, 'b]", "r#f [1.0 , 'b]"),
+    ("a", ""),
+    ("a/// b", "# [doc = \" b\"]"),
+    ("a//!\té\"\\", "# ! [doc = \"\\té\\\"\\\\\"]"),
+    ("a/**\n\u{200b}*/", "# [doc = \"\\n\\u{200b}\"]"),
+    ("a/**\07\0*/", "# [doc = \"\\x007\\0\"]"),
+];
+
+/// Asserts what the trees of a text but the first are printed as, by their cursor and by their stream.
+fn check_printed(
+    rt: &(impl Abort + AllocGlobal),
+    cursor: Cursor<'_>,
+    want: &str,
+) -> Result<(), AllocError> {
+    let text = format!(in rt.alloc(); "{cursor}")?;
+    assert_eq!(text.as_str(), want);
+    let text = printed(rt.alloc(), cursor)?;
+    assert_eq!(text.as_str(), want, "by the stream");
+    Ok(())
+}
+
+#[test]
+fn a_cursor_is_printed_as_its_stream() -> Result<(), Fail> {
+    let rt = HostRuntime;
+    for (text, want) in PRINTED {
+        let buffer = TokenBuffer::new(rt.alloc(), text)?;
+        let rest = buffer.begin().skip();
+        assert!(rest.is_some(), "{text:?} has a tree");
+        if let Some(rest) = rest {
+            check_printed(&rt, rest, want)?;
+        }
+    }
+    Ok(())
+}
+
+// Two texts, and whether their trees are the same but for spans.
+const COMPARED: [(&str, &str, bool); 18] = [
+    ("a", "  a", true),
+    ("", "", true),
+    ("a", "", false),
+    ("a b", "a", false),
+    ("a", "r#a", false),
+    ("a", "b", false),
+    ("1", "1u8", false),
+    ("+=", "+ =", false),
+    ("(a)", "[a]", false),
+    ("(a) b", "(a b)", false),
+    ("/// a", "# [doc = \" a\"]", true),
+    ("//! a", "# ! [doc = \" a\"]", true),
+    ("/// a", "/** a*/", true),
+    ("/// a", "/// b", false),
+    ("/// a", "#[doc = \" ab\"]", false),
+    ("/// ab", "#[doc = \" a\"]", false),
+    ("/// \"\u{200b}", "#[doc = \" \\\"\\u{200b}\"]", true),
+    ("/// \u{200b}", "#[doc = \" \\u{200B}\"]", false),
+];
+
+/// Whether the two cursors' streams are the same up to spans.
+fn have_same_streams(
+    alloc: Global,
+    cursor: Cursor<'_>,
+    other: Cursor<'_>,
+) -> Result<bool, AllocError> {
+    let stream = cursor.to_stream(alloc)?;
+    let others = other.to_stream(alloc)?;
+    Ok(stream.same_tokens(&others))
+}
+
+#[test]
+fn cursors_are_equal_up_to_spans() -> Result<(), Fail> {
+    let rt = HostRuntime;
+    for (text, other, want) in COMPARED {
+        let buffer = TokenBuffer::new(rt.alloc(), text)?;
+        let others = TokenBuffer::new(rt.alloc(), other)?;
+        let (left, right) = (buffer.begin(), others.begin());
+        assert_eq!(left == right, want, "{text:?} and {other:?}");
+        assert_eq!(right == left, want, "{other:?} and {text:?}");
+        let same = have_same_streams(rt.alloc(), left, right)?;
+        assert_eq!(same, want, "the streams of {text:?} and {other:?}");
+    }
+    Ok(())
+}
+
+// A text that begins with generic arguments, and what is printed of the trees after them, or `none` where it doesn't.
+const TURBOFISHES: [(&str, &str); 7] = [
+    ("::<Vec<T>>(x)", "(x)"),
+    ("::<fn() -> T, 'a> = 1", "= 1"),
+    ("::<>", ""),
+    ("::<T (x)", "none"),
+    (":: f", "none"),
+    (": :<T>(x)", "none"),
+    ("<T>(x)", "none"),
+];
+
+/// What is printed of the trees after generic arguments, or `none`.
+fn after_turbofish(alloc: Global, cursor: Cursor<'_>) -> Result<String, AllocError> {
+    match cursor.turbofish() {
+        Some(rest) => printed(alloc, rest),
+        None => String::from_str(alloc, "none"),
+    }
+}
+
+#[test]
+fn generic_arguments_end_at_their_mark() -> Result<(), Fail> {
+    let rt = HostRuntime;
+    for (text, want) in TURBOFISHES {
+        let buffer = TokenBuffer::new(rt.alloc(), text)?;
+        let found = after_turbofish(rt.alloc(), buffer.begin())?;
+        assert_eq!(found.as_str(), want, "of {text:?}");
     }
     Ok(())
 }
