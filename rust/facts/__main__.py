@@ -90,7 +90,8 @@ def answers():
         crate = pathlib.Path(room, 'crates/ask')
         (crate / 'src').mkdir(parents=True)
         (crate / 'src/main.rt').write_text(PROGRAM)
-        pathlib.Path(room, 'crates.txt').write_text('ask: ucd_category ucd_derived ucd_props unicode_ident unicode_width\n')
+        below = 'ucd_category ucd_derived ucd_props unicode_ident unicode_width'
+        pathlib.Path(room, 'crates.txt').write_text(f'ask: {below}\n')
         pathlib.Path(room, 'HANDLES').write_text('Handles allowed: none.\n')
         run = subprocess.run(['rt', 'run'], cwd=crate, capture_output=True, text=True, env=os.environ, check=False)
         if run.returncode != 0:

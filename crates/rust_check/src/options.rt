@@ -66,7 +66,8 @@ enum Word {
 pub fn request_of(alloc: Global, words: &[String]) -> Result<Request, Failure>
     ensures ok { IfOk result (λ request. meant request ≡ asks no_wish (map string_bytes words.now)) }
     ensures err { IfErr result (λ failure.
-        ((usage_of failure ≡ Some USAGE.now) × (asks no_wish (map string_bytes words.now) ≡ Misused)) ⊎ (failure ≡ Memory)) }
+        ((usage_of failure ≡ Some USAGE.now) × (asks no_wish (map string_bytes words.now) ≡ Misused))
+        ⊎ (failure ≡ Memory)) }
 {
     let mut options = Options::new(alloc);
     for word in words {
