@@ -4,8 +4,8 @@
     python3 rust/facts            writes rust/proved/src/tables.rs anew
     python3 rust/facts --check    compares it with what is there, and fails where it differs
 
-A small program over `unicode_ident`, `ucd_category` and `unicode_width` is proved and run, by `rt run` in a temporary
-folder. It asks about every code point, and tells where an answer changes. No source of these crates is read.
+A small program over `unicode_ident`, the crates `ucd_*` and `unicode_width` is proved and run, by `rt run` in a
+temporary folder. It asks about every code point, and tells where an answer changes. No source of these crates is read.
 """
 import os
 import pathlib
@@ -23,6 +23,8 @@ use std::io;
 use std::io::{BufWriter, Write};
 use std::process::ExitCode;
 use ucd_category::GeneralCategory;
+use ucd_derived::is_default_ignorable_code_point;
+use ucd_props::{is_bidi_control, is_join_control, is_variation_selector, is_white_space};
 use unicode_width::UnicodeWidthChar;
 
 // How many columns a character takes, and 3 where it has no width.
@@ -33,10 +35,23 @@ fn columns(c: char) -> usize {
     }
 }
 
+// The weight of a property in the sum of those that a character has.
+fn weight(has: bool, weight: u8) -> u8 {
+    if has { weight } else { 0 }
+}
+
+fn properties(c: char) -> u8 {
+    weight(is_bidi_control(c), 1)
+        | weight(is_join_control(c), 2)
+        | weight(is_default_ignorable_code_point(c), 4)
+        | weight(is_variation_selector(c), 8)
+        | weight(is_white_space(c), 16)
+}
+
 fn main(rt: HostRuntime) -> io::Result<ExitCode> {
     let mut writer = BufWriter::new(rt.alloc(), rt.stdout())?;
     writeln!(writer, "version {:?}", unicode_ident::UNICODE_VERSION)?;
-    let mut before = (false, false, GeneralCategory::Surrogate, 3);
+    let mut before = (false, false, GeneralCategory::Surrogate, 3, 0);
     for code in 0..0x11_0000u32 {
         let facts = match char::from_u32(code) {
             Some(c) => (
@@ -44,12 +59,16 @@ fn main(rt: HostRuntime) -> io::Result<ExitCode> {
                 unicode_ident::is_xid_continue(c),
                 GeneralCategory::for_char(c),
                 columns(c),
+                properties(c),
             ),
-            None => (false, false, GeneralCategory::Surrogate, 3),
+            None => (false, false, GeneralCategory::Surrogate, 3, 0),
         };
         if facts != before {
-            let (starts, continues, category, columns) = facts;
-            writeln!(writer, "{code} {starts} {continues} {category:?} {columns}")?;
+            let (starts, continues, category, columns, properties) = facts;
+            writeln!(
+                writer,
+                "{code} {starts} {continues} {category:?} {columns} {properties}"
+            )?;
             before = facts;
         }
     }
@@ -66,20 +85,23 @@ END = 0x110000
 
 
 def answers():
-    """The version of Unicode, and for each code point where an answer changes: it, and the four answers."""
+    """The version of Unicode, and for each code point where an answer changes: it, and the five answers."""
     with tempfile.TemporaryDirectory() as room:
         crate = pathlib.Path(room, 'crates/ask')
         (crate / 'src').mkdir(parents=True)
         (crate / 'src/main.rt').write_text(PROGRAM)
-        pathlib.Path(room, 'crates.txt').write_text('ask: ucd_category unicode_ident unicode_width\n')
+        below = 'ucd_category ucd_derived ucd_props unicode_ident unicode_width'
+        pathlib.Path(room, 'crates.txt').write_text(f'ask: {below}\n')
         pathlib.Path(room, 'HANDLES').write_text('Handles allowed: none.\n')
         run = subprocess.run(['rt', 'run'], cwd=crate, capture_output=True, text=True, env=os.environ, check=False)
         if run.returncode != 0:
             sys.exit(run.stderr + 'the program that asks the proved crates was not run')
     version, *lines = run.stdout.splitlines()
     rows = [line.split(' ') for line in lines]
-    return version.split(' ', 1)[1], [(int(code), starts == 'true', continues == 'true', category, int(columns))
-                                      for code, starts, continues, category, columns in rows]
+    return version.split(' ', 1)[1], [
+        (int(code), starts == 'true', continues == 'true', category, int(columns), int(properties))
+        for code, starts, continues, category, columns, properties in rows
+    ]
 
 
 def ranges(rows, column):
@@ -130,6 +152,8 @@ def tables():
               'CATEGORY_RUNS', '(u32, u8)', runs((row[0], number_of(row[3])) for row in rows)),
         table('Where the width changes, in order: from which code point on, and how many columns, or 3 for no width.',
               'WIDTH_RUNS', '(u32, u8)', runs((row[0], row[4]) for row in rows)),
+        table('Where the properties of `ucd_props` and `ucd_derived` change: from which code point on, and their sum.',
+              'PROPERTY_RUNS', '(u32, u8)', runs((row[0], row[5]) for row in rows)),
     ])
 
 

@@ -10,12 +10,13 @@ use Rattle.explain.specs.declared.explained.Opener.{Opener}
 use Rattle.explain.specs.declared.reason.Reason.{Reason}
 use Rattle.explain.specs.declared.reason.Reason.TheVariants.{MismatchedCloser}
 use Rattle.pm_span.specs.Files.{new_map, next_lo}
+use Rattle.rust_check.specs.Colours.{Codes, plain, terminal}
 use Rattle.rust_check.specs.Message.{Found, excerpt, message}
 use Rattle.rust_check.specs.Place.{last_line, last_number}
 use Rattle.rust_check.specs.Told.{TellsHidden}
 use Rattle.rust_check.specs.Words.{name_of, sentence_of}
 use Rattle.rust_check.specs.declared.options.Form.{Form}
-use Rattle.rust_check.specs.declared.options.Form.TheVariants.{Long}
+use Rattle.rust_check.specs.declared.options.Form.TheVariants.{Short, Long, Coloured, Json}
 
 -- the position of the text's first character
 abbrev pub first : ℕ
@@ -44,19 +45,24 @@ abbrev pub fault : List ℕ → Explained → Found
 fault text x = found_at (name_of x.reason) (sentence_of x.reason) text x.at.span.lo x.at.span.hi
 
 -- the opener that waits for another closer than the one that stands there
-abbrev pub waiting_note : List ℕ → List ℕ → Option Opener → List ℕ
-waiting_note path text None = []
-waiting_note path text (Some opener) =
-    codes "note: this opener waits\n" ++ excerpt path (found_at [] [] text opener.at.span.lo opener.at.span.hi)
+abbrev pub waiting : Codes → List ℕ → Found → List ℕ
+waiting k path opener = k.strong ++ (codes "note" ++ (k.off ++ codes ": this opener waits\n")) ++ excerpt k path opener
 
-abbrev pub note_of : Reason → List ℕ → List ℕ → Option Opener → List ℕ
-note_of MismatchedCloser path text innermost = waiting_note path text innermost
-note_of _ path text innermost = []
+abbrev pub waiting_note : Codes → List ℕ → List ℕ → Option Opener → List ℕ
+waiting_note k path text None = []
+waiting_note k path text (Some opener) =
+    waiting k path (found_at [] [] text opener.at.span.lo opener.at.span.hi)
+
+abbrev pub note_of : Reason → Codes → List ℕ → List ℕ → Option Opener → List ℕ
+note_of MismatchedCloser k path text innermost = waiting_note k path text innermost
+note_of _ k path text innermost = []
 
 -- what is written below the fault
 abbrev pub note : Form → List ℕ → List ℕ → Explained → List ℕ
-note Long path text x = note_of x.reason path text x.innermost
-note _ path text x = []
+note Long path text x = note_of x.reason plain path text x.innermost
+note Coloured path text x = note_of x.reason terminal path text x.innermost
+note Short path text x = []
+note Json path text x = []
 
 -- what is said of it, and nothing of a text that parses
 abbrev pub said : Form → List ℕ → List ℕ → Option Explained → List ℕ

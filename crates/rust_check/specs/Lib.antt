@@ -1,8 +1,10 @@
 pub mod Place
 pub mod Hidden
 pub mod Shown
+pub mod Colours
 pub mod Message
 pub mod Words
 pub mod Told
 pub mod Answer
 pub mod Files
+pub mod Options

@@ -2,11 +2,12 @@
 use Rattle.std.specs.Prelude.{ℕ, ◌+◌, ◌-◌, ◌==◌, List, [], ◌∷◌, ◌++◌, codes, decimal, encode_utf8, length, nat_lt}
 use Rattle.std.specs.Prelude.{if◌then◌else◌}
 use Rattle.std.specs.Str.{chars, encode_utf8_all}
+use Rattle.rust_check.specs.Colours.{Codes, plain, terminal}
 use Rattle.rust_check.specs.Place.{first_line}
 use Rattle.rust_check.specs.Shown.{carets, each, filled, shown, times}
 use Rattle.rust_check.specs.declared.finding.Finding.{Finding}
 use Rattle.rust_check.specs.declared.options.Form.{Form}
-use Rattle.rust_check.specs.declared.options.Form.TheVariants.{Short, Long, Json}
+use Rattle.rust_check.specs.declared.options.Form.TheVariants.{Short, Long, Coloured, Json}
 
 -- its name and what it says, and where it stands: its line, from 1, how many characters stand before it on that, and
 -- how many bytes before it in the text; and the characters before it on its line, those of it, and those from it on
@@ -56,18 +57,22 @@ abbrev pub gutter : Found → List ℕ
 gutter x = times (length (decimal x.line)) (codes " ")
 
 -- where it stands, with its line of the source and carets below
-abbrev pub excerpt : List ℕ → Found → List ℕ
-excerpt path x =
-    gutter x ++ (codes "--> " ++ (path ++ (codes ":" ++ (decimal x.line ++ (codes ":" ++ (decimal (x.column + 1)
-    ++ (codes "\n" ++ (gutter x ++ (codes " |\n" ++ (decimal x.line ++ (codes " | " ++ (source_line x
-    ++ (codes "\n" ++ (gutter x ++ (codes " | " ++ (underline x ++ codes "\n"))))))))))))))))
+abbrev pub excerpt : Codes → List ℕ → Found → List ℕ
+excerpt k path x =
+    gutter x ++ (k.line ++ (codes "-->" ++ (k.off ++ (codes " " ++ (path ++ (codes ":" ++ (decimal x.line
+    ++ (codes ":" ++ (decimal (x.column + 1) ++ (codes "\n" ++ (k.line ++ (gutter x ++ (codes " |" ++ (k.off
+    ++ (codes "\n" ++ (k.line ++ (decimal x.line ++ (codes " |" ++ (k.off ++ (codes " " ++ (source_line x
+    ++ (codes "\n" ++ (k.line ++ (gutter x ++ (codes " |" ++ (k.off ++ (codes " " ++ (k.fault ++ (underline x
+    ++ (k.off ++ codes "\n"))))))))))))))))))))))))))))))
 
 -- what is wrong, and where
-abbrev pub headline : Found → List ℕ
-headline x = codes "error[" ++ (x.name ++ (codes "]: " ++ (x.says ++ codes "\n")))
+abbrev pub headline : Codes → Found → List ℕ
+headline k x =
+    k.fault ++ (codes "error[" ++ (x.name ++ (codes "]" ++ (k.off ++ (k.strong ++ (codes ": " ++ (x.says
+    ++ (k.off ++ codes "\n"))))))))
 
-abbrev pub long : List ℕ → Found → List ℕ
-long path x = headline x ++ excerpt path x
+abbrev pub long : Codes → List ℕ → Found → List ℕ
+long k path x = headline k x ++ excerpt k path x
 
 -- a digit of a number to the base 16
 abbrev pub hex : ℕ → List ℕ
@@ -105,5 +110,6 @@ line_message _ path x = short path x
 
 abbrev pub message : Form → List ℕ → Found → List ℕ
 message Short path x = short path x
-message Long path x = long path x
+message Long path x = long plain path x
+message Coloured path x = long terminal path x
 message Json path x = json path x

@@ -1,8 +1,10 @@
 -- What is written of the hidden characters of a text.
-use Rattle.std.specs.Prelude.{ℕ, ◌≡◌, Bool, false, not, ◌&&◌, ◌||◌, ◌==◌, List, [], ◌∷◌, ◌++◌, Option, codes}
+use Rattle.std.specs.Prelude.{ℕ, ◌≡◌, Bool, false, not, ◌&&◌, ◌||◌, ◌==◌, List, [], ◌∷◌, ◌++◌, Option, Some, codes}
 use Rattle.std.specs.Prelude.{if◌then◌else◌}
 use Rattle.std.specs.Io.KnownBytes.{Appends}
-use Rattle.rust_check.specs.Hidden.{is_direction, is_hidden, is_invisible}
+use Rattle.rust_check.specs.Hidden.{hides_as, is_hidden}
+use Rattle.rust_check.specs.declared.hidden.Hidden.{Hidden}
+use Rattle.rust_check.specs.declared.hidden.Hidden.TheVariants.{Direction, Joiner, Invisible}
 use Rattle.rust_check.specs.Message.{Found, line_message}
 use Rattle.rust_check.specs.Place.{front, place_after}
 use Rattle.rust_check.specs.declared.finding.Place.{Place}
@@ -12,15 +14,23 @@ use Rattle.rust_check.specs.declared.options.Form.{Form}
 abbrev pub is_told : Place → ℕ → Bool
 is_told place c = is_hidden c && not ((c == 0xFEFF) && (place.begin == 0))
 
+abbrev pub name_as : Option Hidden → List ℕ
+name_as (Some Direction) = codes "direction-control"
+name_as (Some Joiner) = codes "joining-character"
+name_as (Some Invisible) = codes "invisible-character"
+name_as _ = codes "control-character"
+
 abbrev pub hidden_name : ℕ → List ℕ
-hidden_name c =
-    if is_direction c then codes "direction-control"
-    else (if is_invisible c then codes "invisible-character" else codes "control-character")
+hidden_name c = name_as (hides_as c)
+
+abbrev pub says_as : Option Hidden → List ℕ
+says_as (Some Direction) = codes "a control of the text's direction"
+says_as (Some Joiner) = codes "a character that joins its neighbours or keeps them apart"
+says_as (Some Invisible) = codes "a character that nobody sees"
+says_as _ = codes "a control character"
 
 abbrev pub hidden_says : ℕ → List ℕ
-hidden_says c =
-    if is_direction c then codes "a control of the text's direction"
-    else (if is_invisible c then codes "a character that nobody sees" else codes "a control character")
+hidden_says c = says_as (hides_as c)
 
 -- a character at this place
 abbrev pub found_hidden : Place → ℕ → Found

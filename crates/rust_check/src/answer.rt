@@ -1,10 +1,12 @@
 //! What the program writes for a text.
-ghost use Rattle.std.specs.Prelude.{◌≡◌, ◌++◌, IfOk, OnOk, Some, codes};
+ghost use Rattle.std.specs.Prelude.{◌≡◌, IfOk, OnOk, Some};
 ghost use Rattle.std.specs.Io.KnownBytes.{Appends};
 ghost use Rattle.std.specs.Str.{chars};
-ghost use Rattle.rust_check.specs.Answer.{Tells, TellsAll, fault, found_at, note, said};
-ghost use Rattle.rust_check.specs.Message.{excerpt, seen};
+ghost use Rattle.rust_check.specs.Answer.{Tells, TellsAll, fault, found_at, note, said, waiting};
+ghost use Rattle.rust_check.specs.Colours.{codes_of};
+ghost use Rattle.rust_check.specs.Message.{seen};
 
+use crate::colours::Colours;
 use crate::finding::{Finding, Place};
 use crate::options::Form;
 use crate::place::{byte_count, last_line, split_chars};
@@ -102,7 +104,12 @@ fn write_note<W: Write>(
 {
     match (form, &explained.reason, &explained.innermost) {
         (Form::Long, Reason::MismatchedCloser, Some(opener)) => {
-            write_waiting(alloc, path, &found_at("", "", text, opener.at.span), writer)
+            let opener = found_at("", "", text, opener.at.span);
+            write_waiting(alloc, Colours::none(), path, &opener, writer)
+        }
+        (Form::Coloured, Reason::MismatchedCloser, Some(opener)) => {
+            let opener = found_at("", "", text, opener.at.span);
+            write_waiting(alloc, Colours::terminal(), path, &opener, writer)
         }
         _ => Ok(()),
     }
@@ -111,15 +118,17 @@ fn write_note<W: Write>(
 // Writes where an opener stands.
 fn write_waiting<W: Write>(
     alloc: Global,
+    colours: Colours,
     path: &str,
     opener: &Finding<'_>,
     writer: &mut W,
 ) -> io::Result<()>
     ensures { OnOk result (Appends (W.contents writer.old) (W.contents writer.new)
-        (codes "note: this opener waits\n" ++ excerpt path.now (seen opener.now))) }
+        (waiting (codes_of colours) path.now (seen opener.now))) }
 {
-    writeln!(writer, "note: this opener waits")?;
-    write_excerpt(alloc, path, opener, writer)
+    let Colours { strong, off, .. } = colours;
+    writeln!(writer, "{strong}note{off}: this opener waits")?;
+    write_excerpt(alloc, colours, path, opener, writer)
 }
 
 // What is found where the span says.

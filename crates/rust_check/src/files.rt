@@ -2,6 +2,7 @@
 ghost use Rattle.std.specs.Prelude.{◌≡◌, ℕ, List, IfOk, map, string_bytes};
 ghost use Rattle.rust_check.specs.Answer.{TellsAll};
 ghost use Rattle.rust_check.specs.Files.{AllTold, Outcome, all_counted, nothing};
+ghost use Rattle.rust_check.specs.Options.{form_of};
 
 use crate::answer::check_all;
 use crate::options::Options;
@@ -21,7 +22,7 @@ pub fn check_files<W: Write, E: Write>(
     errors: &mut E,
 ) -> Result<Tally, Failure>
     ensures { IfOk result (λ tally. (outcomes : List Outcome)
-        × AllTold options.now.form options.now.hidden (map string_bytes options.now.paths.items) outcomes
+        × AllTold (form_of options.now) options.now.hidden (map string_bytes options.now.paths.items) outcomes
         (W.contents writer.old) (W.contents writer.new)
         × (tally ≡ all_counted nothing outcomes)) }
 {
@@ -42,13 +43,13 @@ fn check_file<W: Write>(
     writer: &mut W,
 ) -> Result<bool, Failure>
     ensures { IfOk result (λ faulty. (text : List ℕ)
-        × TellsAll options.now.form options.now.hidden path.now text (W.contents writer.old)
+        × TellsAll (form_of options.now) options.now.hidden path.now text (W.contents writer.old)
         (W.contents writer.new) faulty) }
 {
     let text = read_text(rt, path)?;
     check_all(
         rt.alloc(),
-        options.form,
+        options.shown_form(),
         options.hidden,
         path,
         text.as_str(),

@@ -6,6 +6,7 @@
 #![tactic(auto)]
 
 mod answer;
+mod colours;
 mod files;
 mod finding;
 mod hidden;
@@ -65,13 +66,14 @@ const VERSION: &str = "rust_check 1.0.0\n";
 
 const HELP: &str = "Tells why Rust files don't parse.
 
-usage: rust_check [--short|--json] [--hidden] [FILE..]
+usage: rust_check [--short|--json] [--hidden] [--color=always|never] [FILE..]
 
-  FILE       a file, or - for standard input, which is read where there is no file
-  --short    each fault in one line: FILE:L:C: error: what
-  --json     each fault as an object of JSON on a line
-  --hidden   tells hidden characters too: controls of direction, invisible characters, control characters
-  --version  writes the version
+  FILE            a file, or - for standard input, which is read where there is no file
+  --short         each fault in one line: FILE:L:C: error: what
+  --json          each fault as an object of JSON on a line
+  --hidden        tells hidden characters too: controls of direction, what nobody sees, control characters
+  --color=always  sets a terminal's colours; --color=never, as is usual, doesn't
+  --version       writes the version
 
 The status is 0 where all texts parse, 1 where one has a fault, and 2 where a file is not read.
 ";

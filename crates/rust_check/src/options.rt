@@ -1,10 +1,14 @@
 //! What the words after the program's name ask for.
+ghost use Rattle.std.specs.Prelude.{◌≡◌, ◌⊎◌, IfErr, IfOk, OnOk, Some, map, string_bytes};
+ghost use Rattle.messages.specs.declared.errors.Failure.TheVariants.{Memory};
+ghost use Rattle.rust_check.specs.Options.{Misused, asks, form_of, meant, no_wish, or_input, other_word, usage_of};
+ghost use Rattle.rust_check.specs.Options.{wishes_of, with_word, word_of};
 
 use messages::Failure;
 use std::alloc::{AllocError, Global};
 
 /// How the program is called.
-pub const USAGE: &str = "rust_check [--short|--json] [--hidden] [FILE..]";
+pub const USAGE: &str = "rust_check [--short|--json] [--hidden] [--color=always|never] [FILE..]";
 
 /// How a finding is written.
 #[derive(Clone, Copy, Debug, PartialEq, Eq)]
@@ -13,6 +17,8 @@ pub enum Form {
     Short,
     /// With its line of the source and carets below.
     Long,
+    /// The same, in a terminal's colours.
+    Coloured,
     /// As an object of JSON on a line.
     Json,
 }
@@ -20,9 +26,11 @@ pub enum Form {
 /// How files are checked.
 #[derive(Drop)]
 pub struct Options {
-    /// How a finding is written.
+    /// How a finding is written, but for colours.
     pub form: Form,
-    /// Whether hidden characters are told too.
+    /// Whether colours are wanted.
+    pub coloured: bool,
+    /// Whether hidden text is told too.
     pub hidden: bool,
     /// The paths of the files, `-` for standard input.
     pub paths: Vec<String>,
@@ -39,34 +47,121 @@ pub enum Request {
     Version,
 }
 
+// What a word says.
+#[derive(Clone, Copy, Debug, PartialEq, Eq)]
+enum Word {
+    Short,
+    Json,
+    Hidden,
+    Colour(bool),
+    Help,
+    Version,
+    Unknown,
+    Path,
+}
+
 /// What the words ask for: options anywhere, and paths, of which standard input is one where there is no other.
 ///
 /// Fails with `Usage` where a word begins with `-` that is no option, and with `Memory`.
-pub fn request_of(alloc: Global, words: &[String]) -> Result<Request, Failure> {
-    let mut options = Options {
-        form: Form::Long,
-        hidden: false,
-        paths: Vec::new(alloc),
-    };
+pub fn request_of(alloc: Global, words: &[String]) -> Result<Request, Failure>
+    ensures ok { IfOk result (λ request. meant request ≡ asks no_wish (map string_bytes words.now)) }
+    ensures err { IfErr result (λ failure.
+        ((usage_of failure ≡ Some USAGE.now) × (asks no_wish (map string_bytes words.now) ≡ Misused))
+        ⊎ (failure ≡ Memory)) }
+{
+    let mut options = Options::new(alloc);
     for word in words {
-        match word.as_str() {
-            "--short" => options.form = Form::Short,
-            "--json" => options.form = Form::Json,
-            "--hidden" => options.hidden = true,
-            "--help" => return Ok(Request::Help),
-            "--version" => return Ok(Request::Version),
-            path if path.starts_with('-') && path != "-" => return Err(Failure::Usage(USAGE)),
-            path => push_path(alloc, &mut options.paths, path)?,
+        match word_of(word.as_str()) {
+            Word::Help => return Ok(Request::Help),
+            Word::Version => return Ok(Request::Version),
+            Word::Unknown => return Err(Failure::Usage(USAGE)),
+            known => options.take(alloc, known, word.as_str())?,
         }
     }
-    if options.paths.is_empty() {
-        push_path(alloc, &mut options.paths, "-")?;
-    }
+    options.read_input_at_least(alloc)?;
     Ok(Request::Check(options))
 }
 
-// Appends a path.
-fn push_path(alloc: Global, paths: &mut Vec<String>, path: &str) -> Result<(), AllocError> {
-    paths.push(String::from_str(alloc, path)?)?;
-    Ok(())
+// What the word says.
+fn word_of(word: &str) -> Word
+    ensures { result ≡ word_of word.now }
+{
+    match word {
+        "--short" => Word::Short,
+        "--json" => Word::Json,
+        "--hidden" => Word::Hidden,
+        "--color=always" => Word::Colour(true),
+        "--color=never" => Word::Colour(false),
+        "--help" => Word::Help,
+        "--version" => Word::Version,
+        _ => other_word(word),
+    }
+}
+
+// The same of a word that is no option that is known.
+fn other_word(word: &str) -> Word
+    ensures { result ≡ other_word word.now }
+{
+    match word.as_bytes() {
+        [b'-'] => Word::Path,
+        [b'-', ..] => Word::Unknown,
+        _ => Word::Path,
+    }
+}
+
+impl Options {
+    // What is asked for before any word.
+    fn new(alloc: Global) -> Options
+        ensures { wishes_of result ≡ no_wish }
+    {
+        Options {
+            form: Form::Long,
+            coloured: false,
+            hidden: false,
+            paths: Vec::new(alloc),
+        }
+    }
+
+    // Takes a word.
+    fn take(&mut self, alloc: Global, known: Word, word: &str) -> Result<(), AllocError>
+        ensures { OnOk result (wishes_of self.new ≡ with_word known word.now (wishes_of self.old)) }
+    {
+        match known {
+            Word::Short => self.form = Form::Short,
+            Word::Json => self.form = Form::Json,
+            Word::Hidden => self.hidden = true,
+            Word::Colour(coloured) => self.coloured = coloured,
+            Word::Path => self.push_path(alloc, word)?,
+            _ => {}
+        }
+        Ok(())
+    }
+
+    // Standard input is read where no file is named.
+    fn read_input_at_least(&mut self, alloc: Global) -> Result<(), AllocError>
+        ensures { OnOk result (wishes_of self.new ≡ or_input (wishes_of self.old)) }
+    {
+        if self.paths.is_empty() {
+            self.push_path(alloc, "-")?;
+        }
+        Ok(())
+    }
+
+    // Appends a path.
+    fn push_path(&mut self, alloc: Global, path: &str) -> Result<(), AllocError>
+        ensures { OnOk result (wishes_of self.new ≡ with_word Word.Path path.now (wishes_of self.old)) }
+    {
+        self.paths.push(String::from_str(alloc, path)?)?;
+        Ok(())
+    }
+
+    /// How a finding is written.
+    pub fn shown_form(&self) -> Form
+        ensures { result ≡ form_of self.now }
+    {
+        match self.form {
+            Form::Long if self.coloured => Form::Coloured,
+            form => form,
+        }
+    }
 }

@@ -6,7 +6,7 @@ ghost use Rattle.rust_check.specs.Message.{seen};
 ghost use Rattle.rust_check.specs.Told.{TellsHidden, found_hidden, hidden_name, hidden_says, is_told, message_of};
 
 use crate::finding::{Finding, Place};
-use crate::hidden::{is_direction, is_hidden, is_invisible};
+use crate::hidden::{Hidden, hides_as, is_hidden};
 use crate::options::Form;
 use crate::writing::write_line;
 use std::alloc::Global;
@@ -89,12 +89,11 @@ fn finding<'a>(place: Place, c: char, here: &'a str) -> Finding<'a>
 fn hidden_name(c: char) -> &'static str
     ensures { result.now ≡ hidden_name c }
 {
-    if is_direction(c) {
-        "direction-control"
-    } else if is_invisible(c) {
-        "invisible-character"
-    } else {
-        "control-character"
+    match hides_as(c) {
+        Some(Hidden::Direction) => "direction-control",
+        Some(Hidden::Joiner) => "joining-character",
+        Some(Hidden::Invisible) => "invisible-character",
+        _ => "control-character",
     }
 }
 
@@ -102,11 +101,10 @@ fn hidden_name(c: char) -> &'static str
 fn hidden_says(c: char) -> &'static str
     ensures { result.now ≡ hidden_says c }
 {
-    if is_direction(c) {
-        "a control of the text's direction"
-    } else if is_invisible(c) {
-        "a character that nobody sees"
-    } else {
-        "a control character"
+    match hides_as(c) {
+        Some(Hidden::Direction) => "a control of the text's direction",
+        Some(Hidden::Joiner) => "a character that joins its neighbours or keeps them apart",
+        Some(Hidden::Invisible) => "a character that nobody sees",
+        _ => "a control character",
     }
 }

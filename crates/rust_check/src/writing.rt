@@ -1,9 +1,11 @@
 //! What is written for a finding.
 ghost use Rattle.std.specs.Prelude.{OnOk};
 ghost use Rattle.std.specs.Io.KnownBytes.{Appends};
+ghost use Rattle.rust_check.specs.Colours.{codes_of};
 ghost use Rattle.rust_check.specs.Message.{excerpt, headline, json, json_what, json_where, line_message, long, message};
 ghost use Rattle.rust_check.specs.Message.{seen, short};
 
+use crate::colours::Colours;
 use crate::finding::{Finding, Place};
 use crate::json::escaped;
 use crate::options::Form;
@@ -26,7 +28,8 @@ pub fn write_message<W: Write>(
 {
     match form {
         Form::Short => write_short(path, finding, writer),
-        Form::Long => write_long(alloc, path, finding, writer),
+        Form::Long => write_long(alloc, Colours::none(), path, finding, writer),
+        Form::Coloured => write_long(alloc, Colours::terminal(), path, finding, writer),
         Form::Json => write_json(alloc, path, finding, writer),
     }
 }
@@ -64,35 +67,55 @@ fn write_short<W: Write>(path: &str, finding: &Finding<'_>, writer: &mut W) -> i
 // Writes what is found in the file at this path, with its line of the source and carets below.
 fn write_long<W: Write>(
     alloc: Global,
-    path: &str,
-    finding: &Finding<'_>,
-    writer: &mut W,
-) -> io::Result<()>
-    ensures { OnOk result (Appends (W.contents writer.old) (W.contents writer.new) (long path.now (seen finding.now))) }
-{
-    write_headline(finding, writer)?;
-    write_excerpt(alloc, path, finding, writer)
-}
-
-// Writes what is wrong.
-fn write_headline<W: Write>(finding: &Finding<'_>, writer: &mut W) -> io::Result<()>
-    ensures { OnOk result (Appends (W.contents writer.old) (W.contents writer.new) (headline (seen finding.now))) }
-{
-    let name = finding.name;
-    let says = finding.says;
-    writeln!(writer, "error[{name}]: {says}")
-}
-
-/// Writes where it is found in the file at this path, with its line of the source and carets below.
-pub fn write_excerpt<W: Write>(
-    alloc: Global,
+    colours: Colours,
     path: &str,
     finding: &Finding<'_>,
     writer: &mut W,
 ) -> io::Result<()>
     ensures { OnOk result (Appends (W.contents writer.old) (W.contents writer.new)
-        (excerpt path.now (seen finding.now))) }
+        (long (codes_of colours) path.now (seen finding.now))) }
 {
+    write_headline(colours, finding, writer)?;
+    write_excerpt(alloc, colours, path, finding, writer)
+}
+
+// Writes what is wrong.
+fn write_headline<W: Write>(
+    colours: Colours,
+    finding: &Finding<'_>,
+    writer: &mut W,
+) -> io::Result<()>
+    ensures { OnOk result (Appends (W.contents writer.old) (W.contents writer.new)
+        (headline (codes_of colours) (seen finding.now))) }
+{
+    let Colours {
+        fault,
+        strong,
+        off,
+        ..
+    } = colours;
+    let name = finding.name;
+    let says = finding.says;
+    writeln!(writer, "{fault}error[{name}]{off}{strong}: {says}{off}")
+}
+
+/// Writes where it is found in the file at this path, with its line of the source and carets below.
+pub fn write_excerpt<W: Write>(
+    alloc: Global,
+    colours: Colours,
+    path: &str,
+    finding: &Finding<'_>,
+    writer: &mut W,
+) -> io::Result<()>
+    ensures { OnOk result (Appends (W.contents writer.old) (W.contents writer.new)
+        (excerpt (codes_of colours) path.now (seen finding.now))) }
+{
+    let Colours {
+        fault,
+        line,
+        off,
+        ..
+    } = colours;
     let number = finding.place.line.to_string(alloc)?;
     // As wide as the sum needs.
     let column = finding.place.column as u128 + 1;
@@ -101,7 +124,7 @@ pub fn write_excerpt<W: Write>(
     let carets = underline(alloc, finding.front, first_line(finding.here))?;
     write!(
         writer,
-        "{gutter}--> {path}:{number}:{column}\n{gutter} |\n{number} | {source}\n{gutter} | {carets}\n"
+        "{gutter}{line}-->{off} {path}:{number}:{column}\n{line}{gutter} |{off}\n{line}{number} |{off} {source}\n{line}{gutter} |{off} {fault}{carets}{off}\n"
     )
 }
 

@@ -58,6 +58,7 @@ pub mod pretty {
 #[allow(dead_code, unreachable_code, unused_imports, unused_variables, clippy::complexity, clippy::style)]
 pub mod rust_check {
     mod answer;
+    mod colours;
     pub mod files;
     mod finding;
     mod hidden;

@@ -1,6 +1,6 @@
 //! What the toolchain's proved crates answer about characters, by tables that were made by asking them.
 
-use crate::tables::{CATEGORY_RUNS, IDENTIFIER_CONTINUE, IDENTIFIER_START, WIDTH_RUNS};
+use crate::tables::{CATEGORY_RUNS, IDENTIFIER_CONTINUE, IDENTIFIER_START, PROPERTY_RUNS, WIDTH_RUNS};
 
 /// Whether the code point is in one of the ranges, which are in order.
 fn is_within(ranges: &[(u32, u32)], c: char) -> bool {
@@ -101,6 +101,47 @@ pub mod ucd_category {
     }
 }
 
+/// Whether the character has the property of this weight.
+fn has(weight: u8, c: char) -> bool {
+    let after = PROPERTY_RUNS.partition_point(|(first, _)| *first <= c as u32);
+    PROPERTY_RUNS[after - 1].1 & weight != 0
+}
+
+/// Properties of characters.
+pub mod ucd_props {
+    use super::has;
+
+    /// Contract: whether the character has the property `Bidi_Control`.
+    pub fn is_bidi_control(c: char) -> bool {
+        has(1, c)
+    }
+
+    /// Contract: whether the character has the property `Join_Control`.
+    pub fn is_join_control(c: char) -> bool {
+        has(2, c)
+    }
+
+    /// Contract: whether the character has the property `Variation_Selector`.
+    pub fn is_variation_selector(c: char) -> bool {
+        has(8, c)
+    }
+
+    /// Contract: whether the character has the property `White_Space`.
+    pub fn is_white_space(c: char) -> bool {
+        has(16, c)
+    }
+}
+
+/// Properties that follow from others.
+pub mod ucd_derived {
+    use super::has;
+
+    /// Contract: whether the character has the property `Default_Ignorable_Code_Point`.
+    pub fn is_default_ignorable_code_point(c: char) -> bool {
+        has(4, c)
+    }
+}
+
 /// Widths of characters on a terminal.
 pub mod unicode_width {
     use super::WIDTH_RUNS;
@@ -127,7 +168,7 @@ mod tests {
     use super::ucd_category::{GeneralCategory, CATEGORIES};
     use super::unicode_ident::{is_xid_continue, is_xid_start};
     use super::unicode_width::UnicodeWidthChar;
-    use super::{is_within, CATEGORY_RUNS, IDENTIFIER_CONTINUE, IDENTIFIER_START, WIDTH_RUNS};
+    use super::{has, is_within, CATEGORY_RUNS, IDENTIFIER_CONTINUE, IDENTIFIER_START, PROPERTY_RUNS, WIDTH_RUNS};
 
     #[test]
     fn each_character_is_what_the_ranges_say() {
@@ -146,8 +187,10 @@ mod tests {
         assert_eq!(CATEGORY_RUNS[0].0, 0);
         assert!(CATEGORY_RUNS.windows(2).all(|pair| pair[0].0 < pair[1].0 && pair[0].1 != pair[1].1));
         assert!(CATEGORY_RUNS.iter().all(|(_, number)| usize::from(*number) < CATEGORIES.len()));
-        assert_eq!(WIDTH_RUNS[0].0, 0);
-        assert!(WIDTH_RUNS.windows(2).all(|pair| pair[0].0 < pair[1].0 && pair[0].1 != pair[1].1));
+        for runs in [&WIDTH_RUNS[..], &PROPERTY_RUNS[..]] {
+            assert_eq!(runs[0].0, 0);
+            assert!(runs.windows(2).all(|pair| pair[0].0 < pair[1].0 && pair[0].1 != pair[1].1));
+        }
     }
 
     #[test]
@@ -168,6 +211,20 @@ mod tests {
             ('\u{10FFFF}', GeneralCategory::Unassigned),
         ] {
             assert_eq!(GeneralCategory::for_char(c), category, "{c:?}");
+        }
+        for (c, sum) in [
+            ('a', 0),
+            (' ', 16),
+            ('\u{A0}', 16),
+            ('\u{AD}', 4),
+            ('\u{200D}', 6),
+            ('\u{200E}', 5),
+            ('\u{202E}', 5),
+            ('\u{FE0F}', 12),
+            ('\u{E0100}', 12),
+        ] {
+            let has_them = [1, 2, 4, 8, 16].map(|weight| u8::from(has(weight, c)) * weight);
+            assert_eq!(has_them.iter().sum::<u8>(), sum, "{c:?}");
         }
     }
 }

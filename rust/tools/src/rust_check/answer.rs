@@ -1,6 +1,7 @@
 // Made from crates/rust_check/src/answer.rt by rust/erase: change that file, not this one.
 //! What the program writes for a text.
 
+use crate::rust_check::colours::Colours;
 use crate::rust_check::finding::{Finding, Place};
 use crate::rust_check::options::Form;
 use crate::rust_check::place::{byte_count, last_line, split_chars};
@@ -89,7 +90,12 @@ fn write_note<W: Write>(
 {
     match (form, &explained.reason, &explained.innermost) {
         (Form::Long, Reason::MismatchedCloser, Some(opener)) => {
-            write_waiting(alloc, path, &found_at("", "", text, opener.at.span), writer)
+            let opener = found_at("", "", text, opener.at.span);
+            write_waiting(alloc, Colours::none(), path, &opener, writer)
+        }
+        (Form::Coloured, Reason::MismatchedCloser, Some(opener)) => {
+            let opener = found_at("", "", text, opener.at.span);
+            write_waiting(alloc, Colours::terminal(), path, &opener, writer)
         }
         _ => Ok(()),
     }
@@ -98,13 +104,15 @@ fn write_note<W: Write>(
 // Writes where an opener stands.
 fn write_waiting<W: Write>(
     alloc: Global,
+    colours: Colours,
     path: &str,
     opener: &Finding<'_>,
     writer: &mut W,
 ) -> io::Result<()>
 {
-    writeln!(writer, "note: this opener waits")?;
-    write_excerpt(alloc, path, opener, writer)
+    let Colours { strong, off, .. } = colours;
+    writeln!(writer, "{strong}note{off}: this opener waits")?;
+    write_excerpt(alloc, colours, path, opener, writer)
 }
 
 // What is found where the span says.

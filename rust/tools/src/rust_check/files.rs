@@ -41,7 +41,7 @@ fn check_file<W: Write>(
     let text = read_text(rt, path)?;
     check_all(
         rt.alloc(),
-        options.form,
+        options.shown_form(),
         options.hidden,
         path,
         text.as_str(),

@@ -1,26 +1,68 @@
 // Made from crates/rust_check/src/hidden.rt by rust/erase: change that file, not this one.
 //! The characters that nobody sees, or that change how what stands around them is seen.
 
-/// Whether the character is one of those.
+use proved::shim::ucd_category::GeneralCategory;
+use proved::shim::ucd_derived::is_default_ignorable_code_point;
+use proved::shim::ucd_props::{is_bidi_control, is_join_control, is_variation_selector, is_white_space};
+
+/// How a character hides something from who reads the text.
+#[derive(Clone, Copy, Debug, PartialEq, Eq)]
+pub enum Hidden {
+    /// It controls the text's direction.
+    Direction,
+    /// It joins its neighbours, or keeps them apart.
+    Joiner,
+    /// It isn't shown.
+    Invisible,
+    /// It controls a device.
+    Control,
+    /// It is white space that looks like a space, or like a line's end.
+    White,
+}
+
+/// How the character hides something, if it does: by its properties in Unicode, past ASCII.
+pub fn hides_as(c: char) -> Option<Hidden>
+{
+    if c.is_ascii() {
+        ascii_hides_as(c)
+    } else {
+        other_hides_as(c)
+    }
+}
+
+// The same of a character of ASCII: each control but tab, line feed and CR.
+fn ascii_hides_as(c: char) -> Option<Hidden>
+{
+    match c {
+        '\t' | '\n' | '\r' => None,
+        '\0'..='\u{1F}' | '\u{7F}' => Some(Hidden::Control),
+        _ => None,
+    }
+}
+
+// The same of a character past ASCII. What selects a variant of the character before it shows on that.
+fn other_hides_as(c: char) -> Option<Hidden>
+{
+    if is_bidi_control(c) {
+        Some(Hidden::Direction)
+    } else if is_join_control(c) {
+        Some(Hidden::Joiner)
+    } else if is_default_ignorable_code_point(c) && !is_variation_selector(c) {
+        Some(Hidden::Invisible)
+    } else if GeneralCategory::for_char(c) == GeneralCategory::Control {
+        Some(Hidden::Control)
+    } else if is_white_space(c) {
+        Some(Hidden::White)
+    } else {
+        None
+    }
+}
+
+/// Whether the character can't stand in a line that is shown: it hides something, and isn't white space.
 pub fn is_hidden(c: char) -> bool
 {
-    is_direction(c) || is_invisible(c) || is_control(c)
-}
-
-/// Whether the character controls the text's direction.
-pub fn is_direction(c: char) -> bool
-{
-    matches!(c, '\u{202A}'..='\u{202E}' | '\u{2066}'..='\u{2069}')
-}
-
-/// Whether the character takes no room: the soft hyphen, the spaces of no width, joiners and marks of direction.
-pub fn is_invisible(c: char) -> bool
-{
-    matches!(c, '\u{AD}' | '\u{200B}'..='\u{200F}' | '\u{2060}'..='\u{2064}' | '\u{FEFF}')
-}
-
-// Whether the character is a control but tab, line feed and CR.
-fn is_control(c: char) -> bool
-{
-    matches!(c, '\0'..='\u{8}' | '\u{B}'..='\u{C}' | '\u{E}'..='\u{1F}' | '\u{7F}'..='\u{9F}')
+    match hides_as(c) {
+        None | Some(Hidden::White) => false,
+        Some(_) => true,
+    }
 }

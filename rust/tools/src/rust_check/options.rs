@@ -7,7 +7,7 @@ use crate::messages::Failure;
 use proved::shim::alloc::{AllocError, Global};
 
 /// How the program is called.
-pub const USAGE: &str = "rust_check [--short|--json] [--hidden] [FILE..]";
+pub const USAGE: &str = "rust_check [--short|--json] [--hidden] [--color=always|never] [FILE..]";
 
 /// How a finding is written.
 #[derive(Clone, Copy, Debug, PartialEq, Eq)]
@@ -16,15 +16,19 @@ pub enum Form {
     Short,
     /// With its line of the source and carets below.
     Long,
+    /// The same, in a terminal's colours.
+    Coloured,
     /// As an object of JSON on a line.
     Json,
 }
 
 /// How files are checked.
 pub struct Options {
-    /// How a finding is written.
+    /// How a finding is written, but for colours.
     pub form: Form,
-    /// Whether hidden characters are told too.
+    /// Whether colours are wanted.
+    pub coloured: bool,
+    /// Whether hidden text is told too.
     pub hidden: bool,
     /// The paths of the files, `-` for standard input.
     pub paths: Vec<String>,
@@ -40,34 +44,110 @@ pub enum Request {
     Version,
 }
 
+// What a word says.
+#[derive(Clone, Copy, Debug, PartialEq, Eq)]
+enum Word {
+    Short,
+    Json,
+    Hidden,
+    Colour(bool),
+    Help,
+    Version,
+    Unknown,
+    Path,
+}
+
 /// What the words ask for: options anywhere, and paths, of which standard input is one where there is no other.
 ///
 /// Fails with `Usage` where a word begins with `-` that is no option, and with `Memory`.
-pub fn request_of(alloc: Global, words: &[String]) -> Result<Request, Failure> {
-    let mut options = Options {
-        form: Form::Long,
-        hidden: false,
-        paths: Vec::new(alloc),
-    };
+pub fn request_of(alloc: Global, words: &[String]) -> Result<Request, Failure>
+{
+    let mut options = Options::new(alloc);
     for word in words {
-        match word.as_str() {
-            "--short" => options.form = Form::Short,
-            "--json" => options.form = Form::Json,
-            "--hidden" => options.hidden = true,
-            "--help" => return Ok(Request::Help),
-            "--version" => return Ok(Request::Version),
-            path if path.starts_with('-') && path != "-" => return Err(Failure::Usage(USAGE)),
-            path => push_path(alloc, &mut options.paths, path)?,
+        match word_of(word.as_str()) {
+            Word::Help => return Ok(Request::Help),
+            Word::Version => return Ok(Request::Version),
+            Word::Unknown => return Err(Failure::Usage(USAGE)),
+            known => options.take(alloc, known, word.as_str())?,
         }
     }
-    if options.paths.is_empty() {
-        push_path(alloc, &mut options.paths, "-")?;
-    }
+    options.read_input_at_least(alloc)?;
     Ok(Request::Check(options))
 }
 
-// Appends a path.
-fn push_path(alloc: Global, paths: &mut Vec<String>, path: &str) -> Result<(), AllocError> {
-    paths.push(String::from_str(alloc, path)?)?;
-    Ok(())
+// What the word says.
+fn word_of(word: &str) -> Word
+{
+    match word {
+        "--short" => Word::Short,
+        "--json" => Word::Json,
+        "--hidden" => Word::Hidden,
+        "--color=always" => Word::Colour(true),
+        "--color=never" => Word::Colour(false),
+        "--help" => Word::Help,
+        "--version" => Word::Version,
+        _ => other_word(word),
+    }
+}
+
+// The same of a word that is no option that is known.
+fn other_word(word: &str) -> Word
+{
+    match word.as_bytes() {
+        [b'-'] => Word::Path,
+        [b'-', ..] => Word::Unknown,
+        _ => Word::Path,
+    }
+}
+
+impl Options {
+    // What is asked for before any word.
+    fn new(alloc: Global) -> Options
+    {
+        Options {
+            form: Form::Long,
+            coloured: false,
+            hidden: false,
+            paths: Vec::new(alloc),
+        }
+    }
+
+    // Takes a word.
+    fn take(&mut self, alloc: Global, known: Word, word: &str) -> Result<(), AllocError>
+    {
+        match known {
+            Word::Short => self.form = Form::Short,
+            Word::Json => self.form = Form::Json,
+            Word::Hidden => self.hidden = true,
+            Word::Colour(coloured) => self.coloured = coloured,
+            Word::Path => self.push_path(alloc, word)?,
+            _ => {}
+        }
+        Ok(())
+    }
+
+    // Standard input is read where no file is named.
+    fn read_input_at_least(&mut self, alloc: Global) -> Result<(), AllocError>
+    {
+        if self.paths.is_empty() {
+            self.push_path(alloc, "-")?;
+        }
+        Ok(())
+    }
+
+    // Appends a path.
+    fn push_path(&mut self, alloc: Global, path: &str) -> Result<(), AllocError>
+    {
+        self.paths.push(String::from_str(alloc, path)?)?;
+        Ok(())
+    }
+
+    /// How a finding is written.
+    pub fn shown_form(&self) -> Form
+    {
+        match self.form {
+            Form::Long if self.coloured => Form::Coloured,
+            form => form,
+        }
+    }
 }

@@ -2,7 +2,7 @@
 //! Tells the hidden characters of a text.
 
 use crate::rust_check::finding::{Finding, Place};
-use crate::rust_check::hidden::{is_direction, is_hidden, is_invisible};
+use crate::rust_check::hidden::{Hidden, hides_as, is_hidden};
 use crate::rust_check::options::Form;
 use crate::rust_check::writing::write_line;
 use proved::shim::alloc::Global;
@@ -76,23 +76,21 @@ fn finding<'a>(place: Place, c: char, here: &'a str) -> Finding<'a>
 // The short name of what a hidden character is.
 fn hidden_name(c: char) -> &'static str
 {
-    if is_direction(c) {
-        "direction-control"
-    } else if is_invisible(c) {
-        "invisible-character"
-    } else {
-        "control-character"
+    match hides_as(c) {
+        Some(Hidden::Direction) => "direction-control",
+        Some(Hidden::Joiner) => "joining-character",
+        Some(Hidden::Invisible) => "invisible-character",
+        _ => "control-character",
     }
 }
 
 // What is said of it.
 fn hidden_says(c: char) -> &'static str
 {
-    if is_direction(c) {
-        "a control of the text's direction"
-    } else if is_invisible(c) {
-        "a character that nobody sees"
-    } else {
-        "a control character"
+    match hides_as(c) {
+        Some(Hidden::Direction) => "a control of the text's direction",
+        Some(Hidden::Joiner) => "a character that joins its neighbours or keeps them apart",
+        Some(Hidden::Invisible) => "a character that nobody sees",
+        _ => "a control character",
     }
 }

@@ -3,6 +3,7 @@
 
 use proved::shim::prelude::format;
 
+use crate::rust_check::colours::Colours;
 use crate::rust_check::finding::{Finding, Place};
 use crate::rust_check::json::escaped;
 use crate::rust_check::options::Form;
@@ -23,7 +24,8 @@ pub fn write_message<W: Write>(
 {
     match form {
         Form::Short => write_short(path, finding, writer),
-        Form::Long => write_long(alloc, path, finding, writer),
+        Form::Long => write_long(alloc, Colours::none(), path, finding, writer),
+        Form::Coloured => write_long(alloc, Colours::terminal(), path, finding, writer),
         Form::Json => write_json(alloc, path, finding, writer),
     }
 }
@@ -57,31 +59,49 @@ fn write_short<W: Write>(path: &str, finding: &Finding<'_>, writer: &mut W) -> i
 // Writes what is found in the file at this path, with its line of the source and carets below.
 fn write_long<W: Write>(
     alloc: Global,
+    colours: Colours,
     path: &str,
     finding: &Finding<'_>,
     writer: &mut W,
 ) -> io::Result<()>
 {
-    write_headline(finding, writer)?;
-    write_excerpt(alloc, path, finding, writer)
+    write_headline(colours, finding, writer)?;
+    write_excerpt(alloc, colours, path, finding, writer)
 }
 
 // Writes what is wrong.
-fn write_headline<W: Write>(finding: &Finding<'_>, writer: &mut W) -> io::Result<()>
+fn write_headline<W: Write>(
+    colours: Colours,
+    finding: &Finding<'_>,
+    writer: &mut W,
+) -> io::Result<()>
 {
+    let Colours {
+        fault,
+        strong,
+        off,
+        ..
+    } = colours;
     let name = finding.name;
     let says = finding.says;
-    writeln!(writer, "error[{name}]: {says}")
+    writeln!(writer, "{fault}error[{name}]{off}{strong}: {says}{off}")
 }
 
 /// Writes where it is found in the file at this path, with its line of the source and carets below.
 pub fn write_excerpt<W: Write>(
     alloc: Global,
+    colours: Colours,
     path: &str,
     finding: &Finding<'_>,
     writer: &mut W,
 ) -> io::Result<()>
 {
+    let Colours {
+        fault,
+        line,
+        off,
+        ..
+    } = colours;
     let number = format!(in alloc; "{}", finding.place.line)?;
     // As wide as the sum needs.
     let column = finding.place.column as u128 + 1;
@@ -90,7 +110,7 @@ pub fn write_excerpt<W: Write>(
     let carets = underline(alloc, finding.front, first_line(finding.here))?;
     write!(
         writer,
-        "{gutter}--> {path}:{number}:{column}\n{gutter} |\n{number} | {source}\n{gutter} | {carets}\n"
+        "{gutter}{line}-->{off} {path}:{number}:{column}\n{line}{gutter} |{off}\n{line}{number} |{off} {source}\n{line}{gutter} |{off} {fault}{carets}{off}\n"
     )
 }
 

@@ -1,4 +1,5 @@
 use Rattle.std.proofs.Common.{◌≡◌, ℕ, ◌≤◌, List, Option, drop, map, string_bytes}
+use Rattle.rust_check.specs.Options.{form_of}
 use Rattle.rust_check.specs.Files.{AllTold, Outcome, all_counted, nothing}
 use Rattle.rust_check.proofs.files.check_files.Given as goal
 
@@ -6,7 +7,7 @@ use Rattle.rust_check.proofs.files.check_files.Given as goal
 abbrev pub invariant-loop-path : goal.invariant-loop-path
 invariant-loop-path g l =
     let bytes = g.W.Write.contents in
-    let told = AllTold l.fn.options.form l.fn.options.hidden in
+    let told = AllTold (form_of l.fn.options) l.fn.options.hidden in
     let paths = l.fn.options.paths.items in
     record {
       faulty : l.tally.faulty ≤ l.path-index;
