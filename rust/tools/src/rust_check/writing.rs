@@ -110,7 +110,8 @@ pub fn write_excerpt<W: Write>(
     let carets = underline(alloc, finding.front, first_line(finding.here))?;
     write!(
         writer,
-        "{gutter}{line}-->{off} {path}:{number}:{column}\n{line}{gutter} |{off}\n{line}{number} |{off} {source}\n{line}{gutter} |{off} {fault}{carets}{off}\n"
+        "{gutter}{line}-->{off} {path}:{number}:{column}\n{line}{gutter} |{off}\n\
+         {line}{number} |{off} {source}\n{line}{gutter} |{off} {fault}{carets}{off}\n"
     )
 }
 
