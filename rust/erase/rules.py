@@ -487,11 +487,11 @@ def display(file):
     A `.fmt` in such an `impl` is of the trait that it is an `impl` of, in both languages.
 
         impl fmt::Display for A { fn fmt<W: fmt::Write>(&self, f: &mut fmt::Formatter<W>) -> fmt::Result { Ok(()) } }
-        => impl fmt::Display for A { fn fmt<W: fmt::Write>(&self, f: &mut fmt::Formatter<W>) -> fmt::Result { Ok(()) } }
-           shim::display!(A);
         impl<'a> fmt::Display for B<'a> { fn fmt<W: fmt::Write>(&self, f: &mut fmt::Formatter<W>) -> fmt::Result {} }
-        => impl<'a> fmt::Display for B<'a> { fn fmt<W: fmt::Write>(&self, f: &mut fmt::Formatter<W>) -> fmt::Result {} }
-           shim::display!(B<'a>);
+        => impl fmt::Display for A { fn fmt<W: fmt::Write>(&self, f: &mut fmt::Formatter<W>) -> fmt::Result { Ok(()) } }
+           crate::shim::display!(A);
+           impl<'a> fmt::Display for B<'a> { fn fmt<W: fmt::Write>(&self, f: &mut fmt::Formatter<W>) -> fmt::Result {} }
+           crate::shim::display!(B<'a>);
     """
     tokens, edits = file.tokens, {}
     for at, _, closer, name in impls(tokens, 'Display'):
