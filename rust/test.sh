@@ -64,6 +64,12 @@ fi
 programs() {
     local built=$room/installed/bin
     try "cargo install of rust/tools" cargo install --offline --quiet --path tools --root "$room/installed"
+    # Runs a program on its stored input, if there is one, in the folder of its files, if there is one.
+    in_its_data() {
+        local crate=$PWD/../crates/$1 input=/dev/null
+        [ -f "$crate/stdin" ] && input=$crate/stdin
+        (cd "$crate/data" 2> /dev/null || cd "$crate" && exec "$built/$1" "${@:2}" < "$input")
+    }
     stored() {
         local name words wanted status
         for name in tokens highlight find_calls pretty rust_check same; do
@@ -72,7 +78,7 @@ programs() {
             status=0
             [ -f "../crates/$name/args" ] && mapfile -t words < "../crates/$name/args"
             [ -f "../crates/$name/status" ] && wanted=$(< "../crates/$name/status")
-            "$built/$name" "${words[@]}" < "../crates/$name/stdin" > "$room/seen" || status=$?
+            in_its_data "$name" "${words[@]}" > "$room/seen" || status=$?
             [ "$status" -eq "$wanted" ] && cmp "../crates/$name/stdout" "$room/seen" || return 1
         done
     }
