@@ -46,7 +46,7 @@ pub fn write_digits(number: u64, room: &mut [u8], end: usize) -> usize {
 fn above_chunk(number: u128) -> u128 {
     const LOW: u128 = u64::MAX as u128;
     let (low, high) = (number & LOW, number >> 64);
-    let middle = high * (INVERSE & LOW) + (low * (INVERSE & LOW) >> 64);
+    let middle = high * (INVERSE & LOW) + ((low * (INVERSE & LOW)) >> 64);
     let other = low * (INVERSE >> 64) + (middle & LOW);
     (high * (INVERSE >> 64) + (middle >> 64) + (other >> 64)) >> 62
 }
