@@ -108,6 +108,11 @@ def rows(name, text):
 TURNS = {"Stay": 0, "Open": 1, "Close": -1}
 
 
+def shifted(depth, shift):
+    """The place that a shift leads to."""
+    return shift[:3] + (depth + TURNS[shift[3]],)
+
+
 class Tables:
     def __init__(self):
         self.types = open(os.path.join(SPECS, "TypeStep.antt")).read()
@@ -152,14 +157,23 @@ class Tables:
         if words[0] == "go":
             return values
         if words[0] == "move_to":
-            return values
+            return values + ("Stay",)
+        if words[0] == "to_spot":
+            return values[0], "Alone", "At " + values[1], "Stay"
+        if words[0] == "open_angle":
+            return values + ("Range Open", "Open")
+        if words[0] in ("states.At", "states.Range"):
+            return plain(words[0]) + " " + values[0]
         return self.call(words[0], values, text)
 
     def range(self, item, rule, state, depth, sign):
         taken = self.call("step_of", (state, sign, depth == 0), self.types)
         if taken is None:
             return None
-        return item, rule, "Range " + taken[0], depth + TURNS[taken[1]]
+        depth += TURNS[taken[1]]
+        if taken[1] == "Close" and depth == 0:
+            return item, rule, self.call("after_angle", (rule, taken[0]), self.text), depth
+        return item, rule, "Range " + taken[0], depth
 
     def step(self, place, sign):
         item, rule, state, depth = place
@@ -168,11 +182,11 @@ class Tables:
             next_place = self.range(item, rule, name, depth, sign)
             if next_place is None and depth == 0 and self.call("may_end", (name,), self.types):
                 shift = self.call("follow", (item, rule, sign), self.text)
-                next_place = shift and shift + (depth,)
+                next_place = shift and shifted(depth, shift)
             return next_place
         shift = self.call("spot_step", (item, rule, name, sign), self.text)
         if shift is not None:
-            return shift + (depth,)
+            return shifted(depth, shift)
         rule = self.call("spot_type", (rule, name), self.text)
         return rule and self.range(item, rule, "Wanted", depth, sign)
 
@@ -188,30 +202,40 @@ class Tables:
 # ---- the comparison
 
 PARTS = [
-    ("type", "Alone", "Range Wanted", [
+    ("type", "Alone", "Alone", "Range Wanted", [
         "Word Less Greater Comma Parentheses PathSeparator Plus",
         "Word And Lifetime Mut Exclamation TypeFront For",
         "Word Less Greater Minus Literal Braces As Equals",
         "Word Star Const Tilde Extern Literal Arrow",
         "For Less Greater Lifetime Comma Word Restriction",
         "Less Greater Colon Truth Brackets Invisible Question SelfType"]),
-    ("bounds", "Alone", "Range Open", [
+    ("bounds", "Alone", "Alone", "Range Open", [
         "Word Plus Lifetime Question For Less Greater",
         "Word Arrow Parentheses Comma Exclamation Braces As"]),
-    ("attributes", "Alone", "At Attributes", ["Hash Brackets Word"]),
-    ("visibility", "Alone", "At Visibility", ["Pub Restriction Parentheses Word"]),
-    ("field", "Alone", "At Field", ["Hash Brackets Pub Restriction Word Union Colon"]),
-    ("fields", "Fields", "At Field", ["Word Colon Comma Less Greater Pub", "Hash Brackets Word Colon Comma"]),
-    ("tuple_field", "Alone", "At TupleField", ["Hash Brackets Pub Restriction Parentheses Word"]),
-    ("tuple_fields", "TupleFields", "At TupleField", [
+    ("attributes", "Alone", "Alone", "At Attributes", ["Hash Brackets Word"]),
+    ("visibility", "Alone", "Alone", "At Visibility", ["Pub Restriction Parentheses Word"]),
+    ("field", "Alone", "Alone", "At Field", ["Hash Brackets Pub Restriction Word Union Colon"]),
+    ("fields", "Alone", "Fields", "At Field", ["Word Colon Comma Less Greater Pub", "Hash Brackets Word Colon Comma"]),
+    ("tuple_field", "Alone", "Alone", "At TupleField", ["Hash Brackets Pub Restriction Parentheses Word"]),
+    ("tuple_fields", "Alone", "TupleFields", "At TupleField", [
         "Word Comma Pub Restriction Less Greater", "Hash Brackets Pub Word Comma"]),
-    ("variant", "Alone", "At Variant", ["Hash Brackets Pub Restriction Word Union Parentheses Braces"]),
-    ("generics", "Alone", "At Generics", [
+    ("variant", "Alone", "Alone", "At Variant", ["Hash Brackets Pub Restriction Word Union Parentheses Braces Equals"]),
+    ("variants", "Variants", "Alone", "At Variant", [
+        "Hash Brackets Word Comma Equals Less", "Word Equals Comma Less Greater As",
+        "Pub Word Comma Equals Braces", "Word Equals Comma Jump Dot Bar"]),
+    ("expression", "Alone", "Alone", "At Expression", [
+        "Word Comma Equals Less LessJoint PathSeparator Literal As",
+        "Word As Comma Less Greater PathSeparator Star And Arrow",
+        "Bar Bars Word Comma Colon Less Greater Arrow Braces",
+        "Word Dot And Exclamation Question Lifetime Jump Hash Brackets",
+        "Word Less LessJoint LessEquals Greater Comma Parentheses",
+        "Await Keyword For Truth Minus Plus Infix Union Invisible"]),
+    ("generics", "Alone", "Alone", "At Generics", [
         "Less Greater Lifetime Word Comma Colon", "Less Greater Const Word Colon Equals",
         "Less Greater Hash Brackets Word", "Less Greater Const Word Colon Equals Minus Literal Braces"]),
-    ("where", "Alone", "At Where", [
+    ("where", "Alone", "Alone", "At Where", [
         "Where Word Colon Comma Plus Less Greater", "Where Lifetime Colon Brackets Comma For"]),
-    ("item", "Alone", "At Item", [
+    ("item", "Alone", "Alone", "At Item", [
         "Struct Word Parentheses Braces Semicolon Where Colon", "Enum Union Word Braces Semicolon Where Colon",
         "Struct Word Less Greater Semicolon Lifetime", "Hash Brackets Pub Restriction Struct Word Semicolon"]),
 ]
@@ -220,10 +244,10 @@ PARTS = [
 def main():
     longest = int(sys.argv[1]) if len(sys.argv) > 1 else 6
     rules, tables, wrong, count = grammar(open(os.path.join(HERE, "grammar.txt")).read()), Tables(), 0, 0
-    for part, rule, state, alphabets in PARTS:
+    for part, item, rule, state, alphabets in PARTS:
         fronts = whole = 0
         for alphabet in alphabets:
-            open_fronts = [((), ("Alone", rule, state, 0))]
+            open_fronts = [((), (item, rule, state, 0))]
             while open_fronts:
                 signs, place = open_fronts.pop()
                 reader = Reader(rules, signs)

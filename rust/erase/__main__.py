@@ -24,12 +24,12 @@ TOOLS = TOP / 'rust/tools'
 # The library crates, lowest first, whose text becomes modules of the package.
 LIBRARIES = [
     'lexical', 'literal_escaper', 'pm_span', 'pm_token', 'pm_stream', 'token_buffer', 'proc_macro2', 'quoting',
-    'explain', 'layout', 'pretty_printer', 'relayout',
+    'explain', 'layout', 'pretty_printer', 'relayout', 'declarations',
 ]
 # The crates that only a test of the package takes.
 TESTED = ['conformance']
 # The library's own tests, which another test of the package takes.
-OWN_TESTS = ['lexical_tests', 'token_tests', 'stream_tests', 'quoting_tests']
+OWN_TESTS = ['lexical_tests', 'token_tests', 'stream_tests', 'quoting_tests', 'declarations_tests']
 # The programs, and the library that they share.
 PROGRAMS = ['messages', 'tokens', 'highlight', 'find_calls', 'pretty', 'rust_check', 'same']
 # What isn't erased: tests within the library, what is for them alone, tests of how many bytes a value takes in Rattle,

@@ -1,14 +1,15 @@
 -- From each place there is a way to an end.
-use Rattle.std.proofs.Common.{◌≡◌, refl, ◌∙◌, ap, ℕ, suc, zero, ◌-◌, ◌==◌, true, false, List, [], ◌∷◌, ◌++◌, Some}
-use Rattle.std.proofs.Common.{arith}
+use Rattle.std.proofs.Common.{◌≡◌, refl, sym, ◌∙◌, ap, subst, ℕ, suc, zero, ◌-◌, ◌==◌, true, false, List, [], ◌∷◌}
+use Rattle.std.proofs.Common.{◌++◌, Some, arith}
 use Rattle.std.proofs.lemmas.Bool.Decides.{nat_tests}
 use Rattle.declarations.proofs.WalkLemmas.{after, walk-cons}
 use Rattle.declarations.specs.Walk.{walk}
-use Rattle.declarations.specs.Grammar.{step, ends}
+use Rattle.declarations.specs.Grammar.{step, ends, range_state}
+use Rattle.declarations.specs.declared.types.Turn.TheVariants as turns
 use Rattle.declarations.specs.declared.class.Class.{Class}
 use Rattle.declarations.specs.declared.class.Class.TheVariants.{Word, Const, Literal, Less, Greater, Parentheses}
 use Rattle.declarations.specs.declared.class.Class.TheVariants.{Colon, Semicolon, Braces, Brackets, Struct, Lifetime}
-use Rattle.declarations.specs.declared.class.Class.TheVariants.{Where}
+use Rattle.declarations.specs.declared.class.Class.TheVariants.{Where, Bar, Dot}
 use Rattle.declarations.specs.declared.grammar.Item.{Item}
 use Rattle.declarations.specs.declared.grammar.Item.TheVariants as items
 use Rattle.declarations.specs.declared.grammar.Place.{Place}
@@ -56,6 +57,7 @@ after_generics items.Struct rule depth =
 after_generics items.Tuple rule depth =
     led (at items.Tuple rule spots.AfterGenerics depth) (at items.Alone places.Alone spots.ItemEnd depth)
     (Semicolon ∷ []) (λ more. refl) (here (at items.Alone places.Alone spots.ItemEnd depth) refl)
+after_generics items.Variants rule depth = here (at items.Variants rule spots.AfterGenerics depth) refl
 after_generics items.Braced rule depth =
     led (at items.Braced rule spots.AfterGenerics depth) (at items.Alone places.Alone spots.ItemEnd depth)
     (Braces ∷ []) (λ more. refl) (here (at items.Alone places.Alone spots.ItemEnd depth) refl)
@@ -72,6 +74,7 @@ predicate items.Struct rule depth =
 predicate items.Tuple rule depth =
     led (at items.Tuple rule spots.Predicate depth) (at items.Alone places.Alone spots.ItemEnd depth)
     (Semicolon ∷ []) (λ more. refl) (item_end depth)
+predicate items.Variants rule depth = here (at items.Variants rule spots.Predicate depth) refl
 predicate items.Braced rule depth =
     led (at items.Braced rule spots.Predicate depth) (at items.Alone places.Alone spots.ItemEnd depth)
     (Braces ∷ []) (λ more. refl) (item_end depth)
@@ -84,6 +87,7 @@ bounds_end items.Struct =
 bounds_end items.Tuple =
     led (in_type items.Tuple places.Predicate types.Whole 0) (at items.Alone places.Alone spots.ItemEnd 0)
     (Semicolon ∷ []) (λ more. refl) (item_end 0)
+bounds_end items.Variants = here (in_type items.Variants places.Predicate types.Whole 0) refl
 bounds_end items.Braced =
     led (in_type items.Braced places.Predicate types.Whole 0) (at items.Alone places.Alone spots.ItemEnd 0)
     (Braces ∷ []) (λ more. refl) (item_end 0)
@@ -105,21 +109,68 @@ outside item places.Bounded =
     led (in_type item places.Bounded types.Whole 0) (in_type item places.Predicate types.Whole 0)
     (Colon ∷ Word ∷ []) (λ more. refl) (bounds_end item)
 outside item places.Predicate = bounds_end item
+outside item places.Angle = here (in_type item places.Angle types.Whole 0) refl
+outside item places.CastAngle = here (in_type item places.CastAngle types.Whole 0) refl
+outside item places.ClosureAngle = here (in_type item places.ClosureAngle types.Whole 0) refl
 
 -- a bracket that is open is closed
+after_close : Item → Rule → ℕ → Place
+after_close item rule depth = record {
+  item = item;
+  rule = rule;
+  state = range_state rule types.Whole turns.Close depth;
+  depth = depth;
+}
+
 closer : (item : Item) (rule : Rule) (depth : ℕ)
-    → step (in_type item rule types.Whole (suc depth)) Greater ≡ Some (in_type item rule types.Whole depth)
+    → step (in_type item rule types.Whole (suc depth)) Greater ≡ Some (after_close item rule depth)
+unfolding after_close
 closer item rule depth =
     let inside : (suc depth == 0) ≡ false = grind (arith, nat_tests) in
     let fewer : suc depth - 1 ≡ depth = omega arith in
     rw (inside, fewer) refl
 
+closure : (item : Item) (rule : Rule) (depth : ℕ) → GoesOn (at item rule spots.Closure depth)
+closure item rule depth =
+    led (at item rule spots.Closure depth) (at item places.Alone spots.ExpressionWhole depth) (Bar ∷ Word ∷ [])
+    (λ more. refl) (here (at item places.Alone spots.ExpressionWhole depth) refl)
+
+-- after the last of them
+closed : (item : Item) (rule : Rule) → GoesOn (after_close item rule 0)
+unfolding after_close
+closed item places.Angle = here (at item places.Angle spots.ExpressionWhole 0) refl
+closed item places.CastAngle = here (at item places.CastAngle spots.CastWhole 0) refl
+closed item places.ClosureAngle = closure item places.ClosureAngle 0
+closed item places.Alone = outside item places.Alone
+closed item places.Fields = outside item places.Fields
+closed item places.TupleFields = outside item places.TupleFields
+closed item places.Parameter = outside item places.Parameter
+closed item places.TypeParameter = outside item places.TypeParameter
+closed item places.ConstParameter = outside item places.ConstParameter
+closed item places.Bounded = outside item places.Bounded
+closed item places.Predicate = outside item places.Predicate
+
+still_within : (item : Item) (rule : Rule) (depth : ℕ)
+    → after_close item rule (suc depth) ≡ in_type item rule types.Whole (suc depth)
+unfolding after_close
+still_within item rule depth =
+    let inside : (suc depth == 0) ≡ false = grind (arith, nat_tests) in
+    rw inside refl
+
+closes : (item : Item) (rule : Rule) (depth : ℕ) → GoesOn (after_close item rule depth)
+closes item rule zero = closed item rule
+closes item rule (suc depth) =
+    subst GoesOn (sym (still_within item rule depth))
+    (led (in_type item rule types.Whole (suc depth)) (after_close item rule depth) (Greater ∷ [])
+    (λ more. walk-cons step (in_type item rule types.Whole (suc depth)) Greater more
+    ∙ ap (λ o. after step o more) (closer item rule depth)) (closes item rule depth))
+
 whole : (item : Item) (rule : Rule) (depth : ℕ) → GoesOn (in_type item rule types.Whole depth)
 whole item rule zero = outside item rule
 whole item rule (suc depth) =
-    led (in_type item rule types.Whole (suc depth)) (in_type item rule types.Whole depth) (Greater ∷ [])
+    led (in_type item rule types.Whole (suc depth)) (after_close item rule depth) (Greater ∷ [])
     (λ more. walk-cons step (in_type item rule types.Whole (suc depth)) Greater more
-    ∙ ap (λ o. after step o more) (closer item rule depth)) (whole item rule depth)
+    ∙ ap (λ o. after step o more) (closer item rule depth)) (closes item rule depth)
 
 to_whole : (item : Item) (rule : Rule) (depth : ℕ) (place : Place) (front : List Class)
     → ((more : List Class) → walk step place (front ++ more) ≡ walk step (in_type item rule types.Whole depth) more)
@@ -231,6 +282,36 @@ from_spot item rule spots.StructName depth =
     to_end depth (at item rule spots.StructName depth) (Word ∷ Semicolon ∷ []) (λ more. refl)
 from_spot item rule spots.BracedName depth =
     to_end depth (at item rule spots.BracedName depth) (Word ∷ Braces ∷ []) (λ more. refl)
+from_spot item rule spots.ExpressionOpen depth = here (at item rule spots.ExpressionOpen depth) refl
+from_spot item rule spots.ExpressionWhole depth = here (at item rule spots.ExpressionWhole depth) refl
+from_spot item rule spots.CastWhole depth = here (at item rule spots.CastWhole depth) refl
+from_spot item rule spots.Expression depth =
+    led (at item rule spots.Expression depth) (at item places.Alone spots.ExpressionWhole depth) (Word ∷ [])
+    (λ more. refl)
+    (here (at item places.Alone spots.ExpressionWhole depth) refl)
+from_spot item rule spots.ExpressionLess depth =
+    led (at item rule spots.ExpressionLess depth) (at item places.Alone spots.ExpressionWhole depth) (Word ∷ [])
+    (λ more. refl)
+    (here (at item places.Alone spots.ExpressionWhole depth) refl)
+from_spot item rule spots.ExpressionDot depth =
+    led (at item rule spots.ExpressionDot depth) (at item places.Alone spots.ExpressionWhole depth) (Word ∷ [])
+    (λ more. refl)
+    (here (at item places.Alone spots.ExpressionWhole depth) refl)
+from_spot item rule spots.ExpressionHash depth =
+    led (at item rule spots.ExpressionHash depth) (at item places.Alone spots.ExpressionWhole depth)
+    (Brackets ∷ Word ∷ []) (λ more. refl)
+    (here (at item places.Alone spots.ExpressionWhole depth) refl)
+from_spot item rule spots.ExpressionRange depth =
+    led (at item rule spots.ExpressionRange depth) (at item places.Alone spots.ExpressionOpen depth)
+    (Dot ∷ []) (λ more. refl)
+    (here (at item places.Alone spots.ExpressionOpen depth) refl)
+from_spot item rule spots.Cast depth =
+    led (at item rule spots.Cast depth) (at item places.Alone spots.CastWhole depth) (Word ∷ []) (λ more. refl)
+    (here (at item places.Alone spots.CastWhole depth) refl)
+from_spot item rule spots.Closure depth = closure item rule depth
+from_spot item rule spots.VariantAttributed depth =
+    led (at item rule spots.VariantAttributed depth) (at item rule spots.VariantName depth) (Word ∷ []) (λ more. refl)
+    (here (at item rule spots.VariantName depth) refl)
 from_spot item rule spots.VariantName depth = here (at item rule spots.VariantName depth) refl
 from_spot item rule spots.VariantEnd depth = here (at item rule spots.VariantEnd depth) refl
 from_spot item rule spots.Variant depth =

@@ -51,9 +51,17 @@ AreFields = IsFrom (start rules.Fields (states.At spots.Field))
 abbrev pub AreTupleFields : List Class → List Class → Type 0
 AreTupleFields = IsFrom (start rules.TupleFields (states.At spots.TupleField))
 
--- a variant up to its discriminant: attributes, a visibility, a name, and perhaps its fields
+-- a variant: attributes, a visibility, a name, and perhaps its fields, and its discriminant
 abbrev pub IsVariant : List Class → List Class → Type 0
 IsVariant = IsFrom (start rules.Alone (states.At spots.Variant))
+
+-- variants, with `,` between two and perhaps after the last
+abbrev pub AreVariants : List Class → List Class → Type 0
+AreVariants = IsFrom (record { item = items.Variants; rule = rules.Alone; state = states.At spots.Variant; depth = 0 })
+
+-- the expression of a discriminant, whose end alone is read
+abbrev pub IsExpression : List Class → List Class → Type 0
+IsExpression = IsFrom (start rules.Alone (states.At spots.Expression))
 
 -- generic parameters in angle brackets, or nothing
 abbrev pub AreGenerics : List Class → List Class → Type 0

@@ -19,8 +19,18 @@ use Rattle.declarations.specs.declared.types.TypeState.{TypeState}
 use Rattle.declarations.specs.declared.types.TypeState.TheVariants as types
 use Rattle.declarations.specs.declared.types.TypeStep.{TypeStep}
 
+abbrev pub turn_to : Item → Rule → State → Turn → Option Shift
+turn_to item rule state turn = Some (record { item = item; rule = rule; state = state; turn = turn })
+
 abbrev pub move_to : Item → Rule → State → Option Shift
-move_to item rule state = Some (record { item = item; rule = rule; state = state })
+move_to item rule state = turn_to item rule state turns.Stay
+
+-- into angle brackets
+abbrev pub open_angle : Item → Rule → Option Shift
+open_angle item rule = turn_to item rule (states.Range types.Open) turns.Open
+
+abbrev pub to_spot : Item → Spot → Option Shift
+to_spot item spot = move_to item rules.Alone (states.At spot)
 
 -- ---- signs outside of types
 
@@ -33,13 +43,23 @@ body items.Tuple signs.Semicolon = move_to items.Alone rules.Alone (states.At sp
 body items.Braced signs.Braces = move_to items.Alone rules.Alone (states.At spots.ItemEnd)
 body _ _ = None
 
--- a where clause may stand before it, and the fields in parentheses of a struct
+-- a where clause of an item
+abbrev pub where_clause : Item → Option Shift
+where_clause items.Struct = move_to items.Struct rules.Alone (states.At spots.Predicate)
+where_clause items.Tuple = move_to items.Tuple rules.Alone (states.At spots.Predicate)
+where_clause items.Braced = move_to items.Braced rules.Alone (states.At spots.Predicate)
+where_clause _ = None
+
+-- the fields in parentheses of a struct
+abbrev pub tuple_fields : Item → Option Shift
+tuple_fields items.Struct = move_to items.Tuple rules.Alone (states.At spots.AfterGenerics)
+tuple_fields _ = None
+
+-- these may stand before its body
 abbrev pub closing : Item → Class → Option Shift
-closing items.Struct signs.Where = move_to items.Struct rules.Alone (states.At spots.Predicate)
-closing items.Tuple signs.Where = move_to items.Tuple rules.Alone (states.At spots.Predicate)
-closing items.Braced signs.Where = move_to items.Braced rules.Alone (states.At spots.Predicate)
-closing items.Struct signs.Parentheses = move_to items.Tuple rules.Alone (states.At spots.AfterGenerics)
-closing items.Struct signs.Restriction = move_to items.Tuple rules.Alone (states.At spots.AfterGenerics)
+closing item signs.Where = where_clause item
+closing item signs.Parentheses = tuple_fields item
+closing item signs.Restriction = tuple_fields item
 closing item class = body item class
 
 -- after a parameter that is whole
@@ -84,12 +104,22 @@ variant_step item rule signs.Word = move_to item rule (states.At spots.VariantNa
 variant_step item rule signs.Union = move_to item rule (states.At spots.VariantName)
 variant_step item rule _ = None
 
+-- after a variant that is whole, in a list
+abbrev pub variant_end : Item → Class → Option Shift
+variant_end items.Variants signs.Comma = to_spot items.Variants spots.Variant
+variant_end _ _ = None
+
+-- before its discriminant
+abbrev pub variant_value : Item → Class → Option Shift
+variant_value item signs.Equals = to_spot item spots.Expression
+variant_value item class = variant_end item class
+
 -- after its name
 abbrev pub variant_body : Item → Rule → Class → Option Shift
 variant_body item rule signs.Parentheses = move_to item rule (states.At spots.VariantEnd)
 variant_body item rule signs.Restriction = move_to item rule (states.At spots.VariantEnd)
 variant_body item rule signs.Braces = move_to item rule (states.At spots.VariantEnd)
-variant_body item rule _ = None
+variant_body item rule class = variant_value item class
 
 -- before a generic parameter
 abbrev pub parameter_step : Item → Class → Option Shift
@@ -113,6 +143,176 @@ item_step signs.Hash = move_to items.Alone rules.Alone (states.At spots.ItemHash
 item_step signs.Pub = move_to items.Alone rules.Alone (states.At spots.ItemPublic)
 item_step class = visible_step class
 
+-- ---- the expressions of discriminants
+
+-- where an operand is wanted
+abbrev pub expression : Item → Class → Option Shift
+expression item signs.Restriction = to_spot item spots.ExpressionWhole
+expression item signs.Parentheses = to_spot item spots.ExpressionWhole
+expression item signs.Brackets = to_spot item spots.ExpressionWhole
+expression item signs.Braces = to_spot item spots.ExpressionWhole
+expression item signs.Invisible = to_spot item spots.ExpressionWhole
+expression item signs.Word = to_spot item spots.ExpressionWhole
+expression item signs.Union = to_spot item spots.ExpressionWhole
+expression item signs.SelfValue = to_spot item spots.ExpressionWhole
+expression item signs.SelfType = to_spot item spots.ExpressionWhole
+expression item signs.Super = to_spot item spots.ExpressionWhole
+expression item signs.Crate = to_spot item spots.ExpressionWhole
+expression item signs.Underscore = to_spot item spots.ExpressionWhole
+expression item signs.Truth = to_spot item spots.ExpressionWhole
+expression item signs.Literal = to_spot item spots.ExpressionWhole
+expression item signs.Await = to_spot item spots.ExpressionWhole
+expression item signs.Less = open_angle item rules.Angle
+expression item signs.LessJoint = open_angle item rules.Angle
+expression item signs.Lifetime = to_spot item spots.ExpressionOpen
+expression item signs.Jump = to_spot item spots.ExpressionOpen
+expression item signs.Dot = to_spot item spots.ExpressionRange
+expression item signs.Minus = to_spot item spots.Expression
+expression item signs.Star = to_spot item spots.Expression
+expression item signs.And = to_spot item spots.Expression
+expression item signs.Exclamation = to_spot item spots.Expression
+expression item signs.Equals = to_spot item spots.Expression
+expression item signs.Greater = to_spot item spots.Expression
+expression item signs.PathSeparator = to_spot item spots.Expression
+expression item signs.Bars = to_spot item spots.Expression
+expression item signs.Keyword = to_spot item spots.Expression
+expression item signs.Mut = to_spot item spots.Expression
+expression item signs.Const = to_spot item spots.Expression
+expression item signs.Extern = to_spot item spots.Expression
+expression item signs.For = to_spot item spots.Expression
+expression item signs.In = to_spot item spots.Expression
+expression item signs.Pub = to_spot item spots.Expression
+expression item signs.Where = to_spot item spots.Expression
+expression item signs.Struct = to_spot item spots.Expression
+expression item signs.Enum = to_spot item spots.Expression
+expression item signs.TypeFront = to_spot item spots.Expression
+expression item signs.Hash = to_spot item spots.ExpressionHash
+expression item signs.Bar = to_spot item spots.Closure
+expression item signs.Arrow = to_spot item spots.Cast
+expression item _ = None
+
+-- where an operand may stand, or what follows one
+abbrev pub expression_open : Item → Class → Option Shift
+expression_open item signs.Dot = to_spot item spots.ExpressionOpen
+expression_open item signs.Question = to_spot item spots.ExpressionWhole
+expression_open item signs.Plus = to_spot item spots.Expression
+expression_open item signs.Infix = to_spot item spots.Expression
+expression_open item signs.Colon = to_spot item spots.Expression
+expression_open item signs.Comma = variant_end item signs.Comma
+expression_open item class = expression item class
+
+-- after an operand, of an expression or of a cast
+abbrev pub operator : Item → Class → Option Shift
+operator item signs.Restriction = to_spot item spots.ExpressionWhole
+operator item signs.Parentheses = to_spot item spots.ExpressionWhole
+operator item signs.Brackets = to_spot item spots.ExpressionWhole
+operator item signs.Braces = to_spot item spots.ExpressionWhole
+operator item signs.Invisible = to_spot item spots.ExpressionWhole
+operator item signs.Question = to_spot item spots.ExpressionWhole
+operator item signs.Await = to_spot item spots.ExpressionWhole
+operator item signs.Jump = to_spot item spots.ExpressionOpen
+operator item signs.Dot = to_spot item spots.ExpressionDot
+operator item signs.As = to_spot item spots.Cast
+operator item signs.Arrow = to_spot item spots.Cast
+operator item signs.Minus = to_spot item spots.Expression
+operator item signs.Star = to_spot item spots.Expression
+operator item signs.And = to_spot item spots.Expression
+operator item signs.Exclamation = to_spot item spots.Expression
+operator item signs.Equals = to_spot item spots.Expression
+operator item signs.Greater = to_spot item spots.Expression
+operator item signs.Plus = to_spot item spots.Expression
+operator item signs.Infix = to_spot item spots.Expression
+operator item signs.Colon = to_spot item spots.Expression
+operator item signs.Bar = to_spot item spots.Expression
+operator item signs.Bars = to_spot item spots.Expression
+operator item signs.LessEquals = to_spot item spots.Expression
+operator item signs.Keyword = to_spot item spots.Expression
+operator item signs.Mut = to_spot item spots.Expression
+operator item signs.Const = to_spot item spots.Expression
+operator item signs.Extern = to_spot item spots.Expression
+operator item signs.For = to_spot item spots.Expression
+operator item signs.In = to_spot item spots.Expression
+operator item signs.Pub = to_spot item spots.Expression
+operator item signs.Where = to_spot item spots.Expression
+operator item signs.Struct = to_spot item spots.Expression
+operator item signs.Enum = to_spot item spots.Expression
+operator item signs.TypeFront = to_spot item spots.Expression
+operator item signs.Comma = variant_end item signs.Comma
+operator item _ = None
+
+-- after an operand
+abbrev pub expression_whole : Item → Class → Option Shift
+expression_whole item signs.PathSeparator = to_spot item spots.Expression
+expression_whole item signs.Less = to_spot item spots.Expression
+expression_whole item signs.LessJoint = to_spot item spots.ExpressionLess
+expression_whole item class = operator item class
+
+-- after `<` that is an operator and Joint: another belongs to it
+abbrev pub expression_less : Item → Class → Option Shift
+expression_less item signs.Less = to_spot item spots.Expression
+expression_less item signs.LessJoint = to_spot item spots.Expression
+expression_less item signs.LessEquals = to_spot item spots.Expression
+expression_less item class = expression item class
+
+-- after an operand and `.`
+abbrev pub expression_dot : Item → Class → Option Shift
+expression_dot item signs.Dot = to_spot item spots.ExpressionOpen
+expression_dot item class = expression item class
+
+-- within the bars of a closure
+abbrev pub closure : Item → Class → Option Shift
+closure item signs.Bar = to_spot item spots.Expression
+closure item signs.Less = open_angle item rules.ClosureAngle
+closure item signs.LessJoint = open_angle item rules.ClosureAngle
+closure item signs.Semicolon = None
+closure item _ = to_spot item spots.Closure
+
+-- where the type of a cast is wanted
+abbrev pub cast : Item → Class → Option Shift
+cast item signs.Restriction = to_spot item spots.CastWhole
+cast item signs.Parentheses = to_spot item spots.CastWhole
+cast item signs.Brackets = to_spot item spots.CastWhole
+cast item signs.Braces = to_spot item spots.CastWhole
+cast item signs.Invisible = to_spot item spots.CastWhole
+cast item signs.Word = to_spot item spots.CastWhole
+cast item signs.Union = to_spot item spots.CastWhole
+cast item signs.SelfValue = to_spot item spots.CastWhole
+cast item signs.SelfType = to_spot item spots.CastWhole
+cast item signs.Super = to_spot item spots.CastWhole
+cast item signs.Crate = to_spot item spots.CastWhole
+cast item signs.Underscore = to_spot item spots.CastWhole
+cast item signs.Truth = to_spot item spots.CastWhole
+cast item signs.Less = open_angle item rules.CastAngle
+cast item signs.LessJoint = open_angle item rules.CastAngle
+cast item signs.Lifetime = to_spot item spots.Cast
+cast item signs.PathSeparator = to_spot item spots.Cast
+cast item signs.Arrow = to_spot item spots.Cast
+cast item signs.Star = to_spot item spots.Cast
+cast item signs.And = to_spot item spots.Cast
+cast item signs.Exclamation = to_spot item spots.Cast
+cast item signs.As = to_spot item spots.Cast
+cast item signs.Jump = to_spot item spots.Cast
+cast item signs.Await = to_spot item spots.Cast
+cast item signs.Keyword = to_spot item spots.Cast
+cast item signs.Mut = to_spot item spots.Cast
+cast item signs.Const = to_spot item spots.Cast
+cast item signs.Extern = to_spot item spots.Cast
+cast item signs.For = to_spot item spots.Cast
+cast item signs.In = to_spot item spots.Cast
+cast item signs.Pub = to_spot item spots.Cast
+cast item signs.Where = to_spot item spots.Cast
+cast item signs.Struct = to_spot item spots.Cast
+cast item signs.Enum = to_spot item spots.Cast
+cast item signs.TypeFront = to_spot item spots.Cast
+cast item _ = None
+
+-- after the type of a cast, or a part of it
+abbrev pub cast_whole : Item → Class → Option Shift
+cast_whole item signs.PathSeparator = to_spot item spots.Cast
+cast_whole item signs.Less = open_angle item rules.CastAngle
+cast_whole item signs.LessJoint = open_angle item rules.CastAngle
+cast_whole item class = operator item class
+
 -- what a sign leads to at a spot
 abbrev pub spot_step : Item → Rule → Spot → Class → Option Shift
 spot_step item rule spots.Attributes signs.Hash = move_to item rule (states.At spots.AttributeHash)
@@ -133,14 +333,27 @@ spot_step item rule spots.TupleHash signs.Brackets = move_to item rule (states.A
 spot_step item rule spots.TupleAttributed class = tuple_step item rule class
 spot_step item rule spots.TuplePublic signs.Restriction = move_to item rule (states.Range types.Wanted)
 spot_step item rule spots.Variant class = variant_step item rule class
-spot_step item rule spots.VariantHash signs.Brackets = move_to item rule (states.At spots.Variant)
+spot_step item rule spots.VariantHash signs.Brackets = move_to item rule (states.At spots.VariantAttributed)
+spot_step item rule spots.VariantAttributed class = variant_step item rule class
 spot_step item rule spots.VariantPublic signs.Restriction = move_to item rule (states.At spots.VariantVisible)
 spot_step item rule spots.VariantPublic signs.Word = move_to item rule (states.At spots.VariantName)
 spot_step item rule spots.VariantPublic signs.Union = move_to item rule (states.At spots.VariantName)
 spot_step item rule spots.VariantVisible signs.Word = move_to item rule (states.At spots.VariantName)
 spot_step item rule spots.VariantVisible signs.Union = move_to item rule (states.At spots.VariantName)
 spot_step item rule spots.VariantName class = variant_body item rule class
+spot_step item rule spots.VariantEnd class = variant_value item class
+spot_step item rule spots.Expression class = expression item class
+spot_step item rule spots.ExpressionOpen class = expression_open item class
+spot_step item rule spots.ExpressionWhole class = expression_whole item class
+spot_step item rule spots.ExpressionLess class = expression_less item class
+spot_step item rule spots.ExpressionDot class = expression_dot item class
+spot_step item rule spots.ExpressionRange signs.Dot = to_spot item spots.ExpressionOpen
+spot_step item rule spots.ExpressionHash signs.Brackets = to_spot item spots.Expression
+spot_step item rule spots.Closure class = closure item class
+spot_step item rule spots.Cast class = cast item class
+spot_step item rule spots.CastWhole class = cast_whole item class
 spot_step item rule spots.Generics signs.Less = move_to item rules.Alone (states.At spots.Parameter)
+spot_step item rule spots.Generics signs.LessJoint = move_to item rules.Alone (states.At spots.Parameter)
 spot_step item rule spots.Generics class = closing item class
 spot_step item rule spots.Parameter signs.Greater = move_to item rules.Alone (states.At spots.AfterGenerics)
 spot_step item rule spots.Parameter class = parameter_step item class
@@ -190,12 +403,25 @@ turned turns.Stay depth = depth
 turned turns.Open depth = depth + 1
 turned turns.Close depth = depth - 1
 
+-- where an expression goes on after its angle brackets
+abbrev pub after_angle : Rule → TypeState → State
+after_angle rules.Angle state = states.At spots.ExpressionWhole
+after_angle rules.CastAngle state = states.At spots.CastWhole
+after_angle rules.ClosureAngle state = states.At spots.Closure
+after_angle _ state = states.Range state
+
+-- the state after a step within a type, which may close the brackets of an expression
+abbrev pub range_state : Rule → TypeState → Turn → ℕ → State
+range_state rule state turns.Close depth = if depth == 0 then after_angle rule state else states.Range state
+range_state rule state turns.Stay depth = states.Range state
+range_state rule state turns.Open depth = states.Range state
+
 abbrev pub ranged : Place → Option TypeStep → Option Place
 ranged place None = None
 ranged place (Some taken) = Some (record {
   item = place.item;
   rule = place.rule;
-  state = states.Range taken.state;
+  state = range_state place.rule taken.state taken.turn (turned taken.turn place.depth);
   depth = turned taken.turn place.depth;
 })
 
@@ -205,7 +431,8 @@ range_step place state class = ranged place (step_of state class (place.depth ==
 
 abbrev pub shifted : ℕ → Option Shift → Option Place
 shifted depth None = None
-shifted depth (Some s) = Some (record { item = s.item; rule = s.rule; state = s.state; depth = depth })
+shifted depth (Some s) =
+    Some (record { item = s.item; rule = s.rule; state = s.state; depth = turned s.turn depth })
 
 abbrev pub else_follow : Option Place → Place → TypeState → Class → Option Place
 else_follow (Some next) place state class = Some next
@@ -230,8 +457,10 @@ step place class = step_from place.state place class
 
 -- ---- ends
 
+-- whether no item is declared around a part, whose body would have to follow
 abbrev pub is_alone : Item → Bool
 is_alone items.Alone = true
+is_alone items.Variants = true
 is_alone _ = false
 
 -- whether what is read may end after a type or bounds
@@ -240,6 +469,9 @@ rule_ends item rules.Alone = true
 rule_ends item rules.Fields = true
 rule_ends item rules.TupleFields = true
 rule_ends item rules.Predicate = is_alone item
+rule_ends item rules.Angle = true
+rule_ends item rules.CastAngle = true
+rule_ends item rules.ClosureAngle = true
 rule_ends item _ = false
 
 abbrev pub spot_ends : Item → Rule → Spot → Bool
@@ -253,7 +485,11 @@ spot_ends item rule spots.Generics = is_alone item
 spot_ends item rule spots.AfterGenerics = is_alone item
 spot_ends item rule spots.Where = is_alone item
 spot_ends item rule spots.Predicate = is_alone item
+spot_ends items.Variants rule spots.Variant = true
 spot_ends item rule spots.VariantName = true
+spot_ends item rule spots.ExpressionOpen = true
+spot_ends item rule spots.ExpressionWhole = true
+spot_ends item rule spots.CastWhole = true
 spot_ends item rule spots.VariantEnd = true
 spot_ends item rule spots.ItemEnd = true
 spot_ends item rule _ = false

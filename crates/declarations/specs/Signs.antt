@@ -53,15 +53,21 @@ type_class ident =
     else (if is_truth ident then Some classes.Truth
     else (if is_type_front ident then Some classes.TypeFront else None))))))
 
+-- the keywords that are operands of an expression, or stand before one that may be left out
+abbrev pub expression_class : Name → Option Class
+expression_class ident =
+    if is_written ident (codes "await") then Some classes.Await
+    else (if is_written ident (codes "continue") then Some classes.Await
+    else (if is_written ident (codes "return") then Some classes.Jump
+    else (if is_written ident (codes "break") then Some classes.Jump
+    else (if is_written ident (codes "yield") then Some classes.Jump else None))))
+
 -- the keywords that no rule names
 abbrev pub is_early_keyword : Name → Bool
 is_early_keyword ident =
     is_written ident (codes "abstract")
-    || is_written ident (codes "await")
     || is_written ident (codes "become")
     || is_written ident (codes "box")
-    || is_written ident (codes "break")
-    || is_written ident (codes "continue")
     || is_written ident (codes "do")
     || is_written ident (codes "else")
     || is_written ident (codes "final")
@@ -78,7 +84,6 @@ is_middle_keyword ident =
     || is_written ident (codes "override")
     || is_written ident (codes "priv")
     || is_written ident (codes "ref")
-    || is_written ident (codes "return")
 
 abbrev pub is_late_keyword : Name → Bool
 is_late_keyword ident =
@@ -89,7 +94,6 @@ is_late_keyword ident =
     || is_written ident (codes "unsized")
     || is_written ident (codes "virtual")
     || is_written ident (codes "while")
-    || is_written ident (codes "yield")
 
 -- the keywords that stand elsewhere, and words
 abbrev pub item_class : Name → Class
@@ -109,12 +113,22 @@ or_else None class = class
 or_else (Some class) other = class
 
 abbrev pub name_class : Name → Class
-name_class ident = or_else (path_class ident) (or_else (type_class ident) (item_class ident))
+name_class ident =
+    or_else (path_class ident) (or_else (type_class ident) (or_else (expression_class ident) (item_class ident)))
 
--- a mark, by its character
-abbrev pub mark_class : ℕ → Class
-mark_class c =
-    if c == 60 then classes.Less
+-- a mark that stands in expressions alone
+abbrev pub operator_class : ℕ → Class
+operator_class c =
+    if c == 124 then classes.Bar
+    else (if c == 46 then classes.Dot
+    else (if (c == 47) || ((c == 37) || ((c == 94) || (c == 64))) then classes.Infix
+    else classes.Mark))
+
+-- a mark, by its character and whether it is Joint
+abbrev pub mark_class : ℕ → Bool → Class
+mark_class c joint =
+    if (c == 60) && joint then classes.LessJoint
+    else (if c == 60 then classes.Less
     else (if c == 62 then classes.Greater
     else (if c == 44 then classes.Comma
     else (if c == 58 then classes.Colon
@@ -128,7 +142,7 @@ mark_class c =
     else (if c == 33 then classes.Exclamation
     else (if c == 35 then classes.Hash
     else (if c == 126 then classes.Tilde
-    else classes.Mark)))))))))))))
+    else operator_class c))))))))))))))
 
 -- whether an identifier restricts `pub`, alone in parentheses or not
 abbrev pub restricts : Name → Bool → Bool
@@ -164,18 +178,21 @@ group_class delimiters.None inside = classes.Invisible
 abbrev pub tree_class : TokenTree → Class
 tree_class (Group g) = group_class g.delimiter g.stream
 tree_class (Ident i) = name_class i
-tree_class (Punct p) = mark_class p.mark
+tree_class (Punct p) = mark_class p.mark (is_joint p.spacing)
 tree_class (Literal l) = classes.Literal
 
--- two marks that are read as one: `::` (58, 58) and `->` (45, 62), where the first is Joint
-abbrev pub marks_class : Bool → ℕ → ℕ → Option Class
-marks_class joint first second =
-    if joint && (first == 58 && second == 58) then Some classes.PathSeparator
-    else (if joint && (first == 45 && second == 62) then Some classes.Arrow else None)
+-- two marks that are read as one where the first is Joint: `::` (58, 58), `->` (45, 62), `<=` (60, 61) and `||`
+-- (124, 124)
+abbrev pub marks_class : ℕ → ℕ → Option Class
+marks_class first second =
+    if (first == 58) && (second == 58) then Some classes.PathSeparator
+    else (if (first == 45) && (second == 62) then Some classes.Arrow
+    else (if (first == 60) && (second == 61) then Some classes.LessEquals
+    else (if (first == 124) && (second == 124) then Some classes.Bars else None)))
 
 -- the class of two trees that are read as one sign, if they are: those marks, or `'` (39) and an identifier
 abbrev pub pair_class : TokenTree → TokenTree → Option Class
-pair_class (Punct p) (Punct q) = marks_class (is_joint p.spacing) p.mark q.mark
+pair_class (Punct p) (Punct q) = if is_joint p.spacing then marks_class p.mark q.mark else None
 pair_class (Punct p) (Ident i) = if p.mark == 39 then Some classes.Lifetime else None
 pair_class _ _ = None
 

@@ -5,8 +5,8 @@ use Rattle.declarations.specs.declared.class.Class.TheVariants.{Word, Union, Sel
 use Rattle.declarations.specs.declared.class.Class.TheVariants.{Underscore, Mut, Const, Extern, For, As, Truth}
 use Rattle.declarations.specs.declared.class.Class.TheVariants.{TypeFront, Literal, Lifetime, PathSeparator, Arrow}
 use Rattle.declarations.specs.declared.class.Class.TheVariants.{Restriction, Parentheses, Brackets, Braces, Invisible}
-use Rattle.declarations.specs.declared.class.Class.TheVariants.{Less, Greater, Comma, Colon, Equals, Plus, Minus}
-use Rattle.declarations.specs.declared.class.Class.TheVariants.{Star, And, Question, Exclamation, Tilde}
+use Rattle.declarations.specs.declared.class.Class.TheVariants.{Less, LessJoint, Greater, Comma, Colon, Equals}
+use Rattle.declarations.specs.declared.class.Class.TheVariants.{Plus, Minus, Star, And, Question, Exclamation, Tilde}
 use Rattle.declarations.specs.declared.types.Turn.{Turn}
 use Rattle.declarations.specs.declared.types.Turn.TheVariants as turns
 use Rattle.declarations.specs.declared.types.TypeState.{TypeState}
@@ -53,6 +53,7 @@ operand Star outside = stay states.Pointer
 operand Tilde outside = stay states.Tilde
 operand Minus outside = within outside (stay states.Minus)
 operand Less outside = go states.Open turns.Open
+operand LessJoint outside = go states.Open turns.Open
 operand _ outside = None
 
 -- the step after an operand
@@ -68,6 +69,7 @@ continuation Equals outside = within outside (stay states.Wanted)
 continuation Comma outside = within outside (stay states.Open)
 continuation Colon outside = within outside (stay states.Open)
 continuation Less outside = go states.Open turns.Open
+continuation LessJoint outside = go states.Open turns.Open
 continuation Greater outside = within outside (go states.Whole turns.Close)
 continuation _ outside = None
 
@@ -107,6 +109,7 @@ minus _ = None
 
 abbrev pub for_binder : Class → Option TypeStep
 for_binder Less = stay states.Binder
+for_binder LessJoint = stay states.Binder
 for_binder _ = None
 
 abbrev pub binder : Class → Option TypeStep

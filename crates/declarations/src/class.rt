@@ -41,6 +41,10 @@ pub enum Class {
     Truth,
     /// `dyn`, `impl`, `unsafe`, `async`, `fn` or `use`: it stands before a type's operand.
     TypeFront,
+    /// `await` or `continue`.
+    Await,
+    /// `return`, `break` or `yield`.
+    Jump,
     /// Any other keyword.
     Keyword,
     /// A literal.
@@ -51,6 +55,10 @@ pub enum Class {
     PathSeparator,
     /// `->`
     Arrow,
+    /// `<=`
+    LessEquals,
+    /// `||`
+    Bars,
     /// `(crate)`, `(self)`, `(super)`, or `(in ..)`: parentheses that may restrict `pub`.
     Restriction,
     /// Any other `( .. )`.
@@ -61,8 +69,10 @@ pub enum Class {
     Braces,
     /// A group without delimiters.
     Invisible,
-    /// `<`
+    /// `<` that is Alone.
     Less,
+    /// `<` that is Joint.
+    LessJoint,
     /// `>`
     Greater,
     /// `,`
@@ -89,6 +99,12 @@ pub enum Class {
     Hash,
     /// `~`
     Tilde,
+    /// `|`
+    Bar,
+    /// `.`
+    Dot,
+    /// `/`, `%`, `^` or `@`.
+    Infix,
     /// Any other mark.
     Mark,
 }

@@ -1,10 +1,12 @@
 //! The grammar of declarations: what may follow each place.
 ghost use Rattle.std.specs.Prelude.{◌≡◌, ◌+◌, ◌≤◌, ◌<◌, ◌^◌, IfSome};
-ghost use Rattle.declarations.specs.Grammar.{body, ends, follow, parameter_end, range_step, rule_ends, move_to};
-ghost use Rattle.declarations.specs.Grammar.{spot_ends};
-ghost use Rattle.declarations.specs.Grammar.{spot_step, spot_type, step, closing, item_step, parameter_step};
-ghost use Rattle.declarations.specs.Grammar.{visible_step};
-ghost use Rattle.declarations.specs.Grammar.{field_step, is_alone, shifted, tuple_step, variant_body, variant_step};
+ghost use Rattle.declarations.specs.Grammar.{after_angle, body, cast, cast_whole, closing, closure, ends, expression};
+ghost use Rattle.declarations.specs.Grammar.{expression_dot, expression_less, expression_open, expression_whole};
+ghost use Rattle.declarations.specs.Grammar.{field_step, follow, is_alone, item_step, move_to, open_angle, operator};
+ghost use Rattle.declarations.specs.Grammar.{parameter_end, parameter_step, range_state, range_step, rule_ends};
+ghost use Rattle.declarations.specs.Grammar.{shifted, spot_ends, spot_step, spot_type, step, to_spot, tuple_fields};
+ghost use Rattle.declarations.specs.Grammar.{tuple_step, turn_to, variant_body, variant_end, variant_step};
+ghost use Rattle.declarations.specs.Grammar.{variant_value, visible_step, where_clause};
 ghost use Rattle.declarations.specs.TypeStep.{may_end};
 
 use crate::class::Class;
@@ -21,6 +23,8 @@ pub enum Item {
     Tuple,
     /// An enum or a union.
     Braced,
+    /// The list of an enum's variants.
+    Variants,
 }
 
 /// What may follow a type or bounds.
@@ -42,6 +46,12 @@ pub enum Rule {
     Bounded,
     /// `,` and a predicate, or what follows a where clause.
     Predicate,
+    /// Within angle brackets of an expression, which goes on after them.
+    Angle,
+    /// The same, in the type of a cast.
+    CastAngle,
+    /// The same, in the parameters of a closure.
+    ClosureAngle,
 }
 
 /// A place outside of types and bounds.
@@ -73,12 +83,34 @@ pub enum Spot {
     /// Before a variant.
     Variant,
     VariantHash,
+    /// After an attribute of it.
+    VariantAttributed,
     VariantPublic,
     VariantVisible,
     /// After its name, where it may end.
     VariantName,
     /// After its fields.
     VariantEnd,
+    /// Where an expression wants an operand.
+    Expression,
+    /// Where one may stand, or the expression may end.
+    ExpressionOpen,
+    /// After an operand.
+    ExpressionWhole,
+    /// After `<` that is an operator and Joint.
+    ExpressionLess,
+    /// After an operand and `.`.
+    ExpressionDot,
+    /// After the `.` that begins a range.
+    ExpressionRange,
+    /// After the `#` of an attribute.
+    ExpressionHash,
+    /// Within the bars of a closure.
+    Closure,
+    /// Where the type of a cast is wanted.
+    Cast,
+    /// After the type of a cast.
+    CastWhole,
     /// Before `<` and generic parameters, which may be left out.
     Generics,
     /// Before a generic parameter.
@@ -134,6 +166,7 @@ pub struct Shift {
     pub item: Item,
     pub rule: Rule,
     pub state: State,
+    pub turn: Turn,
 }
 
 impl Place {
@@ -198,16 +231,27 @@ fn range_step(place: Place, state: TypeState, class: Class) -> Option<Place>
     Some(Place {
         item: place.item,
         rule: place.rule,
-        state: State::Range(taken.state),
+        state: range_state(place.rule, taken.state, taken.turn, depth),
         depth,
     })
 }
 
 fn shifted(depth: usize, shift: Option<Shift>) -> Option<Place>
+    requires { depth + 1 < 2 ^ 64 }
     ensures value { result ≡ shifted depth shift }
-    ensures depth { IfSome result (λ next. next.depth ≡ depth) }
+    ensures depth { IfSome result (λ next. next.depth ≤ depth + 1) }
 {
-    let Shift { item, rule, state } = shift?;
+    let Shift {
+        item,
+        rule,
+        state,
+        turn,
+    } = shift?;
+    let depth = match turn {
+        Turn::Stay => depth,
+        Turn::Open => depth + 1,
+        Turn::Close => depth.saturating_sub(1),
+    };
     Some(Place {
         item,
         rule,
@@ -216,10 +260,62 @@ fn shifted(depth: usize, shift: Option<Shift>) -> Option<Place>
     })
 }
 
+fn turn_to(item: Item, rule: Rule, state: State, turn: Turn) -> Option<Shift>
+    ensures { result ≡ turn_to item rule state turn }
+{
+    Some(Shift {
+        item,
+        rule,
+        state,
+        turn,
+    })
+}
+
 fn move_to(item: Item, rule: Rule, state: State) -> Option<Shift>
     ensures { result ≡ move_to item rule state }
 {
-    Some(Shift { item, rule, state })
+    turn_to(item, rule, state, Turn::Stay)
+}
+
+fn to_spot(item: Item, spot: Spot) -> Option<Shift>
+    ensures { result ≡ to_spot item spot }
+{
+    move_to(item, Rule::Alone, State::At(spot))
+}
+
+// Into angle brackets.
+fn open_angle(item: Item, rule: Rule) -> Option<Shift>
+    ensures { result ≡ open_angle item rule }
+{
+    turn_to(item, rule, State::Range(TypeState::Open), Turn::Open)
+}
+
+// Where an expression goes on after its angle brackets.
+fn after_angle(rule: Rule, state: TypeState) -> State
+    ensures { result ≡ after_angle rule state }
+{
+    match rule {
+        Rule::Angle => State::At(Spot::ExpressionWhole),
+        Rule::CastAngle => State::At(Spot::CastWhole),
+        Rule::ClosureAngle => State::At(Spot::Closure),
+        _ => State::Range(state),
+    }
+}
+
+// The state after a step within a type, which may close the brackets of an expression.
+fn range_state(rule: Rule, state: TypeState, turn: Turn, depth: usize) -> State
+    ensures { result ≡ range_state rule state turn depth }
+{
+    match turn {
+        Turn::Close => {
+            if depth == 0 {
+                after_angle(rule, state)
+            } else {
+                State::Range(state)
+            }
+        }
+        Turn::Stay | Turn::Open => State::Range(state),
+    }
 }
 
 // After the generic parameters of an item, or after its fields in parentheses, its body.
@@ -239,31 +335,35 @@ fn body(item: Item, class: Class) -> Option<Shift>
     }
 }
 
-// A where clause may stand before it, and the fields in parentheses of a struct.
+// A where clause of an item.
+fn where_clause(item: Item) -> Option<Shift>
+    ensures { result ≡ where_clause item }
+{
+    match item {
+        Item::Struct | Item::Tuple | Item::Braced => {
+            move_to(item, Rule::Alone, State::At(Spot::Predicate))
+        }
+        Item::Alone | Item::Variants => None,
+    }
+}
+
+// The fields in parentheses of a struct.
+fn tuple_fields(item: Item) -> Option<Shift>
+    ensures { result ≡ tuple_fields item }
+{
+    match item {
+        Item::Struct => move_to(Item::Tuple, Rule::Alone, State::At(Spot::AfterGenerics)),
+        _ => None,
+    }
+}
+
+// These may stand before its body.
 fn closing(item: Item, class: Class) -> Option<Shift>
     ensures { result ≡ closing item class }
 {
-    match (item, class) {
-        (Item::Struct, Class::Where) => move_to(
-            Item::Struct,
-            Rule::Alone,
-            State::At(Spot::Predicate),
-        ),
-        (Item::Tuple, Class::Where) => move_to(
-            Item::Tuple,
-            Rule::Alone,
-            State::At(Spot::Predicate),
-        ),
-        (Item::Braced, Class::Where) => move_to(
-            Item::Braced,
-            Rule::Alone,
-            State::At(Spot::Predicate),
-        ),
-        (Item::Struct, Class::Parentheses) | (Item::Struct, Class::Restriction) => move_to(
-            Item::Tuple,
-            Rule::Alone,
-            State::At(Spot::AfterGenerics),
-        ),
+    match class {
+        Class::Where => where_clause(item),
+        Class::Parentheses | Class::Restriction => tuple_fields(item),
         _ => body(item, class),
     }
 }
@@ -357,7 +457,7 @@ fn variant_body(item: Item, rule: Rule, class: Class) -> Option<Shift>
         Class::Restriction | Class::Parentheses | Class::Braces => {
             move_to(item, rule, State::At(Spot::VariantEnd))
         }
-        _ => None,
+        _ => variant_value(item, class),
     }
 }
 
@@ -430,7 +530,12 @@ fn spot_step(item: Item, rule: Rule, spot: Spot, class: Class) -> Option<Shift>
             State::Range(TypeState::Wanted),
         ),
         (Spot::Variant, _) => variant_step(item, rule, class),
-        (Spot::VariantHash, Class::Brackets) => move_to(item, rule, State::At(Spot::Variant)),
+        (Spot::VariantHash, Class::Brackets) => move_to(
+            item,
+            rule,
+            State::At(Spot::VariantAttributed),
+        ),
+        (Spot::VariantAttributed, _) => variant_step(item, rule, class),
         (Spot::VariantPublic, Class::Restriction) => move_to(
             item,
             rule,
@@ -440,7 +545,22 @@ fn spot_step(item: Item, rule: Rule, spot: Spot, class: Class) -> Option<Shift>
             move_to(item, rule, State::At(Spot::VariantName))
         }
         (Spot::VariantName, _) => variant_body(item, rule, class),
-        (Spot::Generics, Class::Less) => move_to(item, Rule::Alone, State::At(Spot::Parameter)),
+        (Spot::VariantEnd, _) => variant_value(item, class),
+        (Spot::Expression, _) => expression(item, class),
+        (Spot::ExpressionOpen, _) => expression_open(item, class),
+        (Spot::ExpressionWhole, _) => expression_whole(item, class),
+        (Spot::ExpressionLess, _) => expression_less(item, class),
+        (Spot::ExpressionDot, _) => expression_dot(item, class),
+        (Spot::ExpressionRange, Class::Dot) => to_spot(item, Spot::ExpressionOpen),
+        (Spot::ExpressionHash, Class::Brackets) => to_spot(item, Spot::Expression),
+        (Spot::Closure, _) => closure(item, class),
+        (Spot::Cast, _) => cast(item, class),
+        (Spot::CastWhole, _) => cast_whole(item, class),
+        (Spot::Generics, Class::Less | Class::LessJoint) => move_to(
+            item,
+            Rule::Alone,
+            State::At(Spot::Parameter),
+        ),
         (Spot::Generics, _) => closing(item, class),
         (Spot::Parameter, Class::Greater) => move_to(
             item,
@@ -541,8 +661,8 @@ fn is_alone(item: Item) -> bool
     ensures { result ≡ is_alone item }
 {
     match item {
-        Item::Alone => true,
-        _ => false,
+        Item::Alone | Item::Variants => true,
+        Item::Struct | Item::Tuple | Item::Braced => false,
     }
 }
 
@@ -553,6 +673,7 @@ fn rule_ends(item: Item, rule: Rule) -> bool
     match rule {
         Rule::Alone | Rule::Fields | Rule::TupleFields => true,
         Rule::Predicate => is_alone(item),
+        Rule::Angle | Rule::CastAngle | Rule::ClosureAngle => true,
         _ => false,
     }
 }
@@ -560,12 +681,246 @@ fn rule_ends(item: Item, rule: Rule) -> bool
 fn spot_ends(item: Item, rule: Rule, spot: Spot) -> bool
     ensures { result ≡ spot_ends item rule spot }
 {
-    match (rule, spot) {
-        (_, Spot::Attributes | Spot::Visibility | Spot::Public | Spot::Restricted) => true,
-        (_, Spot::VariantName | Spot::VariantEnd | Spot::ItemEnd) => true,
-        (Rule::Fields, Spot::Field) => true,
-        (Rule::TupleFields, Spot::TupleField) => true,
-        (_, Spot::Generics | Spot::AfterGenerics | Spot::Where | Spot::Predicate) => is_alone(item),
+    match spot {
+        Spot::Attributes | Spot::Visibility | Spot::Public | Spot::Restricted | Spot::ItemEnd =>
+            true,
+        Spot::VariantName | Spot::VariantEnd => true,
+        Spot::ExpressionOpen | Spot::ExpressionWhole | Spot::CastWhole => true,
+        Spot::Field => match rule {
+            Rule::Fields => true,
+            _ => false,
+        },
+        Spot::TupleField => match rule {
+            Rule::TupleFields => true,
+            _ => false,
+        },
+        Spot::Variant => match item {
+            Item::Variants => true,
+            _ => false,
+        },
+        Spot::Generics | Spot::AfterGenerics | Spot::Where | Spot::Predicate => is_alone(item),
         _ => false,
+    }
+}
+
+// Where an operand is wanted.
+fn expression(item: Item, class: Class) -> Option<Shift>
+    ensures { result ≡ expression item class }
+{
+    match class {
+        Class::Restriction
+        | Class::Parentheses
+        | Class::Brackets
+        | Class::Braces
+        | Class::Invisible
+        | Class::Word
+        | Class::Union
+        | Class::SelfValue
+        | Class::SelfType
+        | Class::Super
+        | Class::Crate
+        | Class::Underscore
+        | Class::Truth
+        | Class::Literal
+        | Class::Await => to_spot(item, Spot::ExpressionWhole),
+        Class::Less | Class::LessJoint => open_angle(item, Rule::Angle),
+        Class::Lifetime | Class::Jump => to_spot(item, Spot::ExpressionOpen),
+        Class::Dot => to_spot(item, Spot::ExpressionRange),
+        Class::Minus
+        | Class::Star
+        | Class::And
+        | Class::Exclamation
+        | Class::Equals
+        | Class::Greater
+        | Class::PathSeparator
+        | Class::Bars
+        | Class::Keyword
+        | Class::Mut
+        | Class::Const
+        | Class::Extern
+        | Class::For
+        | Class::In
+        | Class::Pub
+        | Class::Where
+        | Class::Struct
+        | Class::Enum
+        | Class::TypeFront => to_spot(item, Spot::Expression),
+        Class::Hash => to_spot(item, Spot::ExpressionHash),
+        Class::Bar => to_spot(item, Spot::Closure),
+        Class::Arrow => to_spot(item, Spot::Cast),
+        _ => None,
+    }
+}
+
+// Where an operand may stand, or what follows one.
+fn expression_open(item: Item, class: Class) -> Option<Shift>
+    ensures { result ≡ expression_open item class }
+{
+    match class {
+        Class::Dot => to_spot(item, Spot::ExpressionOpen),
+        Class::Question => to_spot(item, Spot::ExpressionWhole),
+        Class::Plus | Class::Infix | Class::Colon => to_spot(item, Spot::Expression),
+        Class::Comma => variant_end(item, Class::Comma),
+        _ => expression(item, class),
+    }
+}
+
+// After an operand, of an expression or of a cast.
+fn operator(item: Item, class: Class) -> Option<Shift>
+    ensures { result ≡ operator item class }
+{
+    match class {
+        Class::Restriction
+        | Class::Parentheses
+        | Class::Brackets
+        | Class::Braces
+        | Class::Invisible
+        | Class::Question
+        | Class::Await => to_spot(item, Spot::ExpressionWhole),
+        Class::Jump => to_spot(item, Spot::ExpressionOpen),
+        Class::Dot => to_spot(item, Spot::ExpressionDot),
+        Class::As | Class::Arrow => to_spot(item, Spot::Cast),
+        Class::Minus
+        | Class::Star
+        | Class::And
+        | Class::Exclamation
+        | Class::Equals
+        | Class::Greater
+        | Class::Plus
+        | Class::Infix
+        | Class::Colon
+        | Class::Bar
+        | Class::Bars
+        | Class::LessEquals
+        | Class::Keyword
+        | Class::Mut
+        | Class::Const
+        | Class::Extern
+        | Class::For
+        | Class::In
+        | Class::Pub
+        | Class::Where
+        | Class::Struct
+        | Class::Enum
+        | Class::TypeFront => to_spot(item, Spot::Expression),
+        Class::Comma => variant_end(item, Class::Comma),
+        _ => None,
+    }
+}
+
+// After an operand.
+fn expression_whole(item: Item, class: Class) -> Option<Shift>
+    ensures { result ≡ expression_whole item class }
+{
+    match class {
+        Class::PathSeparator | Class::Less => to_spot(item, Spot::Expression),
+        Class::LessJoint => to_spot(item, Spot::ExpressionLess),
+        _ => operator(item, class),
+    }
+}
+
+// After `<` that is an operator and Joint: another belongs to it.
+fn expression_less(item: Item, class: Class) -> Option<Shift>
+    ensures { result ≡ expression_less item class }
+{
+    match class {
+        Class::Less | Class::LessJoint | Class::LessEquals => to_spot(item, Spot::Expression),
+        _ => expression(item, class),
+    }
+}
+
+// After an operand and `.`.
+fn expression_dot(item: Item, class: Class) -> Option<Shift>
+    ensures { result ≡ expression_dot item class }
+{
+    match class {
+        Class::Dot => to_spot(item, Spot::ExpressionOpen),
+        _ => expression(item, class),
+    }
+}
+
+// Within the bars of a closure.
+fn closure(item: Item, class: Class) -> Option<Shift>
+    ensures { result ≡ closure item class }
+{
+    match class {
+        Class::Bar => to_spot(item, Spot::Expression),
+        Class::Less | Class::LessJoint => open_angle(item, Rule::ClosureAngle),
+        Class::Semicolon => None,
+        _ => to_spot(item, Spot::Closure),
+    }
+}
+
+// Where the type of a cast is wanted.
+fn cast(item: Item, class: Class) -> Option<Shift>
+    ensures { result ≡ cast item class }
+{
+    match class {
+        Class::Restriction
+        | Class::Parentheses
+        | Class::Brackets
+        | Class::Braces
+        | Class::Invisible
+        | Class::Word
+        | Class::Union
+        | Class::SelfValue
+        | Class::SelfType
+        | Class::Super
+        | Class::Crate
+        | Class::Underscore
+        | Class::Truth => to_spot(item, Spot::CastWhole),
+        Class::Less | Class::LessJoint => open_angle(item, Rule::CastAngle),
+        Class::Lifetime
+        | Class::PathSeparator
+        | Class::Arrow
+        | Class::Star
+        | Class::And
+        | Class::Exclamation
+        | Class::As
+        | Class::Jump
+        | Class::Await
+        | Class::Keyword
+        | Class::Mut
+        | Class::Const
+        | Class::Extern
+        | Class::For
+        | Class::In
+        | Class::Pub
+        | Class::Where
+        | Class::Struct
+        | Class::Enum
+        | Class::TypeFront => to_spot(item, Spot::Cast),
+        _ => None,
+    }
+}
+
+// After the type of a cast, or a part of it.
+fn cast_whole(item: Item, class: Class) -> Option<Shift>
+    ensures { result ≡ cast_whole item class }
+{
+    match class {
+        Class::PathSeparator => to_spot(item, Spot::Cast),
+        Class::Less | Class::LessJoint => open_angle(item, Rule::CastAngle),
+        _ => operator(item, class),
+    }
+}
+
+// After a variant that is whole, in a list.
+fn variant_end(item: Item, class: Class) -> Option<Shift>
+    ensures { result ≡ variant_end item class }
+{
+    match (item, class) {
+        (Item::Variants, Class::Comma) => to_spot(Item::Variants, Spot::Variant),
+        _ => None,
+    }
+}
+
+// Before its discriminant.
+fn variant_value(item: Item, class: Class) -> Option<Shift>
+    ensures { result ≡ variant_value item class }
+{
+    match class {
+        Class::Equals => to_spot(item, Spot::Expression),
+        _ => variant_end(item, class),
     }
 }

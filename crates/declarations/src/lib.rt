@@ -1,5 +1,5 @@
 //! The parts of declarations, over token trees: attributes, visibilities, fields, variants, generics, where clauses,
-//! whole structs, enums and unions, and where types end.
+//! whole structs, enums and unions, and where types and the expressions of discriminants end.
 //!
 //! Each call that splits takes trees, borrowed, and answers the part at their front and the trees after it. It takes
 //! time proportional to the part, those trees within groups not counted, and no memory. By `ok` the part and the rest
@@ -20,8 +20,8 @@ mod walk;
 pub use class::Class;
 pub use fault::Fault;
 pub use parts::{
-    split_attributes, split_bounds, split_field, split_fields, split_generics, split_item,
-    split_tuple_field, split_tuple_fields, split_type, split_variant, split_visibility,
-    split_where,
+    split_attributes, split_bounds, split_expression, split_field, split_fields, split_generics,
+    split_item, split_tuple_field, split_tuple_fields, split_type, split_variant, split_variants,
+    split_visibility, split_where,
 };
 pub use signs::first_sign;

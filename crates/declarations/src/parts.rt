@@ -2,7 +2,7 @@
 ghost use Rattle.std.specs.Prelude.{IfErr, IfOk};
 ghost use Rattle.declarations.specs.Forms.{AreAttributes, AreBounds, AreFields, AreGenerics, AreTupleFields, IsField};
 ghost use Rattle.declarations.specs.Forms.{IsItem, IsTupleField, IsType, IsVisibility, IsWhere};
-ghost use Rattle.declarations.specs.Forms.{IsVariant};
+ghost use Rattle.declarations.specs.Forms.{AreVariants, IsExpression, IsVariant};
 ghost use Rattle.declarations.specs.Reading.{FaultAt, IsOnly, Reads};
 
 use crate::fault::Fault;
@@ -149,10 +149,10 @@ pub fn split_tuple_fields(trees: &[TokenTree]) -> Result<(&[TokenTree], &[TokenT
     split_from(trees, start)
 }
 
-/// The variant at the front of the trees up to its discriminant, with its attributes and visibility, and the trees
-/// after it.
+/// The variant at the front of the trees, with its attributes, visibility and discriminant, and the trees after it.
 ///
-/// Of `#[a] B { c: D } = 1` it is all before `=`. What stands within its braces or parentheses isn't read.
+/// Of `#[a] B { c: D } = f::<X, Y>(), C` it is all before the last `,`. What stands within its braces or parentheses
+/// isn't read.
 pub fn split_variant(trees: &[TokenTree]) -> Result<(&[TokenTree], &[TokenTree]), Fault>
     ensures ok { IfOk result (λ found. Reads IsVariant trees.now found.0.now found.1.now) }
     ensures only { IfOk result (λ found. IsOnly IsVariant trees.now found.0.now found.1.now) }
@@ -162,6 +162,40 @@ pub fn split_variant(trees: &[TokenTree]) -> Result<(&[TokenTree], &[TokenTree])
         item: Item::Alone,
         rule: Rule::Alone,
         state: State::At(Spot::Variant),
+        depth: 0,
+    };
+    split_from(trees, start)
+}
+
+/// The variants at the front of the trees, with `,` between two and perhaps after the last, and the trees after them.
+///
+/// Of the trees within the braces of an enum they are all, or else the enum has a fault.
+pub fn split_variants(trees: &[TokenTree]) -> Result<(&[TokenTree], &[TokenTree]), Fault>
+    ensures ok { IfOk result (λ found. Reads AreVariants trees.now found.0.now found.1.now) }
+    ensures only { IfOk result (λ found. IsOnly AreVariants trees.now found.0.now found.1.now) }
+    ensures fault { IfErr result (λ fault. FaultAt AreVariants trees.now fault.at) }
+{
+    let start = Place {
+        item: Item::Variants,
+        rule: Rule::Alone,
+        state: State::At(Spot::Variant),
+        depth: 0,
+    };
+    split_from(trees, start)
+}
+
+/// The expression of a discriminant at the front of the trees, and the trees after it.
+///
+/// It isn't parsed: its end is found. Of `f::<X, Y>() as A<B, C>, D` it is all before the last `,`.
+pub fn split_expression(trees: &[TokenTree]) -> Result<(&[TokenTree], &[TokenTree]), Fault>
+    ensures ok { IfOk result (λ found. Reads IsExpression trees.now found.0.now found.1.now) }
+    ensures only { IfOk result (λ found. IsOnly IsExpression trees.now found.0.now found.1.now) }
+    ensures fault { IfErr result (λ fault. FaultAt IsExpression trees.now fault.at) }
+{
+    let start = Place {
+        item: Item::Alone,
+        rule: Rule::Alone,
+        state: State::At(Spot::Expression),
         depth: 0,
     };
     split_from(trees, start)
@@ -204,8 +238,8 @@ pub fn split_where(trees: &[TokenTree]) -> Result<(&[TokenTree], &[TokenTree]), 
 
 /// The struct, enum or union at the front of the trees, with its attributes and visibility, and the trees after it.
 ///
-/// What stands within the braces or parentheses of its body isn't read: [`split_fields`] and [`split_tuple_fields`]
-/// read that.
+/// What stands within the braces or parentheses of its body isn't read: [`split_fields`], [`split_tuple_fields`] and
+/// [`split_variants`] read that.
 pub fn split_item(trees: &[TokenTree]) -> Result<(&[TokenTree], &[TokenTree]), Fault>
     ensures ok { IfOk result (λ found. Reads IsItem trees.now found.0.now found.1.now) }
     ensures only { IfOk result (λ found. IsOnly IsItem trees.now found.0.now found.1.now) }

@@ -3,7 +3,7 @@ ghost use Rattle.std.specs.Prelude.{◌≡◌, [], MatchOption};
 ghost use Rattle.declarations.specs.Signs.{BeginsWith, group_class, item_class, mark_class, name_class};
 ghost use Rattle.declarations.specs.Signs.{pair_class, path_class, tree_class, type_class, is_early_keyword};
 ghost use Rattle.declarations.specs.Signs.{is_late_keyword, is_middle_keyword, is_restriction, is_truth, restricts};
-ghost use Rattle.declarations.specs.Signs.{is_type_front};
+ghost use Rattle.declarations.specs.Signs.{expression_class, is_type_front, marks_class, operator_class};
 
 use crate::class::Class;
 use pm_stream::{Group, TokenStream, TokenTree};
@@ -11,8 +11,8 @@ use pm_token::{Delimiter, Ident, Spacing};
 
 /// The class of the first sign of the trees, and the trees after it; `None` where there are none.
 ///
-/// `:` and `:` are one sign where the first is Joint, so are `-` and `>`, and so are `'` and an identifier. Any
-/// other tree is a sign by itself. It takes the same time whatever follows, and no memory.
+/// `::`, `->`, `<=` and `||` are one sign where the first mark is Joint, and so are `'` and an identifier. Any other
+/// tree is a sign by itself. It takes the same time whatever follows, and no memory.
 #[tactic(auto, using(crate::proofs::SignLemmas::begins_one, crate::proofs::SignLemmas::begins_last))]
 pub fn first_sign<'a>(trees: &'a [TokenTree]) -> Option<(Class, &'a [TokenTree])>
     ensures { MatchOption result (trees.now ≡ []) (λ sign. BeginsWith trees.now sign.0 sign.1.now) }
@@ -36,13 +36,11 @@ fn pair_class(first: &TokenTree, second: &TokenTree) -> Option<Class>
     };
     match second {
         TokenTree::Punct(next) => {
-            if mark.spacing() == Spacing::Joint && mark.as_char() == ':' && next.as_char() == ':' {
-                return Some(Class::PathSeparator);
+            if mark.spacing() == Spacing::Joint {
+                marks_class(mark.as_char(), next.as_char())
+            } else {
+                None
             }
-            if mark.spacing() == Spacing::Joint && mark.as_char() == '-' && next.as_char() == '>' {
-                return Some(Class::Arrow);
-            }
-            None
         }
         TokenTree::Ident(_) => {
             if mark.as_char() == '\'' {
@@ -55,13 +53,32 @@ fn pair_class(first: &TokenTree, second: &TokenTree) -> Option<Class>
     }
 }
 
+// The class of two marks that are read as one sign, if they are where the first is Joint.
+fn marks_class(first: char, second: char) -> Option<Class>
+    ensures { result ≡ marks_class first second }
+{
+    if first == ':' && second == ':' {
+        return Some(Class::PathSeparator);
+    }
+    if first == '-' && second == '>' {
+        return Some(Class::Arrow);
+    }
+    if first == '<' && second == '=' {
+        return Some(Class::LessEquals);
+    }
+    if first == '|' && second == '|' {
+        return Some(Class::Bars);
+    }
+    None
+}
+
 fn tree_class(tree: &TokenTree) -> Class
     ensures { result ≡ tree_class tree.now }
 {
     match tree {
         TokenTree::Group(group) => group_class(group),
         TokenTree::Ident(ident) => name_class(ident),
-        TokenTree::Punct(punct) => mark_class(punct.as_char()),
+        TokenTree::Punct(punct) => mark_class(punct.as_char(), punct.spacing() == Spacing::Joint),
         TokenTree::Literal(_) => Class::Literal,
     }
 }
@@ -104,10 +121,11 @@ fn restricts(ident: &Ident, alone: bool) -> bool
         || (alone && (ident.eq_str("crate") || ident.eq_str("self") || ident.eq_str("super")))
 }
 
-fn mark_class(mark: char) -> Class
-    ensures { result ≡ mark_class mark }
+fn mark_class(mark: char, joint: bool) -> Class
+    ensures { result ≡ mark_class mark joint }
 {
     match mark {
+        '<' if joint => Class::LessJoint,
         '<' => Class::Less,
         '>' => Class::Greater,
         ',' => Class::Comma,
@@ -122,6 +140,18 @@ fn mark_class(mark: char) -> Class
         '!' => Class::Exclamation,
         '#' => Class::Hash,
         '~' => Class::Tilde,
+        _ => operator_class(mark),
+    }
+}
+
+// A mark that stands in expressions alone.
+fn operator_class(mark: char) -> Class
+    ensures { result ≡ operator_class mark }
+{
+    match mark {
+        '|' => Class::Bar,
+        '.' => Class::Dot,
+        '/' | '%' | '^' | '@' => Class::Infix,
         _ => Class::Mark,
     }
 }
@@ -133,6 +163,9 @@ fn name_class(ident: &Ident) -> Class
         return class;
     }
     if let Some(class) = type_class(ident) {
+        return class;
+    }
+    if let Some(class) = expression_class(ident) {
         return class;
     }
     item_class(ident)
@@ -188,6 +221,19 @@ fn type_class(ident: &Ident) -> Option<Class>
     None
 }
 
+// The keywords that are operands of an expression, or stand before one that may be left out.
+fn expression_class(ident: &Ident) -> Option<Class>
+    ensures { result ≡ expression_class ident.now }
+{
+    if ident.eq_str("await") || ident.eq_str("continue") {
+        return Some(Class::Await);
+    }
+    if ident.eq_str("return") || ident.eq_str("break") || ident.eq_str("yield") {
+        return Some(Class::Jump);
+    }
+    None
+}
+
 fn is_truth(ident: &Ident) -> bool
     ensures { result ≡ is_truth ident.now }
 {
@@ -239,11 +285,8 @@ fn is_early_keyword(ident: &Ident) -> bool
     ensures { result ≡ is_early_keyword ident.now }
 {
     ident.eq_str("abstract")
-        || ident.eq_str("await")
         || ident.eq_str("become")
         || ident.eq_str("box")
-        || ident.eq_str("break")
-        || ident.eq_str("continue")
         || ident.eq_str("do")
         || ident.eq_str("else")
         || ident.eq_str("final")
@@ -262,7 +305,6 @@ fn is_middle_keyword(ident: &Ident) -> bool
         || ident.eq_str("override")
         || ident.eq_str("priv")
         || ident.eq_str("ref")
-        || ident.eq_str("return")
 }
 
 fn is_late_keyword(ident: &Ident) -> bool
@@ -275,5 +317,4 @@ fn is_late_keyword(ident: &Ident) -> bool
         || ident.eq_str("unsized")
         || ident.eq_str("virtual")
         || ident.eq_str("while")
-        || ident.eq_str("yield")
 }

@@ -1,8 +1,7 @@
 //! Where types end.
 ghost use Rattle.std.specs.Prelude.{◌≡◌};
 ghost use Rattle.declarations.specs.TypeStep.{abi, binder, continuation, for_binder, macro_group, may_end, minus};
-ghost use Rattle.declarations.specs.TypeStep.{operand};
-ghost use Rattle.declarations.specs.TypeStep.{operand_or_end, pointer, stay, step_of, tilde};
+ghost use Rattle.declarations.specs.TypeStep.{operand, operand_or_end, pointer, stay, step_of, tilde};
 
 use crate::class::Class;
 
@@ -95,7 +94,7 @@ fn operand(class: Class, outside: bool) -> Option<TypeStep>
         Class::Star => stay(TypeState::Pointer),
         Class::Tilde => stay(TypeState::Tilde),
         Class::Minus if !outside => stay(TypeState::Minus),
-        Class::Less => Some(TypeStep {
+        Class::Less | Class::LessJoint => Some(TypeStep {
             state: TypeState::Open,
             turn: Turn::Open,
         }),
@@ -114,7 +113,7 @@ fn continuation(class: Class, outside: bool) -> Option<TypeStep>
         Class::Exclamation => stay(TypeState::MacroGroup),
         Class::As | Class::Equals if !outside => stay(TypeState::Wanted),
         Class::Comma | Class::Colon if !outside => stay(TypeState::Open),
-        Class::Less => Some(TypeStep {
+        Class::Less | Class::LessJoint => Some(TypeStep {
             state: TypeState::Open,
             turn: Turn::Open,
         }),
@@ -200,7 +199,7 @@ fn for_binder(class: Class) -> Option<TypeStep>
     ensures { result ≡ for_binder class }
 {
     match class {
-        Class::Less => stay(TypeState::Binder),
+        Class::Less | Class::LessJoint => stay(TypeState::Binder),
         _ => None,
     }
 }

@@ -1,8 +1,8 @@
 // Texts, and the trees of the part at their front.
 use declarations::{
-    Fault, split_attributes, split_bounds, split_field, split_fields, split_generics, split_item,
-    split_tuple_field, split_tuple_fields, split_type, split_variant, split_visibility,
-    split_where,
+    Fault, split_attributes, split_bounds, split_expression, split_field, split_fields,
+    split_generics, split_item, split_tuple_field, split_tuple_fields, split_type, split_variant,
+    split_variants, split_visibility, split_where,
 };
 use proc_macro2::{SourceMap, TokenStream, TokenTree};
 use std::process::Abort;
@@ -19,6 +19,8 @@ enum Part {
     TupleField,
     TupleFields,
     Variant,
+    Variants,
+    Expression,
     Generics,
     Where,
     Item,
@@ -31,7 +33,7 @@ enum Answer {
     FaultAt(usize),
 }
 
-use Answer::{FaultAt, Reads};
+use crate::parts::Answer::{FaultAt, Reads};
 
 fn answer_of(found: Result<(&[TokenTree], &[TokenTree]), Fault>) -> Answer {
     match found {
@@ -51,6 +53,8 @@ fn read(part: Part, trees: &[TokenTree]) -> Answer {
         Part::TupleField => answer_of(split_tuple_field(trees)),
         Part::TupleFields => answer_of(split_tuple_fields(trees)),
         Part::Variant => answer_of(split_variant(trees)),
+        Part::Variants => answer_of(split_variants(trees)),
+        Part::Expression => answer_of(split_expression(trees)),
         Part::Generics => answer_of(split_generics(trees)),
         Part::Where => answer_of(split_where(trees)),
         Part::Item => answer_of(split_item(trees)),
@@ -162,9 +166,63 @@ fn fields_have_attributes_names_and_types(rt: HostRuntime) -> Result<(), Fail> {
         &rt,
         Part::Variant,
         &[
-            ("#[a] B { c: D } = 1", Reads(4)),
+            ("#[a] B { c: D } = 1", Reads(6)),
             ("B(A), C", Reads(2)),
-            ("B = 1", Reads(1)),
+            ("B = 1, C", Reads(3)),
+            ("B =", FaultAt(2)),
+        ],
+    )
+}
+
+#[test]
+fn a_discriminant_ends_at_a_comma_that_is_in_no_brackets(rt: HostRuntime) -> Result<(), Fail> {
+    check(
+        &rt,
+        Part::Expression,
+        &[
+            ("f::<X, Y>(), B", Reads(9)),
+            ("1 << 2, B", Reads(4)),
+            ("a < b, C", Reads(3)),
+            ("x as Vec<A, B>, C", Reads(8)),
+            ("x as u8 <= 3, B", Reads(6)),
+            ("x as u8 < 3, B", FaultAt(7)),
+            ("1 + <T>::C, D", Reads(8)),
+            ("a<<T>::C, F", Reads(8)),
+            ("a << <T>::C, F", Reads(9)),
+            ("|a: Vec<X, Y>, b| -> Vec<A, B> { a }, D", Reads(21)),
+            ("a || b, F", Reads(4)),
+            ("|| 1, F", Reads(3)),
+            ("|a| |b, c| d, F", Reads(9)),
+            ("a | b, c", Reads(3)),
+            ("|a; b| 1", FaultAt(2)),
+            ("return, B", Reads(1)),
+            ("'a: loop { break 'a 1 }, B", Reads(5)),
+            ("..=5, B", Reads(4)),
+            ("a..b, C", Reads(4)),
+            ("a.await?.b[1](c), D", Reads(8)),
+            ("if a { 1 } else { 2 }, B", Reads(5)),
+            ("#[a] -!1, B", Reads(5)),
+            ("1 B", Reads(1)),
+            ("a as, b", FaultAt(2)),
+            ("a. , b", FaultAt(2)),
+            ("1 +", FaultAt(2)),
+            (", 1", FaultAt(0)),
+            ("", FaultAt(0)),
+        ],
+    )?;
+    check(
+        &rt,
+        Part::Variants,
+        &[
+            ("A = f::<X, Y>(), B = 1 << 2", Reads(18)),
+            ("A, #[a] B(u8) = x as Vec<A, B>, C { d: D },", Reads(19)),
+            ("A = a < b, C > ::d()", Reads(7)),
+            ("A = 1 B", Reads(3)),
+            ("A = 1, #[a]", FaultAt(6)),
+            ("A B", Reads(1)),
+            ("A,, B", Reads(2)),
+            ("A = , B", FaultAt(2)),
+            ("", Reads(0)),
         ],
     )
 }

@@ -187,6 +187,24 @@
 //! assert_eq!(&*text, "fn f(x: u8) -> u8 {\n    x + 1\n}\n");
 //! # }
 //! ```
+//!
+//! `declarations`, with the feature of this name:
+//!
+//! ```
+//! # #[cfg(feature = "declarations")] {
+//! use proved::declarations::{split_field, split_variants};
+//! use proved::proc_macro2::{SourceMap, TokenStream};
+//! use proved::shim::alloc::Global;
+//!
+//! let mut map = SourceMap::new(Global);
+//! let stream = TokenStream::from_str("pub a: Vec<A, B>, b: C", &mut map).unwrap();
+//! let (field, rest) = split_field(stream.trees()).unwrap();
+//! assert_eq!((field.len(), rest.len()), (9, 4)); // `pub a: Vec<A, B>`, and `, b: C`
+//! let stream = TokenStream::from_str("A = f::<X, Y>(), B = , C", &mut map).unwrap();
+//! let fault = split_variants(stream.trees()).unwrap_err();
+//! assert_eq!(fault.at, 14); // before the `,` where an expression is wanted
+//! # }
+//! ```
 #![deny(unsafe_code)]
 #![warn(missing_docs)]
 
@@ -226,6 +244,8 @@ erased! {
     pretty_printer
     #[cfg(feature = "relayout")]
     relayout
+    #[cfg(feature = "declarations")]
+    declarations
 }
 
 /// The examples of the page that describes this package.

@@ -1,6 +1,8 @@
 //! The library's own tests, erased as the library is.
 #![allow(clippy::all, dead_code, unreachable_code, unused_imports, unused_variables)]
 
+#[cfg(feature = "declarations")]
+mod declarations_tests;
 mod lexical_tests;
 #[cfg(feature = "quoting")]
 mod quoting_tests;

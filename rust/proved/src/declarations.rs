@@ -1,0 +1,27 @@
+// Made from crates/declarations/src/lib.rt by rust/erase: change that file, not this one.
+//! The parts of declarations, over token trees: attributes, visibilities, fields, variants, generics, where clauses,
+//! whole structs, enums and unions, and where types and the expressions of discriminants end.
+//!
+//! Each call that splits takes trees, borrowed, and answers the part at their front and the trees after it. It takes
+//! time proportional to the part, those trees within groups not counted, and no memory. By `ok` the part and the rest
+//! are the trees, and the part is what the grammar reads; by `only` it reads nothing else there; by `fault` it reads
+//! nothing, and the fault stands at the end of the longest front that some signs could follow so that it would.
+//!
+//! The grammar stands on signs: a tree, or two that are read as one. README.md has it whole.
+
+mod class;
+mod fault;
+mod grammar;
+mod parts;
+mod signs;
+mod types;
+mod walk;
+
+pub use class::Class;
+pub use fault::Fault;
+pub use parts::{
+    split_attributes, split_bounds, split_expression, split_field, split_fields, split_generics,
+    split_item, split_tuple_field, split_tuple_fields, split_type, split_variant, split_variants,
+    split_visibility, split_where,
+};
+pub use signs::first_sign;

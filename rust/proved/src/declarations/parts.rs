@@ -1,0 +1,209 @@
+// Made from crates/declarations/src/parts.rt by rust/erase: change that file, not this one.
+//! The parts of declarations, each at the front of trees.
+
+use crate::declarations::fault::Fault;
+use crate::declarations::grammar::{Item, Place, Rule, Spot, State};
+use crate::declarations::types::TypeState;
+use crate::declarations::walk::split_from;
+use crate::pm_stream::TokenTree;
+
+/// The type at the front of the trees, and the trees after it.
+///
+/// A type isn't parsed: its end is found. It is the first place outside of angle brackets where an operand stands and
+/// the next sign doesn't continue it. Of `Vec<A>, B` it is `Vec<A>`.
+pub fn split_type(trees: &[TokenTree]) -> Result<(&[TokenTree], &[TokenTree]), Fault>
+{
+    let start = Place {
+        item: Item::Alone,
+        rule: Rule::Alone,
+        state: State::Range(TypeState::Wanted),
+        depth: 0,
+    };
+    split_from(trees, start)
+}
+
+/// The bounds at the front of the trees, which may be none, and the trees after them.
+///
+/// Their end is found as that of a type: of `A + 'b = C` they are `A + 'b`.
+pub fn split_bounds(trees: &[TokenTree]) -> Result<(&[TokenTree], &[TokenTree]), Fault>
+{
+    let start = Place {
+        item: Item::Alone,
+        rule: Rule::Alone,
+        state: State::Range(TypeState::Open),
+        depth: 0,
+    };
+    split_from(trees, start)
+}
+
+/// The outer attributes at the front of the trees, which may be none, and the trees after them.
+///
+/// Of `#[a] #[b] pub x` they are `#[a] #[b]`. What stands in the brackets isn't read.
+pub fn split_attributes(trees: &[TokenTree]) -> Result<(&[TokenTree], &[TokenTree]), Fault>
+{
+    let start = Place {
+        item: Item::Alone,
+        rule: Rule::Alone,
+        state: State::At(Spot::Attributes),
+        depth: 0,
+    };
+    split_from(trees, start)
+}
+
+/// The visibility at the front of the trees, which may be left out, and the trees after it.
+///
+/// Parentheses after `pub` belong to it where they are `(crate)`, `(self)`, `(super)` or `(in ..)`: of `pub (A, B)` it
+/// is `pub`. The path after `in` isn't read.
+pub fn split_visibility(trees: &[TokenTree]) -> Result<(&[TokenTree], &[TokenTree]), Fault>
+{
+    let start = Place {
+        item: Item::Alone,
+        rule: Rule::Alone,
+        state: State::At(Spot::Visibility),
+        depth: 0,
+    };
+    split_from(trees, start)
+}
+
+/// The named field at the front of the trees, with its attributes and visibility, and the trees after it.
+///
+/// Of `#[a] pub x: Vec<A, B>, y: C` it is `#[a] pub x: Vec<A, B>`.
+pub fn split_field(trees: &[TokenTree]) -> Result<(&[TokenTree], &[TokenTree]), Fault>
+{
+    let start = Place {
+        item: Item::Alone,
+        rule: Rule::Alone,
+        state: State::At(Spot::Field),
+        depth: 0,
+    };
+    split_from(trees, start)
+}
+
+/// The field without a name at the front of the trees, with its attributes and visibility, and the trees after it.
+///
+/// Of `pub (A, B), C` it is `pub (A, B)`, whose type is the parentheses.
+pub fn split_tuple_field(trees: &[TokenTree]) -> Result<(&[TokenTree], &[TokenTree]), Fault>
+{
+    let start = Place {
+        item: Item::Alone,
+        rule: Rule::Alone,
+        state: State::At(Spot::TupleField),
+        depth: 0,
+    };
+    split_from(trees, start)
+}
+
+/// The named fields at the front of the trees, with `,` between two and perhaps after the last, and the trees after
+/// them.
+///
+/// Of the trees within the braces of a struct they are all, or else the struct has a fault.
+pub fn split_fields(trees: &[TokenTree]) -> Result<(&[TokenTree], &[TokenTree]), Fault>
+{
+    let start = Place {
+        item: Item::Alone,
+        rule: Rule::Fields,
+        state: State::At(Spot::Field),
+        depth: 0,
+    };
+    split_from(trees, start)
+}
+
+/// The fields without names at the front of the trees, with `,` between two and perhaps after the last, and the trees
+/// after them.
+pub fn split_tuple_fields(trees: &[TokenTree]) -> Result<(&[TokenTree], &[TokenTree]), Fault>
+{
+    let start = Place {
+        item: Item::Alone,
+        rule: Rule::TupleFields,
+        state: State::At(Spot::TupleField),
+        depth: 0,
+    };
+    split_from(trees, start)
+}
+
+/// The variant at the front of the trees, with its attributes, visibility and discriminant, and the trees after it.
+///
+/// Of `#[a] B { c: D } = f::<X, Y>(), C` it is all before the last `,`. What stands within its braces or parentheses
+/// isn't read.
+pub fn split_variant(trees: &[TokenTree]) -> Result<(&[TokenTree], &[TokenTree]), Fault>
+{
+    let start = Place {
+        item: Item::Alone,
+        rule: Rule::Alone,
+        state: State::At(Spot::Variant),
+        depth: 0,
+    };
+    split_from(trees, start)
+}
+
+/// The variants at the front of the trees, with `,` between two and perhaps after the last, and the trees after them.
+///
+/// Of the trees within the braces of an enum they are all, or else the enum has a fault.
+pub fn split_variants(trees: &[TokenTree]) -> Result<(&[TokenTree], &[TokenTree]), Fault>
+{
+    let start = Place {
+        item: Item::Variants,
+        rule: Rule::Alone,
+        state: State::At(Spot::Variant),
+        depth: 0,
+    };
+    split_from(trees, start)
+}
+
+/// The expression of a discriminant at the front of the trees, and the trees after it.
+///
+/// It isn't parsed: its end is found. Of `f::<X, Y>() as A<B, C>, D` it is all before the last `,`.
+pub fn split_expression(trees: &[TokenTree]) -> Result<(&[TokenTree], &[TokenTree]), Fault>
+{
+    let start = Place {
+        item: Item::Alone,
+        rule: Rule::Alone,
+        state: State::At(Spot::Expression),
+        depth: 0,
+    };
+    split_from(trees, start)
+}
+
+/// The generic parameters at the front of the trees in their angle brackets, which may be left out, and the trees after
+/// them.
+///
+/// Of `<'a, T: A<B> = C, const N: usize = 3> where T: D` they are all before `where`.
+pub fn split_generics(trees: &[TokenTree]) -> Result<(&[TokenTree], &[TokenTree]), Fault>
+{
+    let start = Place {
+        item: Item::Alone,
+        rule: Rule::Alone,
+        state: State::At(Spot::Generics),
+        depth: 0,
+    };
+    split_from(trees, start)
+}
+
+/// The where clause at the front of the trees, which may be left out, and the trees after it.
+///
+/// Of `where T: A, [U; 2]: B { .. }` it is all before the braces.
+pub fn split_where(trees: &[TokenTree]) -> Result<(&[TokenTree], &[TokenTree]), Fault>
+{
+    let start = Place {
+        item: Item::Alone,
+        rule: Rule::Alone,
+        state: State::At(Spot::Where),
+        depth: 0,
+    };
+    split_from(trees, start)
+}
+
+/// The struct, enum or union at the front of the trees, with its attributes and visibility, and the trees after it.
+///
+/// What stands within the braces or parentheses of its body isn't read: [`split_fields`], [`split_tuple_fields`] and
+/// [`split_variants`] read that.
+pub fn split_item(trees: &[TokenTree]) -> Result<(&[TokenTree], &[TokenTree]), Fault>
+{
+    let start = Place {
+        item: Item::Alone,
+        rule: Rule::Alone,
+        state: State::At(Spot::Item),
+        depth: 0,
+    };
+    split_from(trees, start)
+}

@@ -1,0 +1,219 @@
+// Made from crates/declarations/src/types.rt by rust/erase: change that file, not this one.
+//! Where types end.
+
+use crate::declarations::class::Class;
+
+/// What may follow at a place within a type.
+#[derive(Clone, Copy, Debug, PartialEq, Eq)]
+pub enum TypeState {
+    /// An operand.
+    Wanted,
+    /// An operand, or what may follow a whole type.
+    Open,
+    /// What continues an operand.
+    Whole,
+    /// The group of a macro, after a path and `!`.
+    MacroGroup,
+    /// `const` or `mut`, after `*`.
+    Pointer,
+    /// `const`, after `~`.
+    Tilde,
+    /// A literal or an operand, after `extern`.
+    Abi,
+    /// A literal, after the `-` of a constant argument.
+    Minus,
+    /// `<`, after `for`.
+    For,
+    /// The lifetimes of `for<..>`, or its `>`.
+    Binder,
+}
+
+/// What a sign does to the depth of angle brackets.
+#[derive(Clone, Copy, Debug, PartialEq, Eq)]
+pub enum Turn {
+    /// Nothing.
+    Stay,
+    /// It opens one.
+    Open,
+    /// It closes one.
+    Close,
+}
+
+/// A step of the walk over a type.
+#[derive(Clone, Copy, Debug, PartialEq, Eq)]
+pub struct TypeStep {
+    pub state: TypeState,
+    pub turn: Turn,
+}
+
+// Whether a type may end there, outside of angle brackets.
+pub(crate) fn may_end(state: TypeState) -> bool
+{
+    match state {
+        TypeState::Whole | TypeState::Open => true,
+        _ => false,
+    }
+}
+
+fn stay(state: TypeState) -> Option<TypeStep>
+{
+    Some(TypeStep {
+        state,
+        turn: Turn::Stay,
+    })
+}
+
+// The step where an operand may stand.
+fn operand(class: Class, outside: bool) -> Option<TypeStep>
+{
+    match class {
+        Class::Word
+        | Class::Union
+        | Class::SelfValue
+        | Class::SelfType
+        | Class::Super
+        | Class::Crate
+        | Class::Underscore
+        | Class::Restriction
+        | Class::Parentheses
+        | Class::Brackets
+        | Class::Invisible
+        | Class::Exclamation => stay(TypeState::Whole),
+        Class::Truth | Class::Literal | Class::Braces if !outside => stay(TypeState::Whole),
+        Class::Mut | Class::TypeFront | Class::PathSeparator | Class::And | Class::Question => {
+            stay(TypeState::Wanted)
+        }
+        Class::Extern => stay(TypeState::Abi),
+        Class::For => stay(TypeState::For),
+        Class::Lifetime => stay(TypeState::Open),
+        Class::Star => stay(TypeState::Pointer),
+        Class::Tilde => stay(TypeState::Tilde),
+        Class::Minus if !outside => stay(TypeState::Minus),
+        Class::Less | Class::LessJoint => Some(TypeStep {
+            state: TypeState::Open,
+            turn: Turn::Open,
+        }),
+        _ => None,
+    }
+}
+
+// The step after an operand.
+fn continuation(class: Class, outside: bool) -> Option<TypeStep>
+{
+    match class {
+        Class::Restriction | Class::Parentheses => stay(TypeState::Whole),
+        Class::PathSeparator | Class::Arrow => stay(TypeState::Wanted),
+        Class::Plus => stay(TypeState::Open),
+        Class::Exclamation => stay(TypeState::MacroGroup),
+        Class::As | Class::Equals if !outside => stay(TypeState::Wanted),
+        Class::Comma | Class::Colon if !outside => stay(TypeState::Open),
+        Class::Less | Class::LessJoint => Some(TypeStep {
+            state: TypeState::Open,
+            turn: Turn::Open,
+        }),
+        Class::Greater if !outside => Some(TypeStep {
+            state: TypeState::Whole,
+            turn: Turn::Close,
+        }),
+        _ => None,
+    }
+}
+
+// The step where an operand may stand, or what follows a whole type.
+fn operand_or_end(class: Class, outside: bool) -> Option<TypeStep>
+{
+    match class {
+        Class::Arrow => stay(TypeState::Wanted),
+        Class::Plus => stay(TypeState::Open),
+        Class::As if !outside => stay(TypeState::Wanted),
+        Class::Comma | Class::Colon if !outside => stay(TypeState::Open),
+        Class::Greater if !outside => Some(TypeStep {
+            state: TypeState::Whole,
+            turn: Turn::Close,
+        }),
+        _ => operand(class, outside),
+    }
+}
+
+// The step after a path and `!`.
+fn macro_group(class: Class) -> Option<TypeStep>
+{
+    match class {
+        Class::Restriction | Class::Parentheses | Class::Brackets | Class::Braces => stay(
+            TypeState::Whole,
+        ),
+        _ => None,
+    }
+}
+
+// The step after `*`.
+fn pointer(class: Class) -> Option<TypeStep>
+{
+    match class {
+        Class::Const | Class::Mut => stay(TypeState::Wanted),
+        _ => None,
+    }
+}
+
+// The step after `~`.
+fn tilde(class: Class) -> Option<TypeStep>
+{
+    match class {
+        Class::Const => stay(TypeState::Wanted),
+        _ => None,
+    }
+}
+
+// The step after `extern`.
+fn abi(class: Class, outside: bool) -> Option<TypeStep>
+{
+    match class {
+        Class::Literal => stay(TypeState::Wanted),
+        _ => operand(class, outside),
+    }
+}
+
+// The step after the `-` of a constant argument.
+fn minus(class: Class) -> Option<TypeStep>
+{
+    match class {
+        Class::Literal => stay(TypeState::Whole),
+        _ => None,
+    }
+}
+
+// The step after `for`.
+fn for_binder(class: Class) -> Option<TypeStep>
+{
+    match class {
+        Class::Less | Class::LessJoint => stay(TypeState::Binder),
+        _ => None,
+    }
+}
+
+// The step within `for<..>`.
+fn binder(class: Class) -> Option<TypeStep>
+{
+    match class {
+        Class::Lifetime | Class::Comma | Class::Colon | Class::Plus => stay(TypeState::Binder),
+        Class::Greater => stay(TypeState::Wanted),
+        _ => None,
+    }
+}
+
+// The step from a state, outside of angle brackets or not.
+pub(crate) fn type_step(state: TypeState, class: Class, outside: bool) -> Option<TypeStep>
+{
+    match state {
+        TypeState::Wanted => operand(class, outside),
+        TypeState::Open => operand_or_end(class, outside),
+        TypeState::Whole => continuation(class, outside),
+        TypeState::MacroGroup => macro_group(class),
+        TypeState::Pointer => pointer(class),
+        TypeState::Tilde => tilde(class),
+        TypeState::Abi => abi(class, outside),
+        TypeState::Minus => minus(class),
+        TypeState::For => for_binder(class),
+        TypeState::Binder => binder(class),
+    }
+}
