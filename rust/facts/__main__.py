@@ -4,8 +4,9 @@
     python3 rust/facts            writes rust/proved/src/tables.rs anew
     python3 rust/facts --check    compares it with what is there, and fails where it differs
 
-A small program over `unicode_ident`, the crates `ucd_*` and `unicode_width` is proved and run, by `rt run` in a
-temporary folder. It asks about every code point, and tells where an answer changes. No source of these crates is read.
+A small program over `unicode_ident`, `ucd_*`, `unicode_normalization` and `unicode_width` is proved and run, by
+`rt run` in a temporary folder. It asks about every code point, and tells where an answer changes. No source of these
+crates is read.
 """
 import os
 import pathlib
