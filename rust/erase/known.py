@@ -15,8 +15,8 @@ STD_ITEMS = set('''
 '''.split())
 
 # Crates of the toolchain, which the shim answers for.
-TOOLCHAIN_CRATES = {'hex', 'itoa', 'memchr', 'ucd_category', 'ucd_derived', 'ucd_props', 'unicode_ident',
-                    'unicode_width'}
+TOOLCHAIN_CRATES = {'hex', 'itoa', 'memchr', 'ucd_category', 'ucd_derived', 'ucd_props', 'ucd_script', 'unicode_ident',
+                    'unicode_normalization', 'unicode_width'}
 
 # Methods of std's types that Rust's types have too, with the same answers, or that the shim's types have.
 METHODS = set('''

@@ -4,8 +4,9 @@
     python3 rust/facts            writes rust/proved/src/tables.rs anew
     python3 rust/facts --check    compares it with what is there, and fails where it differs
 
-A small program over `unicode_ident`, the crates `ucd_*` and `unicode_width` is proved and run, by `rt run` in a
-temporary folder. It asks about every code point, and tells where an answer changes. No source of these crates is read.
+A small program over `unicode_ident`, `ucd_*`, `unicode_normalization` and `unicode_width` is proved and run, by
+`rt run` in a temporary folder. It asks about every code point, and tells where an answer changes. No source of these
+crates is read.
 """
 import os
 import pathlib
@@ -25,6 +26,9 @@ use std::process::ExitCode;
 use ucd_category::GeneralCategory;
 use ucd_derived::is_default_ignorable_code_point;
 use ucd_props::{is_bidi_control, is_join_control, is_variation_selector, is_white_space};
+use ucd_script::Script;
+use unicode_normalization::Form;
+use unicode_normalization::char::{canonical_combining_class, compose, decomposition};
 use unicode_width::UnicodeWidthChar;
 
 // How many columns a character takes, and 3 where it has no width.
@@ -48,10 +52,34 @@ fn properties(c: char) -> u8 {
         | weight(is_white_space(c), 16)
 }
 
+// The canonical decomposition of a character that has one, but of Hangul, and how it is composed.
+fn write_decomposition<W: Write>(c: char, writer: &mut W) -> io::Result<()> {
+    let mut room = [c; 3];
+    let parts = decomposition(c, Form::Nfd, &mut room);
+    if parts == [c].as_slice() || Script::for_char(c) == Script::Hangul {
+        return Ok(());
+    }
+    write!(writer, "canonical {}", c as u32)?;
+    let mut composed = None;
+    let mut before = None;
+    for part in parts {
+        write!(writer, " {}", *part as u32)?;
+        before = composed;
+        composed = match composed {
+            Some(front) => compose(front, *part),
+            None => Some(*part),
+        };
+    }
+    match (before, composed) {
+        (Some(front), Some(whole)) if whole == c => writeln!(writer, " from {}", front as u32),
+        _ => writeln!(writer, " from 0"),
+    }
+}
+
 fn main(rt: HostRuntime) -> io::Result<ExitCode> {
     let mut writer = BufWriter::new(rt.alloc(), rt.stdout())?;
     writeln!(writer, "version {:?}", unicode_ident::UNICODE_VERSION)?;
-    let mut before = (false, false, GeneralCategory::Surrogate, 3, 0);
+    let mut before = (false, false, GeneralCategory::Surrogate, 3, 0, Script::Unknown, 0);
     for code in 0..0x11_0000u32 {
         let facts = match char::from_u32(code) {
             Some(c) => (
@@ -60,16 +88,21 @@ fn main(rt: HostRuntime) -> io::Result<ExitCode> {
                 GeneralCategory::for_char(c),
                 columns(c),
                 properties(c),
+                Script::for_char(c),
+                canonical_combining_class(c),
             ),
-            None => (false, false, GeneralCategory::Surrogate, 3, 0),
+            None => (false, false, GeneralCategory::Surrogate, 3, 0, Script::Unknown, 0),
         };
         if facts != before {
-            let (starts, continues, category, columns, properties) = facts;
+            let (starts, continues, category, columns, properties, script, class) = facts;
             writeln!(
                 writer,
-                "{code} {starts} {continues} {category:?} {columns} {properties}"
+                "{code} {starts} {continues} {category:?} {columns} {properties} {script:?} {class}"
             )?;
             before = facts;
+        }
+        if let Some(c) = char::from_u32(code) {
+            write_decomposition(c, &mut writer)?;
         }
     }
     writer.flush()?;
@@ -81,16 +114,21 @@ fn main(rt: HostRuntime) -> io::Result<ExitCode> {
 ASKED = ['NonspacingMark', 'EnclosingMark', 'SpaceSeparator', 'LineSeparator', 'ParagraphSeparator', 'Control',
          'Format', 'PrivateUse', 'Unassigned']
 
+# The scripts that `rust_check` asks about, by name. All others are apart.
+SCRIPTS = ['Common', 'Inherited', 'Unknown', 'Han', 'Hiragana', 'Katakana', 'Hangul', 'Bopomofo']
+
 END = 0x110000
 
 
 def answers():
-    """The version of Unicode, and for each code point where an answer changes: it, and the five answers."""
+    """The version of Unicode, for each code point where an answer changes it and the answers, and for each
+    that has a canonical decomposition it, that, and what is composed with its last character to it, or 0."""
     with tempfile.TemporaryDirectory() as room:
         crate = pathlib.Path(room, 'crates/ask')
         (crate / 'src').mkdir(parents=True)
         (crate / 'src/main.rt').write_text(PROGRAM)
-        below = 'ucd_category ucd_derived ucd_props unicode_ident unicode_width'
+        below = ('ucd_category ucd_derived ucd_props ucd_script unicode_ident unicode_normalization '
+                 'unicode_width')
         pathlib.Path(room, 'crates.txt').write_text(f'ask: {below}\n')
         pathlib.Path(room, 'HANDLES').write_text('Handles allowed: none.\n')
         run = subprocess.run(['rt', 'run'], cwd=crate, capture_output=True, text=True, env=os.environ, check=False)
@@ -98,10 +136,13 @@ def answers():
             sys.exit(run.stderr + 'the program that asks the proved crates was not run')
     version, *lines = run.stdout.splitlines()
     rows = [line.split(' ') for line in lines]
-    return version.split(' ', 1)[1], [
-        (int(code), starts == 'true', continues == 'true', category, int(columns), int(properties))
-        for code, starts, continues, category, columns, properties in rows
+    facts = [
+        (int(code), starts == 'true', continues == 'true', category, int(columns), int(properties), script, int(rank))
+        for code, starts, continues, category, columns, properties, script, rank in
+        (row for row in rows if row[0] != 'canonical')
     ]
+    canonical = [tuple(int(it) for it in row[1:] if it != 'from') for row in rows if row[0] == 'canonical']
+    return version.split(' ', 1)[1], facts, canonical
 
 
 def ranges(rows, column):
@@ -129,16 +170,25 @@ def number_of(category):
     return ASKED.index(category) if category in ASKED else len(ASKED)
 
 
-def table(doc, name, kind, pairs):
-    """The text of a table of pairs, as many on a line as fit in 120 columns."""
-    written = ', '.join(f'({first:#x},\N{NO-BREAK SPACE}{second:#x})' for first, second in pairs)
+def table(doc, name, kind, rows):
+    """The text of a table of rows, as many on a line as fit in 120 columns."""
+    written = ', '.join(text_of(row).replace(' ', '\N{NO-BREAK SPACE}') for row in rows)
     lines = textwrap.fill(written, 116, break_long_words=False).replace('\N{NO-BREAK SPACE}', ' ')
-    return (f'/// {doc}\n#[rustfmt::skip]\npub(crate) static {name}: [{kind}; {len(pairs)}] = [\n'
+    return (f'/// {doc}\n#[rustfmt::skip]\npub(crate) static {name}: [{kind}; {len(rows)}] = [\n'
             + textwrap.indent(lines, '    ') + ',\n];\n')
 
 
+def text_of(value):
+    """A value as Rust has it: a number, a tuple or a slice."""
+    if isinstance(value, int):
+        return f'{value:#x}'
+    inside = ', '.join(text_of(it) for it in value)
+    return f'({inside})' if isinstance(value, tuple) else f'&[{inside}]'
+
+
 def tables():
-    version, rows = answers()
+    version, rows, canonical = answers()
+    scripts = SCRIPTS + sorted({row[6] for row in rows} - {*SCRIPTS})
     version = '.'.join(part.strip(' ()') for part in version.split(','))
     return '\n'.join([
         f'''// Made by rust/facts, which asks the proved crates about every code point: change nothing here.
@@ -154,6 +204,12 @@ def tables():
               'WIDTH_RUNS', '(u32, u8)', runs((row[0], row[4]) for row in rows)),
         table('Where the properties of `ucd_props` and `ucd_derived` change: from which code point on, and their sum.',
               'PROPERTY_RUNS', '(u32, u8)', runs((row[0], row[5]) for row in rows)),
+        table('Where the script changes: from which code point on, and its number, first those that have a name here.',
+              'SCRIPT_RUNS', '(u32, u8)', runs((row[0], scripts.index(row[6])) for row in rows)),
+        table('Where the canonical combining class changes: from which code point on, and the class.',
+              'CLASS_RUNS', '(u32, u8)', runs((row[0], row[7]) for row in rows)),
+        table('What decomposes canonically, but Hangul: it, what its last part is composed with, or 0, and its parts.',
+              'CANONICAL', '(u32, u32, &[u32])', [(row[0], row[-1], list(row[1:-1])) for row in canonical]),
     ])
 
 

@@ -3,3 +3,7 @@ pub mod ShownLemmas
 pub mod FilesLemmas
 pub mod ToldLemmas
 pub mod AnswerLemmas
+pub mod EndsLemmas
+pub mod TurnsLemmas
+pub mod PieceLemmas
+pub mod NamesLemmas

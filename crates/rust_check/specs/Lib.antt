@@ -4,6 +4,10 @@ pub mod Shown
 pub mod Colours
 pub mod Message
 pub mod Words
+pub mod Turns
+pub mod Telling
+pub mod LineEnds
+pub mod Names
 pub mod Told
 pub mod Answer
 pub mod Files

@@ -1,6 +1,6 @@
 -- A place of a text, on its line.
-use Rattle.std.specs.Prelude.{ℕ, Bool, not, ◌||◌, ◌==◌, ◌+◌, List, count_by, encode_utf8, length, reverse, take_while}
-use Rattle.std.specs.Prelude.{if◌then◌else◌}
+use Rattle.std.specs.Prelude.{ℕ, Bool, not, ◌||◌, ◌==◌, ◌+◌, List, [], ◌∷◌, count_by, encode_utf8, length}
+use Rattle.std.specs.Prelude.{if◌then◌else◌, reverse, take_while}
 use Rattle.pm_span.specs.CharOffset.{is_line_feed}
 use Rattle.rust_check.specs.declared.finding.Place.{Place}
 
@@ -31,3 +31,8 @@ place_after place c = record {
   column = if c == 10 then 0 else place.column + 1;
   begin = place.begin + length (encode_utf8 c);
 }
+
+-- the place after the text
+abbrev pub places_after : Place → List ℕ → Place
+places_after place [] = place
+places_after place (c ∷ text) = places_after (place_after place c) text

@@ -1,42 +1,47 @@
--- What is written of the hidden characters of a text.
-use Rattle.std.specs.Prelude.{ℕ, ◌≡◌, Bool, false, not, ◌&&◌, ◌||◌, ◌==◌, List, [], ◌∷◌, ◌++◌, Option, Some, codes}
+-- What is told of the hidden text of a source.
+use Rattle.std.specs.Prelude.{ℕ, Bool, true, false, ◌&&◌, ◌==◌, List, [], ◌∷◌, ◌++◌, Option}
+use Rattle.std.specs.Prelude.{Some, None, codes}
 use Rattle.std.specs.Prelude.{if◌then◌else◌}
-use Rattle.std.specs.Io.KnownBytes.{Appends}
-use Rattle.rust_check.specs.Hidden.{hides_as, is_hidden}
-use Rattle.rust_check.specs.declared.hidden.Hidden.{Hidden}
-use Rattle.rust_check.specs.declared.hidden.Hidden.TheVariants.{Direction, Joiner, Invisible}
-use Rattle.rust_check.specs.Message.{Found, line_message}
-use Rattle.rust_check.specs.Place.{front, place_after}
+use Rattle.lexical.specs.Cover.{CoversUpTo}
+use Rattle.lexical.specs.Piece as pieces
+use Rattle.lexical.specs.Piece.{Piece, Kind, HasNoPiece}
+use Rattle.lexical.specs.Token as tokens
+use Rattle.pm_stream.specs.Parsing.{is_first}
+use Rattle.rust_check.specs.Hidden.{hides_as}
+use Rattle.rust_check.specs.LineEnds.{found_in_ends}
+use Rattle.rust_check.specs.Message.{Found}
+use Rattle.rust_check.specs.Names.{found_by_kind}
+use Rattle.rust_check.specs.Place.{front, places_after}
+use Rattle.rust_check.specs.Telling.{Tells, found_along}
+use Rattle.rust_check.specs.Turns.{is_balanced}
 use Rattle.rust_check.specs.declared.finding.Place.{Place}
+use Rattle.rust_check.specs.declared.hidden.Hidden.{Hidden}
+use Rattle.rust_check.specs.declared.hidden.Hidden.TheVariants.{Direction, Joiner, Invisible, Control, White}
 use Rattle.rust_check.specs.declared.options.Form.{Form}
 
--- all hidden characters are told but U+FEFF at the front of the text
-abbrev pub is_told : Place → ℕ → Bool
-is_told place c = is_hidden c && not ((c == 0xFEFF) && (place.begin == 0))
+-- ---- a character
 
-abbrev pub name_as : Option Hidden → List ℕ
-name_as (Some Direction) = codes "direction-control"
-name_as (Some Joiner) = codes "joining-character"
-name_as (Some Invisible) = codes "invisible-character"
-name_as _ = codes "control-character"
+abbrev pub name_of_hidden : Bool → Hidden → List ℕ
+name_of_hidden true Direction = codes "direction-control"
+name_of_hidden false Direction = codes "unbalanced-direction-control"
+name_of_hidden balanced Joiner = codes "joining-character"
+name_of_hidden balanced Invisible = codes "invisible-character"
+name_of_hidden balanced Control = codes "control-character"
+name_of_hidden balanced White = codes "odd-white-space"
 
-abbrev pub hidden_name : ℕ → List ℕ
-hidden_name c = name_as (hides_as c)
+abbrev pub says_of_hidden : Bool → Hidden → List ℕ
+says_of_hidden true Direction = codes "a control of the text's direction"
+says_of_hidden false Direction = codes "a control of the text's direction, on a line where they are not balanced"
+says_of_hidden balanced Joiner = codes "a character that joins its neighbours or keeps them apart"
+says_of_hidden balanced Invisible = codes "a character that nobody sees"
+says_of_hidden balanced Control = codes "a control character"
+says_of_hidden balanced White = codes "white space that is no space, tab or line end"
 
-abbrev pub says_as : Option Hidden → List ℕ
-says_as (Some Direction) = codes "a control of the text's direction"
-says_as (Some Joiner) = codes "a character that joins its neighbours or keeps them apart"
-says_as (Some Invisible) = codes "a character that nobody sees"
-says_as _ = codes "a control character"
-
-abbrev pub hidden_says : ℕ → List ℕ
-hidden_says c = says_as (hides_as c)
-
--- a character at this place
-abbrev pub found_hidden : Place → ℕ → Found
-found_hidden place c = record {
-  name = hidden_name c;
-  says = hidden_says c;
+-- the character at this place
+abbrev pub found_one : Bool → Place → Hidden → ℕ → Found
+found_one balanced place hidden c = record {
+  name = name_of_hidden balanced hidden;
+  says = says_of_hidden balanced hidden;
   line = place.line;
   column = place.column;
   begin = place.begin;
@@ -45,20 +50,65 @@ found_hidden place c = record {
   rest = [];
 }
 
-abbrev pub message_of : Form → List ℕ → Place → ℕ → List ℕ
-message_of form path place c = if is_told place c then line_message form path (found_hidden place c) else []
+-- nothing is said of white space in a literal, and of U+FEFF at the text's front
+abbrev pub is_spared : Bool → Place → ℕ → Hidden → Bool
+is_spared literal place c White = literal
+is_spared literal place c Invisible = (c == 0xFEFF) && (place.begin == 0)
+is_spared literal place c Direction = false
+is_spared literal place c Joiner = false
+is_spared literal place c Control = false
 
--- a line of each that is told among these characters, of which the first stands at this place
-abbrev pub messages_of : Form → List ℕ → Place → List ℕ → List ℕ
-messages_of form path place [] = []
-messages_of form path place (c ∷ rest) =
-    message_of form path place c ++ messages_of form path (place_after place c) rest
+abbrev pub found_hidden : Bool → Bool → Place → ℕ → Option Hidden → List Found
+found_hidden literal balanced place c None = []
+found_hidden literal balanced place c (Some hidden) =
+    if is_spared literal place c hidden then [] else found_one balanced place hidden c ∷ []
 
--- whether one is told
-abbrev pub any_told : Place → List ℕ → Bool
-any_told place [] = false
-any_told place (c ∷ rest) = is_told place c || any_told (place_after place c) rest
+-- the character at this place, in a literal or not, on a line where the controls of the direction are balanced or not
+abbrev pub found_at_character : Bool → Bool → Place → ℕ → List Found
+found_at_character literal balanced place c = found_hidden literal balanced place c (hides_as c)
 
-abbrev pub TellsHidden : Form → List ℕ → List ℕ → Option (List ℕ) → Option (List ℕ) → Bool → Type 0
-TellsHidden form path text old new found =
-    (found ≡ any_told front text) × Appends old new (messages_of form path front text)
+-- ---- a piece
+
+-- whether they are balanced on the line that goes on after this character
+abbrev pub balanced_after : Bool → ℕ → List ℕ → Bool
+balanced_after balanced c rest = if c == 10 then is_balanced rest else balanced
+
+-- the characters of a piece that begins at this place; a piece's part of a line counts by itself
+abbrev pub found_in_piece : Bool → Place → List ℕ → List Found
+found_in_piece literal place text =
+    found_along (λ balanced at c rest. found_at_character literal balanced at c) balanced_after (is_balanced text)
+    place text
+
+-- ---- all of it
+
+abbrev pub is_literal : Kind → Bool
+is_literal (pieces.Leaf (tokens.Literal text)) = true
+is_literal _ = false
+
+-- the pieces, of which the first begins at this place, and what follows them: what is odd about each that is a name,
+-- and its characters
+abbrev pub found_in_pieces : Place → List Piece → List ℕ → List Found
+found_in_pieces place [] rest = found_in_piece false place rest
+found_in_pieces place (piece ∷ more) rest =
+    found_by_kind place piece.0 piece.1
+    ++ (found_in_piece (is_literal piece.0) place piece.1 ++ found_in_pieces (places_after place piece.1) more rest)
+
+-- these pieces stand in the text one after the other, and none stands at the rest
+pub record ArePieces (all : List Piece) (text rest : List ℕ) : Type 0 where
+  pub covers : CoversUpTo all text rest
+  pub none : HasNoPiece (is_first all) rest
+
+-- each hidden character of the text's pieces, and of what follows them, is told
+pub record TellsPieces (form : Form) (path text : List ℕ) (old new : Option (List ℕ)) (before after : Bool)
+    : Type 0 where
+  pub all : List Piece
+  pub rest : List ℕ
+  pub are : ArePieces all text rest
+  pub tells : Tells form path (found_in_pieces front all rest) old new before after
+
+-- and then what is odd at the ends of its lines
+pub record TellsHidden (form : Form) (path text : List ℕ) (old new : Option (List ℕ)) (found : Bool) : Type 0 where
+  pub all : List Piece
+  pub rest : List ℕ
+  pub are : ArePieces all text rest
+  pub tells : Tells form path (found_in_pieces front all rest ++ found_in_ends front text) old new false found

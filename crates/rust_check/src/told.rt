@@ -1,20 +1,30 @@
-//! Tells the hidden characters of a text.
-ghost use Rattle.std.specs.Prelude.{◌≡◌, IfOk, OnOk, encode_utf8};
-ghost use Rattle.std.specs.Io.KnownBytes.{Appends};
+//! Tells the hidden text of a source.
+ghost use Rattle.std.specs.Prelude.{◌≡◌, ◌∷◌, [], ◌+◌, ◌<◌, ◌^◌, IfOk, List, OnOk, ℕ, encode_utf8, if◌then◌else◌};
+ghost use Rattle.std.specs.Prelude.{length};
 ghost use Rattle.std.specs.Str.{chars};
+ghost use Rattle.lexical.specs.Found.{LendsText, kind_of};
 ghost use Rattle.rust_check.specs.Message.{seen};
-ghost use Rattle.rust_check.specs.Told.{TellsHidden, found_hidden, hidden_name, hidden_says, is_told, message_of};
+ghost use Rattle.rust_check.specs.Names.{found_by_kind};
+ghost use Rattle.rust_check.specs.Place.{places_after};
+ghost use Rattle.rust_check.specs.Telling.{IsWithin, Tells};
+ghost use Rattle.rust_check.specs.Told.{TellsHidden, TellsPieces, balanced_after, found_at_character, found_in_piece};
+ghost use Rattle.rust_check.specs.Told.{found_one, is_literal, is_spared, name_of_hidden, says_of_hidden};
 
+use crate::ends::{odd, tell_line_ends};
 use crate::finding::{Finding, Place};
-use crate::hidden::{Hidden, hides_as, is_hidden};
+use crate::hidden::{Hidden, hides_as};
+use crate::names::is_mixed;
 use crate::options::Form;
+use crate::turns::is_balanced;
 use crate::writing::write_line;
-use std::alloc::Global;
+use proc_macro2::{PieceKind, pieces};
+use std::alloc::{AllocError, Global};
 use std::io;
 use std::io::Write;
+use unicode_normalization::is_nfc;
 
-/// Writes a line for each hidden character of the text of the file at this path, but not for U+FEFF at its front, and
-/// answers whether there is one.
+/// Writes a line for each place of the text where something is hidden, and answers whether there is one: first the
+/// hidden characters, piece by piece, and then what is odd at the ends of lines.
 pub fn tell_hidden<W: Write>(
     alloc: Global,
     form: Form,
@@ -26,58 +36,193 @@ pub fn tell_hidden<W: Write>(
         (W.contents writer.new) found) }
 {
     let mut found = false;
-    let mut place = Place::front();
-    let mut rest = text.chars();
-    while let Some(c) = rest.next() {
-        let told = tell_character(alloc, form, path, place, c, writer)?;
-        found = told || found;
-        place = place.after(c);
-    }
+    tell_pieces(alloc, form, path, text, &mut found, writer)?;
+    tell_line_ends(alloc, form, path, text, &mut found, writer)?;
     Ok(found)
 }
 
-// Writes a line for the character at this place, if it is hidden, and answers whether it is.
-fn tell_character<W: Write>(
+// Writes a line for each hidden character of the text's pieces, and of what follows them.
+fn tell_pieces<W: Write>(
+    alloc: Global,
+    form: Form,
+    path: &str,
+    text: &str,
+    found: &mut bool,
+    writer: &mut W,
+) -> io::Result<()>
+    ensures { OnOk result (TellsPieces form path.now (chars text.now) (W.contents writer.old) (W.contents writer.new)
+        found.old found.new) }
+{
+    let mut place = Place::front();
+    let mut walk = pieces(text);
+    while let Some(next) = walk.next_piece() {
+        tell_name(
+            alloc,
+            form,
+            path,
+            place,
+            next.piece.kind,
+            next.text,
+            found,
+            writer,
+        )?;
+        let literal = is_literal(next.piece.kind);
+        place = tell_piece(alloc, form, path, literal, place, next.text, found, writer)?;
+    }
+    tell_piece(alloc, form, path, false, place, walk.rest(), found, writer)?;
+    Ok(())
+}
+
+// Writes a line for what is odd about the piece, if it is a name.
+fn tell_name<W: Write>(
     alloc: Global,
     form: Form,
     path: &str,
     place: Place,
-    c: char,
+    kind: PieceKind<'_>,
+    text: &str,
+    found: &mut bool,
     writer: &mut W,
-) -> io::Result<bool>
-    ensures told { IfOk result (λ told. told ≡ is_told place c) }
-    ensures bytes { OnOk result (Appends (W.contents writer.old) (W.contents writer.new)
-        (message_of form path.now place c)) }
+) -> io::Result<()>
+    requires { LendsText kind }
+    ensures { OnOk result ((piece : List ℕ) → Tells form path.now
+        (found_by_kind place (kind_of kind.entry piece) (chars text.now)) (W.contents writer.old)
+        (W.contents writer.new) found.old found.new) }
 {
-    if !is_told(place, c) {
-        return Ok(false);
-    }
-    let mut bytes = [0; 4];
-    write_line(
-        alloc,
-        form,
-        path,
-        &finding(place, c, c.encode_utf8(&mut bytes)),
-        writer,
-    )?;
-    Ok(true)
+    let PieceKind::Name { name, .. } = kind else {
+        return Ok(());
+    };
+    let is_other_form = !is_nfc(alloc, name)?;
+    let finding = odd(
+        "name-not-in-nfc",
+        "a name that is not in the form NFC",
+        text,
+        place,
+    );
+    tell_if(alloc, form, path, is_other_form, &finding, found, writer)?;
+    let finding = odd(
+        "name-of-mixed-scripts",
+        "a name of scripts that are not written together",
+        text,
+        place,
+    );
+    tell_if(alloc, form, path, is_mixed(name), &finding, found, writer)
 }
 
-// Whether the character at this place is told.
-fn is_told(place: Place, c: char) -> bool
-    ensures { result ≡ is_told place c }
+// Writes a line for a finding, if it is one.
+fn tell_if<W: Write>(
+    alloc: Global,
+    form: Form,
+    path: &str,
+    is: bool,
+    finding: &Finding<'_>,
+    found: &mut bool,
+    writer: &mut W,
+) -> io::Result<()>
+    ensures { OnOk result (Tells form path.now (if is then seen finding.now ∷ [] else []) (W.contents writer.old)
+        (W.contents writer.new) found.old found.new) }
 {
-    is_hidden(c) && !(c == '\u{FEFF}' && place.begin == 0)
+    if !is {
+        return Ok(());
+    }
+    *found = true;
+    write_line(alloc, form, path, finding, writer)
+}
+
+// Whether the piece is a literal.
+fn is_literal(kind: PieceKind<'_>) -> bool
+    ensures { (text : List ℕ) → result ≡ is_literal (kind_of kind.entry text) }
+{
+    matches!(kind, PieceKind::Literal)
+}
+
+// Writes a line for each hidden character of a piece that begins at this place, and answers the place after it.
+fn tell_piece<W: Write>(
+    alloc: Global,
+    form: Form,
+    path: &str,
+    literal: bool,
+    place: Place,
+    text: &str,
+    found: &mut bool,
+    writer: &mut W,
+) -> io::Result<Place>
+    requires within { IsWithin place }
+    requires room { place.begin + length text.now + 1 < 2 ^ 64 }
+    ensures told { OnOk result (Tells form path.now (found_in_piece literal place (chars text.now))
+        (W.contents writer.old) (W.contents writer.new) found.old found.new) }
+    ensures place { IfOk result (λ after. after ≡ places_after place (chars text.now)) }
+    ensures within { IfOk result IsWithin }
+    ensures begin { IfOk result (λ (after : Place). after.begin ≡ place.begin + length text.now) }
+{
+    let mut at = place;
+    let mut balanced = is_balanced(alloc, text)?;
+    let mut rest = text.chars();
+    while let Some(c) = rest.next() {
+        tell_character(alloc, form, path, literal, balanced, at, c, found, writer)?;
+        balanced = balanced_after(alloc, balanced, c, rest.as_str())?;
+        at = at.after(c);
+    }
+    Ok(at)
+}
+
+// Whether the controls of the direction are balanced on the line that goes on after this character.
+fn balanced_after(alloc: Global, balanced: bool, c: char, rest: &str) -> Result<bool, AllocError>
+    ensures { IfOk result (λ is. is ≡ balanced_after balanced c (chars rest.now)) }
+{
+    if c == '\n' {
+        is_balanced(alloc, rest)
+    } else {
+        Ok(balanced)
+    }
+}
+
+// Writes a line for the character at this place, if it hides something.
+fn tell_character<W: Write>(
+    alloc: Global,
+    form: Form,
+    path: &str,
+    literal: bool,
+    balanced: bool,
+    place: Place,
+    c: char,
+    found: &mut bool,
+    writer: &mut W,
+) -> io::Result<()>
+    ensures { OnOk result (Tells form path.now (found_at_character literal balanced place c)
+        (W.contents writer.old) (W.contents writer.new) found.old found.new) }
+{
+    let Some(hidden) = hides_as(c) else {
+        return Ok(());
+    };
+    if is_spared(literal, place, c, hidden) {
+        return Ok(());
+    }
+    let mut bytes = [0; 4];
+    let finding = finding(balanced, place, hidden, c, c.encode_utf8(&mut bytes));
+    *found = true;
+    write_line(alloc, form, path, &finding, writer)
+}
+
+// Whether nothing is said of it: of white space in a literal, and of U+FEFF at the text's front.
+fn is_spared(literal: bool, place: Place, c: char, hidden: Hidden) -> bool
+    ensures { result ≡ is_spared literal place c hidden }
+{
+    match hidden {
+        Hidden::White => literal,
+        Hidden::Invisible => c == '\u{FEFF}' && place.begin == 0,
+        _ => false,
+    }
 }
 
 // A hidden character, of which `here` is the text.
-fn finding<'a>(place: Place, c: char, here: &'a str) -> Finding<'a>
+fn finding<'a>(balanced: bool, place: Place, hidden: Hidden, c: char, here: &'a str) -> Finding<'a>
     requires { here.now ≡ encode_utf8 c }
-    ensures { seen result ≡ found_hidden place c }
+    ensures { seen result ≡ found_one balanced place hidden c }
 {
     Finding {
-        name: hidden_name(c),
-        says: hidden_says(c),
+        name: name_of_hidden(balanced, hidden),
+        says: says_of_hidden(balanced, hidden),
         place,
         front: "",
         here,
@@ -85,26 +230,31 @@ fn finding<'a>(place: Place, c: char, here: &'a str) -> Finding<'a>
     }
 }
 
-// The short name of what a hidden character is.
-fn hidden_name(c: char) -> &'static str
-    ensures { result.now ≡ hidden_name c }
+// The short name of what hides something.
+fn name_of_hidden(balanced: bool, hidden: Hidden) -> &'static str
+    ensures { result.now ≡ name_of_hidden balanced hidden }
 {
-    match hides_as(c) {
-        Some(Hidden::Direction) => "direction-control",
-        Some(Hidden::Joiner) => "joining-character",
-        Some(Hidden::Invisible) => "invisible-character",
-        _ => "control-character",
+    match hidden {
+        Hidden::Direction if balanced => "direction-control",
+        Hidden::Direction => "unbalanced-direction-control",
+        Hidden::Joiner => "joining-character",
+        Hidden::Invisible => "invisible-character",
+        Hidden::Control => "control-character",
+        Hidden::White => "odd-white-space",
     }
 }
 
 // What is said of it.
-fn hidden_says(c: char) -> &'static str
-    ensures { result.now ≡ hidden_says c }
+fn says_of_hidden(balanced: bool, hidden: Hidden) -> &'static str
+    ensures { result.now ≡ says_of_hidden balanced hidden }
 {
-    match hides_as(c) {
-        Some(Hidden::Direction) => "a control of the text's direction",
-        Some(Hidden::Joiner) => "a character that joins its neighbours or keeps them apart",
-        Some(Hidden::Invisible) => "a character that nobody sees",
-        _ => "a control character",
+    match hidden {
+        Hidden::Direction if balanced => "a control of the text's direction",
+        Hidden::Direction =>
+            "a control of the text's direction, on a line where they are not balanced",
+        Hidden::Joiner => "a character that joins its neighbours or keeps them apart",
+        Hidden::Invisible => "a character that nobody sees",
+        Hidden::Control => "a control character",
+        Hidden::White => "white space that is no space, tab or line end",
     }
 }

@@ -22,7 +22,8 @@ pub mod vec;
 
 pub use crate::display_by_shim as display;
 pub use process::{env, fs};
-pub use unicode::{ucd_category, ucd_derived, ucd_props, unicode_ident, unicode_width};
+pub use unicode::{ucd_category, ucd_derived, ucd_props, ucd_script};
+pub use unicode::{unicode_ident, unicode_normalization, unicode_width};
 
 /// What is in scope in every source of Rattle, in so far as it isn't in Rust or is another there.
 pub mod prelude {

@@ -59,15 +59,18 @@ pub mod pretty {
 pub mod rust_check {
     mod answer;
     mod colours;
+    mod ends;
     pub mod files;
     mod finding;
     mod hidden;
     mod json;
+    mod names;
     pub mod options;
     mod place;
     mod shown;
     mod tally;
     mod told;
+    mod turns;
     mod words;
     mod writing;
 }

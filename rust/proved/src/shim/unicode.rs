@@ -1,6 +1,7 @@
 //! What the toolchain's proved crates answer about characters, by tables that were made by asking them.
 
-use crate::tables::{CATEGORY_RUNS, IDENTIFIER_CONTINUE, IDENTIFIER_START, PROPERTY_RUNS, WIDTH_RUNS};
+use crate::tables::{CANONICAL, CATEGORY_RUNS, CLASS_RUNS, IDENTIFIER_CONTINUE, IDENTIFIER_START};
+use crate::tables::{PROPERTY_RUNS, SCRIPT_RUNS, WIDTH_RUNS};
 
 /// Whether the code point is in one of the ranges, which are in order.
 fn is_within(ranges: &[(u32, u32)], c: char) -> bool {
@@ -101,10 +102,125 @@ pub mod ucd_category {
     }
 }
 
+/// The number that the runs have for the code point. The first run begins at 0.
+fn number_in(runs: &[(u32, u8)], code: u32) -> u8 {
+    runs[runs.partition_point(|(first, _)| *first <= code) - 1].1
+}
+
 /// Whether the character has the property of this weight.
 fn has(weight: u8, c: char) -> bool {
-    let after = PROPERTY_RUNS.partition_point(|(first, _)| *first <= c as u32);
-    PROPERTY_RUNS[after - 1].1 & weight != 0
+    number_in(&PROPERTY_RUNS, c as u32) & weight != 0
+}
+
+/// Scripts of characters.
+pub mod ucd_script {
+    use super::{number_in, SCRIPT_RUNS};
+
+    /// The property `Script`.
+    #[derive(Clone, Copy, Debug, PartialEq, Eq)]
+    pub struct Script(u8);
+
+    #[allow(missing_docs, non_upper_case_globals)]
+    impl Script {
+        pub const Common: Script = Script(0);
+        pub const Inherited: Script = Script(1);
+        pub const Unknown: Script = Script(2);
+        pub const Han: Script = Script(3);
+        pub const Hiragana: Script = Script(4);
+        pub const Katakana: Script = Script(5);
+        pub const Hangul: Script = Script(6);
+        pub const Bopomofo: Script = Script(7);
+
+        /// Contract: the script of the character.
+        pub fn for_char(c: char) -> Script {
+            Script(number_in(&SCRIPT_RUNS, c as u32))
+        }
+
+        /// Contract: a number of its own, though not the same as in Rattle.
+        pub fn number(self) -> u32 {
+            u32::from(self.0)
+        }
+    }
+}
+
+/// Normal forms.
+pub mod unicode_normalization {
+    use super::{number_in, CANONICAL, CLASS_RUNS};
+    use crate::shim::alloc::{AllocError, Global};
+
+    // Hangul syllables and their parts, of which there are so many second and third ones.
+    const SYLLABLES: u32 = 0xAC00;
+    const SYLLABLES_END: u32 = 0xD7A4;
+    const FIRSTS: u32 = 0x1100;
+    const SECONDS: u32 = 0x1161;
+    const THIRDS: u32 = 0x11A7;
+    const SECOND: u32 = 21;
+    const THIRD: u32 = 28;
+
+    /// Contract: whether the text is its own form NFC.
+    pub fn is_nfc(_: Global, text: &str) -> Result<bool, AllocError> {
+        Ok(text.is_ascii() || composed(&decomposed(text)) == text.chars().map(u32::from).collect::<Vec<_>>())
+    }
+
+    fn class(code: u32) -> u8 {
+        number_in(&CLASS_RUNS, code)
+    }
+
+    /// The text's characters decomposed, those between starters in the order of their classes.
+    fn decomposed(text: &str) -> Vec<u32> {
+        let mut out = Vec::new();
+        for code in text.chars().map(u32::from) {
+            match CANONICAL.binary_search_by_key(&code, |row| row.0) {
+                Ok(index) => out.extend_from_slice(CANONICAL[index].2),
+                Err(_) if (SYLLABLES..SYLLABLES_END).contains(&code) => {
+                    let index = code - SYLLABLES;
+                    out.extend([FIRSTS + index / THIRD / SECOND, SECONDS + index / THIRD % SECOND]);
+                    out.extend(Some(THIRDS + index % THIRD).filter(|third| *third != THIRDS));
+                }
+                Err(_) => out.push(code),
+            }
+        }
+        for run in out.split_mut(|code| class(*code) == 0) {
+            run.sort_by_key(|code| class(*code));
+        }
+        out
+    }
+
+    /// What the two are composed to.
+    fn composite(a: u32, b: u32) -> Option<u32> {
+        let is_lead = (FIRSTS..FIRSTS + 19).contains(&a) && (SECONDS..SECONDS + SECOND).contains(&b);
+        let is_open = (SYLLABLES..SYLLABLES_END).contains(&a) && (a - SYLLABLES) % THIRD == 0;
+        if is_lead {
+            return Some(SYLLABLES + ((a - FIRSTS) * SECOND + (b - SECONDS)) * THIRD);
+        }
+        if is_open && (THIRDS + 1..THIRDS + THIRD).contains(&b) {
+            return Some(a + (b - THIRDS));
+        }
+        CANONICAL.iter().find(|row| row.1 == a && row.2.last() == Some(&b)).map(|row| row.0)
+    }
+
+    /// Each starter composed with what follows it, where nothing stands between that has no lesser class.
+    fn composed(codes: &[u32]) -> Vec<u32> {
+        let mut out: Vec<u32> = Vec::new();
+        let mut starter = None;
+        let mut last = 0;
+        for code in codes {
+            let class = class(*code);
+            let is_next = starter.is_some_and(|at| at + 1 == out.len());
+            if let Some(at) = starter.filter(|_| is_next || last < class) {
+                if let Some(whole) = composite(out[at], *code) {
+                    out[at] = whole;
+                    continue;
+                }
+            }
+            if class == 0 {
+                starter = Some(out.len());
+            }
+            last = class;
+            out.push(*code);
+        }
+        out
+    }
 }
 
 /// Properties of characters.
@@ -168,7 +284,11 @@ mod tests {
     use super::ucd_category::{GeneralCategory, CATEGORIES};
     use super::unicode_ident::{is_xid_continue, is_xid_start};
     use super::unicode_width::UnicodeWidthChar;
-    use super::{has, is_within, CATEGORY_RUNS, IDENTIFIER_CONTINUE, IDENTIFIER_START, PROPERTY_RUNS, WIDTH_RUNS};
+    use super::ucd_script::Script;
+    use super::unicode_normalization::is_nfc;
+    use super::{has, is_within, CANONICAL, CATEGORY_RUNS, CLASS_RUNS, IDENTIFIER_CONTINUE, IDENTIFIER_START};
+    use super::{PROPERTY_RUNS, SCRIPT_RUNS, WIDTH_RUNS};
+    use crate::shim::alloc::Global;
 
     #[test]
     fn each_character_is_what_the_ranges_say() {
@@ -187,10 +307,40 @@ mod tests {
         assert_eq!(CATEGORY_RUNS[0].0, 0);
         assert!(CATEGORY_RUNS.windows(2).all(|pair| pair[0].0 < pair[1].0 && pair[0].1 != pair[1].1));
         assert!(CATEGORY_RUNS.iter().all(|(_, number)| usize::from(*number) < CATEGORIES.len()));
-        for runs in [&WIDTH_RUNS[..], &PROPERTY_RUNS[..]] {
+        for runs in [&WIDTH_RUNS[..], &PROPERTY_RUNS[..], &SCRIPT_RUNS[..], &CLASS_RUNS[..]] {
             assert_eq!(runs[0].0, 0);
             assert!(runs.windows(2).all(|pair| pair[0].0 < pair[1].0 && pair[0].1 != pair[1].1));
         }
+        assert!(CANONICAL.windows(2).all(|pair| pair[0].0 < pair[1].0));
+    }
+
+    #[test]
+    fn texts_are_in_the_form_nfc_or_not() {
+        for text in ["", "a", "\u{e9}", "\u{1eb9}\u{30c}", "\u{1100}", "\u{ac01}", "\u{301}", "\u{1161}\u{11a8}"] {
+            assert_eq!(is_nfc(Global, text).ok(), Some(true), "{text:?}");
+        }
+        for text in [
+            "e\u{301}",
+            "e\u{323}\u{30c}",
+            "\u{212b}",
+            "\u{1100}\u{1161}",
+            "\u{ac00}\u{11a8}",
+            "a\u{301}\u{323}",
+            "\u{340}",
+            "\u{958}x",
+        ] {
+            assert_eq!(is_nfc(Global, text).ok(), Some(false), "{text:?}");
+        }
+    }
+
+    #[test]
+    fn characters_have_scripts() {
+        let scripts = ['1', '\u{301}', '\u{378}', '\u{4e2d}', '\u{3042}', '\u{30a2}', '\u{ac00}', '\u{3105}'];
+        for (number, c) in scripts.into_iter().enumerate() {
+            assert_eq!(Script::for_char(c).number() as usize, number, "{c:?}");
+        }
+        assert_eq!(Script::for_char('a'), Script::for_char('\u{e9}'));
+        assert_ne!(Script::for_char('a'), Script::for_char('\u{430}'));
     }
 
     #[test]
@@ -223,8 +373,8 @@ mod tests {
             ('\u{FE0F}', 12),
             ('\u{E0100}', 12),
         ] {
-            let has_them = [1, 2, 4, 8, 16].map(|weight| u8::from(has(weight, c)) * weight);
-            assert_eq!(has_them.iter().sum::<u8>(), sum, "{c:?}");
+            let sum_of = [1, 2, 4, 8, 16].map(|weight| u8::from(has(weight, c)) * weight).iter().sum::<u8>();
+            assert_eq!(sum_of, sum, "{c:?}");
         }
     }
 }

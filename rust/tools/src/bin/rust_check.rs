@@ -57,7 +57,7 @@ usage: rust_check [--short|--json] [--hidden] [--color=always|never] [FILE..]
   FILE            a file, or - for standard input, which is read where there is no file
   --short         each fault in one line: FILE:L:C: error: what
   --json          each fault as an object of JSON on a line
-  --hidden        tells hidden characters too: controls of direction, what nobody sees, control characters
+  --hidden        tells hidden text too: controls of direction, characters that nobody sees, odd line ends
   --color=always  sets a terminal's colours; --color=never, as is usual, doesn't
   --version       writes the version
 

@@ -8,4 +8,4 @@ returns c =
     let here : chars c.args.here.now ≡ c.args.c ∷ [] =
     chars_past_char c.args.here.now [] c.args.c c.utf8.here (c.requires ∙ sym (append-nil _))
     ∙ ap (λ l. c.args.c ∷ l) chars-nil in
-    rw (c.hidden_name.ensures, c.hidden_says.ensures, here, chars-nil) refl
+    rw (c.name_of_hidden.ensures, c.says_of_hidden.ensures, here, chars-nil) refl

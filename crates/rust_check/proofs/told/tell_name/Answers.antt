@@ -1,0 +1,12 @@
+use Rattle.std.specs.Str.{chars}
+use Rattle.std.proofs.lemmas.Result.{on_ok_weaker}
+use Rattle.rust_check.proofs.NamesLemmas.{name_told}
+use Rattle.rust_check.proofs.told.tell_name.Goals as goal
+
+pub returns : goal.returns
+returns g c =
+    on_ok_weaker c.tell_if-2.result
+    (λ second piece. rw c.in-Name.is (name_told _ _ c.args.place (chars c.in-Name.name.now) (chars c.args.text.now)
+    c.in_ok-is_other_form.field-0 c.is_mixed.result _ _ _ _ _ _ _ _ c.in_ok-is_other_form.ensures.answer
+    c.is_mixed.ensures
+    c.odd-finding.ensures c.odd-finding-2.ensures c.in_ok-tell_if.ensures second)) c.tell_if-2.ensures

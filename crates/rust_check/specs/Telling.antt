@@ -1,0 +1,35 @@
+-- How findings are told, a line each.
+use Rattle.std.specs.Prelude.{ℕ, ◌≡◌, ◌+◌, ◌≤◌, Bool, true, false, ◌||◌, List, [], ◌∷◌, ◌++◌, Option}
+use Rattle.std.specs.Io.KnownBytes.{Appends}
+use Rattle.rust_check.specs.Message.{Found, line_message}
+use Rattle.rust_check.specs.Place.{place_after}
+use Rattle.rust_check.specs.declared.finding.Place.{Place}
+use Rattle.rust_check.specs.declared.options.Form.{Form}
+
+-- a line of each
+abbrev pub lines_of : Form → List ℕ → List Found → List ℕ
+lines_of form path [] = []
+lines_of form path (x ∷ more) = line_message form path x ++ lines_of form path more
+
+abbrev pub is_any : List Found → Bool
+is_any [] = false
+is_any (x ∷ more) = true
+
+-- all of these are told, in order, and whether something was found so far is kept in mind
+pub record Tells (form : Form) (path : List ℕ) (xs : List Found) (old new : Option (List ℕ)) (before after : Bool)
+    : Type 0 where
+  pub bytes : Appends old new (lines_of form path xs)
+  pub any : after ≡ (before || is_any xs)
+
+-- what is found at each character of a text that begins at this place: by what is known of the characters before it,
+-- itself and what follows it
+abbrev pub found_along : {S : Type 0} → (S → Place → ℕ → List ℕ → List Found) → (S → ℕ → List ℕ → S) → S → Place
+    → List ℕ → List Found
+found_along found next known place [] = []
+found_along found next known place (c ∷ rest) =
+    found known place c rest ++ found_along found next (next known c rest) (place_after place c) rest
+
+-- no more lines and columns than bytes
+pub record IsWithin (place : Place) : Type 0 where
+  pub line : place.line ≤ place.begin + 1
+  pub column : place.column ≤ place.begin

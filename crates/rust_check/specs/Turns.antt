@@ -1,0 +1,49 @@
+-- Whether the controls of a line's direction are balanced.
+use Rattle.std.specs.Prelude.{ℕ, Bool, true, false, not, ◌||◌, ◌==◌, List, [], ◌∷◌, Option, Some, None, take_while}
+use Rattle.std.specs.Prelude.{if◌then◌else◌}
+use Rattle.std.specs.Int.{is_in_range}
+use Rattle.pm_span.specs.CharOffset.{is_line_feed}
+use Rattle.rust_check.specs.declared.turns.Turn.{Turn}
+use Rattle.rust_check.specs.declared.turns.Turn.TheVariants.{Stays, Opens, Closes}
+
+-- embeddings and overrides open within the text around them, and U+202C closes them; isolates open apart from it, and
+-- U+2069 closes those
+abbrev pub turn_of : ℕ → Turn
+turn_of c =
+    if (c == 0x202A) || (c == 0x202B) || (c == 0x202D) || (c == 0x202E) then Opens false
+    else (if is_in_range 0x2066 0x2068 c then Opens true
+    else (if c == 0x202C then Closes false else (if c == 0x2069 then Closes true else Stays)))
+
+abbrev pub is_same : Bool → Bool → Bool
+is_same true b = b
+is_same false b = not b
+
+-- what is open, the innermost first, after one is closed; None where another one is the innermost, or none is open
+abbrev pub closed : Bool → List Bool → Option (List Bool)
+closed apart [] = None
+closed apart (innermost ∷ opened) = if is_same innermost apart then Some opened else None
+
+abbrev pub turned : Turn → List Bool → Option (List Bool)
+turned Stays opened = Some opened
+turned (Opens apart) opened = Some (apart ∷ opened)
+turned (Closes apart) opened = closed apart opened
+
+abbrev pub open_after : Option (List Bool) → ℕ → Option (List Bool)
+open_after None c = None
+open_after (Some opened) c = turned (turn_of c) opened
+
+abbrev pub all_open : Option (List Bool) → List ℕ → Option (List Bool)
+all_open opened [] = opened
+all_open opened (c ∷ rest) = all_open (open_after opened c) rest
+
+abbrev pub closes_all : Option (List Bool) → Bool
+closes_all (Some []) = true
+closes_all _ = false
+
+-- what stands on the text's first line, which ends at a line feed
+abbrev pub fed_line : List ℕ → List ℕ
+fed_line text = take_while (λ c. not (is_line_feed c)) text
+
+-- on that each one that opens is closed, in order, and none is closed that isn't open
+abbrev pub is_balanced : List ℕ → Bool
+is_balanced text = closes_all (all_open (Some []) (fed_line text))
