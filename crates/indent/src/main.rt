@@ -1,8 +1,8 @@
 //! Indents a Rust file by its delimiters, inside macros too.
 //!
 //! `indent [--check] [--width N | --tabs] [FILE]` reads the file, or standard input where it is `-` or there is none,
-//! and writes the text with the front of each line as wide as N columns, 4 if not said, or a tab, for each group that is
-//! open there; a closer that a line begins with counts as closed. White space at the ends of lines goes. A line that
+//! and writes the text with the front of each line as wide as N columns, 4 if not said, or a tab, for each group that
+//! is open there; a closer that a line begins with counts as closed. White space at the ends of lines goes. A line that
 //! begins inside a literal or a comment stays as it is, and so does all that is no white space at the front or the end
 //! of a line. With `--check` nothing but the file's name is written, and that only where the text would change.
 //!
