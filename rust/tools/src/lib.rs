@@ -1,4 +1,4 @@
-//! What the programs `tokens`, `highlight`, `find_calls`, `pretty`, `rust_check` and `same` call.
+//! What the programs `tokens`, `highlight`, `find_calls`, `pretty`, `rust_check`, `same` and `indent` call.
 //!
 //! Each module is a crate of `crates/`, made into plain Rust by `rust/erase` as those of [`proved`] are. A program's
 //! `main` is by hand, in `src/bin`: what `main.rt` of its crate does, over the streams and words of
@@ -83,4 +83,12 @@ pub mod same {
     mod place;
     mod said;
     mod words;
+}
+
+/// The program `indent`, but for its `main`.
+#[allow(dead_code, unreachable_code, unused_imports, clippy::complexity, clippy::style)]
+pub mod indent {
+    pub mod answer;
+    mod choosing;
+    pub mod options;
 }

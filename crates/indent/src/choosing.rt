@@ -1,0 +1,129 @@
+//! Which white space indents a text.
+ghost use Rattle.std.specs.Prelude.{IfOk, OnOk};
+ghost use Rattle.std.specs.List.{All};
+ghost use Rattle.indent.specs.Indented.{KeepsLines};
+
+use lexical::parts::begins;
+use lexical::{PieceKind, PlacedPiece, pieces};
+use relayout::White;
+use std::alloc::{AllocError, Global};
+
+/// How far each open group indents a line.
+#[derive(Clone, Copy, Debug, PartialEq, Eq)]
+pub enum Step {
+    /// By a tab.
+    Tab,
+    /// By so many spaces.
+    Spaces(u8),
+}
+
+// The white space before a piece.
+#[derive(Clone, Copy, Debug, PartialEq, Eq)]
+enum Run {
+    // None.
+    Nothing,
+    // Some, in which no line ends.
+    WithinLine,
+    // Some, in which a line ends.
+    EndsLine,
+}
+
+/// For each run of white space of a text, what is to stand in its place so that its lines are indented by the groups
+/// that are open.
+///
+/// A closer that a line begins with, or that stands after such ones, counts as closed at the line's front.
+pub fn choices(alloc: Global, text: &str, step: Step) -> Result<Vec<White>, AllocError>
+    ensures { IfOk result (λ choices. All KeepsLines choices.items) }
+{
+    let mut choices = Vec::new(alloc);
+    let mut open: usize = 0;
+    let mut run = Run::Nothing;
+    let mut here = text;
+    let mut walk = pieces(text);
+    while let Some(next) = walk.next_piece() {
+        let line = here;
+        here = walk.rest();
+        if is_white(next) {
+            run = with_white(run, next.text);
+            continue;
+        }
+        push_choice(&mut choices, run, line, open, step)?;
+        run = Run::Nothing;
+        open = open_after(next, open);
+    }
+    push_choice(&mut choices, run, "", 0, step)?;
+    Ok(choices)
+}
+
+// Whether the piece is a white character.
+fn is_white(next: PlacedPiece<'_>) -> bool {
+    match next.piece.kind {
+        PieceKind::Gap => !begins(next.text, "/"),
+        _ => false,
+    }
+}
+
+// The run with more white space.
+fn with_white(run: Run, more: &str) -> Run {
+    if run == Run::EndsLine || more.contains('\n') {
+        Run::EndsLine
+    } else {
+        Run::WithinLine
+    }
+}
+
+// How many groups are open after the piece.
+fn open_after(next: PlacedPiece<'_>, open: usize) -> usize {
+    match next.piece.kind {
+        PieceKind::Opener(_) => open.saturating_add(1),
+        PieceKind::Closer(_) => open.saturating_sub(1),
+        _ => open,
+    }
+}
+
+// Chooses what stands in the place of a run, if there is one, before this text, where so many groups are open.
+fn push_choice(
+    choices: &mut Vec<White>,
+    run: Run,
+    rest: &str,
+    open: usize,
+    step: Step,
+) -> Result<(), AllocError>
+    ensures { All KeepsLines choices.old.items → OnOk result (All KeepsLines choices.new.items) }
+{
+    match run {
+        Run::Nothing => {}
+        Run::WithinLine => choices.push(White::Kept)?,
+        Run::EndsLine => choices.push(indentation(open.saturating_sub(closers(rest)), step))?,
+    }
+    Ok(())
+}
+
+// How many closers a line begins with.
+fn closers(line: &str) -> usize {
+    let mut count: usize = 0;
+    for c in line.chars() {
+        match c {
+            ')' | ']' | '}' => count = count.saturating_add(1),
+            ' ' | '\t' => {}
+            _ => break,
+        }
+    }
+    count
+}
+
+// The white space at the front of a line on this level.
+fn indentation(level: usize, step: Step) -> White
+    ensures { KeepsLines result }
+{
+    match step {
+        Step::Tab => White::Lines {
+            tabs: level,
+            spaces: 0,
+        },
+        Step::Spaces(width) => White::Lines {
+            tabs: 0,
+            spaces: level.saturating_mul(usize::from(width)),
+        },
+    }
+}
