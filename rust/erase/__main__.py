@@ -29,7 +29,10 @@ LIBRARIES = [
 # The crates that only a test of the package takes.
 TESTED = ['conformance']
 # The library's own tests, which another test of the package takes.
-OWN_TESTS = ['lexical_tests', 'token_tests', 'stream_tests', 'quoting_tests', 'declarations_tests']
+OWN_TESTS = [
+    'lexical_tests', 'token_tests', 'stream_tests', 'span_tests', 'law_tests', 'buffer_tests', 'quoting_tests',
+    'declarations_tests',
+]
 # The programs, and the library that they share.
 PROGRAMS = ['messages', 'tokens', 'highlight', 'find_calls', 'pretty', 'rust_check', 'same', 'indent']
 # What isn't erased: tests within the library, what is for them alone, tests of how many bytes a value takes in Rattle,

@@ -1,12 +1,15 @@
 //! The library's own tests, erased as the library is.
 #![allow(clippy::all, dead_code, unreachable_code, unused_imports, unused_variables)]
 
+#[cfg(all(feature = "token_buffer", feature = "explain"))]
+mod buffer_tests;
 #[cfg(feature = "declarations")]
 mod declarations_tests;
+mod law_tests;
 mod lexical_tests;
 #[cfg(feature = "quoting")]
 mod quoting_tests;
 mod shim;
-#[cfg(all(feature = "token_buffer", feature = "explain"))]
+mod span_tests;
 mod stream_tests;
 mod token_tests;
