@@ -1,4 +1,4 @@
-// Made from crates/stream_tests/src/group_spans.rt by rust/erase: change that file, not this one.
+// Made from crates/span_tests/src/group_spans.rt by rust/erase: change that file, not this one.
 
 use crate::shim::prelude::{AllocGlobal, HostRuntime, format};
 

@@ -1,10 +1,10 @@
-// Made from crates/stream_tests/src/openers.rt by rust/erase: change that file, not this one.
+// Made from crates/buffer_tests/src/openers.rt by rust/erase: change that file, not this one.
 //! Where the openers stand that `explain` tells.
 
 use crate::shim::prelude::{AllocGlobal, HostRuntime, String, format};
 
-use proved::explain::{ExplainError, explain};
-use crate::shim::alloc::Global;
+use proved::explain::{ExplainError, Explained, explain};
+use crate::shim::alloc::{AllocError, Global};
 use crate::shim::process::Abort;
 
 // Asserts that the text doesn't parse, and that these bytes are the openers that no closer matches up to its fault, the
@@ -16,19 +16,26 @@ fn check(rt: &(impl Abort + AllocGlobal), text: &str, want: &str) {
 
 // The bytes of the openers of the text.
 fn openers(alloc: Global, text: &str) -> Result<String, ExplainError> {
-    let Some(explained) = explain(alloc, text)? else {
-        return Ok(String::from_str(alloc, "none")?);
-    };
+    match explain(alloc, text)? {
+        Some(explained) => Ok(shown(alloc, &explained)?),
+        None => Ok(String::from_str(alloc, "none")?),
+    }
+}
+
+// The bytes of the openers that are told, the innermost last.
+fn shown(alloc: Global, explained: &Explained) -> Result<String, AllocError> {
     let mut shown = String::from_str(alloc, "")?;
     for opener in explained.outer.iter() {
         let (start, end) = (opener.at.start, opener.at.end);
         shown = format!(in alloc; "{shown}{start}..{end} ")?;
     }
-    if let Some(opener) = explained.innermost {
-        let (start, end) = (opener.at.start, opener.at.end);
-        shown = format!(in alloc; "{shown}{start}..{end}")?;
+    match explained.innermost {
+        Some(opener) => {
+            let (start, end) = (opener.at.start, opener.at.end);
+            format!(in alloc; "{shown}{start}..{end}")
+        }
+        None => Ok(shown),
     }
-    Ok(shown)
 }
 
 #[test]

@@ -1,4 +1,4 @@
-// Made from crates/stream_tests/src/cited_laws.rt by rust/erase: change that file, not this one.
+// Made from crates/law_tests/src/cited_laws.rt by rust/erase: change that file, not this one.
 
 use crate::shim::prelude::HostRuntime;
 

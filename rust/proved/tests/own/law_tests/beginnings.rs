@@ -1,4 +1,4 @@
-// Made from crates/stream_tests/src/beginnings.rt by rust/erase: change that file, not this one.
+// Made from crates/law_tests/src/beginnings.rt by rust/erase: change that file, not this one.
 //! The laws of parsed and printed streams, asked of many texts, of each beginning of each, and of the two parts into
 //! which each of its byte offsets cuts it.
 

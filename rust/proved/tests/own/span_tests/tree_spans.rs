@@ -1,4 +1,4 @@
-// Made from crates/stream_tests/src/tree_spans.rt by rust/erase: change that file, not this one.
+// Made from crates/span_tests/src/tree_spans.rt by rust/erase: change that file, not this one.
 //! Callers of the look-ups of spans, which need neither a test nor a proof that the map holds them.
 
 use crate::shim::prelude::HostRuntime;

@@ -1,4 +1,4 @@
-// Made from crates/stream_tests/src/random_streams.rt by rust/erase: change that file, not this one.
+// Made from crates/law_tests/src/random_streams.rt by rust/erase: change that file, not this one.
 
 use crate::shim::prelude::{AllocGlobal, HostRuntime, Vec, format};
 
