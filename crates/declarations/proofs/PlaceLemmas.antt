@@ -136,7 +136,7 @@ closure item rule depth =
     (λ more. refl) (here (at item places.Alone spots.ExpressionWhole depth) refl)
 
 -- after the last of them
-closed : (item : Item) (rule : Rule) → GoesOn (after_close item rule 0)
+closed : (item : Item) (within : Rule) → GoesOn (after_close item within 0)
 unfolding after_close
 closed item places.Angle = here (at item places.Angle spots.ExpressionWhole 0) refl
 closed item places.CastAngle = here (at item places.CastAngle spots.CastWhole 0) refl
