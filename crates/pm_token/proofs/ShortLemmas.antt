@@ -1,5 +1,5 @@
 -- Short texts: bytes, and zeros up to the end of their room.
-use Rattle.std.proofs.Common.{◌≡◌, ◌+◌, ◌-◌, ◌≤◌, ◌++◌, ◌∷◌, ℕ, suc, zero, Bool, true, false, List, [], ap, ap₂}
+use Rattle.std.proofs.Common.{◌≡◌, ◌+◌, ◌-◌, ◌≤◌, ◌++◌, ◌∷◌, ℕ, suc, zero, Bool, true, false, List, ap, ap₂}
 use Rattle.std.proofs.Common.{sym, ◌∙◌, arith, codes, length, take, drop, replicate, refl, length-append}
 use Rattle.std.proofs.Common.{append_assoc, IsUtf8}
 use Rattle.std.proofs.Common.{if◌then◌else◌, ◌<◌, ◌^◌, drop-drop, rules}

@@ -199,7 +199,7 @@ pub(crate) fn stands_for_itself(byte: u8, quote: char) -> bool
 }
 
 /// Whether the text begins with one of the digits 0 to 7.
-fn begins_octal(text: &str) -> bool
+pub fn begins_octal(text: &str) -> bool
     ensures { result ≡ first_passes is_octal_digit (chars text.now) }
 {
     match text.chars().next() {
@@ -208,8 +208,8 @@ fn begins_octal(text: &str) -> bool
     }
 }
 
-/// Whether the character stands for itself, by the rule `bare`.
-fn is_bare(c: char) -> bool
+/// Whether the character stands for itself in a string literal, by the rule `bare`.
+pub fn is_bare(c: char) -> bool
     ensures { result ≡ bare c }
 {
     if c.is_ascii() {

@@ -8,7 +8,7 @@ ghost use Rattle.pm_token.specs.Escaped.{string_text};
 ghost use Rattle.pm_token.specs.Negative.{has_minus, minus_of, number_of};
 
 use crate::errors::LexError;
-pub use crate::escapes::TextBuilder;
+pub use crate::escapes::{TextBuilder, begins_octal, is_bare};
 use crate::identifiers::Ident;
 use crate::literals::Literal;
 use crate::marks::{Punct, Spacing};

@@ -10,7 +10,7 @@ use Rattle.lexical.specs.Finder.{Answer, Finder, Finds}
 use Rattle.lexical.specs.Form.{Form}
 use Rattle.lexical.specs.Identifier as identifiers
 use Rattle.lexical.specs.Literal as literals
-use Rattle.lexical.specs.Literal.{IsLiteralToken, AnyLiteral}
+use Rattle.lexical.specs.Literal.{IsLiteralToken}
 use Rattle.lexical.specs.PieceFinder.{find_literal}
 use Rattle.lexical.specs.Rule.{find}
 use Rattle.lexical.specs.Token.{Token, Name, Mark, Literal}

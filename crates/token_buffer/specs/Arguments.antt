@@ -1,5 +1,5 @@
 -- Where generic arguments end.
-use Rattle.std.specs.Prelude.{ℕ, suc, ◌==◌, ◌-◌, ◌^◌, nat_lt, ◌&&◌, Bool, true, false, not, Option, Some, None}
+use Rattle.std.specs.Prelude.{ℕ, suc, ◌==◌, ◌-◌, ◌^◌, nat_lt, ◌&&◌, Bool, false, not, Option, Some, None}
 use Rattle.std.specs.Prelude.{if◌then◌else◌}
 use Rattle.lexical.specs.Token.{Token, Name, Mark, Literal}
 use Rattle.pm_token.specs.Leaf.{is_joint}

@@ -3,13 +3,11 @@ ghost use Rattle.std.specs.Prelude.{◌≡◌, ◌∷◌, ◌↔◌, [], IfSome,
 ghost use Rattle.std.specs.Fmt.{WritesOnOk};
 ghost use Rattle.std.specs.Str.{chars, encode_utf8_all, IsUtf8};
 ghost use Rattle.std.specs.Char.Escape.{escape_unicode};
-ghost use Rattle.lexical.specs.Text.{first_passes};
-ghost use Rattle.lexical.specs.Quoted.{is_octal_digit};
-ghost use Rattle.pm_token.specs.Escaped.{is_hidden, is_bare as bare, string_text, written, written_char};
+ghost use Rattle.pm_token.specs.Escaped.{string_text, written, written_char};
 ghost use Rattle.token_buffer.specs.Strings.{IsAfter, escape_text};
 
+use pm_token::parts::{begins_octal, is_bare};
 use std::fmt;
-use ucd_category::GeneralCategory;
 
 /// How a character is written in a string literal.
 #[derive(Clone, Copy)]
@@ -152,42 +150,4 @@ fn escape_of(c: char, rest: &str) -> Escape
         _ if is_bare(c) => Escape::Bare(c),
         _ => Escape::Unicode(c),
     }
-}
-
-/// Whether the text begins with one of the digits 0 to 7.
-fn begins_octal(text: &str) -> bool
-    ensures { result ≡ first_passes is_octal_digit (chars text.now) }
-{
-    match text.chars().next() {
-        Some(c) => c.is_digit(8),
-        None => false,
-    }
-}
-
-/// Whether the character stands for itself, by the rule `bare`.
-fn is_bare(c: char) -> bool
-    ensures { result ≡ bare c }
-{
-    if c.is_ascii() {
-        return c >= ' ' && c != '\u{7F}';
-    }
-    !hides(GeneralCategory::for_char(c))
-}
-
-/// Whether characters of the category show on their neighbours or not at all, by the rule `hidden`.
-fn hides(category: GeneralCategory) -> bool
-    ensures { result ≡ is_hidden category }
-{
-    matches!(
-        category,
-        GeneralCategory::NonspacingMark
-            | GeneralCategory::EnclosingMark
-            | GeneralCategory::SpaceSeparator
-            | GeneralCategory::LineSeparator
-            | GeneralCategory::ParagraphSeparator
-            | GeneralCategory::Control
-            | GeneralCategory::Format
-            | GeneralCategory::PrivateUse
-            | GeneralCategory::Unassigned
-    )
 }

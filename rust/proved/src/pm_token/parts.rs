@@ -2,7 +2,7 @@
 //! What the crates above make tokens of, and users don't.
 
 use crate::pm_token::errors::LexError;
-pub use crate::pm_token::escapes::TextBuilder;
+pub use crate::pm_token::escapes::{TextBuilder, begins_octal, is_bare};
 use crate::pm_token::identifiers::Ident;
 use crate::pm_token::literals::Literal;
 use crate::pm_token::marks::{Punct, Spacing};

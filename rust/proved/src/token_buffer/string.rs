@@ -1,8 +1,8 @@
 // Made from crates/token_buffer/src/string.rt by rust/erase: change that file, not this one.
 //! The string literal of what a doc comment says, which is written nowhere.
 
+use crate::pm_token::parts::{begins_octal, is_bare};
 use crate::shim::fmt;
-use crate::shim::ucd_category::GeneralCategory;
 
 /// How a character is written in a string literal.
 #[derive(Clone, Copy)]
@@ -130,39 +130,4 @@ fn escape_of(c: char, rest: &str) -> Escape
         _ if is_bare(c) => Escape::Bare(c),
         _ => Escape::Unicode(c),
     }
-}
-
-/// Whether the text begins with one of the digits 0 to 7.
-fn begins_octal(text: &str) -> bool
-{
-    match text.chars().next() {
-        Some(c) => c.is_digit(8),
-        None => false,
-    }
-}
-
-/// Whether the character stands for itself, by the rule `bare`.
-fn is_bare(c: char) -> bool
-{
-    if c.is_ascii() {
-        return c >= ' ' && c != '\u{7F}';
-    }
-    !hides(GeneralCategory::for_char(c))
-}
-
-/// Whether characters of the category show on their neighbours or not at all, by the rule `hidden`.
-fn hides(category: GeneralCategory) -> bool
-{
-    matches!(
-        category,
-        GeneralCategory::NonspacingMark
-            | GeneralCategory::EnclosingMark
-            | GeneralCategory::SpaceSeparator
-            | GeneralCategory::LineSeparator
-            | GeneralCategory::ParagraphSeparator
-            | GeneralCategory::Control
-            | GeneralCategory::Format
-            | GeneralCategory::PrivateUse
-            | GeneralCategory::Unassigned
-    )
 }
