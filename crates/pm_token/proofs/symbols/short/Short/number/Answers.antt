@@ -1,8 +1,4 @@
-use Rattle.std.proofs.Common.{◌≡◌, ◌≤◌, ◌+◌, ◌-◌, ◌++◌, length, sym, ◌∙◌, subst, arith, replicate, rules, IsUtf8}
-use Rattle.std.specs.Fmt.{decimal}
-use Rattle.std.proofs.lemmas.Fmt.{decimal_nonempty}
-use borrow.Rule.Slice.PartMut.{put_mid}
-use Rattle.pm_token.specs.declared.symbols.short.TheConstants.{ROOM}
+use Rattle.std.proofs.Common.{sym, ◌∙◌, subst, arith, rules, IsUtf8}
 use Rattle.pm_token.proofs.ShortLemmas.{number_short, numbered, number_utf8}
 use Rattle.pm_token.proofs.symbols.short.Short.number.Goals as goal
 
