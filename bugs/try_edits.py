@@ -6,6 +6,10 @@ folder for those in it, or single files; with no name all of bugs/ are tried. Ea
 over what `rt check` keeps in out/, so that only what the edit changes is proved. A crate that was not checked since it
 changed is proved first, in the copy.
 
+Edits of functions are tried up to --together at a time in one check, each in a function of its own, and count as
+refused where the prover says so of that very function. What it doesn't say so of, and what changes anything else, is
+tried alone.
+
 One line an edit: `refused`; `refused for a name alone`, where all that failed is a proof file that cites what the edit
 took away, so that it says little of a contract; `NOT REFUSED`; or `BAD EDIT`, which tried no contract. The status is 0
 where every edit is refused.
@@ -149,6 +153,55 @@ def check(repository, crate, jobs=1):
     return ran.returncode, ran.stdout
 
 
+# ---- the functions that edits change
+
+FUNCTION = re.compile(r"(\s*)(?:pub(?:\([a-z]+\))? )?(?:const |unsafe )*fn (\w+)")
+
+
+def function_at(text, line):
+    """The first line and the name of the function that a line of a source file is in, counted from 1, or nothing."""
+    lines = text.split("\n")
+    for first in range(line, 0, -1):
+        found = FUNCTION.match(lines[first - 1])
+        if found:
+            end = next((n for n in range(first, len(lines) + 1) if lines[n - 1] == found[1] + "}"), 0)
+            return (first, found[2]) if line <= end else None
+    return None
+
+
+def function_of(edit, crate):
+    """The file, first line and name of the one function that an edit changes, or nothing."""
+    try:
+        steps = replacements(edit.read_text(encoding="utf-8"))
+    except BadEdit:
+        return None
+    found = set()
+    for name, old, _ in steps:
+        file = crate / name
+        text = file.read_text(encoding="utf-8") if name.startswith("src/") and file.is_file() else ""
+        at = function_at(text, text[: text.index(old)].count("\n") + 1) if text.count(old) == 1 else None
+        if not at:
+            return None
+        found.add((name, *at))
+    return found.pop() if len(found) == 1 else None
+
+
+def batches(edits, crate, most):
+    """The edits in lists to be tried together, no two in functions of one name in a file; those to be tried alone."""
+    lists, alone = [], []
+    for edit in edits:
+        of = function_of(edit, crate)
+        if not of or most < 2:
+            alone.append(edit)
+            continue
+        fitting = (it for it in lists if len(it) < most and all(known[0::2] != of[0::2] for known in it.values()))
+        batch = next(fitting, None)
+        if batch is None:
+            lists.append(batch := {})
+        batch[edit] = of
+    return lists, alone
+
+
 # ---- what a check says of an edit
 
 
@@ -189,7 +242,41 @@ def try_edit(edit, crate, base, repository):
     return verdict(*check(repository, crate), changed)
 
 
-def try_crate(crate, edits, lanes, room):
+def shown(said, of, crate):
+    """The line that shows the prover refuse the function, or nothing."""
+    name, first, function = of
+    module = name.removeprefix("src/").removesuffix(".rt").removesuffix("/mod")
+    folders = re.compile(rf"(\./)?proofs/{re.escape(module)}/(\w+/)?{function}/\w+\.antt:")
+    text = (crate / name).read_text(encoding="utf-8")
+    for line in said.splitlines():
+        place = re.match(r"note: (?:\./)?(src/\S+?):(\d+):\d+: it is not proved", line)
+        if place and place[1] == name and function_at(text, int(place[2])) == (first, function):
+            return line
+        if folders.match(line) and ": error" in line and not NAME_GONE.match(line):
+            return line
+    return None
+
+
+def try_together(batch, crate, base, repository):
+    """Tries edits of functions of their own in one check. It answers what shows each refused, of those that are."""
+    copied = repository / "crates" / crate
+    clone(base / "crates" / crate, copied)
+    for edit in batch:
+        apply(edit, copied)
+    status, said = check(repository, crate)
+    if status and any(line.startswith("logic=not-proved") for line in said.splitlines()):
+        found = {edit: shown(said, of, copied) for edit, of in batch.items()}
+        return {edit: line for edit, line in found.items() if line}
+    # One that can't be read hides the others.
+    edits = list(batch.items())
+    if status and len(edits) > 1:
+        half = len(edits) // 2
+        return {**try_together(dict(edits[:half]), crate, base, repository),
+                **try_together(dict(edits[half:]), crate, base, repository)}
+    return {}
+
+
+def try_crate(crate, edits, lanes, most, room):
     """Tries the edits of one crate, as many at a time as there are lanes, and returns what came of each."""
     base = Path(tempfile.mkdtemp(prefix=f"{crate}-", dir=room))
     copy_repository(crate, base)
@@ -202,20 +289,28 @@ def try_crate(crate, edits, lanes, room):
         clone(base, room / f"{crate}-lane-{number}")
         free.put(room / f"{crate}-lane-{number}")
 
-    def work(edit):
-        repository, began = free.get(), time.monotonic()
+    def work(batch):
+        """Tries a list of edits, each that isn't shown to be refused once more alone."""
+        repository, found = free.get(), []
         try:
-            found = try_edit(edit, crate, base, repository)
+            began = time.monotonic()
+            refused = try_together(batch, crate, base, repository) if len(batch) > 1 else {}
+            share = (time.monotonic() - began) / len(batch)
+            for edit in batch:
+                began = time.monotonic()
+                one = (REFUSED, refused[edit]) if edit in refused else try_edit(edit, crate, base, repository)
+                found.append((edit, one, share + time.monotonic() - began))
         finally:
             free.put(repository)
-        return edit, found, time.monotonic() - began
+        return found
 
+    lists, alone = batches(edits, base / "crates" / crate, most)
     results, pool = [], ThreadPoolExecutor(lanes)
     try:
-        for done in as_completed([pool.submit(work, edit) for edit in edits]):
-            edit, (result, why), seconds = done.result()
-            print(f"{result}: {crate}/{edit.name} ({seconds:.0f} s): {why[:200]}", flush=True)
-            results.append(result)
+        for done in as_completed([pool.submit(work, batch) for batch in lists + [{edit: None} for edit in alone]]):
+            for edit, (result, why), seconds in done.result():
+                print(f"{result}: {crate}/{edit.name} ({seconds:.0f} s): {why[:200]}", flush=True)
+                results.append(result)
     finally:
         # Where this is stopped, the edits that wait are not begun.
         pool.shutdown(cancel_futures=True)
@@ -228,6 +323,7 @@ def main():
     form = argparse.RawDescriptionHelpFormatter
     words = argparse.ArgumentParser(prog="bugs/try.sh", description=__doc__, formatter_class=form)
     words.add_argument("-j", "--lanes", type=int, default=1, metavar="N", help="how many edits to try at a time (1)")
+    words.add_argument("--together", type=int, default=24, metavar="N", help="how many edits to try in one check (24)")
     words.add_argument("names", nargs="*", metavar="CRATE | FOLDER | FILE.edit")
     given = words.parse_args()
     # So that the copies are removed where a signal ends this.
@@ -235,7 +331,7 @@ def main():
     results = []
     with tempfile.TemporaryDirectory(prefix="bugs-") as room:
         for crate, edits in edits_named(given.names).items():
-            results += try_crate(crate, edits, max(1, given.lanes), Path(room))
+            results += try_crate(crate, edits, max(1, given.lanes), given.together, Path(room))
     counts = {kind: results.count(kind) for kind in (REFUSED, BY_NAME, PASSED, BAD)}
     print(", ".join(f"{count} {kind}" for kind, count in counts.items() if count) or "no edits")
     return 0 if counts[REFUSED] + counts[BY_NAME] == len(results) else 1
