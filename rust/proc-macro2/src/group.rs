@@ -1,7 +1,7 @@
 //! Groups of trees.
 use crate::extra::DelimSpan;
 use crate::map::sure;
-use crate::repr::{debug, token, Repr};
+use crate::repr::{show, token, Repr};
 use crate::span::Repr as SpanRepr;
 use crate::{compiler, print, Delimiter, Span, TokenStream};
 use proc_macro::Delimiter as CompilerDelimiter;
@@ -87,14 +87,8 @@ impl Group {
     }
 }
 
-/// Prints it with its delimiters, braces with a space inside each.
-impl Display for Group {
-    fn fmt(&self, f: &mut fmt::Formatter) -> fmt::Result {
-        match &self.repr {
-            Repr::Compiler(group) => Display::fmt(group, f),
-            Repr::Own(group) => print::in_chunks(group, f),
-        }
-    }
+show! {
+    /// Prints it with its delimiters, braces with a space inside each.
+    Display for Group: group, f => print::in_chunks(group, f)
 }
-
-debug!(Group, group, f => print::show_group(group, f));
+show!(Debug for Group: group, f => print::show_group(group, f));

@@ -156,10 +156,11 @@ impl Hash for Ident {
 }
 
 impl Display for Ident {
+    #[inline]
     fn fmt(&self, f: &mut fmt::Formatter) -> fmt::Result {
         match &self.repr {
-            Repr::Compiler(ident) => Display::fmt(ident, f),
             Repr::Own(ident) => Display::fmt(ident, f),
+            Repr::Compiler(ident) => inside_alone(|| Display::fmt(ident, f)),
         }
     }
 }

@@ -1,5 +1,5 @@
 //! Why a text is refused.
-use crate::repr::{debug, Repr};
+use crate::repr::{show, Repr};
 use crate::Span;
 use proved::pm_span::Span as Place;
 use std::error::Error;
@@ -43,15 +43,8 @@ impl LexError {
     }
 }
 
-debug!(LexError, place, f => f.debug_struct("LexError").field("span", &Span::own(*place)).finish());
+show!(Debug for LexError: place, f => f.debug_struct("LexError").field("span", &Span::own(*place)).finish());
 
-impl Display for LexError {
-    fn fmt(&self, f: &mut fmt::Formatter) -> fmt::Result {
-        match &self.repr {
-            Repr::Compiler(error) => Display::fmt(error, f),
-            Repr::Own(_) => f.write_str("cannot parse string into token stream"),
-        }
-    }
-}
+show!(Display for LexError: _, f => f.write_str("cannot parse string into token stream"));
 
 impl Error for LexError {}

@@ -1,6 +1,6 @@
 //! Literals.
 use crate::map::{self, sure};
-use crate::repr::{debug, token, Repr};
+use crate::repr::{show, token, Repr};
 use crate::span::Repr as SpanRepr;
 use crate::{compiler, print, LexError, Span};
 use proved::pm_span::Span as Place;
@@ -94,6 +94,11 @@ macro_rules! floats {
             if compiler::inside() {
                 return Literal::compiler(proc_macro::Literal::$unsuffixed(f));
             }
+            // A few digits that read as the number are the shortest that do, which is what Rust prints.
+            let tenths = (f * 10.0) as u32;
+            if tenths < 1_000_000 && tenths as $type / 10.0 == f && f.is_sign_positive() {
+                return Literal::tenths(tenths);
+            }
             let text = f.to_string();
             let whole = !text.bytes().any(|byte| byte == b'.');
             Literal::made(&if whole { text + ".0" } else { text })
@@ -138,6 +143,14 @@ impl Literal {
     /// The literal of a text that is one, with no place.
     fn made(text: &str) -> Literal {
         Literal::own(sure(Own::from_str_unchecked(Global, text)))
+    }
+
+    /// The literal of a number of tenths, which has at most nine digits before the dot.
+    fn tenths(tenths: u32) -> Literal {
+        let mut text = *b"000000000.0";
+        text[10] += (tenths % 10) as u8;
+        let at = shim::itoa::write_digits(u64::from(tenths / 10), &mut text, 9);
+        Literal::made(std::str::from_utf8(&text[at..]).expect("it is ASCII"))
     }
 
     /// The span of a part of the literal, which is told in characters from where its span begins; `None` where the
@@ -259,13 +272,5 @@ impl FromStr for Literal {
     }
 }
 
-impl Display for Literal {
-    fn fmt(&self, f: &mut fmt::Formatter) -> fmt::Result {
-        match &self.repr {
-            Repr::Compiler(literal) => Display::fmt(literal, f),
-            Repr::Own(literal) => Display::fmt(literal.text(), f),
-        }
-    }
-}
-
-debug!(Literal, literal, f => print::show_literal(literal, f));
+show!(Display for Literal: literal, f => Display::fmt(literal.text(), f));
+show!(Debug for Literal: literal, f => print::show_literal(literal, f));

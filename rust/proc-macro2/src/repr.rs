@@ -70,17 +70,18 @@ macro_rules! token {
 }
 pub(crate) use token;
 
-/// Shows the compiler's token as the compiler does, and the other as it is told here.
-macro_rules! debug {
-    ($name:ident, $own:ident, $f:ident => $show:expr) => {
-        impl Debug for $name {
+/// Prints or shows the compiler's token as the compiler does, and the other as it is told here.
+macro_rules! show {
+    ($(#[$doc:meta])* $how:ident for $name:ident: $own:pat, $f:ident => $show:expr) => {
+        $(#[$doc])*
+        impl $how for $name {
             fn fmt(&self, $f: &mut fmt::Formatter) -> fmt::Result {
                 match &self.repr {
-                    Repr::Compiler(token) => Debug::fmt(token, $f),
+                    Repr::Compiler(token) => $how::fmt(token, $f),
                     Repr::Own($own) => $show,
                 }
             }
         }
     };
 }
-pub(crate) use debug;
+pub(crate) use show;

@@ -2,7 +2,7 @@
 use crate::compiler::{self, inside_alone};
 use crate::map::{self, sure};
 use crate::print::{self, ShownStream};
-use crate::repr::{debug, Repr};
+use crate::repr::{show, Repr};
 use crate::{Group, Ident, LexError, Literal, Punct, TokenTree};
 use proved::pm_stream::{parts, token_stream::IntoIter as OwnIter, TokenStream as Own, TokenTree as OwnTree};
 use proved::shim::alloc::Global;
@@ -188,7 +188,7 @@ impl Display for TokenStream {
     }
 }
 
-debug!(TokenStream, stream, f => Debug::fmt(&ShownStream(stream), f));
+show!(Debug for TokenStream: stream, f => Debug::fmt(&ShownStream(stream), f));
 
 /// The trees of a stream that are left, in order. A group comes whole.
 ///

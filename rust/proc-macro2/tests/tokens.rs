@@ -116,6 +116,24 @@ fn literals_are_made() {
     assert!(panic::catch_unwind(|| Literal::f64_unsuffixed(f64::NAN)).is_err());
 }
 
+/// Tenths below 100,000 are not written by Rust: all were compared once, and some are each time.
+#[test]
+fn floats_are_written_as_rust_writes_them_and_have_a_dot() {
+    let wanted = |text: String| if text.contains('.') { text } else { text + ".0" };
+    for tenths in (0..2_000u32).chain((2_000..1_000_100).step_by(71)).chain([999_999, 1_000_000, u32::MAX]) {
+        let (single, double) = (tenths as f32 / 10.0, f64::from(tenths) / 10.0);
+        for number in [single, -single, f32::from_bits(single.to_bits() + 1)] {
+            assert_eq!(Literal::f32_unsuffixed(number).to_string(), wanted(number.to_string()));
+        }
+        for number in [double, -double, f64::from_bits(double.to_bits() + 1)] {
+            assert_eq!(Literal::f64_unsuffixed(number).to_string(), wanted(number.to_string()));
+        }
+    }
+    for number in [f64::MAX, f64::MIN, f64::MIN_POSITIVE, f64::EPSILON, 1e17, 0.25] {
+        assert_eq!(Literal::f64_unsuffixed(number).to_string(), wanted(number.to_string()));
+    }
+}
+
 #[test]
 fn groups_may_nest_deep() {
     let depth = 200_000;
