@@ -5,7 +5,7 @@
 use proved::shim::env;
 use proved::shim::process::{ExitCode, HostRuntime};
 use proved::shim::string::String;
-use std::io::Write;
+use std::io::{BufWriter, Write};
 use tools::find_calls::answer::{print_calls, status};
 use tools::messages::{conclude, read_text, say, words, Failure};
 
@@ -28,7 +28,7 @@ fn run(rt: &HostRuntime) -> Result<u8, Failure> {
     let Some((name, paths)) = words.as_slice().split_first() else {
         return Err(Failure::Usage(USAGE));
     };
-    let mut writer = rt.stdout();
+    let mut writer = BufWriter::new(rt.stdout());
     let mut found = false;
     let mut failed = false;
     for path in paths {

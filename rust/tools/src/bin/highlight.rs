@@ -6,7 +6,7 @@
 use proved::shim::env;
 use proved::shim::process::{ExitCode, HostRuntime};
 use proved::shim::string::String;
-use std::io::Write;
+use std::io::{BufWriter, Write};
 use tools::highlight::answer::write_marked;
 use tools::highlight::format::Format;
 use tools::messages::{conclude, path, read_text, words, Failure};
@@ -41,7 +41,7 @@ fn asked(rt: &HostRuntime) -> Result<(Format, String), Failure> {
 // Writes the text at the path with its pieces marked.
 fn run(rt: &HostRuntime, format: Format, path: &str) -> Result<(), Failure> {
     let text = read_text(rt, path)?;
-    let mut writer = rt.stdout();
+    let mut writer = BufWriter::new(rt.stdout());
     write_marked(rt.alloc(), format, text.as_str(), &mut writer)?;
     Ok(writer.flush()?)
 }

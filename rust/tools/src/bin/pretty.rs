@@ -5,7 +5,7 @@
 use proved::shim::env;
 use proved::shim::process::{ExitCode, HostRuntime};
 use proved::shim::string::String;
-use std::io::Write;
+use std::io::{BufWriter, Write};
 use tools::messages::{conclude, path, read_text, words, Failure};
 use tools::pretty::answer::print_text;
 
@@ -31,7 +31,7 @@ fn asked(rt: &HostRuntime) -> Result<String, Failure> {
 // Prints the tokens of the text at the path.
 fn run(rt: &HostRuntime, path: &str) -> Result<(), Failure> {
     let text = read_text(rt, path)?;
-    let mut writer = rt.stdout();
+    let mut writer = BufWriter::new(rt.stdout());
     print_text(rt.alloc(), text.as_str(), &mut writer)?;
     Ok(writer.flush()?)
 }

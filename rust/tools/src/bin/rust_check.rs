@@ -5,7 +5,7 @@
 
 use proved::shim::env;
 use proved::shim::process::{ExitCode, HostRuntime};
-use std::io::Write;
+use std::io::{BufWriter, Write};
 use tools::messages::{conclude, words, Failure};
 use tools::rust_check::files::check_files;
 use tools::rust_check::options::{request_of, Form, Options, Request, USAGE};
@@ -30,7 +30,7 @@ fn run(rt: &HostRuntime) -> Result<u8, Failure> {
 
 // Checks the files, and answers the status.
 fn check(rt: &HostRuntime, options: &Options) -> Result<u8, Failure> {
-    let mut writer = rt.stdout();
+    let mut writer = BufWriter::new(rt.stdout());
     let paths = options.paths.as_slice();
     let tally = check_files(rt, options, &mut writer, &mut rt.stderr())?;
     if options.form == Form::Long && paths.len() > 1 {
