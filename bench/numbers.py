@@ -19,14 +19,22 @@ import tempfile
 
 import compare
 
+TOP = pathlib.Path(__file__).resolve().parent.parent
 SIZES = (1, 10, 100)
+# A process is told to have taken the memory of the Python that started it too, some 15 MB.
+LEAST_TOLD = 10
 CALLS = {
     "from_str": "from_str of 3 MB",
     "to_string": "to_string of 3 MB",
-    "parse_file": "syn::parse_file over it",
-    "quote": "quote! of a file and its text",
+    "parse_file": "syn::parse_file of 3 MB",
+    "quote": "quote! of a file of 3 MB, its text",
     "parse_word": "from_str of a word",
     "quote_small": "a small quote!",
+}
+# What rust/bench_flat.sh tells of the public crate.
+FLAT = {
+    "trees_make_and_walk": "flat tokens of 3 MB, beside trees",
+    "syn_make_and_walk": "  beside syn's buffer",
 }
 
 
@@ -48,7 +56,13 @@ def instructions(command: list[str], text: pathlib.Path, out: pathlib.Path) -> f
 def row(what: str, ours: float, theirs: float, unit: str) -> None:
     ratio = f"{ours / theirs:8.2f}" if theirs else "       –"
     shown = f"{theirs:10.1f}" if theirs else "         –"
-    print(f"{what:<34} {ours:10.1f} {shown} {unit:<6} {ratio}", flush=True)
+    print(f"{what:<36} {ours:10.1f} {shown} {unit:<6} {ratio}", flush=True)
+
+
+def time_row(what: str, ours: float, theirs: float) -> None:
+    """A row of two times in nanoseconds."""
+    long = ours > 1_000_000
+    row(what, *((value / 1_000_000 if long else value) for value in (ours, theirs)), "ms" if long else "ns")
 
 
 def programs(crate: str, ident: str, sources: pathlib.Path, runs: int) -> None:
@@ -68,34 +82,39 @@ def programs(crate: str, ident: str, sources: pathlib.Path, runs: int) -> None:
                         _, time, memory = compare.measured(path, word, out / f"{size}", out / name)
                         old = least.get(name, (time, memory))
                         least[name] = (min(time, old[0]), max(memory, old[1]))
-                if (out / "tokens").read_bytes() != (out / "twin").read_bytes():
+                if subprocess.run(["cmp", out / "tokens", out / "twin"]).returncode != 0:
                     sys.exit(f"the outputs of {word} on {size} MB differ")
                 times[size] = [least[name][0] for name in ("tokens", "twin")]
                 row(f"tokens {word}, {size} MB", *times[size], "ms")
-                row("  its memory", *(least[name][1] / 1000 for name in ("tokens", "twin")), "MB")
-            row("  growth from 1 to 100 MB", *(times[100][i] / times[1][i] for i in (0, 1)), "times")
-            counted = [instructions([built[name], word], out / "1", out) for name in ("tokens", "twin")]
+                if size >= LEAST_TOLD:
+                    row("  memory", *(least[name][1] / 1000 for name in ("tokens", "twin")), "MB")
+            row(f"  growth from {SIZES[0]} MB", *(times[SIZES[-1]][i] / times[SIZES[0]][i] for i in (0, 1)), "times")
+            counted = [instructions([built[name], word], out / f"{SIZES[0]}", out) for name in ("tokens", "twin")]
             row("  instructions", *counted, "a byte")
-        check = pathlib.Path(__file__).resolve().parent.parent / "crates/rust_check"
+        check = TOP / "crates/rust_check"
         with open(check / "stdin", "rb") as text:
             subprocess.run(["rt", "run"], cwd=check, stdin=text, stdout=subprocess.DEVNULL)
         program = str(check / "out/rust_check")
-        times = [compare.measured(program, "-", out / "10", out / "told")[1] for _ in range(runs)]
-        row("rust_check, 10 MB", min(times), 0, "ms")
+        seen = [compare.measured(program, "-", out / "10", out / "told") for _ in range(runs)]
+        row("rust_check, 10 MB", min(time for _, time, _ in seen), 0, "ms")
+        row("  memory", max(memory for _, _, memory in seen) / 1000, 0, "MB")
+
+
+def said(command: list) -> dict[str, list[float]]:
+    """The numbers that a script prints after each name."""
+    printed = subprocess.run(command, capture_output=True, text=True, check=True).stdout
+    lines = (re.findall(r"\S+", line) for line in printed.splitlines())
+    return {name: [float(number) for number in numbers] for name, *numbers in lines if name != "what"}
 
 
 def calls(crate: str, sources: pathlib.Path, registry: pathlib.Path, runs: int) -> None:
-    rust = pathlib.Path(__file__).resolve().parent.parent / "rust"
-    settings = dict(os.environ, CARGO_REGISTRY=str(registry))
-    command = [rust / "bench.sh", crate, sources, str(runs)]
-    said = subprocess.run(command, env=settings, capture_output=True, text=True, check=True)
-    found = {line.split()[0]: line.split()[1:3] for line in said.stdout.splitlines()[1:]}
+    os.environ["CARGO_REGISTRY"] = str(registry)
+    found = said([TOP / "rust/bench.sh", crate, sources, str(runs)])
     for name, what in CALLS.items():
-        ours, theirs = (float(value) for value in found[name])
-        long = ours > 1_000_000
-        row(what, *((value / 1_000_000 if long else value) for value in (ours, theirs)), "ms" if long else "ns")
-    said = subprocess.run([rust / "bench_flat.sh", registry, sources], capture_output=True, text=True, check=True)
-    print(said.stdout, end="")
+        time_row(what, *found[name][:2])
+    flat = said([TOP / "rust/bench_flat.sh", registry, sources])
+    for name, what in FLAT.items():
+        time_row(what, flat["flat_make_and_walk"][0], flat[name][0])
 
 
 def main() -> None:
@@ -104,7 +123,7 @@ def main() -> None:
     crate, ident, sources, registry = sys.argv[1:5]
     runs = int(sys.argv[5]) if len(sys.argv) == 6 else 3
     print(f"load {os.getloadavg()[0]:.1f}, {os.cpu_count()} processors, the best of {runs} runs in turn")
-    print(f"{'what':<34} {'ours':>10} {'crate':>10} {'':<6} {'ratio':>8}")
+    print(f"{'what':<36} {'ours':>10} {'crate':>10} {'':<6} {'ratio':>8}")
     programs(crate, ident, pathlib.Path(sources), runs)
     calls(crate, pathlib.Path(sources), pathlib.Path(registry).resolve(), runs)
 
