@@ -89,6 +89,7 @@ programs() {
         printf '%b' "$1" | "$built/$4" "${@:5}" > "$room/seen" 2> "$room/errors" || status=$?
         [ "$status" -eq "$2" ] && [ ! -s "$room/seen" ] && printf '%b' "$3" | cmp - "$room/errors"
     }
+    try "the pretty text of each Rust file here has the tokens of the file" ../bench/reads_back.sh "$built" ..
     try "tokens of rust/tools says where the fault of a text stands" refused 'a\n(' 1 'fault 2:0\n' tokens print
     try "highlight of rust/tools says which byte is no text" \
         refused 'a\0377' 2 '-: error: not UTF-8 at byte 1\n' highlight html

@@ -3,4 +3,5 @@ mod RangeLemmas
 mod CoverLemmas
 mod PrintedLemmas
 mod WritingLemmas
+mod WrittenLemmas
 mod Examples

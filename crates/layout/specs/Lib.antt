@@ -1,3 +1,4 @@
 pub mod Layout
 pub mod Laws
 pub mod Writing
+pub mod Written

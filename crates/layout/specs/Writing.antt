@@ -2,8 +2,6 @@
 use Rattle.std.specs.Prelude.{Bool, false, not, ◌&&◌, ◌==◌}
 use Rattle.std.specs.Prelude.{ℕ, List, [], ◌∷◌, codes, Option, Some, None, zero, suc}
 use Rattle.std.specs.Prelude.{if◌then◌else◌}
-use Rattle.std.specs.Io.KnownBytes.{Appends}
-use Rattle.std.specs.Str.{encode_utf8_all}
 use Rattle.lexical.specs.Token as tokens
 use Rattle.pm_token.specs.Leaf.{name_token, mark_token, text_token}
 use Rattle.pm_token.specs.Leaf.{is_joint as spacing_joint}
@@ -15,7 +13,7 @@ use Rattle.pm_stream.specs.declared.steps.Step.{Step as Given}
 use Rattle.pm_stream.specs.declared.stream.TokenTree.{TokenTree}
 use Rattle.pm_stream.specs.declared.stream.TokenTree.TheVariants.{Group, Ident, Punct, Literal}
 use Rattle.proc_macro2.specs.Laws.{Gives}
-use Rattle.layout.specs.Layout.{goes_on, is_joint, is_plain, IsLayout}
+use Rattle.layout.specs.Layout.{goes_on, is_joint, is_plain}
 use Rattle.layout.specs.declared.errors.LayoutError.{LayoutError}
 use Rattle.layout.specs.declared.errors.LayoutError.TheVariants.{NotWellSpaced, Memory, Write}
 use Rattle.layout.specs.declared.gaps.Gap.{Gap}
@@ -57,10 +55,19 @@ event_of (Enter g after) = Opens g.delimiter g.span.lo
 event_of (Leave g after) = Closes g.delimiter g.span.hi
 event_of (Token tree after) = tree_event tree
 
+-- the step that a place has
+abbrev pub step_before : Option Given → Option Step
+step_before None = None
+step_before (Some step) = Some (step_of step)
+
+-- what a step before a gap writes
+abbrev pub event_before : Option Step → Option Event
+event_before None = None
+event_before (Some step) = Some (event_of step)
+
 -- what stands before a gap
 abbrev pub before_of : Option Given → Option Event
-before_of None = None
-before_of (Some step) = Some (event_of (step_of step))
+before_of step = event_before (step_before step)
 
 -- whether a token, if it is one, is the mark `.`
 abbrev pub is_dot_token : Option tokens.Token → Bool
@@ -100,10 +107,3 @@ abbrev pub IsNoWrite : LayoutError → Type 0
 IsNoWrite NotWellSpaced = Unit {0}
 IsNoWrite (Memory error) = Unit {0}
 IsNoWrite (Write error) = ⊥
-
--- what is written is a layout of the stream, which reads back to it
-pub record WritesLayout (stream : Forest) (old new : Option (List ℕ)) : Type 0 where
-  pub text : List ℕ
-  pub layout : IsLayout stream text
-  pub back : ReadsBack stream text
-  pub appends : Appends old new (encode_utf8_all text)

@@ -1,10 +1,11 @@
 //! Gaps of white space, and who chooses them.
-ghost use Rattle.std.specs.Prelude.{◌≡◌, ◌++◌, OnOk};
+ghost use Rattle.std.specs.Prelude.{◌≡◌, ◌++◌, OnOk, ⊤};
 ghost use Rattle.std.specs.Str.{chars};
 ghost use Rattle.std.specs.Char.{is_ascii_digit};
 ghost use Rattle.lexical.specs.Text.{first_passes};
 ghost use Rattle.layout.specs.Writing.{before_of, event_of, fitting, gap_text, is_dot_token, is_joint_dot, some};
 ghost use Rattle.layout.specs.Writing.{spaces, steps_range};
+ghost use Rattle.layout.specs.Written.{Choice, choice_of};
 ghost use Rattle.layout.specs.Layout.{goes_on, is_joint, is_plain, parts_literal, parts_name};
 ghost use Rattle.std.specs.List.{list_all};
 ghost use Rattle.lexical.specs.Class.{is_ident_continue};
@@ -44,8 +45,12 @@ pub struct Place<'a> {
 
 /// Chooses the gaps of a layout.
 pub trait Chooser {
+    // Relates the chooser before a call, the place with the gap that it gave, and the chooser after it.
+    ghost gap_gives: { Self → Choice → Self → Type 0 } = { λ _ _ _. ⊤ };
+
     /// The gap that is wished here. It is asked once for each place, in order.
-    fn gap(&mut self, place: Place<'_>) -> Gap;
+    fn gap(&mut self, place: Place<'_>) -> Gap
+        ensures { gap_gives self.old (choice_of place.entry result) self.new };
 }
 
 // The gap that is written where this one is chosen: none after a Joint mark, and a space where none is chosen and

@@ -5,7 +5,8 @@ ghost use Rattle.pm_stream.specs.Delimited.{closing, opening};
 ghost use Rattle.pm_stream.specs.Steps.{step_of};
 ghost use Rattle.pm_stream.specs.WellSpaced.{IsWellSpaced};
 ghost use Rattle.layout.specs.Layout.{IsLayout, event_text};
-ghost use Rattle.layout.specs.Writing.{IsNoWrite, ReadsBack, WritesLayout, event_of, tree_event};
+ghost use Rattle.layout.specs.Writing.{IsNoWrite, ReadsBack, event_of, tree_event};
+ghost use Rattle.layout.specs.Written.{IsWritten, Writes, depth_at, depth_past};
 ghost use Rattle.layout.specs.declared.errors.LayoutError.TheVariants.{NotWellSpaced};
 
 use crate::errors::LayoutError;
@@ -29,6 +30,8 @@ pub fn text_with<C: Chooser>(
     chooser: &mut C,
     alloc: Global,
 ) -> Result<String, LayoutError>
+    ensures written { IfOk result
+        (λ text. IsWritten C.gap_gives chooser.old chooser.new stream.now (chars (string_bytes text))) }
     ensures layout { IfOk result (λ text. IsLayout stream.now (chars (string_bytes text))) }
     ensures back { IfOk result (λ text. ReadsBack stream.now (chars (string_bytes text))) }
     ensures refused { (result ≡ Err NotWellSpaced) ↔ (IsWellSpaced stream.now → ⊥) }
@@ -47,7 +50,9 @@ fn laid_out<C: Chooser>(
     chooser: &mut C,
     alloc: Global,
 ) -> Result<String, AllocError>
-    ensures { IfOk result (λ text. IsLayout stream.now (chars (string_bytes text))) }
+    ensures written { IfOk result
+        (λ text. IsWritten C.gap_gives chooser.old chooser.new stream.now (chars (string_bytes text))) }
+    ensures layout { IfOk result (λ text. IsLayout stream.now (chars (string_bytes text))) }
 {
     let mut text = TextBuilder::with_room(alloc, 0)?;
     let mut front = String::new(alloc);
@@ -55,21 +60,16 @@ fn laid_out<C: Chooser>(
     let mut before = None;
     let mut depth: usize = 0;
     while let Some(step) = steps.next()? {
-        if let Step::Leave(..) = step {
-            depth = depth.saturating_sub(1);
-        }
         let place = Place {
             before,
             after: Some(step),
-            depth,
+            depth: depth_at(depth, step),
         };
         let chosen = chooser.gap(place);
         set_front(&mut front, step)?;
         push_gap(&mut text, fitting(before, chosen, front.as_str(), step))?;
         text.push_text(front.as_str())?;
-        if let Step::Enter(..) = step {
-            depth = depth.saturating_add(1);
-        }
+        depth = depth_past(depth, step);
         before = Some(step);
     }
     let place = Place {
@@ -80,6 +80,27 @@ fn laid_out<C: Chooser>(
     let last = chooser.gap(place);
     push_gap(&mut text, last)?;
     Ok(text.into_string())
+}
+
+// In how many groups a step is taken, where it comes in so many.
+fn depth_at(depth: usize, step: Step<'_>) -> usize
+    ensures { result ≡ depth_at depth (step_of step.entry) }
+{
+    match step {
+        Step::Leave(..) => depth.saturating_sub(1),
+        _ => depth,
+    }
+}
+
+// In how many the next one is.
+fn depth_past(depth: usize, step: Step<'_>) -> usize
+    ensures { result ≡ depth_past depth (step_of step.entry) }
+{
+    match step {
+        Step::Enter(..) => depth.saturating_add(1),
+        Step::Leave(..) => depth.saturating_sub(1),
+        Step::Token(..) => depth,
+    }
 }
 
 // Makes the text that of the token, opener or closer.
@@ -147,7 +168,8 @@ pub fn write_with<C: Chooser, W: Write>(
     alloc: Global,
     writer: &mut W,
 ) -> Result<(), LayoutError>
-    ensures ok { OnOk result (WritesLayout stream.now (W.contents writer.old) (W.contents writer.new)) }
+    ensures ok { OnOk result (Writes (IsWritten C.gap_gives chooser.old chooser.new stream.now) stream.now
+        (W.contents writer.old) (W.contents writer.new)) }
     ensures refused { (result ≡ Err NotWellSpaced) ↔ (IsWellSpaced stream.now → ⊥) }
     ensures untouched { IfErr result (λ error. error ≡ NotWellSpaced → W.contents writer.new ≡ W.contents writer.old) }
 {

@@ -1,10 +1,9 @@
 //! What the program writes for a text.
 ghost use Rattle.std.specs.Prelude.{IfErr, List, OnOk, ℕ};
 ghost use Rattle.std.specs.Str.{chars};
-ghost use Rattle.layout.specs.Writing.{WritesLayout};
 ghost use Rattle.messages.specs.Parsed.{MayFail};
 ghost use Rattle.proc_macro2.specs.WellSpaced.{IsWellSpaced};
-ghost use Rattle.pretty.specs.Answer.{Writes};
+ghost use Rattle.pretty.specs.Answer.{Writes, WritesLayout};
 
 use messages::Failure;
 use pretty_printer::to_pretty_string;

@@ -33,6 +33,8 @@ pub struct Place<'a> {
 
 /// Chooses the gaps of a layout.
 pub trait Chooser {
+    // Relates the chooser before a call, the place with the gap that it gave, and the chooser after it.
+
     /// The gap that is wished here. It is asked once for each place, in order.
     fn gap(&mut self, place: Place<'_>) -> Gap;
 }

@@ -3,12 +3,16 @@ use Rattle.std.specs.Str.{chars}
 use Rattle.pm_stream.specs.Steps.{step_of}
 use Rattle.pm_stream.proofs.StepLemmas.{taken}
 use Rattle.layout.specs.Layout.{IsLayout}
-use Rattle.layout.specs.Writing.{before_of, event_of, fitting, gap_text, steps_range}
+use Rattle.layout.specs.Writing.{before_of, event_of, fitting, gap_text, step_before, steps_range}
 use Rattle.layout.proofs.WritingLemmas.{events_left, leads_start, leads_next, leads_last, none_taken, string_chars}
+use Rattle.layout.proofs.WrittenLemmas.{writes_first, writes_next, writes_last}
 use Rattle.layout.proofs.writing.laid_out.Goals as goal
 
 pub loop-steps-init : goal.loop-steps-init
-loop-steps-init g c = leads_start _ _ _ c.in_ok-text.ensures c.steps-steps.ensures
+loop-steps-init g c = (
+  leads_start _ _ _ c.in_ok-text.ensures c.steps-steps.ensures,
+  writes_first g.C.Chooser.gap_gives _ _ _ _ c.in_ok-text.ensures c.steps-steps.ensures,
+)
 
 pub loop-steps-smaller : goal.loop-steps-smaller
 loop-steps-smaller g c = omega (arith, ap length (taken _ _ _ _ c.in-Some.is c.in_ok-step.ensures.ok))
@@ -18,18 +22,31 @@ loop-steps-preserved g c =
     let front = chars c.as_str-in-Some.result.now in
     let same = ap chars (c.as_str.ensures.value ∙ sym c.as_str-in-Some.ensures.value) in
     let step = step_of c.in-Some.step in
-    leads_next c.args.stream.now c.loop-steps.text c.push_text.new.self front (before_of c.loop-steps.before)
-    (Some (event_of step)) c.gap-chosen.result step c.loop-steps.steps c.next.new.self c.loop-steps.invariant
-    (taken _ _ _ _ c.in-Some.is c.in_ok-step.ensures.ok)
-    (rw c.in-Some.is at c.in_ok-step.ensures.siblings) refl
-    (ap chars c.as_str-in-Some.ensures.value ∙ c.in_ok-set_front.ensures)
-    (c.in_ok-push_text.ensures.ok
+    let left = taken _ _ _ _ c.in-Some.is c.in_ok-step.ensures.ok in
+    let front_is = ap chars c.as_str-in-Some.ensures.value ∙ c.in_ok-set_front.ensures in
+    let text =
+    c.in_ok-push_text.ensures.ok
     ∙ ap (λ x. x ++ front) (c.in_ok-push_gap.ensures
     ∙ ap (λ x. c.loop-steps.text ++ gap_text x) (c.fitting.ensures
-    ∙ ap (λ x. fitting (before_of c.loop-steps.before) c.gap-chosen.result x (steps_range step)) same)))
+    ∙ ap (λ x. fitting (before_of c.loop-steps.before) c.gap-chosen.result x (steps_range step)) same)) in (
+      leads_next c.args.stream.now c.loop-steps.text c.push_text.new.self front (before_of c.loop-steps.before)
+          (Some (event_of step)) c.gap-chosen.result step c.loop-steps.steps c.next.new.self c.loop-steps.invariant.0
+          left (rw c.in-Some.is at c.in_ok-step.ensures.siblings) refl front_is text,
+      rw c.depth_past-depth.ensures (writes_next g.C.Chooser.gap_gives _ c.loop-steps.chooser c.gap-chosen.new.self
+          c.args.stream.now c.loop-steps.text c.push_text.new.self (step_before c.loop-steps.before) c.loop-steps.depth
+          step c.loop-steps.steps c.next.new.self c.gap-chosen.result c.loop-steps.invariant.1 left
+          (rw c.depth_at.ensures at c.gap-chosen.ensures) (rw front_is at text)),
+    )
 
-pub returns : goal.returns
-returns g c =
+pub returns-clause-layout : goal.returns-clause-layout
+returns-clause-layout g c =
     subst (IsLayout c.args.stream.now) (sym (string_chars c.into_string.result _ c.into_string.ensures))
-    (leads_last _ _ _ _ c.gap-last.result _ c.loop-steps.invariant
+    (leads_last _ _ _ _ c.gap-last.result _ c.loop-steps.invariant.0
     (ap events_left (none_taken _ _ _ c.in_default.is c.in_ok-step.ensures.ok)) c.in_ok-push_gap-2.ensures)
+
+pub returns-clause-written : goal.returns-clause-written
+returns-clause-written g c =
+    rw (string_chars c.into_string.result _ c.into_string.ensures)
+    (writes_last g.C.Chooser.gap_gives _ c.loop-steps.chooser c.gap-last.new.self c.args.stream.now c.loop-steps.text _
+    (step_before c.loop-steps.before) c.loop-steps.depth c.loop-steps.steps c.gap-last.result c.loop-steps.invariant.1
+    (none_taken _ _ _ c.in_default.is c.in_ok-step.ensures.ok) c.gap-last.ensures c.in_ok-push_gap-2.ensures)

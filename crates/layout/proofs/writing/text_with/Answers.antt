@@ -6,4 +6,4 @@ use Rattle.layout.proofs.writing.text_with.Goals as goal
 pub returns-clause-back : goal.returns-clause-back
 returns-clause-back g c = λ base.
     layout_returns base c.args.stream.now (chars (string_bytes c.in_ok-text.text)) c.is_well_spaced.ensures.built
-    (c.is_well_spaced.ensures.value.0 c.if-not-is_well_spaced.false) c.in_ok-text.ensures
+    (c.is_well_spaced.ensures.value.0 c.if-not-is_well_spaced.false) c.in_ok-text.ensures.layout

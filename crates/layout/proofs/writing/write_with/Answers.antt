@@ -9,6 +9,7 @@ returns-in-Ok-clause-ok g c =
     let bytes = string_bytes c.in_ok-text.text in
     record {
       text = chars bytes;
+      made = c.in_ok-text.ensures.written;
       layout = c.in_ok-text.ensures.layout;
       back = c.in_ok-text.ensures.back;
       appends = rw (
