@@ -29,3 +29,6 @@ pub mod UnfoundQuoteLemmas
 pub mod NoPieceLemmas
 pub mod OneExplanationLemmas
 pub mod OnePlaceLemmas
+pub mod OpenCommentLemmas
+pub mod NearestLemmas
+pub mod HintLemmas

@@ -5,3 +5,6 @@ pub mod Trouble
 pub mod Walk
 pub mod Open
 pub mod Explained
+pub mod Hint
+pub mod HintWalk
+pub mod Words

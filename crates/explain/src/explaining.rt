@@ -27,6 +27,7 @@ pub fn explain(alloc: Global, text: &str) -> Result<Option<Explained>, ExplainEr
         (Parses (next_lo new_map) (chars text.now)) (IsExplained (next_lo new_map) (chars text.now))) }
     ensures map_full { (result ≡ Err ExplainError.MapFull)
         ↔ (Fits new_map (length (chars text.now)) → ⊥) }
+    ensures fits { IfOk result (λ answer. Fits new_map (length (chars text.now))) }
 {
     let Some(lo) = fits_new(text) else {
         return Err(ExplainError::MapFull);
@@ -85,7 +86,7 @@ fn refused(refusal: Refusal, before: Stretch, at: Stretch, outer: Vec<Opener>) -
 }
 
 /// The stretch of a text from one rest of it to another, which stand at these positions.
-fn stretch(text: &str, from: &str, to: &str, lo: u32, hi: u32) -> Stretch
+pub fn stretch(text: &str, from: &str, to: &str, lo: u32, hi: u32) -> Stretch
     requires from { (front : List ℕ) × (chars text.now ≡ front ++ chars from.now) }
     requires to { (part : List ℕ) × (chars from.now ≡ part ++ chars to.now) }
     requires ordered { lo ≤ hi }

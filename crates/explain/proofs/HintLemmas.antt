@@ -1,0 +1,210 @@
+-- What helps to mend a fault.
+use Rattle.std.proofs.Common.{◌≡◌, ℕ, List, [], ◌∷◌, ◌++◌, codes, length, Option, Some, None, inl, inr, refl, sym}
+use Rattle.std.proofs.Common.{ap, ◌∙◌, subst, append_assoc, append-nil}
+use Rattle.std.specs.Prelude.{IfSome}
+use Rattle.std.specs.Str.{chars, encode_utf8_all}
+use Rattle.lexical.specs.Comment.{BlockComment}
+use Rattle.lexical.specs.Form.{HasNone}
+use Rattle.lexical.specs.Rule.{Stands}
+use Rattle.lexical.specs.declared.cursor.Cursor.{Cursor}
+use Rattle.lexical.specs.declared.quoted.StringKind.{StringKind}
+use Rattle.pm_token.specs.declared.delimiters.Delimiter.{Delimiter}
+use Rattle.pm_stream.specs.Parsing.{is_first}
+use Rattle.explain.specs.Explained.{IsExplained, IsOpenerOf, IsStretch, IsStuck, SaysLeftOpen}
+use Rattle.explain.specs.Hint.{AreOpen, Helps, IsHint, IsNearest, TellsComments}
+use Rattle.explain.specs.HintWalk.{CameNearest, LeftComments}
+use Rattle.explain.specs.Open.{RefusesFor}
+use Rattle.explain.specs.Reason.{Holds}
+use Rattle.explain.specs.Shapes.{closed_raw_body, raw_opening}
+use Rattle.explain.specs.declared.explained.Explained.{Explained}
+use Rattle.explain.specs.declared.explained.Opener.{Opener}
+use Rattle.explain.specs.declared.explained.Stretch.{Stretch}
+use Rattle.explain.specs.declared.reason.Reason.{Reason}
+use Rattle.explain.specs.declared.reason.Reason.TheVariants as reasons
+use Rattle.explain.specs.declared.reason.Reason.TheVariants.{UnclosedComment, UnclosedOpener, UnclosedRawString}
+
+-- ---- where no piece stands
+
+never_refused : (d : Delimiter) (reason : Reason) (innermost : Option Opener) → RefusesFor d reason innermost
+    → (reason ≡ UnclosedComment → ⊥) × (reason ≡ UnclosedRawString → ⊥)
+never_refused d reasons.StrayCloser None r = ((λ e. absurd (cc)), (λ e. absurd (cc)))
+never_refused d reasons.StrayCloser (Some x) r = absurd r
+never_refused d reasons.MismatchedCloser None r = absurd r
+never_refused d reasons.MismatchedCloser (Some x) r = ((λ e. absurd (cc)), (λ e. absurd (cc)))
+never_refused d _ innermost r = absurd r
+
+module _ (base : ℕ) (source : List ℕ) (x : Explained) (h : IsExplained base source x) where
+  stuck_comment : x.reason ≡ UnclosedComment → IsStuck base h.behind (is_first h.pieces) h.rest x
+  stuck_comment is = elim h.because [
+    | inl s ↦ s
+    | inr (inl s) ↦ absurd ((never_refused _ x.reason x.innermost s.refuses).0 is)
+    | inr (inr s) ↦ let clash : UnclosedComment ≡ UnclosedOpener = sym is ∙ s.says.reason in absurd (cc)
+  ]
+
+  stuck_raw : x.reason ≡ UnclosedRawString → IsStuck base h.behind (is_first h.pieces) h.rest x
+  stuck_raw is = elim h.because [
+    | inl s ↦ s
+    | inr (inl s) ↦ absurd ((never_refused _ x.reason x.innermost s.refuses).1 is)
+    | inr (inr s) ↦ let clash : UnclosedRawString ≡ UnclosedOpener = sym is ∙ s.says.reason in absurd (cc)
+  ]
+
+  -- a block comment that doesn't end
+  pub record CommentFault : Type 0 where
+    pub behind : List ℕ
+    pub more : List ℕ
+    pub whole : source ≡ behind ++ (codes "/*" ++ more)
+    pub at : IsStretch base behind (codes "/*") x.at
+    pub none : HasNone BlockComment (codes "/*" ++ more)
+    pub fault : x.before.start ≡ length (encode_utf8_all behind)
+
+  pub comment_fault : x.reason ≡ UnclosedComment → CommentFault
+  comment_fault is =
+      let s = stuck_comment is in
+      let holds : Holds UnclosedComment s.front s.part s.after =
+      subst (λ r. Holds r s.front s.part s.after) is s.holds in
+      let front : s.front ≡ [] = holds.0.0 in
+      let part : s.part ≡ codes "/*" = holds.0.1 in
+      let split : s.front ++ (s.part ++ s.after) ≡ codes "/*" ++ s.after =
+      ap (λ t. t ++ (s.part ++ s.after)) front ∙ ap (λ t. t ++ s.after) part in
+      record {
+        behind = h.behind;
+        more = s.after;
+        whole = h.whole ∙ ap (λ t. h.behind ++ t) (s.split ∙ split);
+        at = subst (λ b. IsStretch base b (codes "/*") x.at) (ap (λ t. h.behind ++ t) front ∙ append-nil h.behind)
+            (subst (λ t. IsStretch base (h.behind ++ s.front) t x.at) part s.at);
+        none = subst (HasNone BlockComment) split holds.1;
+        fault = s.before.start;
+      }
+
+  -- a raw string that doesn't end
+  pub record RawFault : Type 0 where
+    pub kind : StringKind
+    pub behind : List ℕ
+    pub opening : List ℕ
+    pub body : List ℕ
+    pub whole : source ≡ behind ++ (opening ++ body)
+    pub opens : Stands (raw_opening kind) opening body
+    pub at : IsStretch base behind opening x.at
+    pub fault : x.before.start ≡ length (encode_utf8_all behind)
+
+  pub raw_fault : x.reason ≡ UnclosedRawString → RawFault
+  raw_fault is =
+      let s = stuck_raw is in
+      let holds : Holds UnclosedRawString s.front s.part s.after =
+      subst (λ r. Holds r s.front s.part s.after) is s.holds in
+      let front : s.front ≡ [] = holds.1.0 in
+      record {
+        kind = holds.0;
+        behind = h.behind;
+        opening = s.part;
+        body = s.after;
+        whole = h.whole ∙ ap (λ t. h.behind ++ t) (s.split ∙ ap (λ t. t ++ (s.part ++ s.after)) front);
+        opens = holds.1.1;
+        at = subst (λ b. IsStretch base b s.part x.at) (ap (λ t. h.behind ++ t) front ∙ append-nil h.behind) s.at;
+        fault = s.before.start;
+      }
+
+  -- where the fault is
+  record Fault : Type 0 where
+    behind : List ℕ
+    rest : List ℕ
+    whole : source ≡ behind ++ rest
+    fault : x.before.start ≡ length (encode_utf8_all behind)
+
+  left_fault : (says : SaysLeftOpen x) → Fault
+  left_fault says =
+      let o : IsOpenerOf base source says.opener =
+      subst (λ i. IfSome i (IsOpenerOf base source)) says.innermost h.inmost in
+      record {
+        behind = o.behind;
+        rest = o.character ∷ o.after;
+        whole = o.whole;
+        fault = ap (λ s. s.start) says.before ∙ o.at.start;
+      }
+
+  fault_of : Fault
+  fault_of = elim h.because [
+    | inl s ↦ record { behind = h.behind; rest = h.rest; whole = h.whole; fault = s.before.start }
+    | inr (inl s) ↦ record { behind = h.behind; rest = h.rest; whole = h.whole; fault = s.before.start }
+    | inr (inr s) ↦ left_fault s.says
+  ]
+
+  helps_none : (behind rest : List ℕ) (reason : Reason) → (reason ≡ UnclosedComment → ⊥)
+      → (reason ≡ UnclosedRawString → ⊥) → Helps base behind rest reason None
+  helps_none behind rest UnclosedComment comment raw = absurd (comment refl)
+  helps_none behind rest UnclosedRawString comment raw = absurd (raw refl)
+  helps_none behind rest _ comment raw = tt
+
+  pub no_hint : (x.reason ≡ UnclosedComment → ⊥) → (x.reason ≡ UnclosedRawString → ⊥) → IsHint base source x None
+  no_hint comment raw =
+      let f = fault_of in
+      record {
+        behind = f.behind;
+        rest = f.rest;
+        whole = f.whole;
+        fault = f.fault;
+        helps = helps_none f.behind f.rest x.reason comment raw;
+      }
+
+-- ---- what the walks found
+
+module _ (base : ℕ) (behind rest : List ℕ) (start : Cursor) (same : chars start.rest.now ≡ rest) where
+  pub comments_told : (depth : ℕ) → LeftComments start depth None → TellsComments base behind rest depth None
+  comments_told depth h = subst (λ t. TellsComments base behind t depth None) same h
+
+  pub last_told : (depth : ℕ) (from to : Cursor) (x : Stretch) → (h : LeftComments start depth (Some (from, to)))
+      → IsStretch base (behind ++ h.1.before.part) h.1.comment.part x
+      → TellsComments base behind rest depth (Some x)
+  last_told depth from to x h at =
+      let e = h.1 in (
+        subst (λ t. AreOpen depth t []) same h.0,
+        record {
+          before = e.before.part;
+          comment = e.comment.part;
+          after = chars to.rest.now;
+          whole = sym same ∙ (e.before.whole ∙ ap (λ t. e.before.part ++ t) e.comment.whole);
+          depth = e.depth;
+          inside = subst (AreOpen e.depth e.before.part) e.comment.whole e.inside;
+          stands = e.stands;
+          last = e.last;
+          at = at;
+        },
+      )
+
+module _ (base : ℕ) (behind opening body : List ℕ) (kind : StringKind) (opens : Stands (raw_opening kind) opening body)
+    (inside : Cursor) (same : chars inside.rest.now ≡ body) where
+  pub no_quote_told : HasNone (Stands (closed_raw_body [])) (chars inside.rest.now)
+      → Helps base behind (opening ++ body) UnclosedRawString None
+  no_quote_told none = record {
+    kind = kind;
+    opening = opening;
+    body = body;
+    whole = refl;
+    opens = opens;
+    none = subst (HasNone (Stands (closed_raw_body []))) same none;
+  }
+
+  pub nearest_told : (from to : Cursor) (x : Stretch) → (h : CameNearest inside from to)
+      → IsStretch base (behind ++ (opening ++ h.before.part)) (34 ∷ h.signs) x
+      → IsNearest base behind (opening ++ body) x
+  nearest_told from to x h at =
+      let split : body ≡ h.before.part ++ ((34 ∷ h.signs) ++ chars to.rest.now) =
+      sym same ∙ (h.before.whole ∙ ap (λ t. h.before.part ++ t) h.quote) in
+      record {
+        kind = kind;
+        opening = opening;
+        before = h.before.part;
+        signs = h.signs;
+        after = chars to.rest.now;
+        whole = ap (λ t. opening ++ t) split;
+        opens = subst (Stands (raw_opening kind) opening) split opens;
+        run = h.run;
+        closes = h.closes;
+        most = subst (λ t. HasNone (Stands (closed_raw_body (35 ∷ h.signs))) t) (same ∙ split) h.most;
+        at = at;
+      }
+
+-- after what opens a raw string
+pub past_opening : (text behind opening body : List ℕ) → text ≡ behind ++ (opening ++ body)
+    → text ≡ (behind ++ opening) ++ body
+past_opening text behind opening body e = e ∙ sym (append_assoc behind opening body)

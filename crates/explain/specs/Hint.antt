@@ -1,0 +1,96 @@
+-- What helps to mend a fault, by definitions of its own: advice, and no part of a reason.
+use Rattle.std.specs.Prelude.{ℕ, zero, suc, ◌≡◌, List, [], ◌∷◌, ◌++◌, codes, length, Option, Some, None, MatchOption}
+use Rattle.std.specs.Str.{encode_utf8_all}
+use Rattle.lexical.specs.Block.{BlockBody, block_signs}
+use Rattle.lexical.specs.Character.{double_quote, hash_sign}
+use Rattle.lexical.specs.Comment.{BlockComment}
+use Rattle.lexical.specs.Form.{Form, HasNone, Nothing, Then, Exactly as These}
+use Rattle.lexical.specs.Rule.{Rule, One, Run, Exactly, UpTo, Either, NotAt, Stands, nothing}
+use Rattle.lexical.specs.declared.quoted.StringKind.{StringKind}
+use Rattle.explain.specs.Explained.{IsStretch}
+use Rattle.explain.specs.Shapes.{any, closed_raw_body, is_hash, raw_opening}
+use Rattle.explain.specs.declared.explained.Explained.{Explained}
+use Rattle.explain.specs.declared.explained.Stretch.{Stretch}
+use Rattle.explain.specs.declared.hints.Hint.{Hint}
+use Rattle.explain.specs.declared.hints.Hint.TheVariants.{Comments, Quote}
+use Rattle.explain.specs.declared.reason.Reason.{Reason}
+use Rattle.explain.specs.declared.reason.Reason.TheVariants.{UnclosedComment, UnclosedRawString}
+
+-- ---- block comments
+
+-- so many block comments begin, each inside the one before, and none of them ends
+abbrev pub AreOpen : ℕ → Form
+AreOpen zero = Nothing
+AreOpen (suc depth) = Then (AreOpen depth) (Then (These (codes "/*")) BlockBody)
+
+-- what begins a comment, or a character at which none begins or ends
+abbrev pub open_unit : Rule
+open_unit = Either (Exactly (codes "/*")) (NotAt block_signs (One any))
+
+-- a text in which no comment ends
+abbrev pub no_end : Rule
+no_end = UpTo open_unit nothing
+
+-- of the rest of the source, before which this stands, the stretch is the comment after whose end no other ends
+pub record IsLastClosed (base : ℕ) (behind rest : List ℕ) (x : Stretch) : Type 0 where
+  pub before : List ℕ
+  pub comment : List ℕ
+  pub after : List ℕ
+  pub whole : rest ≡ before ++ (comment ++ after)
+  -- it begins where comments do, and not in the midst of a sign
+  pub depth : ℕ
+  pub inside : AreOpen depth before (comment ++ after)
+  pub stands : BlockComment comment after
+  pub last : Stands no_end after []
+  pub at : IsStretch base (behind ++ before) comment x
+
+-- so many comments are open at the end of the text, and this one ended last, if one did
+abbrev pub TellsComments : ℕ → List ℕ → List ℕ → ℕ → Option Stretch → Type 0
+TellsComments base behind rest depth closed =
+    AreOpen depth rest [] × MatchOption closed (Stands no_end rest []) (IsLastClosed base behind rest)
+
+-- ---- raw strings
+
+-- a quote and its hash signs, with which a raw string would end there, and with one more nowhere
+pub record IsNearest (base : ℕ) (behind rest : List ℕ) (x : Stretch) : Type 0 where
+  pub kind : StringKind
+  pub opening : List ℕ
+  pub before : List ℕ
+  pub signs : List ℕ
+  pub after : List ℕ
+  pub whole : rest ≡ opening ++ (before ++ ((double_quote ∷ signs) ++ after))
+  pub opens : Stands (raw_opening kind) opening (before ++ ((double_quote ∷ signs) ++ after))
+  pub run : Stands (Run is_hash) signs after
+  pub closes : Stands (closed_raw_body signs) (before ++ (double_quote ∷ signs)) after
+  pub most : HasNone (Stands (closed_raw_body (hash_sign ∷ signs))) (before ++ ((double_quote ∷ signs) ++ after))
+  pub at : IsStretch base (behind ++ (opening ++ before)) (double_quote ∷ signs) x
+
+-- no quote stands after what opens a raw string
+pub record HasNoQuote (rest : List ℕ) : Type 0 where
+  pub kind : StringKind
+  pub opening : List ℕ
+  pub body : List ℕ
+  pub whole : rest ≡ opening ++ body
+  pub opens : Stands (raw_opening kind) opening body
+  pub none : HasNone (Stands (closed_raw_body [])) body
+
+-- ---- all of them
+
+-- the hint for a reason: `rest` is the source from the fault on, and `behind` what stands before that
+abbrev pub Helps : ℕ → List ℕ → List ℕ → Reason → Option Hint → Type 0
+Helps base behind rest UnclosedComment None = ⊥
+Helps base behind rest UnclosedComment (Some (Comments depth closed)) = TellsComments base behind rest depth closed
+Helps base behind rest UnclosedComment (Some (Quote x)) = ⊥
+Helps base behind rest UnclosedRawString None = HasNoQuote rest
+Helps base behind rest UnclosedRawString (Some (Comments depth closed)) = ⊥
+Helps base behind rest UnclosedRawString (Some (Quote x)) = IsNearest base behind rest x
+Helps base behind rest _ None = Unit {0}
+Helps base behind rest _ (Some hint) = ⊥
+
+-- the hint for what explains the source
+pub record IsHint (base : ℕ) (source : List ℕ) (x : Explained) (hint : Option Hint) : Type 0 where
+  pub behind : List ℕ
+  pub rest : List ℕ
+  pub whole : source ≡ behind ++ rest
+  pub fault : x.before.start ≡ length (encode_utf8_all behind)
+  pub helps : Helps base behind rest x.reason hint

@@ -1,0 +1,79 @@
+-- What each reason is named, and what is said of it.
+use Rattle.std.specs.Prelude.{ℕ, List, codes}
+use Rattle.explain.specs.declared.reason.Reason.{Reason}
+use Rattle.explain.specs.declared.reason.Reason.TheVariants.{UnclosedComment, UnclosedString}
+use Rattle.explain.specs.declared.reason.Reason.TheVariants.{UnclosedRawString, TooManyHashes, HashesWithoutQuote}
+use Rattle.explain.specs.declared.reason.Reason.TheVariants.{ReservedRawName, UnclosedCharacter}
+use Rattle.explain.specs.declared.reason.Reason.TheVariants.{DigitLifetime, HashAfterLifetime, NoDigits, BadDigit}
+use Rattle.explain.specs.declared.reason.Reason.TheVariants.{BadNumberEnd, MisplacedMark, NoToken, StrayCloser}
+use Rattle.explain.specs.declared.reason.Reason.TheVariants.{MismatchedCloser, UnclosedOpener, BareReturnInDoc, Content}
+use Rattle.literal_escaper.specs.declared.errors.EscapeError.{EscapeError}
+use Rattle.literal_escaper.specs.declared.errors.EscapeError.TheVariants as faults
+
+unfoldable pub name_of : Reason → List ℕ
+name_of UnclosedComment = codes "unclosed-comment"
+name_of BareReturnInDoc = codes "bare-return-in-doc"
+name_of UnclosedString = codes "unclosed-string"
+name_of UnclosedRawString = codes "unclosed-raw-string"
+name_of TooManyHashes = codes "too-many-hashes"
+name_of HashesWithoutQuote = codes "hashes-without-quote"
+name_of ReservedRawName = codes "reserved-raw-name"
+name_of UnclosedCharacter = codes "unclosed-character"
+name_of (Content error) = codes "literal-content"
+name_of DigitLifetime = codes "digit-lifetime"
+name_of HashAfterLifetime = codes "hash-after-lifetime"
+name_of NoDigits = codes "no-digits"
+name_of BadDigit = codes "bad-digit"
+name_of BadNumberEnd = codes "bad-number-end"
+name_of MisplacedMark = codes "misplaced-mark"
+name_of NoToken = codes "no-token"
+name_of StrayCloser = codes "stray-closer"
+name_of MismatchedCloser = codes "mismatched-closer"
+name_of UnclosedOpener = codes "unclosed-opener"
+
+-- what is wrong with the content of a literal
+unfoldable pub content_of : EscapeError → List ℕ
+content_of faults.ZeroChars = codes "no character stands between the quotes"
+content_of faults.MoreThanOneChar = codes "more than one character stands between the quotes"
+content_of faults.LoneSlash = codes "nothing follows the backslash"
+content_of faults.InvalidEscape = codes "no escape begins so"
+content_of faults.BareCarriageReturn = codes "CR that is not escaped"
+content_of faults.BareCarriageReturnInRawString = codes "CR in a raw string"
+content_of faults.EscapeOnlyChar = codes "this character stands here only escaped"
+content_of faults.TooShortHexEscape = codes "fewer than two digits in the escape"
+content_of faults.InvalidCharInHexEscape = codes "this is no digit to the base 16"
+content_of faults.OutOfRangeHexEscape = codes "an escape past ASCII where characters are wanted"
+content_of faults.NoBraceInUnicodeEscape = codes "no brace follows the front of the escape"
+content_of faults.InvalidCharInUnicodeEscape = codes "this is no digit to the base 16"
+content_of faults.EmptyUnicodeEscape = codes "no digit stands in the escape"
+content_of faults.UnclosedUnicodeEscape = codes "no brace ends the escape"
+content_of faults.LeadingUnderscoreUnicodeEscape = codes "an underscore before the digits of the escape"
+content_of faults.OverlongUnicodeEscape = codes "more than six digits in the escape"
+content_of faults.LoneSurrogateUnicodeEscape = codes "the code of a surrogate"
+content_of faults.OutOfRangeUnicodeEscape = codes "a code above 10FFFF"
+content_of faults.UnicodeEscapeInByte = codes "an escape of a character where bytes are wanted"
+content_of faults.NonAsciiCharInByte = codes "a character past ASCII where bytes are wanted"
+content_of faults.NulInCStr = codes "a zero in a C string"
+content_of faults.UnskippedWhitespaceWarning = codes "white space that is not skipped"
+content_of faults.MultipleSkippedLinesWarning = codes "more than one line end is skipped"
+
+unfoldable pub sentence_of : Reason → List ℕ
+sentence_of UnclosedComment = codes "unclosed block comment"
+sentence_of BareReturnInDoc = codes "CR in a doc comment that no LF follows"
+sentence_of UnclosedString = codes "unclosed string"
+sentence_of UnclosedRawString = codes "unclosed raw string"
+sentence_of TooManyHashes = codes "more than 255 hash signs before a raw string"
+sentence_of HashesWithoutQuote = codes "neither a quote nor a name follows the hash signs"
+sentence_of ReservedRawName = codes "this name is never raw"
+sentence_of UnclosedCharacter = codes "unclosed character"
+sentence_of (Content error) = content_of error
+sentence_of DigitLifetime = codes "a lifetime begins with no digit"
+sentence_of HashAfterLifetime = codes "a hash sign right after a lifetime"
+sentence_of NoDigits = codes "no digit follows the prefix of the number"
+sentence_of BadDigit = codes "this digit is too large for its number's base"
+sentence_of BadNumberEnd = codes "this character is no part of the number before it"
+sentence_of MisplacedMark = codes "U+FEFF that is not at the front of the text"
+sentence_of NoToken = codes "no token begins with this character"
+sentence_of StrayCloser = codes "no opener waits for this closer"
+sentence_of MismatchedCloser = codes "the innermost opener waits for another closer"
+sentence_of UnclosedOpener = codes "no closer matches this opener"

@@ -1,0 +1,65 @@
+//! Which block comments a text leaves open.
+
+ghost use Rattle.std.specs.Prelude.{◌≡◌, ◌++◌, List, [], ℕ, IfOk, MatchOption, codes};
+ghost use Rattle.std.specs.Str.{chars};
+ghost use Rattle.lexical.specs.Comment.{BlockComment};
+ghost use Rattle.lexical.specs.Form.{HasNone};
+ghost use Rattle.explain.specs.HintWalk.{IsSign, LeftComments};
+
+use lexical::parts::Cursor;
+use std::alloc::{AllocError, Global};
+
+/// What stands at a cursor in a block comment.
+#[derive(Clone, Copy)]
+pub enum Sign {
+    /// What begins a comment.
+    Opens,
+    /// What ends one.
+    Closes,
+    /// A character at which neither begins.
+    Other,
+}
+
+/// What stands at the cursor, and the cursor after it.
+#[tactic(auto, using(lexical::proofs::RuleSteps::past_text))]
+fn sign_at(at: Cursor<'_>) -> Option<(Sign, Cursor<'_>)>
+    ensures { MatchOption result (chars at.entry.rest.now ≡ []) (λ x. IsSign x.0 at.entry x.1) }
+{
+    let (_, after) = at.advance()?;
+    if let Some(inside) = at.past("/*") {
+        return Some((Sign::Opens, inside));
+    }
+    if let Some(behind) = at.past("*/") {
+        return Some((Sign::Closes, behind));
+    }
+    Some((Sign::Other, after))
+}
+
+/// How many block comments are open at the end of the text, the one at the cursor among them, and the cursors before
+/// and after the one that ended last.
+pub fn open_comments<'a>(
+    alloc: Global,
+    start: Cursor<'a>,
+) -> Result<(usize, Option<(Cursor<'a>, Cursor<'a>)>), AllocError>
+    requires opens { (more : List ℕ) × (chars start.rest.now ≡ codes "/*" ++ more) }
+    requires none { HasNone BlockComment (chars start.rest.now) }
+    ensures { IfOk result (λ x. LeftComments start.entry x.0 x.1) }
+{
+    let mut opened = Vec::new(alloc);
+    let mut closed = None;
+    let mut at = start;
+    while let Some((sign, after)) = sign_at(at) {
+        match sign {
+            Sign::Opens => opened.push(at)?,
+            Sign::Closes => {
+                let Some(from) = opened.pop() else {
+                    unreachable!()
+                };
+                closed = Some((from, after));
+            }
+            Sign::Other => {}
+        }
+        at = after;
+    }
+    Ok((opened.len(), closed))
+}

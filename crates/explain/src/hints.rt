@@ -1,0 +1,110 @@
+//! What helps to mend a fault.
+
+ghost use Rattle.std.specs.Prelude.{◌≡◌, ◌+◌, ◌<◌, ◌^◌, ◌++◌, List, ℕ, IfOk, Some, codes, length};
+ghost use Rattle.std.specs.Str.{chars};
+ghost use Rattle.lexical.specs.Comment.{BlockComment};
+ghost use Rattle.lexical.specs.Form.{HasNone};
+ghost use Rattle.lexical.specs.Rule.{Stands};
+ghost use Rattle.lexical.specs.declared.quoted.StringKind.{StringKind};
+ghost use Rattle.pm_span.specs.Files.{Fits, new_map, next_lo};
+ghost use Rattle.explain.specs.Explained.{IsExplained, IsStretch};
+ghost use Rattle.explain.specs.Hint.{Helps, IsHint};
+ghost use Rattle.explain.specs.Shapes.{raw_opening};
+ghost use Rattle.explain.specs.Walk.{IsPast};
+ghost use Rattle.explain.specs.declared.reason.Reason.TheVariants.{UnclosedComment, UnclosedRawString};
+
+use crate::comment_hints::open_comments;
+use crate::explained::{Explained, Stretch};
+use crate::explaining::stretch;
+use crate::quote_hints::nearest;
+use crate::reason::Reason;
+use lexical::parts::Cursor;
+use pm_span::parts::bounds;
+use std::alloc::{AllocError, Global};
+
+/// What helps to mend a fault: advice, by definitions of its own in `specs/Hint.antt`.
+#[derive(Clone, Copy)]
+pub enum Hint {
+    /// Of a block comment that doesn't end.
+    Comments {
+        /// How many block comments are open at the end of the text, this one among them.
+        depth: usize,
+        /// The comment inside that ended last, if one did: often it is the one that wasn't meant to begin.
+        closed: Option<Stretch>,
+    },
+    /// Of a raw string that doesn't end: the quote with most hash signs after it, the first of them, and these.
+    Quote(Stretch),
+}
+
+/// What helps to mend the fault of a text, which [`explain`](crate::explain) explained so.
+///
+/// `None` for all reasons but an unclosed block comment and an unclosed raw string in which a quote stands. Fails where
+/// the list of open comments can't grow, the only thing that takes memory.
+///
+/// Of `/* a/*.rs */` one comment is open, and `/*.rs */` ended last, the bytes 4..12.
+pub fn advice(alloc: Global, text: &str, explained: &Explained) -> Result<Option<Hint>, AllocError>
+    requires fits { Fits new_map (length (chars text.now)) }
+    requires explained { IsExplained (next_lo new_map) (chars text.now) explained.now }
+    ensures { IfOk result (IsHint (next_lo new_map) (chars text.now) explained.now) }
+{
+    match explained.reason {
+        Reason::UnclosedComment => Ok(Some(comment_hint(alloc, text, explained.at)?)),
+        Reason::UnclosedRawString => Ok(quote_hint(text, explained.at)),
+        _ => Ok(None),
+    }
+}
+
+/// The hint for a block comment that doesn't end, whose front stands there.
+fn comment_hint(alloc: Global, text: &str, at: Stretch) -> Result<Hint, AllocError>
+    requires fits { Fits new_map (length (chars text.now)) }
+    requires stands { (behind more : List ℕ) × (chars text.now ≡ behind ++ (codes "/*" ++ more))
+        × IsStretch (next_lo new_map) behind (codes "/*") at × HasNone BlockComment (codes "/*" ++ more) }
+    ensures { IfOk result (λ hint. (behind more : List ℕ) → chars text.now ≡ behind ++ (codes "/*" ++ more)
+        → IsStretch (next_lo new_map) behind (codes "/*") at
+        → Helps (next_lo new_map) behind (codes "/*" ++ more) UnclosedComment (Some hint)) }
+{
+    let start = Cursor::new(&text[at.start..]);
+    let (lo, _) = bounds(at.span);
+    let (depth, ended) = open_comments(alloc, start)?;
+    let Some((from, to)) = ended else {
+        return Ok(Hint::Comments {
+            depth,
+            closed: None,
+        });
+    };
+    Ok(Hint::Comments {
+        depth,
+        closed: Some(between(text, from, to, lo)),
+    })
+}
+
+/// The hint for a raw string that doesn't end, which is opened there.
+fn quote_hint(text: &str, at: Stretch) -> Option<Hint>
+    requires fits { Fits new_map (length (chars text.now)) }
+    requires stands { (kind : StringKind) × (behind opening body : List ℕ)
+        × (chars text.now ≡ behind ++ (opening ++ body))
+        × Stands (raw_opening kind) opening body × IsStretch (next_lo new_map) behind opening at }
+    ensures { (kind : StringKind) (behind opening body : List ℕ) → chars text.now ≡ behind ++ (opening ++ body)
+        → Stands (raw_opening kind) opening body → IsStretch (next_lo new_map) behind opening at
+        → Helps (next_lo new_map) behind (opening ++ body) UnclosedRawString result }
+{
+    let inside = Cursor::new(&text[at.end..]);
+    let (_, lo) = bounds(at.span);
+    let (from, to) = nearest(inside)?;
+    Some(Hint::Quote(between(text, from, to, lo)))
+}
+
+/// The stretch of a text from one cursor to another, of which a rest of it begins at the position `base`.
+fn between(text: &str, from: Cursor<'_>, to: Cursor<'_>, base: u32) -> Stretch
+    requires from { (front : List ℕ) × (chars text.now ≡ front ++ chars from.rest.now) }
+    requires to { IsPast from to }
+    requires room { base + to.chars_before < 2 ^ 32 }
+    ensures { (begin : ℕ) (front part : List ℕ) → chars text.now ≡ front ++ chars from.entry.rest.now
+        → chars from.entry.rest.now ≡ part ++ chars to.entry.rest.now
+        → base + from.entry.chars_before ≡ begin + length front
+        → to.entry.chars_before ≡ from.entry.chars_before + length part → IsStretch begin front part result }
+{
+    let lo = base + from.chars_before as u32;
+    let hi = base + to.chars_before as u32;
+    stretch(text, from.rest, to.rest, lo, hi)
+}
