@@ -45,21 +45,16 @@ fn laid_out<C: Chooser>(
     let mut before = None;
     let mut depth: usize = 0;
     while let Some(step) = steps.next()? {
-        if let Step::Leave(..) = step {
-            depth = depth.saturating_sub(1);
-        }
         let place = Place {
             before,
             after: Some(step),
-            depth,
+            depth: depth_at(depth, step),
         };
         let chosen = chooser.gap(place);
         set_front(&mut front, step)?;
         push_gap(&mut text, fitting(before, chosen, front.as_str(), step))?;
         text.push_text(front.as_str())?;
-        if let Step::Enter(..) = step {
-            depth = depth.saturating_add(1);
-        }
+        depth = depth_past(depth, step);
         before = Some(step);
     }
     let place = Place {
@@ -70,6 +65,25 @@ fn laid_out<C: Chooser>(
     let last = chooser.gap(place);
     push_gap(&mut text, last)?;
     Ok(text.into_string())
+}
+
+// In how many groups a step is taken, where it comes in so many.
+fn depth_at(depth: usize, step: Step<'_>) -> usize
+{
+    match step {
+        Step::Leave(..) => depth.saturating_sub(1),
+        _ => depth,
+    }
+}
+
+// In how many the next one is.
+fn depth_past(depth: usize, step: Step<'_>) -> usize
+{
+    match step {
+        Step::Enter(..) => depth.saturating_add(1),
+        Step::Leave(..) => depth.saturating_sub(1),
+        Step::Token(..) => depth,
+    }
 }
 
 // Makes the text that of the token, opener or closer.
