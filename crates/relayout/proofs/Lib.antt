@@ -4,3 +4,4 @@ mod WhiteLemmas
 mod RelaidLemmas
 mod ChoiceLemmas
 mod TokenLemmas
+mod CommentLemmas

@@ -1,4 +1,5 @@
 pub mod Relayout
 pub mod Written
 pub mod Relaid
+pub mod Commented
 pub mod Laws
