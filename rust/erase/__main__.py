@@ -28,9 +28,9 @@ LIBRARIES = [
 ]
 # The crates that only a test of the package takes.
 TESTED = ['conformance']
-# The library's own tests, which another test of the package takes.
+# The library's own tests, and the lexer once more with what compares the two, which another test of the package takes.
 OWN_TESTS = [
-    'lexical_tests', 'token_tests', 'stream_tests', 'span_tests', 'law_tests', 'buffer_tests', 'quoting_tests',
+    'two_lexers', 'token_tests', 'stream_tests', 'span_tests', 'law_tests', 'buffer_tests', 'quoting_tests',
     'declarations_tests',
 ]
 # The programs, and the library that they share.

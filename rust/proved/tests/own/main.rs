@@ -6,10 +6,10 @@ mod buffer_tests;
 #[cfg(feature = "declarations")]
 mod declarations_tests;
 mod law_tests;
-mod lexical_tests;
 #[cfg(feature = "quoting")]
 mod quoting_tests;
 mod shim;
 mod span_tests;
 mod stream_tests;
 mod token_tests;
+mod two_lexers;

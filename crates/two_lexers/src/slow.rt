@@ -1,4 +1,3 @@
-// Made from crates/lexical_tests/src/slow.rt by rust/erase: change that file, not this one.
 //! The lexer once more, plainly: it reads character by character and tries each rule in turn.
 //!
 //! It is there to be compared with the lexer, of which it takes the types of its answers alone: the marks, the reserved
@@ -6,7 +5,7 @@
 //! answer as those of the same names in `lexical` do; each other one answers what follows the piece of its rule at the
 //! front of the text, or `None` where none stands.
 
-use proved::lexical::{Piece, PieceKind};
+use lexical::{Piece, PieceKind};
 
 /// The piece at the front of the text, with its length in bytes and in characters, or `None` where none stands.
 /// `at_front` says whether the text begins at byte offset 0 of a source.
@@ -106,11 +105,11 @@ fn is_white(c: char) -> bool {
 }
 
 fn starts_name(c: char) -> bool {
-    c == '_' || crate::shim::unicode_ident::is_xid_start(c)
+    c == '_' || unicode_ident::is_xid_start(c)
 }
 
 fn is_mark(c: char) -> bool {
-    "!#$%&'*+,-./:;<=>?@^|~".contains(c)
+    matches!(c, '!' | '#'..='\'' | '*'..='/' | ':'..='@' | '^' | '|' | '~')
 }
 
 // ---- comments
@@ -172,7 +171,7 @@ fn comment(text: &str) -> Option<&str> {
 
 fn name(text: &str) -> Option<&str> {
     let rest = text.strip_prefix(starts_name)?;
-    Some(rest.trim_start_matches(crate::shim::unicode_ident::is_xid_continue))
+    Some(rest.trim_start_matches(unicode_ident::is_xid_continue))
 }
 
 fn raw_name(text: &str) -> Option<&str> {
@@ -291,7 +290,10 @@ fn escape(text: &str, kind: Kind) -> Option<&str> {
 fn hex_pair(text: &str, kind: Kind) -> Option<&str> {
     let (high, after) = first(text)?;
     let (low, rest) = first(after)?;
-    let value = 16 * high.to_digit(16)? + low.to_digit(16)?;
+    let value = high
+        .to_digit(16)?
+        .saturating_mul(16)
+        .saturating_add(low.to_digit(16)?);
     let is_allowed = match kind {
         Kind::Plain => value < 128,
         Kind::Byte => true,
@@ -337,13 +339,15 @@ fn raw_string(text: &str, kind: Kind) -> Option<&str> {
     if hashes.len() > 255 {
         return None;
     }
-    let mut rest = quoted.strip_prefix('"')?.chars();
+    Some(suffix(raw_end(quoted.strip_prefix('"')?, hashes, kind)?))
+}
+
+fn raw_end<'a>(text: &'a str, hashes: &str, kind: Kind) -> Option<&'a str> {
+    let mut rest = text.chars();
     for _ in text.chars() {
         let c = rest.next()?;
-        if c == '"' {
-            if let Some(end) = rest.as_str().strip_prefix(hashes) {
-                return Some(suffix(end));
-            }
+        if c == '"' && rest.as_str().starts_with(hashes) {
+            return rest.as_str().strip_prefix(hashes);
         }
         if !may_stand(c, kind) || c == '\r' && !rest.as_str().starts_with('\n') {
             return None;
@@ -367,14 +371,16 @@ fn single<'a>(text: &'a str, front: &str, is_byte: bool) -> Option<&'a str> {
 // ---- numbers
 
 fn number(text: &str) -> Option<&str> {
-    let based = |front: &str, base: u32| match text.strip_prefix(front) {
-        Some(digits) => Some(based_end(digits, base)),
-        None => None,
-    };
-    match based("0x", 16).or(based("0o", 8)).or(based("0b", 2)) {
-        Some(end) => end,
-        None => decimal(text),
+    if let Some(digits) = text.strip_prefix("0x") {
+        return based_end(digits, 16);
     }
+    if let Some(digits) = text.strip_prefix("0o") {
+        return based_end(digits, 8);
+    }
+    if let Some(digits) = text.strip_prefix("0b") {
+        return based_end(digits, 2);
+    }
+    decimal(text)
 }
 
 fn based_end(text: &str, base: u32) -> Option<&str> {
@@ -431,7 +437,7 @@ fn exponent(text: &str) -> Option<&str> {
 
 fn number_end(text: &str) -> Option<&str> {
     let rest = suffix(text);
-    if rest.starts_with(crate::shim::unicode_ident::is_xid_continue) {
+    if rest.starts_with(unicode_ident::is_xid_continue) {
         None
     } else {
         Some(rest)
