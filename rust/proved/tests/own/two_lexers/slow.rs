@@ -344,13 +344,13 @@ fn raw_string(text: &str, kind: Kind) -> Option<&str> {
 }
 
 fn raw_end<'a>(text: &'a str, hashes: &str, kind: Kind) -> Option<&'a str> {
-    let mut rest = text;
-    for c in text.chars() {
-        rest = first(rest)?.1;
-        if c == '"' && rest.starts_with(hashes) {
-            return rest.strip_prefix(hashes);
+    let mut rest = text.chars();
+    for _ in text.chars() {
+        let c = rest.next()?;
+        if c == '"' && rest.as_str().starts_with(hashes) {
+            return rest.as_str().strip_prefix(hashes);
         }
-        if !may_stand(c, kind) || c == '\r' && !rest.starts_with('\n') {
+        if !may_stand(c, kind) || c == '\r' && !rest.as_str().starts_with('\n') {
             return None;
         }
     }
@@ -372,10 +372,14 @@ fn single<'a>(text: &'a str, front: &str, is_byte: bool) -> Option<&'a str> {
 // ---- numbers
 
 fn number(text: &str) -> Option<&str> {
-    for (front, base) in [("0x", 16), ("0o", 8), ("0b", 2)] {
-        if let Some(digits) = text.strip_prefix(front) {
-            return based_end(digits, base);
-        }
+    if let Some(digits) = text.strip_prefix("0x") {
+        return based_end(digits, 16);
+    }
+    if let Some(digits) = text.strip_prefix("0o") {
+        return based_end(digits, 8);
+    }
+    if let Some(digits) = text.strip_prefix("0b") {
+        return based_end(digits, 2);
     }
     decimal(text)
 }
