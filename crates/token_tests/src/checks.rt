@@ -1,5 +1,6 @@
 //! The assertions that the tests share.
-use pm_token::Literal;
+use pm_span::{SourceMap, Span};
+use pm_token::{Ident, IdentError, Literal, ParseError};
 use std::alloc::{AllocError, Global};
 use std::fmt::{Debug, Display};
 use std::process::Abort;
@@ -7,6 +8,21 @@ use std::process::Abort;
 /// Asserts that the answer at a row of a test, which is printed if it fails, is the wanted one.
 pub fn check_same<T: PartialEq + Debug>(rt: &impl Abort, row: &str, answer: &T, want: &T) {
     assert_eq!(rt; answer, want, "at {row:?}");
+}
+
+/// The literal of the text, as the first text of a new map.
+pub fn read(alloc: Global, text: &str) -> Result<Literal, ParseError> {
+    let mut map = SourceMap::new(alloc);
+    Literal::from_str(text, &mut map)
+}
+
+/// The identifier of the name, which stands in no file.
+pub fn made(alloc: Global, name: &str, raw: bool) -> Result<Ident, IdentError> {
+    if raw {
+        Ident::new_raw(alloc, name, Span::call_site())
+    } else {
+        Ident::new(alloc, name, Span::call_site())
+    }
 }
 
 /// The text of the literal, if it was made.

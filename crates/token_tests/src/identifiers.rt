@@ -1,20 +1,10 @@
-use crate::checks::{check_same, displays, shows};
-use pm_span::Span;
+use crate::checks::{check_same, displays, made, shows};
 use pm_span::parts::{bounds, span_of};
 use pm_token::{Ident, IdentError};
 use std::alloc::Global;
 use std::collections::{BTreeMap, HashMap};
 use std::process::Abort;
 use std::test::Fail;
-
-/// An identifier that stands in no file.
-fn made(alloc: Global, name: &str, raw: bool) -> Result<Ident, IdentError> {
-    if raw {
-        Ident::new_raw(alloc, name, Span::call_site())
-    } else {
-        Ident::new(alloc, name, Span::call_site())
-    }
-}
 
 fn refusal(outcome: Result<Ident, IdentError>) -> &'static str {
     match outcome {

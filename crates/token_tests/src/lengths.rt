@@ -1,6 +1,5 @@
 // A text of at most 22 bytes stands in its token, and a longer one behind a pointer. Both are kept and copied.
-use crate::checks::check_same;
-use pm_span::Span;
+use crate::checks::{check_same, made};
 use pm_token::{Ident, IdentError, Literal};
 use std::alloc::{AllocError, Global};
 use std::process::Abort;
@@ -8,12 +7,7 @@ use std::test::Fail;
 
 /// A copy of the identifier of the name.
 fn copied(alloc: Global, name: &str, raw: bool) -> Result<Ident, IdentError> {
-    let ident = if raw {
-        Ident::new_raw(alloc, name, Span::call_site())?
-    } else {
-        Ident::new(alloc, name, Span::call_site())?
-    };
-    Ok(ident.clone()?)
+    Ok(made(alloc, name, raw)?.clone()?)
 }
 
 /// A copy of the string literal of the text.

@@ -1,5 +1,5 @@
 // What the parts of tokens show of themselves, and tokens without a span.
-use crate::checks::{are_shown, check_same, shows};
+use crate::checks::{are_shown, check_same, read, shows};
 use pm_span::parts::span_of;
 use pm_span::{LineColumn, SourceMap, Span};
 use pm_token::parts::punct;
@@ -65,12 +65,6 @@ fn a_mark_without_a_place_shows_no_span(rt: HostRuntime) -> Result<(), AllocErro
         ),
     ];
     are_shown(&rt, rt.alloc(), &rows)
-}
-
-/// The literal of the text, which stands in a new map.
-fn read(alloc: Global, text: &str) -> Result<Literal, ParseError> {
-    let mut map = SourceMap::new(alloc);
-    Literal::from_str(text, &mut map)
 }
 
 /// Asserts what the literal shows of itself, if it was made.

@@ -1,9 +1,8 @@
-use crate::checks::shows;
+use crate::checks::{read, shows};
+use pm_span::Span;
 use pm_span::parts::{bounds, span_of};
-use pm_span::{SourceMap, Span};
 use pm_token::parts::punct;
 use pm_token::{Literal, ParseError, Spacing};
-use std::alloc::Global;
 use std::ops::Bound;
 use std::ops::Bound::{Excluded, Included, Unbounded};
 use std::process::Abort;
@@ -17,12 +16,6 @@ fn parts_are(rt: &impl Abort, literal: &Literal, rows: &[Row]) {
         let found = literal.subspan(start, end).map(bounds);
         assert_eq!(rt; found, want, "row {row} of {:?}", literal.text());
     }
-}
-
-// The literal of the text, as the first text of a new map.
-fn read(alloc: Global, text: &str) -> Result<Literal, ParseError> {
-    let mut map = SourceMap::new(alloc);
-    Literal::from_str(text, &mut map)
 }
 
 #[test]

@@ -1,8 +1,8 @@
 //! Compares the two lexers on a text.
 
+use crate::slow;
 use crate::tally::Tally;
 use lexical::{literal_at, name_at, piece_at, pieces};
-use lexical_tests::slow;
 
 /// Compares the two lexers at each character of the text, and in each of its beginnings at the front and along the
 /// pieces.

@@ -1,4 +1,4 @@
-//! Compares the lexer with the plain one of its tests, `slow`, on the texts of standard input.
+//! Compares the lexer with a plain one, `slow`, on the texts of standard input.
 //!
 //! Each line has a text, written as the content of a string literal. Lines on which the two differ are named, and then
 //! the numbers of texts, of comparisons and of those that differ are written. The status is 0 exactly where none
@@ -10,6 +10,7 @@ ghost use Rattle.std.specs.Process.{exit_status};
 ghost use Rattle.two_lexers.specs.Run.{IsRun};
 
 mod compare;
+mod slow;
 mod tally;
 
 use compare::compare;
@@ -46,7 +47,11 @@ fn run<W: Write>(alloc: Global, lines: &str, writer: &mut W) -> io::Result<ExitC
 
 // Compares both lexers on the text of each line, and writes the lines on which they differ.
 fn compare_lines<W: Write>(alloc: Global, lines: &str, writer: &mut W) -> io::Result<Tally> {
-    let mut tally = Tally::default();
+    let mut tally = Tally {
+        texts: 0,
+        comparisons: 0,
+        differ: 0,
+    };
     for line in lines.lines() {
         let before = tally.differ;
         tally.texts = tally.texts.saturating_add(1);

@@ -3,7 +3,8 @@
 
 use crate::shim::prelude::format;
 
-use proved::pm_token::Literal;
+use proved::pm_span::{SourceMap, Span};
+use proved::pm_token::{Ident, IdentError, Literal, ParseError};
 use crate::shim::alloc::{AllocError, Global};
 use crate::shim::fmt::{Debug, Display};
 use crate::shim::process::Abort;
@@ -11,6 +12,21 @@ use crate::shim::process::Abort;
 /// Asserts that the answer at a row of a test, which is printed if it fails, is the wanted one.
 pub fn check_same<T: PartialEq + Debug>(rt: &impl Abort, row: &str, answer: &T, want: &T) {
     assert_eq!(answer, want, "at {row:?}");
+}
+
+/// The literal of the text, as the first text of a new map.
+pub fn read(alloc: Global, text: &str) -> Result<Literal, ParseError> {
+    let mut map = SourceMap::new(alloc);
+    Literal::from_str(text, &mut map)
+}
+
+/// The identifier of the name, which stands in no file.
+pub fn made(alloc: Global, name: &str, raw: bool) -> Result<Ident, IdentError> {
+    if raw {
+        Ident::new_raw(alloc, name, Span::call_site())
+    } else {
+        Ident::new(alloc, name, Span::call_site())
+    }
 }
 
 /// The text of the literal, if it was made.

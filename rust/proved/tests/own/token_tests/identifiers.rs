@@ -2,23 +2,13 @@
 
 use crate::shim::prelude::{HostRuntime, Sort, String, Vec};
 
-use crate::token_tests::checks::{check_same, displays, shows};
-use proved::pm_span::Span;
+use crate::token_tests::checks::{check_same, displays, made, shows};
 use proved::pm_span::parts::{bounds, span_of};
 use proved::pm_token::{Ident, IdentError};
 use crate::shim::alloc::Global;
 use crate::shim::collections::{BTreeMap, HashMap};
 use crate::shim::process::Abort;
 use crate::shim::test::Fail;
-
-/// An identifier that stands in no file.
-fn made(alloc: Global, name: &str, raw: bool) -> Result<Ident, IdentError> {
-    if raw {
-        Ident::new_raw(alloc, name, Span::call_site())
-    } else {
-        Ident::new(alloc, name, Span::call_site())
-    }
-}
 
 fn refusal(outcome: Result<Ident, IdentError>) -> &'static str {
     match outcome {

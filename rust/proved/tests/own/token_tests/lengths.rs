@@ -3,8 +3,7 @@
 use crate::shim::prelude::{Clone, HostRuntime, String, format};
 
 // A text of at most 22 bytes stands in its token, and a longer one behind a pointer. Both are kept and copied.
-use crate::token_tests::checks::check_same;
-use proved::pm_span::Span;
+use crate::token_tests::checks::{check_same, made};
 use proved::pm_token::{Ident, IdentError, Literal};
 use crate::shim::alloc::{AllocError, Global};
 use crate::shim::process::Abort;
@@ -12,12 +11,7 @@ use crate::shim::test::Fail;
 
 /// A copy of the identifier of the name.
 fn copied(alloc: Global, name: &str, raw: bool) -> Result<Ident, IdentError> {
-    let ident = if raw {
-        Ident::new_raw(alloc, name, Span::call_site())?
-    } else {
-        Ident::new(alloc, name, Span::call_site())?
-    };
-    Ok(ident.clone()?)
+    Ok(made(alloc, name, raw)?.clone()?)
 }
 
 /// A copy of the string literal of the text.

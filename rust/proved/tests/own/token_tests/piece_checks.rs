@@ -2,35 +2,12 @@
 //! The assertions that the tests of the lexer share.
 
 use crate::token_tests::checks::check_same;
-use proved::lexical::{Piece, PieceKind, literal_at, name_at, piece_at};
-use crate::lexical_tests::slow;
+use proved::lexical::{Piece, PieceKind, literal_at, piece_at};
 use crate::shim::process::Abort;
 
-/// Asserts which piece the text begins with, at another byte offset than 0, and that the slow lexer answers the same as
-/// the lexer at each character of the text and at each of its beginnings.
+/// Asserts which piece the text begins with, at another byte offset than 0.
 pub fn check_piece(rt: &impl Abort, text: &str, want: Option<Piece<'_>>) {
     check_same(rt, text, &piece_at(text, false), &want);
-    check_slow(rt, text);
-    let mut rest = text.chars();
-    while rest.next().is_some() {
-        check_slow(rt, rest.as_str());
-        if let Some(beginning) = text.strip_suffix(rest.as_str()) {
-            check_slow(rt, beginning);
-        }
-    }
-}
-
-/// Asserts that the slow lexer answers the same as the lexer at the front of the text.
-fn check_slow(rt: &impl Abort, text: &str) {
-    check_same(
-        rt,
-        text,
-        &piece_at(text, false),
-        &slow::piece_at(text, false),
-    );
-    check_same(rt, text, &piece_at(text, true), &slow::piece_at(text, true));
-    check_same(rt, text, &literal_at(text), &slow::literal_at(text));
-    check_same(rt, text, &name_at(text), &slow::name_at(text));
 }
 
 /// Asserts how many bytes the literal has that the text begins with.

@@ -3,7 +3,7 @@
 use crate::shim::prelude::{HostRuntime, String, format};
 
 // What the parts of tokens show of themselves, and tokens without a span.
-use crate::token_tests::checks::{are_shown, check_same, shows};
+use crate::token_tests::checks::{are_shown, check_same, read, shows};
 use proved::pm_span::parts::span_of;
 use proved::pm_span::{LineColumn, SourceMap, Span};
 use proved::pm_token::parts::punct;
@@ -73,12 +73,6 @@ fn a_mark_without_a_place_shows_no_span() -> Result<(), AllocError> {
         ),
     ];
     are_shown(&rt, rt.alloc(), &rows)
-}
-
-/// The literal of the text, which stands in a new map.
-fn read(alloc: Global, text: &str) -> Result<Literal, ParseError> {
-    let mut map = SourceMap::new(alloc);
-    Literal::from_str(text, &mut map)
 }
 
 /// Asserts what the literal shows of itself, if it was made.

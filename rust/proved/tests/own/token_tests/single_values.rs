@@ -2,42 +2,38 @@
 
 use crate::shim::prelude::HostRuntime;
 
-use crate::token_tests::checks::check_same;
-use proved::pm_span::SourceMap;
-use proved::pm_token::{ConversionErrorKind, Literal};
+use crate::token_tests::checks::{check_same, read};
+use proved::pm_token::{ConversionErrorKind, ParseError};
 use crate::shim::alloc::Global;
 use crate::shim::process::Abort;
 use crate::shim::test::Fail;
 
-/// The value as a character and as a byte, where the literal of the text has one; where it has none, it is asserted
-/// that the literal is said to be of another kind.
-fn single_values(
-    rt: &impl Abort,
-    alloc: Global,
-    text: &str,
-) -> Result<(Option<char>, Option<u8>), Fail> {
-    let mut map = SourceMap::new(alloc);
-    let literal = Literal::from_str(text, &mut map)?;
-    let (character, byte) = (literal.char_value(), literal.byte_value());
-    let kind = Some(ConversionErrorKind::InvalidLiteralKind);
-    if character.is_err() {
-        check_same(rt, text, &literal.char_value().err(), &kind);
-    }
-    if byte.is_err() {
-        check_same(rt, text, &literal.byte_value().err(), &kind);
-    }
-    Ok((character.ok(), byte.ok()))
+type Value<T> = Result<T, ConversionErrorKind>;
+
+/// The value as a character and as a byte of the literal of the text.
+fn single_values(alloc: Global, text: &str) -> Result<(Value<char>, Value<u8>), ParseError> {
+    let literal = read(alloc, text)?;
+    Ok((literal.char_value(), literal.byte_value()))
 }
 
-/// Asserts what value the literals of the texts have as a character and as a byte.
+/// This value, or the error of another kind of literal.
+fn wanted<T>(value: Option<T>) -> Value<T> {
+    match value {
+        Some(value) => Ok(value),
+        None => Err(ConversionErrorKind::InvalidLiteralKind),
+    }
+}
+
+/// Asserts what value the literals of the texts have as a character and as a byte. Where they have none, they are said
+/// to be of another kind.
 fn single_values_are(
     rt: &impl Abort,
     alloc: Global,
     rows: &[(&str, Option<char>, Option<u8>)],
 ) -> Result<(), Fail> {
     for &(text, character, byte) in rows {
-        let values = single_values(rt, alloc, text)?;
-        check_same(rt, text, &values, &(character, byte));
+        let values = single_values(alloc, text)?;
+        check_same(rt, text, &values, &(wanted(character), wanted(byte)));
     }
     Ok(())
 }

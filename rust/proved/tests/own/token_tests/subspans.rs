@@ -2,12 +2,11 @@
 
 use crate::shim::prelude::HostRuntime;
 
-use crate::token_tests::checks::shows;
+use crate::token_tests::checks::{read, shows};
+use proved::pm_span::Span;
 use proved::pm_span::parts::{bounds, span_of};
-use proved::pm_span::{SourceMap, Span};
 use proved::pm_token::parts::punct;
 use proved::pm_token::{Literal, ParseError, Spacing};
-use crate::shim::alloc::Global;
 use crate::shim::ops::Bound;
 use crate::shim::ops::Bound::{Excluded, Included, Unbounded};
 use crate::shim::process::Abort;
@@ -21,12 +20,6 @@ fn parts_are(rt: &impl Abort, literal: &Literal, rows: &[Row]) {
         let found = literal.subspan(start, end).map(bounds);
         assert_eq!(found, want, "row {row} of {:?}", literal.text());
     }
-}
-
-// The literal of the text, as the first text of a new map.
-fn read(alloc: Global, text: &str) -> Result<Literal, ParseError> {
-    let mut map = SourceMap::new(alloc);
-    Literal::from_str(text, &mut map)
 }
 
 #[test]

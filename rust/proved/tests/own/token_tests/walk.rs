@@ -6,24 +6,32 @@ use crate::token_tests::checks::check_same;
 use proved::lexical::{PieceKind, PieceWalk, pieces};
 use crate::shim::process::Abort;
 
-/// Asserts that the next pieces are of these kinds and texts, one right after the other, the first
-/// at byte 0.
-fn check_walk(rt: &impl Abort, walk: &mut PieceWalk<'_>, rows: &[(PieceKind<'_>, &str)]) {
+/// Asserts that the text has pieces of these kinds and texts, one right after the other, the first at byte 0; that no
+/// piece is left then, however often it is asked, and that this is the rest.
+fn check_walk(rt: &impl Abort, text: &str, rows: &[(PieceKind<'_>, &str)], rest: &str) {
+    let mut walk = pieces(text);
     let mut byte_offset: usize = 0;
     for &(kind, text) in rows {
-        let answer = walk
-            .next_piece()
-            .map(|next| (next.byte_offset, next.piece.kind, next.text));
-        check_same(rt, text, &answer, &Some((byte_offset, kind, text)));
+        check_next(rt, &mut walk, Some((byte_offset, kind, text)));
         byte_offset = byte_offset.wrapping_add(text.len());
     }
+    for _ in 0..2 {
+        check_next(rt, &mut walk, None);
+    }
+    check_same(rt, text, &walk.rest(), &rest);
 }
 
-/// Asserts that no piece is left, however often it is asked, and that this is the rest.
-fn check_end(rt: &impl Abort, walk: &mut PieceWalk<'_>, rest: &str) {
-    check_same(rt, rest, &walk.next_piece(), &None);
-    check_same(rt, rest, &walk.next_piece(), &None);
-    check_same(rt, rest, &walk.rest(), &rest);
+/// Asserts where the next piece stands, its kind and its text.
+fn check_next(
+    rt: &impl Abort,
+    walk: &mut PieceWalk<'_>,
+    want: Option<(usize, PieceKind<'_>, &str)>,
+) {
+    let answer = match walk.next_piece() {
+        Some(next) => Some((next.byte_offset, next.piece.kind, next.text)),
+        None => None,
+    };
+    assert_eq!(answer, want);
 }
 
 /// The kind of a mark.
@@ -34,10 +42,10 @@ fn mark_of(mark: char, joint: bool) -> PieceKind<'static> {
 #[test]
 fn the_pieces_cover_the_text() {
     let rt = HostRuntime;
-    let mut walk = pieces("\u{FEFF}r#a+=/*\u{E9}*/\"\u{E9}\"u8\n(/// d\n)// c");
+    let text = "\u{FEFF}r#a+=/*\u{E9}*/\"\u{E9}\"u8\n(/// d\n)// c";
     check_walk(
         &rt,
-        &mut walk,
+        text,
         &[
             (PieceKind::FrontMark, "\u{FEFF}"),
             (
@@ -64,32 +72,28 @@ fn the_pieces_cover_the_text() {
             (PieceKind::Closer(')'), ")"),
             (PieceKind::Gap, "// c"),
         ],
+        "",
     );
-    check_end(&rt, &mut walk, "");
 }
 
 #[test]
 fn the_pieces_end_at_a_fault() {
     let rt = HostRuntime;
-    let mut walk = pieces("+ \"a");
     check_walk(
         &rt,
-        &mut walk,
+        "+ \"a",
         &[(mark_of('+', false), "+"), (PieceKind::Gap, " ")],
+        "\"a",
     );
-    check_end(&rt, &mut walk, "\"a");
     // U+FEFF is a piece at the very front alone.
-    let mut walk = pieces(" \u{FEFF}");
-    check_walk(&rt, &mut walk, &[(PieceKind::Gap, " ")]);
-    check_end(&rt, &mut walk, "\u{FEFF}");
+    check_walk(&rt, " \u{FEFF}", &[(PieceKind::Gap, " ")], "\u{FEFF}");
     // A NUL, which may not stand in a C string, is no fault of one that ends before it.
-    let mut walk = pieces("cr\"a\"\0");
-    check_walk(&rt, &mut walk, &[(PieceKind::Literal, "cr\"a\"")]);
-    check_end(&rt, &mut walk, "\0");
+    let rows = &[(PieceKind::Literal, "cr\"a\"")];
+    check_walk(&rt, "cr\"a\"\0", rows, "\0");
 }
 
 #[test]
 fn an_empty_text_has_no_pieces() {
     let rt = HostRuntime;
-    check_end(&rt, &mut pieces(""), "");
+    check_walk(&rt, "", &[], "");
 }

@@ -1,0 +1,45 @@
+// Made from crates/two_lexers/src/compare.rt by rust/erase: change that file, not this one.
+//! Compares the two lexers on a text.
+
+use crate::two_lexers::slow;
+use crate::two_lexers::tally::Tally;
+use proved::lexical::{literal_at, name_at, piece_at, pieces};
+
+/// Compares the two lexers at each character of the text, and in each of its beginnings at the front and along the
+/// pieces.
+pub fn compare(text: &str, tally: &mut Tally) {
+    compare_front(text, tally);
+    compare_pieces(text, tally);
+    let mut rest = text.chars();
+    while rest.next().is_some() {
+        compare_front(rest.as_str(), tally);
+        if let Some(beginning) = text.strip_suffix(rest.as_str()) {
+            compare_front(beginning, tally);
+            compare_pieces(beginning, tally);
+        }
+    }
+}
+
+/// Compares the answers at the front of the text, at byte offset 0 of a source and elsewhere.
+fn compare_front(text: &str, tally: &mut Tally) {
+    let same = piece_at(text, true) == slow::piece_at(text, true)
+        && piece_at(text, false) == slow::piece_at(text, false)
+        && literal_at(text) == slow::literal_at(text)
+        && name_at(text) == slow::name_at(text);
+    tally.count(same);
+}
+
+/// Compares the pieces of the text, one after the other, up to where none stands.
+fn compare_pieces(text: &str, tally: &mut Tally) {
+    let mut walk = pieces(text);
+    let mut at_front = true;
+    for _ in text.chars() {
+        let wanted = slow::piece_at(walk.rest(), at_front);
+        let answer = walk.next_piece().map(|next| next.piece);
+        tally.count(answer == wanted);
+        if answer.is_none() {
+            return;
+        }
+        at_front = false;
+    }
+}
