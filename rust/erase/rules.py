@@ -204,14 +204,14 @@ def models(file):
 
 @rule
 def tests(file):
-    """Leaves out the modules of tests within the library, and those of how many bytes a value takes in Rattle.
+    """Leaves out the modules of tests within the library, and those of what is so in Rattle alone.
 
         #[cfg(test)] mod tests; fn one() {} #[cfg(test)] mod tests { use super::*; } #[cfg(test)] mod sizes;
         => fn one() {}
     """
     goes = set()
     for at, token in enumerate(file.tokens):
-        for name in ('tests', 'sizes'):
+        for name in ('tests', 'sizes', 'writers'):
             for end in found(file.tokens, at, f'# [ cfg ( test ) ] mod {name} ;'):
                 goes |= set(range(at, end + 1))
                 file.count('tests')

@@ -1,10 +1,10 @@
 // Streams that are built of trees, of other streams and of tokens.
-use crate::checks::shows;
+use crate::checks::{displays, parsed, shows};
 use pm_span::parts::span_of;
 use pm_stream::parts::group;
 use pm_token::parts::punct;
 use proc_macro2::{
-    Delimiter, Group, Ident, IdentError, Literal, SourceMap, Spacing, Span, TokenStream, TokenTree,
+    Delimiter, Group, Ident, IdentError, Literal, Spacing, Span, TokenStream, TokenTree,
 };
 use std::alloc::{AllocError, Global};
 use std::process::Abort;
@@ -32,22 +32,11 @@ fn minus_three(alloc: Global) -> Result<Literal, AllocError> {
     Ok(literal)
 }
 
-/// Asserts what a stream is printed as.
-fn check_printed(
-    rt: &(impl Abort + AllocGlobal),
-    stream: &TokenStream,
-    want: &str,
-) -> Result<(), AllocError> {
-    let text = format!(in rt.alloc(); "{stream}")?;
-    assert_eq!(rt; text.as_str(), want);
-    Ok(())
-}
-
 #[test]
 fn a_negative_literal_is_put_in_as_its_sign_and_the_rest(rt: HostRuntime) -> Result<(), Fail> {
     let alloc = rt.alloc();
     let stream = TokenStream::from_tree(alloc, TokenTree::Literal(minus_three(alloc)?))?;
-    check_printed(&rt, &stream, "- 3i32")?;
+    displays(&rt, rt.alloc(), &stream, "- 3i32")?;
     let want = "TokenStream [Punct { char: '-', spacing: Alone, span: bytes(1..6) }, \
         Literal { lit: 3i32, span: bytes(1..6) }]";
     shows(&rt, alloc, &stream, want)?;
@@ -59,7 +48,7 @@ fn a_mark_keeps_its_spacing(rt: HostRuntime) -> Result<(), Fail> {
     let alloc = rt.alloc();
     let colon = TokenTree::Punct(punct(':', Spacing::Joint, Span::call_site()));
     let stream = TokenStream::from_tree(alloc, colon)?;
-    check_printed(&rt, &stream, ":")?;
+    displays(&rt, rt.alloc(), &stream, ":")?;
     let want = "TokenStream [Punct { char: ':', spacing: Joint }]";
     shows(&rt, alloc, &stream, want)?;
     Ok(())
@@ -84,7 +73,7 @@ fn groups(alloc: Global) -> Result<Vec<Group>, Fail> {
 fn groups_are_put_after_one_another(rt: HostRuntime) -> Result<(), Fail> {
     let mut stream = TokenStream::new(rt.alloc());
     stream.extend_groups(groups(rt.alloc())?)?;
-    check_printed(&rt, &stream, "{ } { x } (x) [x] x")?;
+    displays(&rt, rt.alloc(), &stream, "{ } { x } (x) [x] x")?;
     Ok(())
 }
 
@@ -121,7 +110,7 @@ fn tokens_of_each_kind_are_put_in(rt: HostRuntime) -> Result<(), Fail> {
     add_marks(&mut stream)?;
     add_literals(alloc, &mut stream)?;
     add_trees(alloc, &mut stream)?;
-    check_printed(&rt, &stream, "x x += - 3i32 1 + - 3i32")?;
+    displays(&rt, rt.alloc(), &stream, "x x += - 3i32 1 + - 3i32")?;
     Ok(())
 }
 
@@ -144,8 +133,8 @@ fn streams_are_put_after_one_another(rt: HostRuntime) -> Result<(), Fail> {
     let x = only_x(rt.alloc())?;
     let mut stream = three_streams(rt.alloc(), &x)?;
     add_twice(&mut stream, &x)?;
-    check_printed(&rt, &stream, "x - 3i32 x x")?;
-    check_printed(&rt, &x, "x")?;
+    displays(&rt, rt.alloc(), &stream, "x - 3i32 x x")?;
+    displays(&rt, rt.alloc(), &x, "x")?;
     Ok(())
 }
 
@@ -155,19 +144,19 @@ fn a_stream_that_is_extended_leaves_its_clone(rt: HostRuntime) -> Result<(), Fai
     let mut stream = only_x(alloc)?;
     let kept = stream.clone()?;
     stream.extend_idents([x(alloc)?])?;
-    check_printed(&rt, &stream, "x x")?;
-    check_printed(&rt, &kept, "x")?;
+    displays(&rt, rt.alloc(), &stream, "x x")?;
+    displays(&rt, rt.alloc(), &kept, "x")?;
     Ok(())
 }
 
 #[test]
 fn a_stream_is_extended_by_its_own_clone(rt: HostRuntime) -> Result<(), Fail> {
     let alloc = rt.alloc();
-    let mut stream = TokenStream::from_str("a +", &mut SourceMap::new(alloc))?;
+    let mut stream = parsed(alloc, "a +")?;
     let kept = stream.clone()?;
     stream.extend_streams([kept.clone()?])?;
-    check_printed(&rt, &stream, "a + a +")?;
-    check_printed(&rt, &kept, "a +")?;
+    displays(&rt, rt.alloc(), &stream, "a + a +")?;
+    displays(&rt, rt.alloc(), &kept, "a +")?;
     Ok(())
 }
 
@@ -177,8 +166,8 @@ fn a_stream_of_a_group_that_is_extended_leaves_the_group(rt: HostRuntime) -> Res
     let group = grouped(Delimiter::Parenthesis, only_x(alloc)?);
     let mut inside = group.stream()?;
     inside.extend_groups([group.clone()?])?;
-    check_printed(&rt, &inside, "x (x)")?;
-    check_printed(&rt, &group.stream()?, "x")?;
+    displays(&rt, rt.alloc(), &inside, "x (x)")?;
+    displays(&rt, rt.alloc(), &group.stream()?, "x")?;
     Ok(())
 }
 
@@ -212,7 +201,12 @@ fn extend_by_each(alloc: Global, stream: &mut TokenStream) -> Result<(), Fail> {
 fn std_collects_and_extends(rt: HostRuntime) -> Result<(), Fail> {
     let mut stream = collected(rt.alloc())?;
     extend_by_each(rt.alloc(), &mut stream)?;
-    check_printed(&rt, &stream, "x - 3i32 x - 3i32 x x [] x + - 3i32")?;
+    displays(
+        &rt,
+        rt.alloc(),
+        &stream,
+        "x - 3i32 x - 3i32 x x [] x + - 3i32",
+    )?;
     Ok(())
 }
 
@@ -237,8 +231,8 @@ fn an_empty_group_gives_an_empty_stream(rt: HostRuntime) -> Result<(), AllocErro
     ];
     for delimiter in delimiters {
         let group = grouped(delimiter, TokenStream::new(rt.alloc()));
-        check_printed(&rt, &group.stream()?, "")?;
-        check_printed(&rt, &group.clone()?.stream()?, "")?;
+        displays(&rt, rt.alloc(), &group.stream()?, "")?;
+        displays(&rt, rt.alloc(), &group.clone()?.stream()?, "")?;
     }
     Ok(())
 }

@@ -1,15 +1,10 @@
 // The iterator over the trees of a stream, which gives them away.
 use crate::built_streams::one;
-use crate::checks::{displays, shows};
-use proc_macro2::{SourceMap, TokenStream, TokenTree, token_stream};
+use crate::checks::{displays, parsed, repeated, shows};
+use proc_macro2::{TokenStream, TokenTree, token_stream};
 use std::alloc::{AllocError, Global};
 use std::process::Abort;
 use std::test::Fail;
-
-/// The stream of the text, as the first of a map.
-fn parsed(alloc: Global, text: &str) -> Result<TokenStream, Fail> {
-    Ok(TokenStream::from_str(text, &mut SourceMap::new(alloc))?)
-}
 
 /// Each tree that the iterator gives as it is printed, in brackets.
 fn given(alloc: Global, trees: token_stream::IntoIter) -> Result<String, AllocError> {
@@ -119,22 +114,10 @@ fn a_shared_stream_keeps_what_the_other_gives(rt: HostRuntime) -> Result<(), Fai
     Ok(())
 }
 
-/// So many brackets inside one another.
-fn nested(alloc: Global, levels: u32) -> Result<String, AllocError> {
-    let mut text = String::new(alloc);
-    for _ in 0..levels {
-        text.push('[')?;
-    }
-    for _ in 0..levels {
-        text.push(']')?;
-    }
-    Ok(text)
-}
-
 #[test]
 fn an_iterator_over_deep_groups_is_dropped_in_little_stack(rt: HostRuntime) -> Result<(), Fail> {
     let alloc = rt.alloc();
-    let text = nested(alloc, 100000)?;
+    let text = repeated(alloc, &[("[", 100_000), ("]", 100_000)])?;
     let trees = parsed(alloc, text.as_str())?.into_iter()?;
     assert_eq!(rt; trees.size_hint(), (1, Some(1)));
     let mut given = parsed(alloc, text.as_str())?.into_iter()?;

@@ -1,15 +1,8 @@
 // Groups and trees that are made by hand.
-use crate::checks::{displays, prints, shows};
-use proc_macro2::{
-    Delimiter, Group, Ident, Literal, Punct, SourceMap, Spacing, Span, TokenStream, TokenTree,
-};
+use crate::checks::{displays, parsed, prints, shows};
+use proc_macro2::{Delimiter, Group, Ident, Literal, Punct, Spacing, Span, TokenStream, TokenTree};
 use std::alloc::Global;
 use std::test::Fail;
-
-/// The stream of the text, as the first of a map.
-fn parsed(alloc: Global, text: &str) -> Result<TokenStream, Fail> {
-    Ok(TokenStream::from_str(text, &mut SourceMap::new(alloc))?)
-}
 
 #[test]
 fn a_new_group_stands_nowhere(rt: HostRuntime) -> Result<(), Fail> {

@@ -1,32 +1,9 @@
 // Display fails only where its writer does: no clause can say so, since the trait has no word for a write that fails.
-use pm_span::SourceMap;
-use pm_stream::{TokenStream, TokenTree};
-use std::alloc::{AllocError, Global};
+use crate::checks::{parsed, repeated};
+use pm_stream::TokenTree;
 use std::fmt::Display;
 use std::process::Abort;
 use std::test::Fail;
-
-// The text so many times.
-fn repeated(alloc: Global, text: &str, times: u32) -> Result<String, AllocError> {
-    let mut all = String::new(alloc);
-    for _ in 0..times {
-        all.push_str(text)?;
-    }
-    Ok(all)
-}
-
-// A string literal of so many bytes `a`.
-fn long_literal(alloc: Global, bytes: u32) -> Result<String, AllocError> {
-    let body = repeated(alloc, "a", bytes)?;
-    format!(in alloc; "\"{body}\"")
-}
-
-// So many groups inside one another.
-fn deep_group(alloc: Global, levels: u32) -> Result<String, AllocError> {
-    let opened = repeated(alloc, "(", levels)?;
-    let closed = repeated(alloc, ")", levels)?;
-    format!(in alloc; "{opened}x{closed}")
-}
 
 /// Asserts that the value is written as this text, without an error.
 fn is_written<D: Display>(rt: &(impl Abort + AllocGlobal), value: &D, text: &str) {
@@ -38,7 +15,7 @@ fn is_written<D: Display>(rt: &(impl Abort + AllocGlobal), value: &D, text: &str
 /// Asserts that the text is one tree, and that the stream, this tree, and the tree as a group where it is one, are
 /// written as the text.
 fn one_tree_is_written(rt: &(impl Abort + AllocGlobal), text: &str) -> Result<(), Fail> {
-    let stream = TokenStream::from_str(text, &mut SourceMap::new(rt.alloc()))?;
+    let stream = parsed(rt.alloc(), text)?;
     is_written(rt, &stream, text);
     let tree = stream.trees().first().expect(rt, "it has a tree");
     is_written(rt, tree, text);
@@ -50,12 +27,12 @@ fn one_tree_is_written(rt: &(impl Abort + AllocGlobal), text: &str) -> Result<()
 
 #[test]
 fn a_long_literal_is_printed_without_an_error(rt: HostRuntime) -> Result<(), Fail> {
-    let text = long_literal(rt.alloc(), 1_100_000)?;
+    let text = repeated(rt.alloc(), &[("\"", 1), ("a", 1_100_000), ("\"", 1)])?;
     one_tree_is_written(&rt, text.as_str())
 }
 
 #[test]
 fn deep_groups_are_printed_without_an_error(rt: HostRuntime) -> Result<(), Fail> {
-    let text = deep_group(rt.alloc(), 70_000)?;
+    let text = repeated(rt.alloc(), &[("(", 70_000), ("x", 1), (")", 70_000)])?;
     one_tree_is_written(&rt, text.as_str())
 }

@@ -1,14 +1,14 @@
 // Made from crates/stream_tests/src/building.rt by rust/erase: change that file, not this one.
 
-use crate::shim::prelude::{AllocGlobal, Clone, Collect, Extend, HostRuntime, Vec, format, vec};
+use crate::shim::prelude::{Clone, Collect, Extend, HostRuntime, Vec, vec};
 
 // Streams that are built of trees, of other streams and of tokens.
-use crate::stream_tests::checks::shows;
+use crate::stream_tests::checks::{displays, parsed, shows};
 use proved::pm_span::parts::span_of;
 use proved::pm_stream::parts::group;
 use proved::pm_token::parts::punct;
 use proved::proc_macro2::{
-    Delimiter, Group, Ident, IdentError, Literal, SourceMap, Spacing, Span, TokenStream, TokenTree,
+    Delimiter, Group, Ident, IdentError, Literal, Spacing, Span, TokenStream, TokenTree,
 };
 use crate::shim::alloc::{AllocError, Global};
 use crate::shim::process::Abort;
@@ -36,23 +36,12 @@ fn minus_three(alloc: Global) -> Result<Literal, AllocError> {
     Ok(literal)
 }
 
-/// Asserts what a stream is printed as.
-fn check_printed(
-    rt: &(impl Abort + AllocGlobal),
-    stream: &TokenStream,
-    want: &str,
-) -> Result<(), AllocError> {
-    let text = format!(in rt.alloc(); "{stream}")?;
-    assert_eq!(text.as_str(), want);
-    Ok(())
-}
-
 #[test]
 fn a_negative_literal_is_put_in_as_its_sign_and_the_rest() -> Result<(), Fail> {
     let rt = HostRuntime;
     let alloc = rt.alloc();
     let stream = TokenStream::from_tree(alloc, TokenTree::Literal(minus_three(alloc)?))?;
-    check_printed(&rt, &stream, "- 3i32")?;
+    displays(&rt, rt.alloc(), &stream, "- 3i32")?;
     let want = "TokenStream [Punct { char: '-', spacing: Alone, span: bytes(1..6) }, \
         Literal { lit: 3i32, span: bytes(1..6) }]";
     shows(&rt, alloc, &stream, want)?;
@@ -65,7 +54,7 @@ fn a_mark_keeps_its_spacing() -> Result<(), Fail> {
     let alloc = rt.alloc();
     let colon = TokenTree::Punct(punct(':', Spacing::Joint, Span::call_site()));
     let stream = TokenStream::from_tree(alloc, colon)?;
-    check_printed(&rt, &stream, ":")?;
+    displays(&rt, rt.alloc(), &stream, ":")?;
     let want = "TokenStream [Punct { char: ':', spacing: Joint }]";
     shows(&rt, alloc, &stream, want)?;
     Ok(())
@@ -91,7 +80,7 @@ fn groups_are_put_after_one_another() -> Result<(), Fail> {
     let rt = HostRuntime;
     let mut stream = TokenStream::new(rt.alloc());
     stream.extend_groups(groups(rt.alloc())?)?;
-    check_printed(&rt, &stream, "{ } { x } (x) [x] x")?;
+    displays(&rt, rt.alloc(), &stream, "{ } { x } (x) [x] x")?;
     Ok(())
 }
 
@@ -129,7 +118,7 @@ fn tokens_of_each_kind_are_put_in() -> Result<(), Fail> {
     add_marks(&mut stream)?;
     add_literals(alloc, &mut stream)?;
     add_trees(alloc, &mut stream)?;
-    check_printed(&rt, &stream, "x x += - 3i32 1 + - 3i32")?;
+    displays(&rt, rt.alloc(), &stream, "x x += - 3i32 1 + - 3i32")?;
     Ok(())
 }
 
@@ -153,8 +142,8 @@ fn streams_are_put_after_one_another() -> Result<(), Fail> {
     let x = only_x(rt.alloc())?;
     let mut stream = three_streams(rt.alloc(), &x)?;
     add_twice(&mut stream, &x)?;
-    check_printed(&rt, &stream, "x - 3i32 x x")?;
-    check_printed(&rt, &x, "x")?;
+    displays(&rt, rt.alloc(), &stream, "x - 3i32 x x")?;
+    displays(&rt, rt.alloc(), &x, "x")?;
     Ok(())
 }
 
@@ -165,8 +154,8 @@ fn a_stream_that_is_extended_leaves_its_clone() -> Result<(), Fail> {
     let mut stream = only_x(alloc)?;
     let kept = stream.clone()?;
     stream.extend_idents([x(alloc)?])?;
-    check_printed(&rt, &stream, "x x")?;
-    check_printed(&rt, &kept, "x")?;
+    displays(&rt, rt.alloc(), &stream, "x x")?;
+    displays(&rt, rt.alloc(), &kept, "x")?;
     Ok(())
 }
 
@@ -174,11 +163,11 @@ fn a_stream_that_is_extended_leaves_its_clone() -> Result<(), Fail> {
 fn a_stream_is_extended_by_its_own_clone() -> Result<(), Fail> {
     let rt = HostRuntime;
     let alloc = rt.alloc();
-    let mut stream = TokenStream::from_str("a +", &mut SourceMap::new(alloc))?;
+    let mut stream = parsed(alloc, "a +")?;
     let kept = stream.clone()?;
     stream.extend_streams([kept.clone()?])?;
-    check_printed(&rt, &stream, "a + a +")?;
-    check_printed(&rt, &kept, "a +")?;
+    displays(&rt, rt.alloc(), &stream, "a + a +")?;
+    displays(&rt, rt.alloc(), &kept, "a +")?;
     Ok(())
 }
 
@@ -189,8 +178,8 @@ fn a_stream_of_a_group_that_is_extended_leaves_the_group() -> Result<(), Fail> {
     let group = grouped(Delimiter::Parenthesis, only_x(alloc)?);
     let mut inside = group.stream()?;
     inside.extend_groups([group.clone()?])?;
-    check_printed(&rt, &inside, "x (x)")?;
-    check_printed(&rt, &group.stream()?, "x")?;
+    displays(&rt, rt.alloc(), &inside, "x (x)")?;
+    displays(&rt, rt.alloc(), &group.stream()?, "x")?;
     Ok(())
 }
 
@@ -225,7 +214,12 @@ fn std_collects_and_extends() -> Result<(), Fail> {
     let rt = HostRuntime;
     let mut stream = collected(rt.alloc())?;
     extend_by_each(rt.alloc(), &mut stream)?;
-    check_printed(&rt, &stream, "x - 3i32 x - 3i32 x x [] x + - 3i32")?;
+    displays(
+        &rt,
+        rt.alloc(),
+        &stream,
+        "x - 3i32 x - 3i32 x x [] x + - 3i32",
+    )?;
     Ok(())
 }
 
@@ -252,8 +246,8 @@ fn an_empty_group_gives_an_empty_stream() -> Result<(), AllocError> {
     ];
     for delimiter in delimiters {
         let group = grouped(delimiter, TokenStream::new(rt.alloc()));
-        check_printed(&rt, &group.stream()?, "")?;
-        check_printed(&rt, &group.clone()?.stream()?, "")?;
+        displays(&rt, rt.alloc(), &group.stream()?, "")?;
+        displays(&rt, rt.alloc(), &group.clone()?.stream()?, "")?;
     }
     Ok(())
 }

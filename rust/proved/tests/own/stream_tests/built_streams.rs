@@ -37,14 +37,6 @@ pub fn one(alloc: Global, tree: TokenTree) -> Result<TokenStream, AllocError>
     stream(alloc, vec![in alloc; tree]?)
 }
 
-/// The stream of these two trees.
-pub fn two(alloc: Global, first: TokenTree, second: TokenTree) -> Result<TokenStream, AllocError>
-{
-    let _ = first.span();
-    let _ = second.span();
-    stream(alloc, vec![in alloc; first, second]?)
-}
-
 fn three(
     alloc: Global,
     first: TokenTree,

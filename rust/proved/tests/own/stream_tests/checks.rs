@@ -3,12 +3,39 @@
 //!
 //! They stand in functions of their own, since a long function is dear to prove.
 
-use crate::shim::prelude::{AllocGlobal, String, format};
+use crate::shim::prelude::{AllocGlobal, Repeat, String, format};
 
-use proved::proc_macro2::{ParseError, SourceMap, TokenStream};
+use proved::pm_span::parts::span_of;
+use proved::proc_macro2::{ParseError, SourceMap, Span, TokenStream};
 use crate::shim::alloc::{AllocError, Global};
 use crate::shim::fmt::{Debug, Display};
 use crate::shim::process::Abort;
+
+/// The stream of the text, as the first of a map.
+pub fn parsed(alloc: Global, text: &str) -> Result<TokenStream, ParseError> {
+    TokenStream::from_str(text, &mut SourceMap::new(alloc))
+}
+
+/// The parts one after the other, each so many times.
+pub fn repeated(alloc: Global, parts: &[(&str, u32)]) -> Result<String, AllocError> {
+    let mut text = String::new(alloc);
+    for (part, count) in parts {
+        for _ in 0..*count {
+            text.push_str(part)?;
+        }
+    }
+    Ok(text)
+}
+
+/// The span between the positions, which the map holds.
+pub fn held(rt: &impl Abort, map: &SourceMap, positions: (u32, u32)) -> Span
+{
+    let (lo, hi) = positions;
+    assert!(lo <= hi, "of {lo}..{hi}");
+    let span = span_of(lo, hi);
+    assert!(map.holds(span), "of {lo}..{hi}");
+    span
+}
 
 /// Asserts whether two texts, each parsed in a new map, give the same tokens.
 pub fn check_same(rt: &(impl Abort + AllocGlobal), text: &str, other: &str, same: bool) {
@@ -24,21 +51,19 @@ pub fn check_shown(rt: &(impl Abort + AllocGlobal), map: &mut SourceMap, text: &
 
 /// The text that the stream of `text`, parsed in a new map, is printed as.
 pub fn printed(alloc: Global, text: &str) -> Result<String, ParseError> {
-    let mut map = SourceMap::new(alloc);
-    let stream = TokenStream::from_str(text, &mut map)?;
+    let stream = parsed(alloc, text)?;
     Ok(format!(in alloc; "{stream}")?)
 }
 
 /// Whether the stream of `text`, parsed in a new map, is well spaced.
 pub fn parses_well_spaced(alloc: Global, text: &str) -> Result<bool, ParseError> {
-    let mut map = SourceMap::new(alloc);
-    Ok(TokenStream::from_str(text, &mut map)?.is_well_spaced())
+    Ok(parsed(alloc, text)?.is_well_spaced())
 }
 
 // Whether the two texts, each parsed in a new map, give the same tokens, asked from both sides.
 fn are_same(alloc: Global, text: &str, other: &str) -> Result<bool, ParseError> {
-    let stream = TokenStream::from_str(text, &mut SourceMap::new(alloc))?;
-    let other = TokenStream::from_str(other, &mut SourceMap::new(alloc))?;
+    let stream = parsed(alloc, text)?;
+    let other = parsed(alloc, other)?;
     Ok(stream.same_tokens(&other) && other.same_tokens(&stream))
 }
 
@@ -50,8 +75,7 @@ fn shown(alloc: Global, map: &mut SourceMap, text: &str) -> Result<String, Parse
 
 /// How many trees the stream of `text` has.
 pub fn count_trees(alloc: Global, text: &str) -> Option<usize> {
-    let mut map = SourceMap::new(alloc);
-    match TokenStream::from_str(text, &mut map) {
+    match parsed(alloc, text) {
         Ok(stream) => Some(stream.trees().len()),
         Err(_) => None,
     }

@@ -3,17 +3,10 @@
 use crate::shim::prelude::HostRuntime;
 
 // Groups and trees that are made by hand.
-use crate::stream_tests::checks::{displays, prints, shows};
-use proved::proc_macro2::{
-    Delimiter, Group, Ident, Literal, Punct, SourceMap, Spacing, Span, TokenStream, TokenTree,
-};
+use crate::stream_tests::checks::{displays, parsed, prints, shows};
+use proved::proc_macro2::{Delimiter, Group, Ident, Literal, Punct, Spacing, Span, TokenStream, TokenTree};
 use crate::shim::alloc::Global;
 use crate::shim::test::Fail;
-
-/// The stream of the text, as the first of a map.
-fn parsed(alloc: Global, text: &str) -> Result<TokenStream, Fail> {
-    Ok(TokenStream::from_str(text, &mut SourceMap::new(alloc))?)
-}
 
 #[test]
 fn a_new_group_stands_nowhere() -> Result<(), Fail> {

@@ -4,8 +4,8 @@ use crate::shim::prelude::{HostRuntime, String, format};
 
 // What streams and trees show of themselves, and what an empty stream prints.
 use crate::stream_tests::built_streams::{empty_group, grouped, one};
-use crate::stream_tests::checks::{displays, has_no_width, shows};
-use proved::proc_macro2::{Delimiter, Ident, SourceMap, Span, TokenStream, TokenTree};
+use crate::stream_tests::checks::{displays, has_no_width, parsed, shows};
+use proved::proc_macro2::{Delimiter, Ident, Span, TokenStream, TokenTree};
 use crate::shim::alloc::{AllocError, Global};
 use crate::shim::process::Abort;
 use crate::shim::test::Fail;
@@ -49,8 +49,7 @@ fn a_group_at_0_to_0_shows_no_span() -> Result<(), Fail> {
 
 /// The stream of the text in a new map, as it is shown on lines.
 fn shown_on_lines(alloc: Global, text: &str) -> Result<String, Fail> {
-    let mut map = SourceMap::new(alloc);
-    let stream = TokenStream::from_str(text, &mut map)?;
+    let stream = parsed(alloc, text)?;
     Ok(format!(in alloc; "{stream:#?}")?)
 }
 
@@ -85,8 +84,7 @@ fn trees_have_no_width(
     text: &str,
     wanted: &[&str],
 ) -> Result<(), Fail> {
-    let mut map = SourceMap::new(alloc);
-    let stream = TokenStream::from_str(text, &mut map)?;
+    let stream = parsed(alloc, text)?;
     has_no_width(rt, alloc, &stream, text)?;
     for (tree, want) in stream.trees().iter().zip(wanted) {
         has_no_width(rt, alloc, tree, want)?;

@@ -1,33 +1,20 @@
 // Made from crates/stream_tests/src/streams.rt by rust/erase: change that file, not this one.
 
-use crate::shim::prelude::{HostRuntime, String};
+use crate::shim::prelude::{HostRuntime, Repeat};
 
 // Groups that nest deep.
-use crate::stream_tests::checks::{check_same, count_trees, parses_well_spaced, printed};
-use crate::shim::alloc::{AllocError, Global};
+use crate::stream_tests::checks::{check_same, count_trees, parses_well_spaced, printed, repeated};
 use crate::shim::test::Fail;
 
-// So many open brackets, a plus sign, and as many closed ones.
-fn deep_groups(alloc: Global, levels: u32) -> Result<String, AllocError> {
-    let mut text = String::new(alloc);
-    push_times(&mut text, levels, '[')?;
-    text.push('+')?;
-    push_times(&mut text, levels, ']')?;
-    Ok(text)
-}
+/// So many brackets inside one another, around a plus sign.
+const DEEP: &[(&str, u32)] = &[("[", 100_000), ("+", 1), ("]", 100_000)];
 
-// Pushes the character so many times.
-fn push_times(text: &mut String, times: u32, c: char) -> Result<(), AllocError> {
-    for _ in 0..times {
-        text.push(c)?;
-    }
-    Ok(())
-}
+const DEEPER: &[(&str, u32)] = &[("[", 100_001), ("+", 1), ("]", 100_001)];
 
 #[test]
 fn deep_groups_are_read_without_stack() -> Result<(), Fail> {
     let rt = HostRuntime;
-    let text = deep_groups(rt.alloc(), 100000)?;
+    let text = repeated(rt.alloc(), DEEP)?;
     let trees = count_trees(rt.alloc(), text.as_str());
     assert_eq!(trees, Some(1), "all stands in one group");
     let printed = printed(rt.alloc(), text.as_str())?;
@@ -38,8 +25,8 @@ fn deep_groups_are_read_without_stack() -> Result<(), Fail> {
 #[test]
 fn deep_groups_are_compared_without_stack() -> Result<(), Fail> {
     let rt = HostRuntime;
-    let text = deep_groups(rt.alloc(), 100000)?;
-    let other = deep_groups(rt.alloc(), 100001)?;
+    let text = repeated(rt.alloc(), DEEP)?;
+    let other = repeated(rt.alloc(), DEEPER)?;
     check_same(&rt, text.as_str(), text.as_str(), true);
     check_same(&rt, text.as_str(), other.as_str(), false);
     let spaced = parses_well_spaced(rt.alloc(), text.as_str())?;

@@ -1,5 +1,0 @@
-//! Tests of the parts of declarations: texts with the trees that each part takes, or where the fault stands.
-#![tactic(auto)]
-
-#[cfg(test)]
-mod parts;

@@ -1,0 +1,96 @@
+// Choosers, and the texts that they make.
+use crate::checks::parsed;
+use layout::{Chooser, Gap, LayoutError, Place, text_with};
+use proc_macro2::{Punct, Spacing, TokenStream, TokenTree};
+use std::process::Abort;
+use std::test::Fail;
+
+/// The same gap everywhere.
+#[derive(Drop)]
+pub struct Always(pub Gap);
+
+impl Chooser for Always {
+    fn gap(&mut self, _place: Place<'_>) -> Gap {
+        self.0
+    }
+}
+
+/// A line for each token, as far in as groups are open, and what was told of the places.
+#[derive(Drop)]
+struct Lines {
+    asked: usize,
+    ends: usize,
+}
+
+impl Chooser for Lines {
+    fn gap(&mut self, place: Place<'_>) -> Gap {
+        self.asked = self.asked.saturating_add(1);
+        if place.before.is_none() || place.after.is_none() {
+            self.ends = self.ends.saturating_add(1);
+            return Gap::Nothing;
+        }
+        Gap::Line(place.depth)
+    }
+}
+
+/// The stream's text with the chooser's gaps. It is well spaced.
+pub fn laid_out<C: Chooser>(
+    rt: &(impl Abort + AllocGlobal),
+    stream: &TokenStream,
+    chooser: &mut C,
+) -> Result<String, Fail> {
+    match text_with(stream, chooser, rt.alloc()) {
+        Ok(text) => Ok(text),
+        Err(error) => {
+            assert!(rt; false, "{error:?}");
+            Ok(String::new(rt.alloc()))
+        }
+    }
+}
+
+/// Asserts the stream's text with this gap everywhere.
+fn check_gap(
+    rt: &(impl Abort + AllocGlobal),
+    stream: &TokenStream,
+    gap: Gap,
+    want: &str,
+) -> Result<(), Fail> {
+    let text = laid_out(rt, stream, &mut Always(gap))?;
+    assert_eq!(rt; text.as_str(), want);
+    Ok(())
+}
+
+#[test]
+fn the_chosen_gap_is_written(rt: HostRuntime) -> Result<(), Fail> {
+    let stream = parsed(rt.alloc(), "a+=b(c)")?;
+    check_gap(&rt, &stream, Gap::Nothing, "a+=b(c)")?;
+    check_gap(&rt, &stream, Gap::Space, " a += b ( c ) ")?;
+    let lines = "\n  a\n  +=\n  b\n  (\n  c\n  )\n  ";
+    check_gap(&rt, &stream, Gap::Line(2), lines)
+}
+
+#[test]
+fn places_are_told_in_order(rt: HostRuntime) -> Result<(), Fail> {
+    let stream = parsed(rt.alloc(), "a{b(c)}d")?;
+    let mut lines = Lines { asked: 0, ends: 0 };
+    let text = laid_out(&rt, &stream, &mut lines)?;
+    assert_eq!(rt; text.as_str(), "a\n{\n b\n (\n  c\n )\n}\nd");
+    assert_eq!(rt; lines.asked, 9);
+    assert_eq!(rt; lines.ends, 2);
+    Ok(())
+}
+
+/// The stream of a mark that is Joint.
+pub fn joint_mark(rt: &(impl Abort + AllocGlobal)) -> Result<TokenStream, Fail> {
+    assert!(rt; Punct::is_punct_char('+'));
+    let mark = Punct::new('+', Spacing::Joint);
+    Ok(TokenStream::from_tree(rt.alloc(), TokenTree::Punct(mark))?)
+}
+
+#[test]
+fn a_stream_that_is_not_well_spaced_has_no_text(rt: HostRuntime) -> Result<(), Fail> {
+    let stream = joint_mark(&rt)?;
+    let text = text_with(&stream, &mut Always(Gap::Space), rt.alloc());
+    assert!(rt; matches!(&text, Err(LayoutError::NotWellSpaced)));
+    Ok(())
+}

@@ -1,0 +1,29 @@
+//! A source of random numbers.
+ghost use Rattle.std.specs.Prelude.{◌<◌, length};
+
+/// A source of random numbers.
+#[derive(Drop)]
+pub struct Random {
+    /// The last number, which isn't 0.
+    pub state: u64,
+}
+
+impl Random {
+    /// One of these values, of which there are some.
+    pub fn one_of<T: Copy>(&mut self, values: &[T]) -> T
+        requires { 0 < length values.now }
+    {
+        values[self.below(values.len() as u64) as usize]
+    }
+
+    /// A number below the bound, which isn't 0.
+    pub fn below(&mut self, bound: u64) -> u64
+        requires { 0 < bound }
+        ensures { result < bound }
+    {
+        self.state ^= self.state << 13;
+        self.state ^= self.state >> 7;
+        self.state ^= self.state << 17;
+        self.state % bound
+    }
+}

@@ -1,0 +1,153 @@
+// Short lists of random trees: a quote gives a stream exactly where some choice of spacings is well spaced. All
+// choices are tried.
+use crate::checks::comes_back;
+use crate::random::Random;
+use proc_macro2::{Delimiter, Group, Ident, Literal, Punct, Spacing, Span, TokenStream, TokenTree};
+use quoting::{Quote, QuoteError};
+use std::alloc::Global;
+use std::process::Abort;
+use std::test::Fail;
+
+/// How many lists are made.
+const LISTS: u32 = 600;
+
+/// Six leaves by their kinds, and what stands around two of them.
+#[derive(Clone, Copy, Debug)]
+struct Case {
+    first: u64,
+    second: u64,
+    third: u64,
+    inner: u64,
+    innermost: u64,
+    last: u64,
+    delimiter: u64,
+}
+
+/// Which of six leaves are Joint, if they are marks.
+#[derive(Clone, Copy)]
+struct Choice {
+    first: bool,
+    second: bool,
+    third: bool,
+    inner: bool,
+    innermost: bool,
+    last: bool,
+}
+
+/// A case at random.
+fn random_case(random: &mut Random) -> Case {
+    Case {
+        first: random.below(11),
+        second: random.below(11),
+        third: random.below(11),
+        inner: random.below(11),
+        innermost: random.below(11),
+        last: random.below(11),
+        delimiter: random.below(10),
+    }
+}
+
+/// The choice of this number below 64.
+fn choice_of(number: u32) -> Choice {
+    Choice {
+        first: number & 1 != 0,
+        second: number & 2 != 0,
+        third: number & 4 != 0,
+        inner: number & 8 != 0,
+        innermost: number & 16 != 0,
+        last: number & 32 != 0,
+    }
+}
+
+/// A leaf of this kind, Joint or Alone if it is a mark.
+fn leaf(alloc: Global, kind: u64, joint: bool) -> Result<TokenTree, Fail> {
+    let spacing = if joint {
+        Spacing::Joint
+    } else {
+        Spacing::Alone
+    };
+    Ok(match kind {
+        0 => TokenTree::Ident(Ident::new(alloc, "a", Span::call_site())?),
+        1 => TokenTree::Ident(Ident::new_raw(alloc, "b", Span::call_site())?),
+        2 => TokenTree::Literal(Literal::character(alloc, 'b')?),
+        3 => TokenTree::Literal(Literal::byte_string(alloc, b"x")?),
+        4 => TokenTree::Literal(Literal::byte_character(alloc, 120)?),
+        5 => TokenTree::Literal(Literal::u8_unsuffixed(alloc, 1)?),
+        6 => TokenTree::Punct(Punct::new('/', spacing)),
+        7 => TokenTree::Punct(Punct::new('*', spacing)),
+        8 => TokenTree::Punct(Punct::new('+', spacing)),
+        _ => TokenTree::Punct(Punct::new('\'', spacing)),
+    })
+}
+
+/// The trees of the case, in this choice of spacings: three leaves, a group of two, and a leaf.
+fn trees(alloc: Global, case: Case, joint: Choice) -> Result<Vec<TokenTree>, Fail> {
+    let delimiter = match case.delimiter {
+        0 => Delimiter::None,
+        1..=3 => Delimiter::Brace,
+        4..=6 => Delimiter::Bracket,
+        _ => Delimiter::Parenthesis,
+    };
+    let inside = vec![in alloc;
+        leaf(alloc, case.inner, joint.inner)?,
+        leaf(alloc, case.innermost, joint.innermost)?,
+    ]?;
+    let group = Group::new(delimiter, TokenStream::from_trees(alloc, inside)?);
+    Ok(vec![in alloc;
+        leaf(alloc, case.first, joint.first)?,
+        leaf(alloc, case.second, joint.second)?,
+        leaf(alloc, case.third, joint.third)?,
+        TokenTree::Group(group),
+        leaf(alloc, case.last, joint.last)?,
+    ]?)
+}
+
+/// Whether some choice of spacings is well spaced.
+fn has_a_choice(alloc: Global, case: Case) -> Result<bool, Fail> {
+    for number in 0..64 {
+        let trees = trees(alloc, case, choice_of(number))?;
+        if TokenStream::from_trees(alloc, trees)?.is_well_spaced() {
+            return Ok(true);
+        }
+    }
+    Ok(false)
+}
+
+/// The quote of the case in the choice of this number.
+fn quoted(alloc: Global, case: Case, number: u32) -> Result<Quote, Fail> {
+    let mut quote = Quote::new(alloc);
+    for tree in trees(alloc, case, choice_of(number))? {
+        quote.push(tree)?;
+    }
+    Ok(quote)
+}
+
+/// Whether the printed text parses to the same tokens.
+fn is_printed_back(alloc: Global, stream: &TokenStream) -> Result<bool, Fail> {
+    let text = format!(in alloc; "{stream}")?;
+    Ok(comes_back(alloc, stream, text.as_str())?)
+}
+
+#[test]
+fn a_stream_is_given_exactly_where_some_choice_is_well_spaced(rt: HostRuntime) -> Result<(), Fail> {
+    let alloc = rt.alloc();
+    let mut random = Random { state: 7 };
+    let mut given: u32 = 0;
+    for _ in 0..LISTS {
+        let case = random_case(&mut random);
+        let number = random.below(64) as u32;
+        let may = has_a_choice(alloc, case)?;
+        match quoted(alloc, case, number)?.finish() {
+            Ok(stream) => {
+                assert!(rt; may, "of {case:?}");
+                assert!(rt; is_printed_back(alloc, &stream)?, "of {case:?}");
+                given = given.saturating_add(1);
+            }
+            Err(QuoteError::Memory(error)) => return Err(Fail::from(error)),
+            Err(_) => assert!(rt; !may, "of {case:?}"),
+        }
+    }
+    // Both answers came.
+    assert!(rt; given > 100 && given < 500, "{given}");
+    Ok(())
+}

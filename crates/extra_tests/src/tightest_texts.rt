@@ -1,0 +1,60 @@
+// The tightest texts of short streams: where neighbours have to stay apart, and where they may touch.
+use crate::checks::{comes_back, parsed};
+use crate::choosers::{Always, laid_out};
+use layout::Gap;
+use std::process::Abort;
+use std::test::Fail;
+
+/// A source, and its text with no gap but where one has to stand.
+const TIGHTEST: &[(&str, &str)] = &[
+    ("fn f ( ) { }", "fn f(){}"),
+    ("a . b", "a.b"),
+    ("a + b", "a+b"),
+    ("+ =", "+ ="),
+    ("+=", "+="),
+    ("/ /", "/ /"),
+    ("/ *", "/ *"),
+    ("r \"\"", "r \"\""),
+    ("r #", "r #"),
+    ("b 'a'", "b 'a'"),
+    ("x \"\"", "x \"\""),
+    ("\"\" a", "\"\" a"),
+    ("\"\" 1", "\"\" 1"),
+    ("\"\" \"\"", "\"\"\"\""),
+    ("'a 'b'", "'a 'b'"),
+    ("'a #", "'a #"),
+    ("'r #", "'r #"),
+    ("1 a", "1 a"),
+    ("1 . a", "1 .a"),
+    ("1 .", "1 ."),
+    ("1 . 2", "1 .2"),
+    ("1 .. 2", "1..2"),
+    ("1 ..= 2", "1..=2"),
+    ("0x1f .. x", "0x1f..x"),
+    ("1. .. 2", "1. ..2"),
+    ("1.5 .. 2", "1.5 ..2"),
+    ("1e5 .. 2", "1e5..2"),
+    ("0e + 1", "0e +1"),
+    ("x . 0", "x.0"),
+    ("x . 0 . 1", "x.0 .1"),
+    (". 0", ".0"),
+    ("a /// b\n c", "a #[doc=\" b\"]c"),
+];
+
+/// Asserts the tightest text of the source's stream, and that it comes back.
+fn check_tightest(rt: &(impl Abort + AllocGlobal), source: &str, want: &str) -> Result<(), Fail> {
+    let stream = parsed(rt.alloc(), source)?;
+    let text = laid_out(rt, &stream, &mut Always(Gap::Nothing))?;
+    assert_eq!(rt; text.as_str(), want, "of {source}");
+    let back = comes_back(rt.alloc(), &stream, want)?;
+    assert!(rt; back, "of {source}");
+    Ok(())
+}
+
+#[test]
+fn tightest_texts(rt: HostRuntime) -> Result<(), Fail> {
+    for &(source, want) in TIGHTEST {
+        check_tightest(&rt, source, want)?;
+    }
+    Ok(())
+}

@@ -1,0 +1,223 @@
+// Made from crates/extra_tests/src/cursors.rt by rust/erase: change that file, not this one.
+
+use crate::shim::prelude::{AllocGlobal, HostRuntime, String, format};
+
+// What cursors answer on texts by hand, each call once at least.
+
+use proved::pm_span::parts::bounds;
+use proved::pm_stream::TokenStream;
+use proved::pm_token::{Delimiter, ParseError, Spacing};
+use crate::shim::alloc::{AllocError, Global};
+use crate::shim::process::Abort;
+use crate::shim::test::Fail;
+use proved::token_buffer::{Cursor, LiteralText, TokenBuffer, TokenText};
+
+/// Asserts what the cursor at the front of `r#f += 'é (\"x\")` answers up to the group.
+fn check_names_and_marks<'a>(rt: &impl Abort, cursor: Cursor<'a>) -> Option<Cursor<'a>> {
+    assert!(!cursor.eof());
+    assert_eq!(cursor.span().map(bounds), Some((1, 4)));
+    let (name, rest) = cursor.ident()?;
+    assert!(name.raw);
+    assert_eq!(name.text, "f");
+    let (plus, spacing, rest) = rest.punct()?;
+    assert_eq!(plus, '+');
+    assert_eq!(spacing, Spacing::Joint);
+    let (name, rest) = rest.skip()?.lifetime()?;
+    assert_eq!(name.text, "é");
+    Some(rest)
+}
+
+/// Asserts what the cursor before `(\"x\")` answers.
+fn check_group(rt: &impl Abort, cursor: Cursor<'_>) -> Option<()> {
+    assert_eq!(cursor.span().map(bounds), Some((11, 16)));
+    let (inside, after) = cursor.group(Delimiter::Parenthesis)?;
+    assert!(after.eof());
+    assert!(cursor.group(Delimiter::Bracket).is_none());
+    assert!(cursor.any_group().is_some());
+    let (literal, end) = inside.literal()?;
+    assert!(matches!(literal, LiteralText::Source("\"x\"")));
+    assert!(end.eof());
+    assert!(end.next().is_none());
+    Some(())
+}
+
+#[test]
+fn tokens_come_one_after_another() -> Result<(), Fail> {
+    let rt = HostRuntime;
+    let buffer = TokenBuffer::new(rt.alloc(), "r#f += 'é (\"x\")")?;
+    let rest = check_names_and_marks(&rt, buffer.begin());
+    assert!(rest.is_some());
+    if let Some(rest) = rest {
+        assert!(check_group(&rt, rest).is_some());
+    }
+    Ok(())
+}
+
+/// Asserts what the cursor at the front of `//! d`, CR and LF answers. The comment has the CR before its line feed, and
+/// what it says does not.
+fn check_doc(rt: &impl Abort, cursor: Cursor<'_>) -> Option<()> {
+    let rest = cursor.skip()?.skip()?;
+    assert_eq!(rest.span().map(bounds), Some((1, 7)));
+    let (_, inside, _) = rest.any_group()?;
+    let (name, inside) = inside.ident()?;
+    assert_eq!(name.text, "doc");
+    let (mark, _, inside) = inside.punct()?;
+    assert_eq!(mark, '=');
+    assert_eq!(inside.span().map(bounds), Some((1, 7)));
+    let (text, _) = inside.next()?;
+    assert!(matches!(text, TokenText::Literal(LiteralText::Doc(" d"))));
+    Some(())
+}
+
+#[test]
+fn a_doc_comment_is_its_tokens() -> Result<(), Fail> {
+    let rt = HostRuntime;
+    let buffer = TokenBuffer::new(rt.alloc(), "//! d\r\n")?;
+    assert!(check_doc(&rt, buffer.begin()).is_some());
+    Ok(())
+}
+
+/// What is printed of the cursor's tokens.
+fn printed(alloc: Global, cursor: Cursor<'_>) -> Result<String, AllocError> {
+    let stream = cursor.to_stream(alloc)?;
+    format!(in alloc; "{stream}")
+}
+
+/// Whether the cursor's tokens are those that the text parses to.
+fn are_those_of(alloc: Global, cursor: Cursor<'_>, text: &str) -> Result<bool, ParseError> {
+    let stream = cursor.to_stream(alloc)?;
+    let parsed = TokenStream::parse_unmapped(alloc, text)?;
+    Ok(stream.same_tokens(&parsed))
+}
+
+#[test]
+fn what_is_left_is_a_stream() -> Result<(), Fail> {
+    let rt = HostRuntime;
+    let text = "a (b + [c]) //! d\n'x 1.0";
+    let buffer = TokenBuffer::new(rt.alloc(), text)?;
+    assert!(are_those_of(rt.alloc(), buffer.begin(), text)?);
+    let rest = buffer.begin().skip();
+    assert!(rest.is_some());
+    if let Some(rest) = rest {
+        let text = printed(rt.alloc(), rest)?;
+        assert_eq!(text.as_str(), "(b + [c]) # ! [doc = \" d\"] 'x 1.0");
+    }
+    Ok(())
+}
+
+// A text, and what is printed of the trees after its first.
+const PRINTED: [(&str, &str); 8] = [
+    ("a+=(b)", "+= (b)"),
+    ("a {x}{}", "{ x } { }"),
+    ("(a) r#f [1.0, 'b]", "r#f [1.0 , 'b]"),
+    ("a", ""),
+    ("a/// b", "# [doc = \" b\"]"),
+    ("a//!\té\"\\", "# ! [doc = \"\\té\\\"\\\\\"]"),
+    ("a/**\n\u{200b}*/", "# [doc = \"\\n\\u{200b}\"]"),
+    ("a/**\07\0*/", "# [doc = \"\\x007\\0\"]"),
+];
+
+/// Asserts what the trees of a text but the first are printed as, by their cursor and by their stream.
+fn check_printed(
+    rt: &(impl Abort + AllocGlobal),
+    cursor: Cursor<'_>,
+    want: &str,
+) -> Result<(), AllocError> {
+    let text = format!(in rt.alloc(); "{cursor}")?;
+    assert_eq!(text.as_str(), want);
+    let text = printed(rt.alloc(), cursor)?;
+    assert_eq!(text.as_str(), want, "by the stream");
+    Ok(())
+}
+
+#[test]
+fn a_cursor_is_printed_as_its_stream() -> Result<(), Fail> {
+    let rt = HostRuntime;
+    for (text, want) in PRINTED {
+        let buffer = TokenBuffer::new(rt.alloc(), text)?;
+        let rest = buffer.begin().skip();
+        assert!(rest.is_some(), "{text:?} has a tree");
+        if let Some(rest) = rest {
+            check_printed(&rt, rest, want)?;
+        }
+    }
+    Ok(())
+}
+
+// Two texts, and whether their trees are the same but for spans.
+const COMPARED: [(&str, &str, bool); 18] = [
+    ("a", "  a", true),
+    ("", "", true),
+    ("a", "", false),
+    ("a b", "a", false),
+    ("a", "r#a", false),
+    ("a", "b", false),
+    ("1", "1u8", false),
+    ("+=", "+ =", false),
+    ("(a)", "[a]", false),
+    ("(a) b", "(a b)", false),
+    ("/// a", "# [doc = \" a\"]", true),
+    ("//! a", "# ! [doc = \" a\"]", true),
+    ("/// a", "/** a*/", true),
+    ("/// a", "/// b", false),
+    ("/// a", "#[doc = \" ab\"]", false),
+    ("/// ab", "#[doc = \" a\"]", false),
+    ("/// \"\u{200b}", "#[doc = \" \\\"\\u{200b}\"]", true),
+    ("/// \u{200b}", "#[doc = \" \\u{200B}\"]", false),
+];
+
+/// Whether the two cursors' streams are the same up to spans.
+fn have_same_streams(
+    alloc: Global,
+    cursor: Cursor<'_>,
+    other: Cursor<'_>,
+) -> Result<bool, AllocError> {
+    let stream = cursor.to_stream(alloc)?;
+    let others = other.to_stream(alloc)?;
+    Ok(stream.same_tokens(&others))
+}
+
+#[test]
+fn cursors_are_equal_up_to_spans() -> Result<(), Fail> {
+    let rt = HostRuntime;
+    for (text, other, want) in COMPARED {
+        let buffer = TokenBuffer::new(rt.alloc(), text)?;
+        let others = TokenBuffer::new(rt.alloc(), other)?;
+        let (left, right) = (buffer.begin(), others.begin());
+        assert_eq!(left == right, want, "{text:?} and {other:?}");
+        assert_eq!(right == left, want, "{other:?} and {text:?}");
+        let same = have_same_streams(rt.alloc(), left, right)?;
+        assert_eq!(same, want, "the streams of {text:?} and {other:?}");
+    }
+    Ok(())
+}
+
+// A text that begins with generic arguments, and what is printed of the trees after them, or `none` where it doesn't.
+const TURBOFISHES: [(&str, &str); 7] = [
+    ("::<Vec<T>>(x)", "(x)"),
+    ("::<fn() -> T, 'a> = 1", "= 1"),
+    ("::<>", ""),
+    ("::<T (x)", "none"),
+    (":: f", "none"),
+    (": :<T>(x)", "none"),
+    ("<T>(x)", "none"),
+];
+
+/// What is printed of the trees after generic arguments, or `none`.
+fn after_turbofish(alloc: Global, cursor: Cursor<'_>) -> Result<String, AllocError> {
+    match cursor.turbofish() {
+        Some(rest) => printed(alloc, rest),
+        None => String::from_str(alloc, "none"),
+    }
+}
+
+#[test]
+fn generic_arguments_end_at_their_mark() -> Result<(), Fail> {
+    let rt = HostRuntime;
+    for (text, want) in TURBOFISHES {
+        let buffer = TokenBuffer::new(rt.alloc(), text)?;
+        let found = after_turbofish(rt.alloc(), buffer.begin())?;
+        assert_eq!(found.as_str(), want, "of {text:?}");
+    }
+    Ok(())
+}

@@ -1,0 +1,304 @@
+// Made from crates/extra_tests/src/quotes.rt by rust/erase: change that file, not this one.
+
+use crate::shim::prelude::{AllocGlobal, HostRuntime, String, format};
+
+// What comes out of trees of each kind. What is printed is parsed again and compared.
+use crate::extra_tests::checks::{comes_back, parsed};
+use crate::extra_tests::trees::{Inner, Leaf, Tree, quoted};
+use proved::proc_macro2::{Delimiter, Group, ParseError, Punct, Spacing, Span, TokenStream, TokenTree};
+use proved::quoting::{Quote, QuoteError, TemplateError};
+use crate::shim::alloc::{AllocError, Global};
+use crate::shim::fmt::{Debug, Display};
+use crate::shim::process::Abort;
+use crate::shim::test::Fail;
+
+/// Trees, and what the quote of them is printed as. The first ones are the uses that the README shows.
+const PRINTED: &[(&[Tree], &str)] = &[
+    // A Joint mark before a name becomes Alone.
+    (
+        &[Tree::One(Leaf::Joint('&')), Tree::One(Leaf::Name("self"))],
+        "& self",
+    ),
+    // A lifetime holds together.
+    (
+        &[
+            Tree::One(Leaf::Alone('&')),
+            Tree::One(Leaf::Alone('\'')),
+            Tree::One(Leaf::Name("a")),
+            Tree::One(Leaf::Name("str")),
+        ],
+        "& 'a str",
+    ),
+    // A negative number is its sign and the rest.
+    (
+        &[Tree::One(Leaf::Joint('=')), Tree::One(Leaf::Number(-3))],
+        "=- 3i32",
+    ),
+    (&[Tree::One(Leaf::Number(-3))], "- 3i32"),
+    (
+        &[Tree::One(Leaf::Joint('+')), Tree::One(Leaf::Number(-3))],
+        "+- 3i32",
+    ),
+    // A quote is Joint, and a mark before a name is Alone.
+    (
+        &[
+            Tree::One(Leaf::Alone('\'')),
+            Tree::One(Leaf::Name("a")),
+            Tree::One(Leaf::Joint('+')),
+            Tree::One(Leaf::Name("x")),
+        ],
+        "'a + x",
+    ),
+    // Marks begin no comment.
+    (
+        &[
+            Tree::One(Leaf::Joint('/')),
+            Tree::One(Leaf::Joint('*')),
+            Tree::One(Leaf::Alone('=')),
+        ],
+        "/ *=",
+    ),
+    // Other marks than the last stay Joint, and marks stay before what they may touch.
+    (
+        &[Tree::One(Leaf::Joint(':')), Tree::One(Leaf::Joint(':'))],
+        "::",
+    ),
+    (
+        &[Tree::One(Leaf::Joint('+')), Tree::One(Leaf::Character('b'))],
+        "+'b'",
+    ),
+    (
+        &[Tree::One(Leaf::Alone('\'')), Tree::One(Leaf::Bytes("x"))],
+        "'b\"x\"",
+    ),
+    (&[], ""),
+];
+
+/// Trees for which no spacing serves, and whether the first fault is a `LoneQuote`. Else it is a `NoneGroup`.
+const REFUSED: &[(&[Tree], bool)] = &[
+    (&[Tree::One(Leaf::Joint('\''))], true),
+    (
+        &[
+            Tree::One(Leaf::Joint('\'')),
+            Tree::One(Leaf::Character('x')),
+        ],
+        true,
+    ),
+    (
+        &[Tree::Of(Delimiter::None, &[Inner::One(Leaf::Name("x"))])],
+        false,
+    ),
+    // The first fault in reading order is told.
+    (
+        &[Tree::Of(
+            Delimiter::Bracket,
+            &[Inner::Of(Delimiter::None, &[Leaf::Name("x")])],
+        )],
+        false,
+    ),
+    (
+        &[
+            Tree::Of(Delimiter::Parenthesis, &[Inner::One(Leaf::Joint('\''))]),
+            Tree::Of(Delimiter::None, &[]),
+        ],
+        true,
+    ),
+    (
+        &[Tree::Of(Delimiter::None, &[Inner::One(Leaf::Joint('\''))])],
+        false,
+    ),
+];
+
+/// `a { (b) [+] -> }` with marks that are Joint.
+const NESTED: &[Tree] = &[
+    Tree::One(Leaf::Name("a")),
+    Tree::Of(
+        Delimiter::Brace,
+        &[
+            Inner::Of(Delimiter::Parenthesis, &[Leaf::Name("b")]),
+            Inner::Of(Delimiter::Bracket, &[Leaf::Joint('+')]),
+            Inner::One(Leaf::Joint('-')),
+            Inner::One(Leaf::Joint('>')),
+        ],
+    ),
+];
+
+/// Asserts what the stream is printed as, and that it comes back.
+fn check_stream(
+    rt: &(impl Abort + AllocGlobal),
+    stream: &TokenStream,
+    want: &str,
+) -> Result<(), ParseError> {
+    let text = format!(in rt.alloc(); "{stream}")?;
+    assert_eq!(text.as_str(), want);
+    assert!(comes_back(rt.alloc(), stream, text.as_str())?,
+        "of {want:?}"
+    );
+    Ok(())
+}
+
+/// Asserts what the quote is printed as, and that it comes back.
+pub fn check_quote(rt: &(impl Abort + AllocGlobal), quote: &Quote, want: &str) -> Result<(), Fail> {
+    let stream = quote.finish()?;
+    check_stream(rt, &stream, want)?;
+    Ok(())
+}
+
+/// Asserts what the quote of the trees is printed as, and that it comes back.
+fn check_printed(rt: &(impl Abort + AllocGlobal), trees: &[Tree], want: &str) -> Result<(), Fail> {
+    let quote = quoted(rt, trees)?;
+    check_quote(rt, &quote, want)
+}
+
+/// Asserts which fault the quote of the trees has first.
+fn check_refused(
+    rt: &(impl Abort + AllocGlobal),
+    trees: &[Tree],
+    is_lone_quote: bool,
+) -> Result<(), Fail> {
+    let quote = quoted(rt, trees)?;
+    match quote.finish() {
+        Err(QuoteError::LoneQuote) => assert!(is_lone_quote),
+        Err(QuoteError::NoneGroup) => assert!(!is_lone_quote),
+        _ => assert!(false),
+    }
+    Ok(())
+}
+
+#[test]
+fn trees_are_printed_so_that_they_come_back() -> Result<(), Fail> {
+    let rt = HostRuntime;
+    for &(trees, want) in PRINTED {
+        check_printed(&rt, trees, want)?;
+    }
+    Ok(())
+}
+
+#[test]
+fn what_no_spacing_mends_is_told() -> Result<(), Fail> {
+    let rt = HostRuntime;
+    for &(trees, is_lone_quote) in REFUSED {
+        check_refused(&rt, trees, is_lone_quote)?;
+    }
+    Ok(())
+}
+
+/// What the quote of the trees shows of itself.
+fn shown(rt: &(impl Abort + AllocGlobal), trees: &[Tree]) -> Result<String, Fail> {
+    let stream = quoted(rt, trees)?.finish()?;
+    Ok(format!(in rt.alloc(); "{stream:?}")?)
+}
+
+#[test]
+fn the_last_mark_is_alone_and_others_stay_joint() -> Result<(), Fail> {
+    let rt = HostRuntime;
+    let colons = &[Tree::One(Leaf::Joint(':')), Tree::One(Leaf::Joint(':'))];
+    let shown = shown(&rt, colons)?;
+    let want =
+        "TokenStream [Punct { char: ':', spacing: Joint }, Punct { char: ':', spacing: Alone }]";
+    assert_eq!(shown.as_str(), want);
+    Ok(())
+}
+
+#[test]
+fn marks_in_groups_are_respaced_and_the_quote_stays() -> Result<(), Fail> {
+    let rt = HostRuntime;
+    let quote = quoted(&rt, NESTED)?;
+    for _ in 0..2 {
+        check_quote(&rt, &quote, "a { (b) [+] -> }")?;
+    }
+    Ok(())
+}
+
+/// So many parentheses inside one another, around a mark that is Joint.
+fn deep_groups(alloc: Global, levels: u32) -> Result<TokenStream, Fail> {
+    let mut stream = TokenStream::new(alloc);
+    stream.extend_puncts([Punct::new('+', Spacing::Joint)])?;
+    for _ in 0..levels {
+        let group = Group::new(Delimiter::Parenthesis, stream);
+        stream = TokenStream::from_tree(alloc, TokenTree::Group(group))?;
+    }
+    Ok(stream)
+}
+
+/// The quote of the stream.
+pub fn quote_of(alloc: Global, stream: TokenStream) -> Result<Quote, Fail> {
+    let mut quote = Quote::new(alloc);
+    quote.push_stream(stream)?;
+    Ok(quote)
+}
+
+#[test]
+fn deep_groups_are_respaced_without_a_deep_stack() -> Result<(), Fail> {
+    let rt = HostRuntime;
+    let quote = quote_of(rt.alloc(), deep_groups(rt.alloc(), 100_000)?)?;
+    assert!(quote.finish()?.is_well_spaced());
+    Ok(())
+}
+
+/// Asserts what the error says.
+fn says<T: Display>(
+    rt: &(impl Abort + AllocGlobal),
+    error: &T,
+    want: &str,
+) -> Result<(), AllocError> {
+    let text = format!(in rt.alloc(); "{error}")?;
+    assert_eq!(text.as_str(), want);
+    Ok(())
+}
+
+/// Asserts what the error shows of itself.
+fn shows<T: Debug>(
+    rt: &(impl Abort + AllocGlobal),
+    error: &T,
+    want: &str,
+) -> Result<(), AllocError> {
+    let text = format!(in rt.alloc(); "{error:?}")?;
+    assert_eq!(text.as_str(), want);
+    Ok(())
+}
+
+#[test]
+fn errors_say_why() -> Result<(), AllocError> {
+    let rt = HostRuntime;
+    says(&rt, &QuoteError::NoneGroup, "a group has no delimiters")?;
+    shows(&rt, &QuoteError::LoneQuote, "LoneQuote")?;
+    let no_hole = TemplateError::NoHole(Span::call_site());
+    shows(&rt, &no_hole, "NoHole(bytes(0..0))")?;
+    let map_full = TemplateError::Parse(ParseError::MapFull);
+    shows(&rt, &map_full, "Parse(MapFull)")
+}
+
+/// Adds a mark that is Joint, so that it is made Alone, and a group of a name to the quote.
+fn push_pair(rt: &(impl Abort + AllocGlobal), quote: &mut Quote) -> Result<(), Fail> {
+    quote.push(TokenTree::Punct(Punct::new('+', Spacing::Joint)))?;
+    let name = parsed(rt.alloc(), "x")?;
+    quote.push(TokenTree::Group(Group::new(Delimiter::Parenthesis, name)))?;
+    Ok(())
+}
+
+#[test]
+fn forty_thousand_trees_are_finished() -> Result<(), Fail> {
+    let rt = HostRuntime;
+    let mut quote = Quote::new(rt.alloc());
+    for _ in 0..20_000 {
+        push_pair(&rt, &mut quote)?;
+    }
+    let stream = quote.finish()?;
+    assert_eq!(stream.trees().len(), 40_000);
+    assert!(stream.is_well_spaced());
+    Ok(())
+}
+
+#[test]
+fn the_trees_of_a_text_go_between_others() -> Result<(), Fail> {
+    let rt = HostRuntime;
+    let mut quote = quoted(
+        &rt,
+        &[Tree::One(Leaf::Name("x")), Tree::One(Leaf::Alone(':'))],
+    )?;
+    let kind = parsed(rt.alloc(), "std::vec::Vec<u8>")?;
+    quote.push_stream(kind)?;
+    quote.push(TokenTree::Punct(Punct::new(',', Spacing::Joint)))?;
+    check_quote(&rt, &quote, "x : std :: vec :: Vec < u8 > ,")
+}

@@ -1,0 +1,116 @@
+// Made from crates/extra_tests/src/trees.rt by rust/erase: change that file, not this one.
+//! Trees as the rows of tests note them.
+
+use crate::shim::prelude::{AllocGlobal, Vec};
+
+use proved::proc_macro2::{Delimiter, Group, Ident, Literal, Punct, Spacing, Span, TokenStream, TokenTree};
+use proved::quoting::Quote;
+use crate::shim::process::Abort;
+use crate::shim::test::Fail;
+
+/// A tree that is no group.
+#[derive(Clone, Copy)]
+pub enum Leaf {
+    /// The identifier of this name.
+    Name(&'static str),
+    /// A mark that is Joint.
+    Joint(char),
+    /// A mark that is Alone.
+    Alone(char),
+    /// The literal of this character.
+    Character(char),
+    /// The literal of these bytes.
+    Bytes(&'static str),
+    /// The literal of this number, an `i32`.
+    Number(i32),
+}
+
+/// A leaf, or a group of leaves.
+#[derive(Clone, Copy)]
+pub enum Inner {
+    /// A leaf.
+    One(Leaf),
+    /// A group of these leaves.
+    Of(Delimiter, &'static [Leaf]),
+}
+
+/// A leaf, or a group in which groups nest no deeper.
+#[derive(Clone, Copy)]
+pub enum Tree {
+    /// A leaf.
+    One(Leaf),
+    /// A group of these trees.
+    Of(Delimiter, &'static [Inner]),
+}
+
+/// The mark, which has to be one.
+fn mark(rt: &impl Abort, mark: char, spacing: Spacing) -> TokenTree {
+    assert!(Punct::is_punct_char(mark), "{mark}");
+    TokenTree::Punct(Punct::new(mark, spacing))
+}
+
+/// The leaf as a tree.
+fn leaf_tree(rt: &(impl Abort + AllocGlobal), leaf: Leaf) -> Result<TokenTree, Fail> {
+    let alloc = rt.alloc();
+    Ok(match leaf {
+        Leaf::Name(name) => TokenTree::Ident(Ident::new(alloc, name, Span::call_site())?),
+        Leaf::Joint(c) => mark(rt, c, Spacing::Joint),
+        Leaf::Alone(c) => mark(rt, c, Spacing::Alone),
+        Leaf::Character(c) => TokenTree::Literal(Literal::character(alloc, c)?),
+        Leaf::Bytes(text) => TokenTree::Literal(Literal::byte_string(alloc, text.as_bytes())?),
+        Leaf::Number(number) => TokenTree::Literal(Literal::i32_suffixed(alloc, number)?),
+    })
+}
+
+/// The group of the trees.
+fn group(
+    rt: &impl AllocGlobal,
+    delimiter: Delimiter,
+    trees: Vec<TokenTree>,
+) -> Result<TokenTree, Fail> {
+    let inside = TokenStream::from_trees(rt.alloc(), trees)?;
+    Ok(TokenTree::Group(Group::new(delimiter, inside)))
+}
+
+/// The leaves as trees.
+fn leaves(rt: &(impl Abort + AllocGlobal), leaves: &[Leaf]) -> Result<Vec<TokenTree>, Fail> {
+    let mut trees = Vec::new(rt.alloc());
+    for it in leaves {
+        trees.push(leaf_tree(rt, *it)?)?;
+    }
+    Ok(trees)
+}
+
+/// A leaf or a group of leaves as a tree.
+fn inner_tree(rt: &(impl Abort + AllocGlobal), tree: Inner) -> Result<TokenTree, Fail> {
+    match tree {
+        Inner::One(it) => leaf_tree(rt, it),
+        Inner::Of(delimiter, inside) => group(rt, delimiter, leaves(rt, inside)?),
+    }
+}
+
+/// Leaves and groups of leaves as trees.
+fn inners(rt: &(impl Abort + AllocGlobal), inside: &[Inner]) -> Result<Vec<TokenTree>, Fail> {
+    let mut trees = Vec::new(rt.alloc());
+    for it in inside {
+        trees.push(inner_tree(rt, *it)?)?;
+    }
+    Ok(trees)
+}
+
+/// The tree.
+fn outer_tree(rt: &(impl Abort + AllocGlobal), tree: Tree) -> Result<TokenTree, Fail> {
+    match tree {
+        Tree::One(it) => leaf_tree(rt, it),
+        Tree::Of(delimiter, inside) => group(rt, delimiter, inners(rt, inside)?),
+    }
+}
+
+/// The quote of the trees.
+pub fn quoted(rt: &(impl Abort + AllocGlobal), trees: &[Tree]) -> Result<Quote, Fail> {
+    let mut quote = Quote::new(rt.alloc());
+    for it in trees {
+        quote.push(outer_tree(rt, *it)?)?;
+    }
+    Ok(quote)
+}
