@@ -35,7 +35,7 @@ struct Choice {
 }
 
 /// A case at random.
-fn case(random: &mut Random) -> Case {
+fn random_case(random: &mut Random) -> Case {
     Case {
         first: random.below(11),
         second: random.below(11),
@@ -134,7 +134,7 @@ fn a_stream_is_given_exactly_where_some_choice_is_well_spaced(rt: HostRuntime) -
     let mut random = Random { state: 7 };
     let mut given: u32 = 0;
     for _ in 0..LISTS {
-        let case = case(&mut random);
+        let case = random_case(&mut random);
         let number = random.below(64) as u32;
         let may = has_a_choice(alloc, case)?;
         match quoted(alloc, case, number)?.finish() {
