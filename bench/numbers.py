@@ -6,8 +6,7 @@ CRATE and IDENT are the folders of the Rust crates proc-macro2 and unicode-ident
 REGISTRY is what rust/packages.sh FOLDER leaves in FOLDER/registry. Programs run in turn with the twin over the Rust
 crate, RUNS times (else 3), on 1, 10 and 100 MB of the sources, and the least processor time and the most memory of each
 are told, with the growth from 1 to 100 MB. Where valgrind is there, instructions are counted on 1 MB. The rows of Cargo
-are those of rust/bench.sh and rust/bench_flat.sh, whose whole tables go to standard error. Ends with an error where a
-run fails or two outputs differ.
+are those of rust/bench.sh and rust/bench_flat.sh. Ends with an error where a run fails or two outputs differ.
 """
 import multiprocessing
 import os
@@ -103,8 +102,7 @@ def programs(crate: str, ident: str, sources: pathlib.Path, runs: int) -> None:
 
 def said(command: list) -> dict[str, list[float]]:
     """The numbers that a script prints after each name."""
-    printed = subprocess.run(command, stdout=subprocess.PIPE, text=True, check=True).stdout
-    print(printed, file=sys.stderr, end="")
+    printed = subprocess.run(command, capture_output=True, text=True, check=True).stdout
     lines = (re.findall(r"\S+", line) for line in printed.splitlines())
     return {name: [float(number) for number in numbers] for name, *numbers in lines if name != "what"}
 

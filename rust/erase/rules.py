@@ -441,30 +441,6 @@ def utf8(file):
 
 
 @rule
-def fronts(file):
-    """Has the shim put a text at the front of a list of zeros, which it does in whole words.
-
-        fn f(t: &str) -> [u8; 9] { let mut a = [0; 9]; a[..t.len()].copy_from_slice(t.as_bytes()); a }
-        => fn f(t: &str) -> [u8; 9] { let mut a = [0; 9]; crate::shim::words::put_front(&mut a, t.as_bytes()); a }
-    """
-    tokens, edits = file.tokens, {}
-    put = re.compile(r'let mut (\w+) = \[ 0 ; \w+ \] ; '
-                     r'\1 \[ \. \. (\w+) \. len \( \) \] \. copy_from_slice \( \2 \. as_bytes \( \) \) ;')
-    for at, token in enumerate(tokens):
-        if token.text != 'let' or token.kind != 'name':
-            continue
-        code = [at]
-        while len(code) < 30:
-            code.append(following(tokens, code[-1]))
-        match = put.match(' '.join(tokens[index].text for index in code))
-        if match:
-            list_name, text = match.groups()
-            edits[code[10], code[28]] = f'shim::words::put_front(&mut {list_name}, {text}.as_bytes())'
-            file.count('fronts')
-    file.tokens = replaced(tokens, edits)
-
-
-@rule
 def debug(file):
     """Writes `Debug` over Rust's formatter, so that it goes with what is derived.
 

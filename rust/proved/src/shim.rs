@@ -19,7 +19,6 @@ pub mod rc;
 pub mod string;
 pub mod unicode;
 pub mod vec;
-pub mod words;
 
 pub use crate::display_by_shim as display;
 pub use process::{env, fs};

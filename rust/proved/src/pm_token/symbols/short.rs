@@ -21,7 +21,7 @@ impl Short {
     pub(crate) fn new(text: &str) -> Short
     {
         let mut bytes = [0; ROOM];
-        crate::shim::words::put_front(&mut bytes, text.as_bytes());
+        bytes[..text.len()].copy_from_slice(text.as_bytes());
         Short {
             len: text.len() as u8,
             bytes,
@@ -34,7 +34,7 @@ impl Short {
     {
         let end = front.len() + back.len();
         let mut bytes = [0; ROOM];
-        crate::shim::words::put_front(&mut bytes, front.as_bytes());
+        bytes[..front.len()].copy_from_slice(front.as_bytes());
         bytes[front.len()..end].copy_from_slice(back.as_bytes());
         Short {
             len: end as u8,
