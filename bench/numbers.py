@@ -93,6 +93,7 @@ def programs(crate: str, ident: str, sources: pathlib.Path, runs: int) -> None:
             row("  instructions", *counted, "a byte")
         check = TOP / "crates/rust_check"
         with open(check / "stdin", "rb") as text:
+            # Its stored text has a fault, so that its status is 1.
             subprocess.run(["rt", "run"], cwd=check, stdin=text, stdout=subprocess.DEVNULL)
         program = str(check / "out/rust_check")
         seen = [compare.measured(program, "-", out / "10", out / "told") for _ in range(runs)]
