@@ -1,12 +1,12 @@
 #!/usr/bin/env bash
-# Checks that pretty texts read back: that the program `same` finds the tokens of a Rust file in what `pretty` writes for
-# it.
+# Checks that pretty texts read back: that the program `same` finds the tokens of a Rust file in what `pretty` writes
+# for it.
 #
 #   bench/reads_back.sh PROGRAMS FOLDER
 #
 # PROGRAMS is a folder of the two programs, as `cargo build --release` in rust/tools makes it. Every file below FOLDER
-# is read whose name ends with `.rs`. The last line is `N read back, M don't, K don't parse`, and the status is 0 only if
-# all files read back, and there are some.
+# is read whose name ends with `.rs`. The last line is `N read back, M don't, K don't parse`, and the status is 0 only
+# if all files read back, and there are some.
 set -u
 programs=$(cd "$1" && pwd) || exit 1
 text=$(mktemp)

@@ -2,14 +2,13 @@
 use Rattle.std.proofs.Common.{◌≡◌, ◌⊎◌, ℕ, Bool, true, false, not, ◌&&◌, ◌||◌, ◌==◌, List, [], ◌∷◌, ◌++◌, codes, refl}
 use Rattle.std.proofs.Common.{sym, ap, ap₂, ◌∙◌, subst, inl, inr, append_assoc, append-nil, eqb-true}
 use Rattle.std.specs.List.{list_all}
-use Rattle.std.proofs.lemmas.Bool.{both_ways, and_left, and_parts, and_right, not-false, not-true, or_parts}
+use Rattle.std.proofs.lemmas.Bool.{both_ways, and_parts, not-false, not-true, or_parts}
 use Rattle.lexical.specs.Class.{is_white}
 use Rattle.lexical.specs.Comment.{Comment, Doc, LineComment, closing, has_bare_return, is_doc}
 use Rattle.lexical.specs.Cover.{onto, StandBefore, IsCover}
 use Rattle.lexical.specs.Piece.{Kind, Piece, FrontMark, Gap, Open, Close, Leaf, IsPiece}
 use Rattle.lexical.specs.Piece as pieces
 use Rattle.lexical.specs.Text.{begins_with, ends_with, first_passes}
-use Rattle.lexical.specs.Token.{Name, Literal}
 use Rattle.lexical.proofs.CommentKindLemmas.{front_is}
 use Rattle.pm_stream.specs.Events.{doc_onto}
 use Rattle.pm_stream.specs.Forest.{Forest, flattening}
@@ -17,8 +16,8 @@ use Rattle.pm_stream.specs.Parsing.{ParsesTo}
 use Rattle.pm_stream.proofs.LawLemmas.{one_cover}
 use Rattle.proc_macro2.specs.Laws.{Gives}
 use Rattle.proc_macro2.proofs.EventSpans.{bare, said, said_onto, said_parsed, same_from_said}
-use Rattle.relayout.specs.Commented.{Part, White, Kept, Attribute, comment_front, comment_pieces, is_doc_line, is_free}
-use Rattle.relayout.specs.Commented.{may_all, may_be, new_part, new_pieces, old_part, old_pieces}
+use Rattle.relayout.specs.Commented.{Part, White, Kept, Attribute, comment_front, is_doc_line, is_free}
+use Rattle.relayout.specs.Commented.{may_all, new_pieces, old_pieces}
 use Rattle.relayout.specs.Relayout.{is_line}
 use Rattle.relayout.proofs.StandLemmas.{Calm, Feeds, piece_near}
 
@@ -157,8 +156,8 @@ kept_stands first x r t near h =
         let calm : (w v : List ℕ) → w ≡ c ∷ v → Calm w = λ w v e. ap (first_passes (λ d. not (is_white d))) e
         ∙ ap not white in
         let feeds : Feeds x b old new = λ none line.
-        inr (u, is ∙ ap (λ d. d ∷ u)
-        (line_ends first x.0 x.1 s c line (subst (λ w. IsPiece first x.0 x.1 w) (ap₂ (λ v w. v ++ w) none was) there))) in
+        let after = subst (IsPiece first x.0 x.1) (ap₂ (λ v w. v ++ w) none was) there in
+        inr (u, is ∙ ap (λ d. d ∷ u) (line_ends first x.0 x.1 s c line after)) in
         piece_near first x.0 x.1 b old new (calm old s was) (calm new u is) feeds there
 
 -- ---- all pieces

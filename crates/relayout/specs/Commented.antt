@@ -1,5 +1,5 @@
 -- Texts whose doc attributes become doc comments.
-use Rattle.std.specs.Prelude.{ℕ, Bool, true, false, not, ◌&&◌, ◌||◌, ◌==◌, ◌≡◌, List, [], ◌∷◌, ◌++◌, IsTrue, codes}
+use Rattle.std.specs.Prelude.{ℕ, Bool, true, false, not, ◌&&◌, ◌||◌, ◌==◌, List, [], ◌∷◌, ◌++◌, IsTrue, codes}
 use Rattle.std.specs.List.{flat_map, list_all}
 use Rattle.lexical.specs.Character.{carriage_return, line_feed}
 use Rattle.lexical.specs.Class.{is_white}
@@ -13,8 +13,8 @@ use Rattle.relayout.specs.Laws.{KeepsTokens}
 
 -- ---- attributes and comments
 
--- `doc-line`: whether a doc comment of one line, with `!` or not, gives the text: it has no LF and no CR, and after `///`
--- it doesn't begin with a slash
+-- `doc-line`: whether a doc comment of one line, with `!` or not, gives the text: it has no LF and no CR, and after
+-- `///` it doesn't begin with a slash
 abbrev pub is_doc_line : Bool → List ℕ → Bool
 is_doc_line inner text =
     list_all (λ c. not ((c == line_feed) || (c == carriage_return))) text
