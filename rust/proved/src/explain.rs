@@ -7,14 +7,20 @@
 //! no other reason explains the text, each holds at one place of it, and none where a piece stands ([`laws`]); that
 //! `None` is answered only for a text that parses; and which openers no closer matches up to the fault, each by its
 //! kind, its bytes and its span.
+//!
+//! [`advice`] has further places that help to mend a fault, by definitions of their own in `specs/Hint.antt`: which comment
+//! in an unclosed one ended last, and which quote came nearest to ending an unclosed raw string.
 
+mod comment_hints;
 mod contents;
 mod explained;
 mod explaining;
+mod hints;
 pub mod laws;
 mod letters;
 mod nesting;
 mod numbers;
+mod quote_hints;
 mod quotes;
 mod raw_contents;
 mod reason;
@@ -22,7 +28,9 @@ mod single_contents;
 mod strings;
 mod stuck;
 mod trouble;
+mod words;
 
 pub use crate::explain::explained::{ExplainError, Explained, Opener, Stretch};
 pub use crate::explain::explaining::explain;
+pub use crate::explain::hints::{Hint, advice};
 pub use crate::explain::reason::Reason;

@@ -67,7 +67,7 @@ fn refused(refusal: Refusal, before: Stretch, at: Stretch, outer: Vec<Opener>) -
 }
 
 /// The stretch of a text from one rest of it to another, which stand at these positions.
-fn stretch(text: &str, from: &str, to: &str, lo: u32, hi: u32) -> Stretch
+pub fn stretch(text: &str, from: &str, to: &str, lo: u32, hi: u32) -> Stretch
 {
     Stretch {
         start: text.len() - from.len(),

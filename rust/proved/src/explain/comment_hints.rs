@@ -1,0 +1,57 @@
+// Made from crates/explain/src/comment_hints.rt by rust/erase: change that file, not this one.
+//! Which block comments a text leaves open.
+
+use crate::shim::prelude::Vec;
+
+use crate::lexical::parts::Cursor;
+use crate::shim::alloc::{AllocError, Global};
+
+/// What stands at a cursor in a block comment.
+#[derive(Clone, Copy)]
+pub enum Sign {
+    /// What begins a comment.
+    Opens,
+    /// What ends one.
+    Closes,
+    /// A character at which neither begins.
+    Other,
+}
+
+/// What stands at the cursor, and the cursor after it.
+fn sign_at(at: Cursor<'_>) -> Option<(Sign, Cursor<'_>)>
+{
+    let (_, after) = at.advance()?;
+    if let Some(inside) = at.past("/*") {
+        return Some((Sign::Opens, inside));
+    }
+    if let Some(behind) = at.past("*/") {
+        return Some((Sign::Closes, behind));
+    }
+    Some((Sign::Other, after))
+}
+
+/// How many block comments are open at the end of the text, the one at the cursor among them, and the cursors before
+/// and after the one that ended last.
+pub fn open_comments<'a>(
+    alloc: Global,
+    start: Cursor<'a>,
+) -> Result<(usize, Option<(Cursor<'a>, Cursor<'a>)>), AllocError>
+{
+    let mut opened = Vec::new(alloc);
+    let mut closed = None;
+    let mut at = start;
+    while let Some((sign, after)) = sign_at(at) {
+        match sign {
+            Sign::Opens => opened.push(at)?,
+            Sign::Closes => {
+                let Some(from) = opened.pop() else {
+                    unreachable!()
+                };
+                closed = Some((from, after));
+            }
+            Sign::Other => {}
+        }
+        at = after;
+    }
+    Ok((opened.len(), closed))
+}

@@ -1,0 +1,90 @@
+// Made from crates/explain/src/words.rt by rust/erase: change that file, not this one.
+//! What each reason is named, and what is said of it.
+
+use crate::explain::reason::Reason;
+use crate::literal_escaper::EscapeError;
+
+impl Reason {
+    /// A short name, which stays: of [`Reason::UnclosedString`] `unclosed-string`.
+    pub fn name(&self) -> &'static str
+    {
+        match self {
+            Reason::UnclosedComment => "unclosed-comment",
+            Reason::BareReturnInDoc => "bare-return-in-doc",
+            Reason::UnclosedString => "unclosed-string",
+            Reason::UnclosedRawString => "unclosed-raw-string",
+            Reason::TooManyHashes => "too-many-hashes",
+            Reason::HashesWithoutQuote => "hashes-without-quote",
+            Reason::ReservedRawName => "reserved-raw-name",
+            Reason::UnclosedCharacter => "unclosed-character",
+            Reason::Content(_) => "literal-content",
+            Reason::DigitLifetime => "digit-lifetime",
+            Reason::HashAfterLifetime => "hash-after-lifetime",
+            Reason::NoDigits => "no-digits",
+            Reason::BadDigit => "bad-digit",
+            Reason::BadNumberEnd => "bad-number-end",
+            Reason::MisplacedMark => "misplaced-mark",
+            Reason::NoToken => "no-token",
+            Reason::StrayCloser => "stray-closer",
+            Reason::MismatchedCloser => "mismatched-closer",
+            Reason::UnclosedOpener => "unclosed-opener",
+        }
+    }
+
+    /// What it says, in a few words: of [`Reason::MismatchedCloser`] `the innermost opener waits for another closer`.
+    pub fn message(&self) -> &'static str
+    {
+        match self {
+            Reason::UnclosedComment => "unclosed block comment",
+            Reason::BareReturnInDoc => "CR in a doc comment that no LF follows",
+            Reason::UnclosedString => "unclosed string",
+            Reason::UnclosedRawString => "unclosed raw string",
+            Reason::TooManyHashes => "more than 255 hash signs before a raw string",
+            Reason::HashesWithoutQuote => "neither a quote nor a name follows the hash signs",
+            Reason::ReservedRawName => "this name is never raw",
+            Reason::UnclosedCharacter => "unclosed character",
+            Reason::Content(error) => content_of(error),
+            Reason::DigitLifetime => "a lifetime begins with no digit",
+            Reason::HashAfterLifetime => "a hash sign right after a lifetime",
+            Reason::NoDigits => "no digit follows the prefix of the number",
+            Reason::BadDigit => "this digit is too large for its number's base",
+            Reason::BadNumberEnd => "this character is no part of the number before it",
+            Reason::MisplacedMark => "U+FEFF that is not at the front of the text",
+            Reason::NoToken => "no token begins with this character",
+            Reason::StrayCloser => "no opener waits for this closer",
+            Reason::MismatchedCloser => "the innermost opener waits for another closer",
+            Reason::UnclosedOpener => "no closer matches this opener",
+        }
+    }
+}
+
+// What is said of a fault in the content of a literal.
+fn content_of(error: &EscapeError) -> &'static str
+{
+    match error {
+        EscapeError::ZeroChars => "no character stands between the quotes",
+        EscapeError::MoreThanOneChar => "more than one character stands between the quotes",
+        EscapeError::LoneSlash => "nothing follows the backslash",
+        EscapeError::InvalidEscape => "no escape begins so",
+        EscapeError::BareCarriageReturn => "CR that is not escaped",
+        EscapeError::BareCarriageReturnInRawString => "CR in a raw string",
+        EscapeError::EscapeOnlyChar => "this character stands here only escaped",
+        EscapeError::TooShortHexEscape => "fewer than two digits in the escape",
+        EscapeError::InvalidCharInHexEscape => "this is no digit to the base 16",
+        EscapeError::OutOfRangeHexEscape => "an escape past ASCII where characters are wanted",
+        EscapeError::NoBraceInUnicodeEscape => "no brace follows the front of the escape",
+        EscapeError::InvalidCharInUnicodeEscape => "this is no digit to the base 16",
+        EscapeError::EmptyUnicodeEscape => "no digit stands in the escape",
+        EscapeError::UnclosedUnicodeEscape => "no brace ends the escape",
+        EscapeError::LeadingUnderscoreUnicodeEscape =>
+            "an underscore before the digits of the escape",
+        EscapeError::OverlongUnicodeEscape => "more than six digits in the escape",
+        EscapeError::LoneSurrogateUnicodeEscape => "the code of a surrogate",
+        EscapeError::OutOfRangeUnicodeEscape => "a code above 10FFFF",
+        EscapeError::UnicodeEscapeInByte => "an escape of a character where bytes are wanted",
+        EscapeError::NonAsciiCharInByte => "a character past ASCII where bytes are wanted",
+        EscapeError::NulInCStr => "a zero in a C string",
+        EscapeError::UnskippedWhitespaceWarning => "white space that is not skipped",
+        EscapeError::MultipleSkippedLinesWarning => "more than one line end is skipped",
+    }
+}
