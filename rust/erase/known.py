@@ -7,7 +7,7 @@ memory, or answers another type, the shim needs an item of that name.
 # Items of std, and what the shim has in their place (rust/proved/src/shim).
 STD_ITEMS = set('''
     alloc alloc::AllocError alloc::AllocFailed alloc::Global
-    cmp::Ordering collections::BTreeMap collections::VecDeque env::Args error::Error
+    cmp::Ordering collections::BTreeMap collections::HashMap collections::VecDeque env::Args error::Error
     fmt fmt::Debug fmt::DebugStruct fmt::Display fmt::Error fmt::Formatter fmt::Result fmt::Write fs::File
     hash::Hash hash::Hasher
     io io::BufRead io::Error io::ErrorKind io::Read io::Result io::Write
@@ -49,7 +49,7 @@ DERIVES = set('Clone Copy Debug Drop Eq Hash Ord PartialEq PartialOrd'.split())
 
 # What the crates of tests may name besides. Their shim is in rust/proved/tests/own.
 TEST_ITEMS = set('''
-    collections::HashMap ops::Bound::Excluded ops::Bound::Included ops::Bound::Unbounded process::Abort
+    ops::Bound::Excluded ops::Bound::Included ops::Bound::Unbounded process::Abort
     test::Fail
 '''.split())
 TEST_METHODS = set('''

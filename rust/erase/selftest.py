@@ -46,7 +46,7 @@ REJECTED = [
     ('static mut A: u8 = 1;', '`static mut`'),
     ('extern "C" { fn f(); }', '`extern`'),
     ('macro_rules! m { () => {} }', 'a macro of its own'),
-    ('use std::collections::HashMap;', '`std::collections::HashMap`'),
+    ('use std::collections::HashSet;', '`std::collections::HashSet`'),
     ('use std::collections::{BTreeMap, BTreeSet};', '`std::collections::BTreeSet`'),
     ('use std::io; fn f() { io::stdin(); }', '`std::io::stdin`'),
     ('use anyhow::Error;', 'the crate or module `anyhow`'),

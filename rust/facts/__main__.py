@@ -76,6 +76,21 @@ fn write_decomposition<W: Write>(c: char, writer: &mut W) -> io::Result<()> {
     }
 }
 
+// The compatible decomposition of a character, where that isn't the canonical one.
+fn write_compatible<W: Write>(c: char, writer: &mut W) -> io::Result<()> {
+    let mut room = [c; 3];
+    let mut wide = [c; 3];
+    let parts = decomposition(c, Form::Nfkd, &mut wide);
+    if parts == decomposition(c, Form::Nfd, &mut room) {
+        return Ok(());
+    }
+    write!(writer, "compatible {}", c as u32)?;
+    for part in parts {
+        write!(writer, " {}", *part as u32)?;
+    }
+    writeln!(writer)
+}
+
 fn main(rt: HostRuntime) -> io::Result<ExitCode> {
     let mut writer = BufWriter::new(rt.alloc(), rt.stdout())?;
     writeln!(writer, "version {:?}", unicode_ident::UNICODE_VERSION)?;
@@ -103,6 +118,7 @@ fn main(rt: HostRuntime) -> io::Result<ExitCode> {
         }
         if let Some(c) = char::from_u32(code) {
             write_decomposition(c, &mut writer)?;
+            write_compatible(c, &mut writer)?;
         }
     }
     writer.flush()?;
@@ -122,7 +138,8 @@ END = 0x110000
 
 def answers():
     """The version of Unicode, for each code point where an answer changes it and the answers, and for each
-    that has a canonical decomposition it, that, and what is composed with its last character to it, or 0."""
+    that has a canonical decomposition it, that, and what is composed with its last character to it, or 0; and for
+    each whose compatible decomposition is another it and that."""
     with tempfile.TemporaryDirectory() as room:
         crate = pathlib.Path(room, 'crates/ask')
         (crate / 'src').mkdir(parents=True)
@@ -139,10 +156,11 @@ def answers():
     facts = [
         (int(code), starts == 'true', continues == 'true', category, int(columns), int(properties), script, int(rank))
         for code, starts, continues, category, columns, properties, script, rank in
-        (row for row in rows if row[0] != 'canonical')
+        (row for row in rows if row[0] not in ('canonical', 'compatible'))
     ]
     canonical = [tuple(int(it) for it in row[1:] if it != 'from') for row in rows if row[0] == 'canonical']
-    return version.split(' ', 1)[1], facts, canonical
+    compatible = [tuple(int(it) for it in row[1:]) for row in rows if row[0] == 'compatible']
+    return version.split(' ', 1)[1], facts, canonical, compatible
 
 
 def ranges(rows, column):
@@ -171,8 +189,9 @@ def number_of(category):
 
 
 def table(doc, name, kind, rows):
-    """The text of a table of rows, as many on a line as fit in 120 columns."""
-    written = ', '.join(text_of(row).replace(' ', '\N{NO-BREAK SPACE}') for row in rows)
+    """The text of a table of rows, as many on a line as fit in 120 columns. A row that doesn't fit alone is broken."""
+    texts = [text_of(row) for row in rows]
+    written = ', '.join(it if len(it) > 114 else it.replace(' ', '\N{NO-BREAK SPACE}') for it in texts)
     lines = textwrap.fill(written, 116, break_long_words=False).replace('\N{NO-BREAK SPACE}', ' ')
     return (f'/// {doc}\n#[rustfmt::skip]\npub(crate) static {name}: [{kind}; {len(rows)}] = [\n'
             + textwrap.indent(lines, '    ') + ',\n];\n')
@@ -187,7 +206,7 @@ def text_of(value):
 
 
 def tables():
-    version, rows, canonical = answers()
+    version, rows, canonical, compatible = answers()
     scripts = SCRIPTS + sorted({row[6] for row in rows} - {*SCRIPTS})
     version = '.'.join(part.strip(' ()') for part in version.split(','))
     return '\n'.join([
@@ -210,6 +229,8 @@ def tables():
               'CLASS_RUNS', '(u32, u8)', runs((row[0], row[7]) for row in rows)),
         table('What decomposes canonically, but Hangul: it, what its last part is composed with, or 0, and its parts.',
               'CANONICAL', '(u32, u32, &[u32])', [(row[0], row[-1], list(row[1:-1])) for row in canonical]),
+        table('What decomposes compatibly and otherwise than canonically: it and its parts.', 'COMPATIBLE',
+              '(u32, &[u32])', [(row[0], list(row[1:])) for row in compatible]),
     ])
 
 

@@ -221,8 +221,9 @@ sought_more inside at after to next best h opens run more =
       stops = gap.1.stops;
     }
 
-pub sought_shorter : (at after to next : Cursor) → Passes (Exactly (codes "\"")) at after → Passes (Run is_hash) after to
-    → Passes (Run (λ c. not (c == 34))) to next → length (chars next.rest.now) < length (chars at.rest.now)
+pub sought_shorter : (at after to next : Cursor) → Passes (Exactly (codes "\"")) at after
+    → Passes (Run is_hash) after to → Passes (Run (λ c. not (c == 34))) to next
+    → length (chars next.rest.now) < length (chars at.rest.now)
 sought_shorter at after to next opens run more =
     omega (
       arith,

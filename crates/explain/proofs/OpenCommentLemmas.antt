@@ -1,6 +1,7 @@
 -- Which block comments a walk over a text leaves open.
 use Rattle.std.proofs.Common.{◌≡◌, ℕ, ◌+◌, List, [], ◌∷◌, ◌++◌, codes, false, length, Option, Some, None, MatchOption}
-use Rattle.std.proofs.Common.{inl, inr, refl, sym, ap, ◌∙◌, subst, append_assoc, append-nil, arith, length-append, reverse}
+use Rattle.std.proofs.Common.{inl, inr, refl, sym, ap, ◌∙◌, subst, append_assoc, append-nil, arith, length-append}
+use Rattle.std.proofs.Common.{reverse}
 use Rattle.std.proofs.lemmas.List.{length-reverse, reverse-append}
 use Rattle.std.specs.Str.{chars}
 use Rattle.lexical.specs.Block.{BlockBody, Empty, Nested, Single, block_signs}
@@ -18,7 +19,8 @@ use Rattle.explain.proofs.StringLemmas.{many_more}
 
 -- ---- bodies
 
-join_at : (a b after rest : List ℕ) → rest ≡ b ++ after → BlockBody a rest → BlockBody b after → BlockBody (a ++ b) after
+join_at : (a b after rest : List ℕ) → rest ≡ b ++ after → BlockBody a rest → BlockBody b after
+    → BlockBody (a ++ b) after
 join_at a b after rest same (Empty e) h = subst (λ t. BlockBody (t ++ b) after) (sym e) h
 join_at a b after rest same (Nested inner more e nested is) h =
     Nested inner (more ++ b) (ap (λ t. t ++ b) e ∙ simp (append_assoc))
@@ -197,7 +199,12 @@ module _ (start : Cursor) (more : List ℕ) (begins : chars start.rest.now ≡ c
         record {
           chain = closed_chain (reverse new) from at to chain.1 chain.0 sign;
           told = (
-            record { outer = reverse new; chain = chain.1; comment = comment; stands = ended_stands from at to chain.0 sign },
+            record {
+              outer = reverse new;
+              chain = chain.1;
+              comment = comment;
+              stands = ended_stands from at to chain.0 sign;
+            },
             plain_here to,
           );
         }

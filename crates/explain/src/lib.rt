@@ -7,8 +7,8 @@
 //! `None` is answered only for a text that parses; and which openers no closer matches up to the fault, each by its
 //! kind, its bytes and its span.
 //!
-//! [`advice`] has further places that help to mend a fault, by definitions of their own in `specs/Hint.antt`: which comment
-//! in an unclosed one ended last, and which quote came nearest to ending an unclosed raw string.
+//! [`advice`] has further places that help to mend a fault, by definitions of their own in `specs/Hint.antt`: which
+//! comment in an unclosed one ended last, and which quote came nearest to ending an unclosed raw string.
 #![tactic(auto)]
 
 mod comment_hints;

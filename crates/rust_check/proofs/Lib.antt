@@ -2,8 +2,8 @@ pub mod PlaceLemmas
 pub mod ShownLemmas
 pub mod FilesLemmas
 pub mod ToldLemmas
-pub mod AnswerLemmas
 pub mod EndsLemmas
 pub mod TurnsLemmas
 pub mod PieceLemmas
+pub mod NameFormLemmas
 pub mod NamesLemmas

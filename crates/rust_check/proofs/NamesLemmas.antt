@@ -6,6 +6,7 @@ use Rattle.std.proofs.lemmas.Slice.Eq.{bytes_eq-Decides}
 use Rattle.unicode_normalization.specs.Forms.{IsInForm, Nfc, is_nfc, nfc}
 use Rattle.rust_check.specs.LineEnds.{odd}
 use Rattle.rust_check.specs.Message.{Found}
+use Rattle.rust_check.specs.NameForms.{is_other}
 use Rattle.rust_check.specs.Telling.{Tells}
 use Rattle.rust_check.specs.declared.finding.Place.{Place}
 use Rattle.rust_check.specs.declared.options.Form.{Form}
@@ -45,17 +46,20 @@ not_cases true x y = refl
 not_cases false x y = refl
 
 -- what is odd about a name is told
-pub name_told : (form : Form) (path : List ℕ) (place : Place) (name text : List ℕ) (good apart : Bool)
-    (first second : Found)
-    (old between new : Option (List ℕ)) (before so_far after : Bool) → (IsTrue good ↔ IsInForm Nfc name)
-    → apart ≡ is_mixed name
+pub name_told : (form : Form) (path : List ℕ) (place : Place) (name text : List ℕ) (good apart other : Bool)
+    (first second third : Found) (names : List (List ℕ))
+    (old between later new : Option (List ℕ)) (before so_far by_now after : Bool) → (IsTrue good ↔ IsInForm Nfc name)
+    → apart ≡ is_mixed name → other ≡ is_other name names
     → first ≡ odd (codes "name-not-in-nfc") (codes "a name that is not in the form NFC") text place
     → second ≡ odd (codes "name-of-mixed-scripts") (codes "a name of scripts that are not written together") text place
+    → third ≡ odd (codes "name-like-another") (codes "a name that the form NFKC makes one with a name before it") text
+    place
     → Tells form path (if not good then first ∷ [] else []) old between before so_far
-    → Tells form path (if apart then second ∷ [] else []) between new so_far after
-    → Tells form path (found_in_name place name text) old new before after
-name_told form path place name text good apart first second old between new before so_far after answer parts one two
-    told later =
+    → Tells form path (if apart then second ∷ [] else []) between later so_far by_now
+    → Tells form path (if other then third ∷ [] else []) later new by_now after
+    → Tells form path (found_in_name place names name text) old new before after
+name_told form path place name text good apart other first second third names old between later new before so_far by_now
+    after answer parts likes one two three told mixed like =
     let same : good ≡ is_nfc name = same_from_decides good (is_nfc name) answer (bytes_eq-Decides (nfc name) name) in
     let front : (if not good then first ∷ [] else [])
     ≡ (if is_nfc name then []
@@ -67,6 +71,13 @@ name_told form path place name text good apart first second old between new befo
     then odd (codes "name-of-mixed-scripts") (codes "a name of scripts that are not written together") text place ∷ []
     else []) =
     ap (λ b. if b then second ∷ [] else []) parts ∙ ap (λ x. if is_mixed name then x ∷ [] else []) two in
+    let last : (if other then third ∷ [] else [])
+    ≡ (if is_other name names
+    then odd (codes "name-like-another") (codes "a name that the form NFKC makes one with a name before it") text place ∷ []
+    else []) =
+    ap (λ b. if b then third ∷ [] else []) likes ∙ ap (λ x. if is_other name names then x ∷ [] else []) three in
     tells_more form path _ _ old between new before so_far after
     (tells_same form path _ _ old between before so_far front told)
-    (tells_same form path _ _ between new so_far after back later)
+    (tells_more form path _ _ between later new so_far by_now after
+    (tells_same form path _ _ between later so_far by_now back mixed)
+    (tells_same form path _ _ later new by_now after last like))

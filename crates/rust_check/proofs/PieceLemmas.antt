@@ -9,7 +9,7 @@ use Rattle.lexical.specs.declared.walk.PlacedPiece.{PlacedPiece}
 use Rattle.lexical.specs.declared.walk.PieceWalk.{PieceWalk}
 use Rattle.pm_stream.specs.Parsing.{is_first}
 use Rattle.rust_check.specs.Message.{Found}
-use Rattle.rust_check.specs.Names.{found_by_kind}
+use Rattle.rust_check.specs.Names.{found_by_kind, names_after}
 use Rattle.rust_check.specs.Place.{front, places_after}
 use Rattle.rust_check.specs.Told.{ArePieces, found_in_piece, found_in_pieces, is_literal}
 use Rattle.rust_check.specs.declared.finding.Place.{Place}
@@ -57,53 +57,57 @@ all_left text all rest left = record {
 }
 
 -- what is found in a piece, and then in those after it
-pub pieces_step : (done : List Found) (place after : Place) (kind : Kind) (words : List ℕ) (literal : Bool)
-    (more : List Piece) (rest : List ℕ) → literal ≡ is_literal kind → after ≡ places_after place words
-    → (done ++ (found_by_kind place kind words ++ found_in_piece literal place words))
-    ++ found_in_pieces after more rest
-    ≡ done ++ found_in_pieces place ((kind, words) ∷ more) rest
-pieces_step done place after kind words literal more rest is past =
-    let here = found_by_kind place kind words in
+pub pieces_step : (done : List Found) (place after : Place) (before : List (List ℕ)) (kind : Kind) (words : List ℕ)
+    (literal : Bool) (more : List Piece) (rest : List ℕ) → literal ≡ is_literal kind → after ≡ places_after place words
+    → (done ++ (found_by_kind place before kind words ++ found_in_piece literal place words))
+    ++ found_in_pieces after (names_after before kind) more rest
+    ≡ done ++ found_in_pieces place before ((kind, words) ∷ more) rest
+pieces_step done place after before kind words literal more rest is past =
+    let here = found_by_kind place before kind words in
+    let names = names_after before kind in
     let inside = found_in_piece (is_literal kind) place words in
-    let tail = found_in_pieces (places_after place words) more rest in
-    ap (λ b. (done ++ (here ++ found_in_piece b place words)) ++ found_in_pieces after more rest) is
-    ∙ (ap (λ at. (done ++ (here ++ inside)) ++ found_in_pieces at more rest) past
+    let tail = found_in_pieces (places_after place words) names more rest in
+    ap (λ b. (done ++ (here ++ found_in_piece b place words)) ++ found_in_pieces after names more rest) is
+    ∙ (ap (λ at. (done ++ (here ++ inside)) ++ found_in_pieces at names more rest) past
     ∙ (append_assoc done (here ++ inside) tail ∙ ap (λ l. done ++ l) (append_assoc here inside tail)))
 
 -- with the pieces that are left, it is all that is found in the text's pieces
-pub record GoesOn (done : List Found) (place : Place) (text : List ℕ) (more : List Piece) (rest : List ℕ) : Type 0 where
+pub record GoesOn (done : List Found) (place : Place) (before : List (List ℕ)) (text : List ℕ) (more : List Piece)
+    (rest : List ℕ) : Type 0 where
   pub pieces : List Piece
   pub are : ArePieces pieces text rest
-  pub all : done ++ found_in_pieces place more rest ≡ found_in_pieces front pieces rest
+  pub all : done ++ found_in_pieces place before more rest ≡ found_in_pieces front [] pieces rest
 
 -- at the front of the text
 pub front_on : (first : Bool) (words text : List ℕ) (place : Place) (more : List Piece) (rest : List ℕ) → first ≡ true
-    → words ≡ text → place ≡ front → AreLeft first words more rest → GoesOn [] place text more rest
+    → words ≡ text → place ≡ front → AreLeft first words more rest → GoesOn [] place [] text more rest
 front_on first words text place more rest at is stands left = record {
   pieces = more;
   are = all_left text more rest
       (subst (λ b. AreLeft b text more rest) at (subst (λ l. AreLeft first l more rest) is left));
-  all = ap (λ p. found_in_pieces p more rest) stands;
+  all = ap (λ p. found_in_pieces p [] more rest) stands;
 }
 
 -- after a piece more
-pub piece_on : (done : List Found) (place after : Place) (text : List ℕ) (at : PieceWalk) (next : PlacedPiece)
-    (to : PieceWalk) (literal : Bool) (more : List Piece) (rest : List ℕ) → IsNext at next to
+pub piece_on : (done : List Found) (place after : Place) (before : List (List ℕ)) (text : List ℕ) (at : PieceWalk)
+    (next : PlacedPiece) (to : PieceWalk) (literal : Bool) (more : List Piece) (rest : List ℕ) → IsNext at next to
     → literal ≡ is_literal (kind_of next.piece.kind (chars next.text.now))
     → after ≡ places_after place (chars next.text.now)
-    → ((ps : List Piece) (r : List ℕ) → AreLeft at.at_front (chars at.rest.now) ps r → GoesOn done place text ps r)
+    → ((ps : List Piece) (r : List ℕ) → AreLeft at.at_front (chars at.rest.now) ps r
+    → GoesOn done place before text ps r)
     → AreLeft to.at_front (chars to.rest.now) more rest
     → GoesOn
-    (done ++ (found_by_kind place (kind_of next.piece.kind (chars next.text.now)) (chars next.text.now)
-    ++ found_in_piece literal place (chars next.text.now))) after text more rest
-piece_on done place after text at next to literal more rest step is past goes left =
+    (done ++ (found_by_kind place before (kind_of next.piece.kind (chars next.text.now)) (chars next.text.now)
+    ++ found_in_piece literal place (chars next.text.now))) after
+    (names_after before (kind_of next.piece.kind (chars next.text.now))) text more rest
+piece_on done place after before text at next to literal more rest step is past goes left =
     let kind = kind_of next.piece.kind (chars next.text.now) in
     let words = chars next.text.now in
     let on = goes ((kind, words) ∷ more) rest (left_before at next to more rest step left) in
     record {
       pieces = on.pieces;
       are = on.are;
-      all = pieces_step done place after kind words literal more rest is past ∙ on.all;
+      all = pieces_step done place after before kind words literal more rest is past ∙ on.all;
     }
 
 -- where none stands

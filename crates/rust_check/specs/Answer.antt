@@ -1,12 +1,16 @@
 -- What the program writes for a text.
 use Rattle.std.specs.Prelude.{ℕ, ◌≡◌, ◌-◌, ◌||◌, Bool, true, false, List, [], ◌++◌, Option, Some, None}
 use Rattle.std.specs.Prelude.{MatchOption, codes, drop, is_some, length}
-use Rattle.std.specs.Prelude.{take}
+use Rattle.std.specs.Prelude.{decimal, if◌then◌else◌, nat_le, take}
 use Rattle.std.specs.Str.{encode_utf8_all}
 use Rattle.std.specs.Io.KnownBytes.{Appends}
 use Rattle.explain.specs.Explained.{IsExplained, Parses}
+use Rattle.explain.specs.Hint.{IsHint}
 use Rattle.explain.specs.declared.explained.Explained.{Explained}
 use Rattle.explain.specs.declared.explained.Opener.{Opener}
+use Rattle.explain.specs.declared.explained.Stretch.{Stretch}
+use Rattle.explain.specs.declared.hints.Hint.{Hint}
+use Rattle.explain.specs.declared.hints.Hint.TheVariants.{Comments, Quote}
 use Rattle.explain.specs.declared.reason.Reason.{Reason}
 use Rattle.explain.specs.declared.reason.Reason.TheVariants.{MismatchedCloser}
 use Rattle.pm_span.specs.Files.{new_map, next_lo}
@@ -14,7 +18,7 @@ use Rattle.rust_check.specs.Colours.{Codes, plain, terminal}
 use Rattle.rust_check.specs.Message.{Found, excerpt, message}
 use Rattle.rust_check.specs.Place.{last_line, last_number}
 use Rattle.rust_check.specs.Told.{TellsHidden}
-use Rattle.rust_check.specs.Words.{name_of, sentence_of}
+use Rattle.explain.specs.Words.{name_of, sentence_of}
 use Rattle.rust_check.specs.declared.options.Form.{Form}
 use Rattle.rust_check.specs.declared.options.Form.TheVariants.{Short, Long, Coloured, Json}
 
@@ -44,36 +48,61 @@ found_at name says text lo hi =
 abbrev pub fault : List ℕ → Explained → Found
 fault text x = found_at (name_of x.reason) (sentence_of x.reason) text x.at.span.lo x.at.span.hi
 
--- the opener that waits for another closer than the one that stands there
-abbrev pub waiting : Codes → List ℕ → Found → List ℕ
-waiting k path opener = k.strong ++ (codes "note" ++ (k.off ++ codes ": this opener waits\n")) ++ excerpt k path opener
+-- what stands where the span says, below the fault
+abbrev pub noted : Codes → List ℕ → List ℕ → Found → List ℕ
+noted k path says x = k.strong ++ (codes "note" ++ (k.off ++ (codes ": " ++ (says ++ codes "\n")))) ++ excerpt k path x
 
+abbrev pub noted_at : Codes → List ℕ → List ℕ → List ℕ → Stretch → List ℕ
+noted_at k path says text at = noted k path says (found_at [] [] text at.span.lo at.span.hi)
+
+-- the opener that waits for another closer than the one that stands there
 abbrev pub waiting_note : Codes → List ℕ → List ℕ → Option Opener → List ℕ
 waiting_note k path text None = []
-waiting_note k path text (Some opener) =
-    waiting k path (found_at [] [] text opener.at.span.lo opener.at.span.hi)
+waiting_note k path text (Some opener) = noted_at k path (codes "this opener waits") text opener.at
 
 abbrev pub note_of : Reason → Codes → List ℕ → List ℕ → Option Opener → List ℕ
 note_of MismatchedCloser k path text innermost = waiting_note k path text innermost
 note_of _ k path text innermost = []
 
+-- how many comments are open, if that is more than one
+abbrev pub depth_note : Codes → ℕ → List ℕ
+depth_note k depth =
+    if nat_le depth 1 then []
+    else k.strong ++ (codes "note" ++ (k.off ++ (codes ": comments that are open at the end of the text: "
+    ++ (decimal depth ++ codes "\n"))))
+
+-- the comment that ended last
+abbrev pub closed_note : Codes → List ℕ → List ℕ → Option Stretch → List ℕ
+closed_note k path text None = []
+closed_note k path text (Some at) = noted_at k path (codes "the comment in it that ended last") text at
+
+abbrev pub hint_note : Codes → List ℕ → List ℕ → Option Hint → List ℕ
+hint_note k path text None = []
+hint_note k path text (Some (Comments depth closed)) = depth_note k depth ++ closed_note k path text closed
+hint_note k path text (Some (Quote at)) =
+    noted_at k path (codes "the quote that came nearest to ending it") text at
+
+abbrev pub notes : Codes → List ℕ → List ℕ → Explained → Option Hint → List ℕ
+notes k path text x hint = note_of x.reason k path text x.innermost ++ hint_note k path text hint
+
 -- what is written below the fault
-abbrev pub note : Form → List ℕ → List ℕ → Explained → List ℕ
-note Long path text x = note_of x.reason plain path text x.innermost
-note Coloured path text x = note_of x.reason terminal path text x.innermost
-note Short path text x = []
-note Json path text x = []
+abbrev pub note : Form → List ℕ → List ℕ → Explained → Option Hint → List ℕ
+note Long path text x hint = notes plain path text x hint
+note Coloured path text x hint = notes terminal path text x hint
+note Short path text x hint = []
+note Json path text x hint = []
 
 -- what is said of it, and nothing of a text that parses
-abbrev pub said : Form → List ℕ → List ℕ → Option Explained → List ℕ
-said form path text None = []
-said form path text (Some x) = message form path (fault text x) ++ note form path text x
+abbrev pub said : Form → List ℕ → List ℕ → Option Explained → Option Hint → List ℕ
+said form path text None hint = []
+said form path text (Some x) hint = message form path (fault text x) ++ note form path text x hint
 
--- the text is explained, and whether it has a fault is answered, of which all is written
+-- the text is explained, with what helps besides, and whether it has a fault is answered, of which all is written
 abbrev pub Tells : Form → List ℕ → List ℕ → Option (List ℕ) → Option (List ℕ) → Bool → Type 0
 Tells form path text old new faulty =
-    (answer : Option Explained) × MatchOption answer (Parses first text) (IsExplained first text)
-    × (faulty ≡ is_some answer) × Appends old new (said form path text answer)
+    (answer : Option Explained) × (hint : Option Hint)
+    × MatchOption answer (Parses first text) (λ x. IsExplained first text x × IsHint first text x hint)
+    × (faulty ≡ is_some answer) × Appends old new (said form path text answer hint)
 
 -- what is found in the text: its fault, and then its hidden characters, where they are asked for
 abbrev pub TellsAll : Form → Bool → List ℕ → List ℕ → Option (List ℕ) → Option (List ℕ) → Bool → Type 0

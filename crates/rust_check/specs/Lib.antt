@@ -3,10 +3,10 @@ pub mod Hidden
 pub mod Shown
 pub mod Colours
 pub mod Message
-pub mod Words
 pub mod Turns
 pub mod Telling
 pub mod LineEnds
+pub mod NameForms
 pub mod Names
 pub mod Told
 pub mod Answer

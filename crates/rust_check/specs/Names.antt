@@ -2,7 +2,7 @@
 use Rattle.std.specs.Prelude.{ℕ, Bool, true, false, ◌||◌, ◌==◌, List, [], ◌∷◌, ◌++◌, codes}
 use Rattle.std.specs.Prelude.{if◌then◌else◌}
 use Rattle.lexical.specs.Piece as pieces
-use Rattle.lexical.specs.Piece.{Piece, Kind}
+use Rattle.lexical.specs.Piece.{Kind}
 use Rattle.lexical.specs.Token as tokens
 use Rattle.ucd_script.specs.Script.{script, script_number}
 use Rattle.ucd_script.specs.declared.Script.{Script}
@@ -10,6 +10,7 @@ use Rattle.ucd_script.specs.declared.Script.TheVariants as scripts
 use Rattle.unicode_normalization.specs.Forms.{is_nfc}
 use Rattle.rust_check.specs.LineEnds.{odd}
 use Rattle.rust_check.specs.Message.{Found}
+use Rattle.rust_check.specs.NameForms.{is_other}
 use Rattle.rust_check.specs.declared.finding.Place.{Place}
 use Rattle.rust_check.specs.declared.names.Writing.{Writing}
 use Rattle.rust_check.specs.declared.names.Writing.TheVariants.{Open, Han, Japanese, One, Mixed}
@@ -64,22 +65,36 @@ are_apart _ = false
 abbrev pub is_mixed : List ℕ → Bool
 is_mixed name = are_apart (all_written Open name)
 
--- a name whose piece has this text and begins at this place
-abbrev pub found_in_name : Place → List ℕ → List ℕ → List Found
-found_in_name place name text =
+-- a name whose piece has this text and begins at this place; these names stand before it, the last first
+abbrev pub found_in_name : Place → List (List ℕ) → List ℕ → List ℕ → List Found
+found_in_name place before name text =
     (if is_nfc name then []
     else odd (codes "name-not-in-nfc") (codes "a name that is not in the form NFC") text place ∷ [])
-    ++ (if is_mixed name
+    ++ ((if is_mixed name
     then odd (codes "name-of-mixed-scripts") (codes "a name of scripts that are not written together") text place ∷ []
     else [])
+    ++ (if is_other name before
+    then odd (codes "name-like-another") (codes "a name that the form NFKC makes one with a name before it") text place ∷ []
+    else []))
 
 -- a piece of this kind
-abbrev pub found_by_kind : Place → Kind → List ℕ → List Found
-found_by_kind place (pieces.Leaf (tokens.Name raw name)) text = found_in_name place name text
-found_by_kind place (pieces.Leaf (tokens.Mark c joint)) text = []
-found_by_kind place (pieces.Leaf (tokens.Literal whole)) text = []
-found_by_kind place pieces.FrontMark text = []
-found_by_kind place pieces.Gap text = []
-found_by_kind place (pieces.Doc inner words) text = []
-found_by_kind place (pieces.Open c) text = []
-found_by_kind place (pieces.Close c) text = []
+abbrev pub found_by_kind : Place → List (List ℕ) → Kind → List ℕ → List Found
+found_by_kind place before (pieces.Leaf (tokens.Name raw name)) text = found_in_name place before name text
+found_by_kind place before (pieces.Leaf (tokens.Mark c joint)) text = []
+found_by_kind place before (pieces.Leaf (tokens.Literal whole)) text = []
+found_by_kind place before pieces.FrontMark text = []
+found_by_kind place before pieces.Gap text = []
+found_by_kind place before (pieces.Doc inner words) text = []
+found_by_kind place before (pieces.Open c) text = []
+found_by_kind place before (pieces.Close c) text = []
+
+-- the names after it
+abbrev pub names_after : List (List ℕ) → Kind → List (List ℕ)
+names_after before (pieces.Leaf (tokens.Name raw name)) = name ∷ before
+names_after before (pieces.Leaf (tokens.Mark c joint)) = before
+names_after before (pieces.Leaf (tokens.Literal whole)) = before
+names_after before pieces.FrontMark = before
+names_after before pieces.Gap = before
+names_after before (pieces.Doc inner words) = before
+names_after before (pieces.Open c) = before
+names_after before (pieces.Close c) = before

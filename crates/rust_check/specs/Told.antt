@@ -10,7 +10,7 @@ use Rattle.pm_stream.specs.Parsing.{is_first}
 use Rattle.rust_check.specs.Hidden.{hides_as}
 use Rattle.rust_check.specs.LineEnds.{found_in_ends}
 use Rattle.rust_check.specs.Message.{Found}
-use Rattle.rust_check.specs.Names.{found_by_kind}
+use Rattle.rust_check.specs.Names.{found_by_kind, names_after}
 use Rattle.rust_check.specs.Place.{front, places_after}
 use Rattle.rust_check.specs.Telling.{Tells, found_along}
 use Rattle.rust_check.specs.Turns.{is_balanced}
@@ -86,12 +86,13 @@ is_literal (pieces.Leaf (tokens.Literal text)) = true
 is_literal _ = false
 
 -- the pieces, of which the first begins at this place, and what follows them: what is odd about each that is a name,
--- and its characters
-abbrev pub found_in_pieces : Place → List Piece → List ℕ → List Found
-found_in_pieces place [] rest = found_in_piece false place rest
-found_in_pieces place (piece ∷ more) rest =
-    found_by_kind place piece.0 piece.1
-    ++ (found_in_piece (is_literal piece.0) place piece.1 ++ found_in_pieces (places_after place piece.1) more rest)
+-- and its characters; these names stand before them, the last first
+abbrev pub found_in_pieces : Place → List (List ℕ) → List Piece → List ℕ → List Found
+found_in_pieces place before [] rest = found_in_piece false place rest
+found_in_pieces place before (piece ∷ more) rest =
+    found_by_kind place before piece.0 piece.1
+    ++ (found_in_piece (is_literal piece.0) place piece.1
+    ++ found_in_pieces (places_after place piece.1) (names_after before piece.0) more rest)
 
 -- these pieces stand in the text one after the other, and none stands at the rest
 pub record ArePieces (all : List Piece) (text rest : List ℕ) : Type 0 where
@@ -104,11 +105,11 @@ pub record TellsPieces (form : Form) (path text : List ℕ) (old new : Option (L
   pub all : List Piece
   pub rest : List ℕ
   pub are : ArePieces all text rest
-  pub tells : Tells form path (found_in_pieces front all rest) old new before after
+  pub tells : Tells form path (found_in_pieces front [] all rest) old new before after
 
 -- and then what is odd at the ends of its lines
 pub record TellsHidden (form : Form) (path text : List ℕ) (old new : Option (List ℕ)) (found : Bool) : Type 0 where
   pub all : List Piece
   pub rest : List ℕ
   pub are : ArePieces all text rest
-  pub tells : Tells form path (found_in_pieces front all rest ++ found_in_ends front text) old new false found
+  pub tells : Tells form path (found_in_pieces front [] all rest ++ found_in_ends front text) old new false found

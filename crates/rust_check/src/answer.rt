@@ -1,8 +1,9 @@
 //! What the program writes for a text.
-ghost use Rattle.std.specs.Prelude.{◌≡◌, IfOk, OnOk, Some};
+ghost use Rattle.std.specs.Prelude.{◌≡◌, ◌++◌, IfOk, OnOk, Some};
 ghost use Rattle.std.specs.Io.KnownBytes.{Appends};
 ghost use Rattle.std.specs.Str.{chars};
-ghost use Rattle.rust_check.specs.Answer.{Tells, TellsAll, fault, found_at, note, said, waiting};
+ghost use Rattle.rust_check.specs.Answer.{Tells, TellsAll, closed_note, depth_note, fault, found_at, hint_note};
+ghost use Rattle.rust_check.specs.Answer.{note, note_of, noted_at, notes, said};
 ghost use Rattle.rust_check.specs.Colours.{codes_of};
 ghost use Rattle.rust_check.specs.Message.{seen};
 
@@ -11,9 +12,8 @@ use crate::finding::{Finding, Place};
 use crate::options::Form;
 use crate::place::{byte_count, last_line, split_chars};
 use crate::told::tell_hidden;
-use crate::words::{name_of, sentence_of};
 use crate::writing::{write_excerpt, write_message};
-use explain::{ExplainError, Explained, Reason, explain};
+use explain::{ExplainError, Explained, Hint, Reason, Stretch, advice, explain};
 use messages::Failure;
 use pm_span::Span;
 use pm_span::parts::{bounds, char_count};
@@ -57,7 +57,8 @@ fn check_text<W: Write>(
     match explain(alloc, text) {
         Ok(None) => Ok(false),
         Ok(Some(explained)) => {
-            write_fault(alloc, form, path, text, &explained, writer)?;
+            let hint = advice(alloc, text, &explained)?;
+            write_fault(alloc, form, path, text, &explained, &hint, writer)?;
             Ok(true)
         }
         Err(ExplainError::MapFull) => Err(Failure::MapFull),
@@ -69,66 +70,202 @@ fn check_text<W: Write>(
 fn fault<'a>(text: &'a str, explained: &Explained) -> Finding<'a>
     ensures { seen result ≡ fault (chars text.now) explained.now }
 {
-    let name = name_of(&explained.reason);
-    let says = sentence_of(&explained.reason);
-    found_at(name, says, text, explained.at.span)
+    let reason = &explained.reason;
+    found_at(reason.name(), reason.message(), text, explained.at.span)
 }
 
-// Writes what is said of the fault.
+// Writes what is said of the fault, and what helps besides.
 fn write_fault<W: Write>(
     alloc: Global,
     form: Form,
     path: &str,
     text: &str,
     explained: &Explained,
+    hint: &Option<Hint>,
     writer: &mut W,
 ) -> io::Result<()>
     ensures { OnOk result (Appends (W.contents writer.old) (W.contents writer.new)
-        (said form path.now (chars text.now) (Some explained.now))) }
+        (said form path.now (chars text.now) (Some explained.now) hint.now)) }
 {
     write_message(alloc, form, path, &fault(text, explained), writer)?;
-    write_note(alloc, form, path, text, explained, writer)
+    write_note(alloc, form, path, text, explained, hint, writer)
 }
 
-// Writes what is said below the fault: of a closer that doesn't match, where the opener stands that waits for another.
+// Writes what is said below the fault.
 fn write_note<W: Write>(
     alloc: Global,
     form: Form,
     path: &str,
     text: &str,
     explained: &Explained,
+    hint: &Option<Hint>,
     writer: &mut W,
 ) -> io::Result<()>
     ensures { OnOk result (Appends (W.contents writer.old) (W.contents writer.new)
-        (note form path.now (chars text.now) explained.now)) }
+        (note form path.now (chars text.now) explained.now hint.now)) }
 {
-    match (form, &explained.reason, &explained.innermost) {
-        (Form::Long, Reason::MismatchedCloser, Some(opener)) => {
-            let opener = found_at("", "", text, opener.at.span);
-            write_waiting(alloc, Colours::none(), path, &opener, writer)
-        }
-        (Form::Coloured, Reason::MismatchedCloser, Some(opener)) => {
-            let opener = found_at("", "", text, opener.at.span);
-            write_waiting(alloc, Colours::terminal(), path, &opener, writer)
-        }
+    match form {
+        Form::Long => write_notes(alloc, Colours::none(), path, text, explained, hint, writer),
+        Form::Coloured => write_notes(
+            alloc,
+            Colours::terminal(),
+            path,
+            text,
+            explained,
+            hint,
+            writer,
+        ),
         _ => Ok(()),
     }
 }
 
-// Writes where an opener stands.
+// Writes the same in these colours.
+fn write_notes<W: Write>(
+    alloc: Global,
+    colours: Colours,
+    path: &str,
+    text: &str,
+    explained: &Explained,
+    hint: &Option<Hint>,
+    writer: &mut W,
+) -> io::Result<()>
+    ensures { OnOk result (Appends (W.contents writer.old) (W.contents writer.new)
+        (notes (codes_of colours) path.now (chars text.now) explained.now hint.now)) }
+{
+    write_waiting(alloc, colours, path, text, explained, writer)?;
+    write_hint(alloc, colours, path, text, hint, writer)
+}
+
+// Writes of a closer that doesn't match where the opener stands that waits for another.
 fn write_waiting<W: Write>(
     alloc: Global,
     colours: Colours,
     path: &str,
-    opener: &Finding<'_>,
+    text: &str,
+    explained: &Explained,
     writer: &mut W,
 ) -> io::Result<()>
     ensures { OnOk result (Appends (W.contents writer.old) (W.contents writer.new)
-        (waiting (codes_of colours) path.now (seen opener.now))) }
+        (note_of explained.now.reason (codes_of colours) path.now (chars text.now) explained.now.innermost)) }
+{
+    match (&explained.reason, &explained.innermost) {
+        (Reason::MismatchedCloser, Some(opener)) => write_place(
+            alloc,
+            colours,
+            path,
+            "this opener waits",
+            text,
+            opener.at,
+            writer,
+        ),
+        _ => Ok(()),
+    }
+}
+
+// Writes what helps besides.
+fn write_hint<W: Write>(
+    alloc: Global,
+    colours: Colours,
+    path: &str,
+    text: &str,
+    hint: &Option<Hint>,
+    writer: &mut W,
+) -> io::Result<()>
+    ensures { OnOk result (Appends (W.contents writer.old) (W.contents writer.new)
+        (hint_note (codes_of colours) path.now (chars text.now) hint.now)) }
+{
+    match hint {
+        Some(Hint::Comments { depth, closed }) => write_comments(
+            alloc, colours, path, text, *depth, *closed, writer,
+        ),
+        Some(Hint::Quote(at)) => write_place(
+            alloc,
+            colours,
+            path,
+            "the quote that came nearest to ending it",
+            text,
+            *at,
+            writer,
+        ),
+        None => Ok(()),
+    }
+}
+
+// Writes how many comments are open, and which ended last.
+fn write_comments<W: Write>(
+    alloc: Global,
+    colours: Colours,
+    path: &str,
+    text: &str,
+    depth: usize,
+    closed: Option<Stretch>,
+    writer: &mut W,
+) -> io::Result<()>
+    ensures { OnOk result (Appends (W.contents writer.old) (W.contents writer.new)
+        (depth_note (codes_of colours) depth ++ closed_note (codes_of colours) path.now (chars text.now) closed)) }
+{
+    write_depth(colours, depth, writer)?;
+    write_closed(alloc, colours, path, text, closed, writer)
+}
+
+// Writes how many comments are open, if that is more than one.
+fn write_depth<W: Write>(colours: Colours, depth: usize, writer: &mut W) -> io::Result<()>
+    ensures { OnOk result (Appends (W.contents writer.old) (W.contents writer.new)
+        (depth_note (codes_of colours) depth)) }
+{
+    if depth <= 1 {
+        return Ok(());
+    }
+    let Colours { strong, off, .. } = colours;
+    writeln!(
+        writer,
+        "{strong}note{off}: comments that are open at the end of the text: {depth}"
+    )
+}
+
+// Writes which comment ended last, if one did.
+fn write_closed<W: Write>(
+    alloc: Global,
+    colours: Colours,
+    path: &str,
+    text: &str,
+    closed: Option<Stretch>,
+    writer: &mut W,
+) -> io::Result<()>
+    ensures { OnOk result (Appends (W.contents writer.old) (W.contents writer.new)
+        (closed_note (codes_of colours) path.now (chars text.now) closed)) }
+{
+    match closed {
+        Some(at) => write_place(
+            alloc,
+            colours,
+            path,
+            "the comment in it that ended last",
+            text,
+            at,
+            writer,
+        ),
+        None => Ok(()),
+    }
+}
+
+// Writes what stands at this place.
+fn write_place<W: Write>(
+    alloc: Global,
+    colours: Colours,
+    path: &str,
+    says: &str,
+    text: &str,
+    at: Stretch,
+    writer: &mut W,
+) -> io::Result<()>
+    ensures { OnOk result (Appends (W.contents writer.old) (W.contents writer.new)
+        (noted_at (codes_of colours) path.now says.now (chars text.now) at)) }
 {
     let Colours { strong, off, .. } = colours;
-    writeln!(writer, "{strong}note{off}: this opener waits")?;
-    write_excerpt(alloc, colours, path, opener, writer)
+    writeln!(writer, "{strong}note{off}: {says}")?;
+    let place = found_at("", "", text, at.span);
+    write_excerpt(alloc, colours, path, &place, writer)
 }
 
 // What is found where the span says.

@@ -12,6 +12,7 @@ mod files;
 mod finding;
 mod hidden;
 mod json;
+mod name_forms;
 mod names;
 mod options;
 mod place;
@@ -19,7 +20,6 @@ mod shown;
 mod tally;
 mod told;
 mod turns;
-mod words;
 mod writing;
 
 use files::check_files;

@@ -4,7 +4,8 @@ ghost use Rattle.std.specs.Prelude.{length};
 ghost use Rattle.std.specs.Str.{chars};
 ghost use Rattle.lexical.specs.Found.{LendsText, kind_of};
 ghost use Rattle.rust_check.specs.Message.{seen};
-ghost use Rattle.rust_check.specs.Names.{found_by_kind};
+ghost use Rattle.rust_check.specs.NameForms.{AreFirst};
+ghost use Rattle.rust_check.specs.Names.{found_by_kind, names_after};
 ghost use Rattle.rust_check.specs.Place.{places_after};
 ghost use Rattle.rust_check.specs.Telling.{IsWithin, Tells};
 ghost use Rattle.rust_check.specs.Told.{TellsHidden, TellsPieces, balanced_after, found_at_character, found_in_piece};
@@ -13,6 +14,7 @@ ghost use Rattle.rust_check.specs.Told.{found_one, is_literal, is_spared, name_o
 use crate::ends::{odd, tell_line_ends};
 use crate::finding::{Finding, Place};
 use crate::hidden::{Hidden, hides_as};
+use crate::name_forms::NameForms;
 use crate::names::is_mixed;
 use crate::options::Form;
 use crate::turns::is_balanced;
@@ -54,6 +56,7 @@ fn tell_pieces<W: Write>(
         found.old found.new) }
 {
     let mut place = Place::front();
+    let mut forms = NameForms::new(alloc);
     let mut walk = pieces(text);
     while let Some(next) = walk.next_piece() {
         tell_name(
@@ -63,6 +66,7 @@ fn tell_pieces<W: Write>(
             place,
             next.piece.kind,
             next.text,
+            &mut forms,
             found,
             writer,
         )?;
@@ -73,7 +77,7 @@ fn tell_pieces<W: Write>(
     Ok(())
 }
 
-// Writes a line for what is odd about the piece, if it is a name.
+// Writes a line for what is odd about the piece, if it is a name, and takes that into account.
 fn tell_name<W: Write>(
     alloc: Global,
     form: Form,
@@ -81,13 +85,15 @@ fn tell_name<W: Write>(
     place: Place,
     kind: PieceKind<'_>,
     text: &str,
+    forms: &mut NameForms,
     found: &mut bool,
     writer: &mut W,
 ) -> io::Result<()>
     requires { LendsText kind }
-    ensures { OnOk result ((piece : List ℕ) → Tells form path.now
-        (found_by_kind place (kind_of kind.entry piece) (chars text.now)) (W.contents writer.old)
-        (W.contents writer.new) found.old found.new) }
+    ensures { OnOk result ((piece : List ℕ) (before : List (List ℕ)) → AreFirst forms.old.first before
+        → Tells form path.now (found_by_kind place before (kind_of kind.entry piece) (chars text.now))
+        (W.contents writer.old) (W.contents writer.new) found.old found.new
+        × AreFirst forms.new.first (names_after before (kind_of kind.entry piece))) }
 {
     let PieceKind::Name { name, .. } = kind else {
         return Ok(());
@@ -106,7 +112,15 @@ fn tell_name<W: Write>(
         text,
         place,
     );
-    tell_if(alloc, form, path, is_mixed(name), &finding, found, writer)
+    tell_if(alloc, form, path, is_mixed(name), &finding, found, writer)?;
+    let is_other = forms.take(alloc, name)?;
+    let finding = odd(
+        "name-like-another",
+        "a name that the form NFKC makes one with a name before it",
+        text,
+        place,
+    );
+    tell_if(alloc, form, path, is_other, &finding, found, writer)
 }
 
 // Writes a line for a finding, if it is one.

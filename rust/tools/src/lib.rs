@@ -64,6 +64,7 @@ pub mod rust_check {
     mod finding;
     mod hidden;
     mod json;
+    mod name_forms;
     mod names;
     pub mod options;
     mod place;
@@ -71,7 +72,6 @@ pub mod rust_check {
     mod tally;
     mod told;
     mod turns;
-    mod words;
     mod writing;
 }
 

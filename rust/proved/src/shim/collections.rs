@@ -3,7 +3,9 @@
 use super::alloc::{AllocError, AllocFailed, Global};
 use super::clone::Clone;
 use super::vec::Vec;
+use core::borrow::Borrow;
 use core::fmt;
+use core::hash::Hash;
 use core::ops::RangeBounds;
 use std::collections::btree_map::Range;
 
@@ -30,6 +32,29 @@ impl<K: Ord, V> BTreeMap<K, V> {
 impl<K: fmt::Debug, V: fmt::Debug> fmt::Debug for BTreeMap<K, V> {
     fn fmt(&self, f: &mut fmt::Formatter<'_>) -> fmt::Result {
         self.0.fmt(f)
+    }
+}
+
+/// A map in no order. Contract: it is seen as what it has at each key.
+pub struct HashMap<K, V>(std::collections::HashMap<K, V>);
+
+impl<K: Eq + Hash, V> HashMap<K, V> {
+    /// Contract: no entry, and no memory taken.
+    pub fn new(_: Global) -> HashMap<K, V> {
+        HashMap(std::collections::HashMap::new())
+    }
+
+    /// Contract: the key has the value then, and all others have what they had. It answers what the key had.
+    pub fn insert(&mut self, key: K, value: V) -> Result<Option<V>, AllocFailed<(K, V)>> {
+        Ok(self.0.insert(key, value))
+    }
+
+    /// Contract: what the key has, if it has something.
+    pub fn get<Q: Eq + Hash + ?Sized>(&self, key: &Q) -> Option<&V>
+    where
+        K: Borrow<Q>,
+    {
+        self.0.get(key)
     }
 }
 

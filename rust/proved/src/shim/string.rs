@@ -3,7 +3,9 @@
 use super::alloc::{AllocError, Global};
 use super::clone::Clone;
 use super::vec::Vec;
+use core::borrow::Borrow;
 use core::fmt;
+use core::hash::{Hash, Hasher};
 use core::ops::Deref;
 
 /// A text that grows. Contract: it is seen as its bytes, which are UTF-8.
@@ -111,6 +113,21 @@ impl Clone for String {
 impl PartialEq for String {
     fn eq(&self, other: &String) -> bool {
         self.0 == other.0
+    }
+}
+
+impl Eq for String {}
+
+/// Contract: as the text's own, so that a map finds it by its text.
+impl Hash for String {
+    fn hash<H: Hasher>(&self, state: &mut H) {
+        self.0.hash(state);
+    }
+}
+
+impl Borrow<str> for String {
+    fn borrow(&self) -> &str {
+        &self.0
     }
 }
 

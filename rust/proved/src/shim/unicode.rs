@@ -1,6 +1,6 @@
 //! What the toolchain's proved crates answer about characters, by tables that were made by asking them.
 
-use crate::tables::{CANONICAL, CATEGORY_RUNS, CLASS_RUNS, IDENTIFIER_CONTINUE, IDENTIFIER_START};
+use crate::tables::{CANONICAL, CATEGORY_RUNS, CLASS_RUNS, COMPATIBLE, IDENTIFIER_CONTINUE, IDENTIFIER_START};
 use crate::tables::{PROPERTY_RUNS, SCRIPT_RUNS, WIDTH_RUNS};
 
 /// Whether the code point is in one of the ranges, which are in order.
@@ -145,8 +145,9 @@ pub mod ucd_script {
 
 /// Normal forms.
 pub mod unicode_normalization {
-    use super::{number_in, CANONICAL, CLASS_RUNS};
+    use super::{number_in, CANONICAL, CLASS_RUNS, COMPATIBLE};
     use crate::shim::alloc::{AllocError, Global};
+    use crate::shim::string::String;
 
     // Hangul syllables and their parts, of which there are so many second and third ones.
     const SYLLABLES: u32 = 0xAC00;
@@ -159,25 +160,45 @@ pub mod unicode_normalization {
 
     /// Contract: whether the text is its own form NFC.
     pub fn is_nfc(_: Global, text: &str) -> Result<bool, AllocError> {
-        Ok(text.is_ascii() || composed(&decomposed(text)) == text.chars().map(u32::from).collect::<Vec<_>>())
+        let own = text.chars().map(u32::from);
+        Ok(text.is_ascii() || composed(&decomposed(text, parts)) == own.collect::<Vec<_>>())
+    }
+
+    /// Contract: the text's form NFKC.
+    pub fn to_nfkc(_: Global, text: &str) -> Result<String, AllocError> {
+        let codes = composed(&decomposed(text, wide_parts));
+        Ok(String::from_rust(codes.into_iter().filter_map(char::from_u32).collect()))
     }
 
     fn class(code: u32) -> u8 {
         number_in(&CLASS_RUNS, code)
     }
 
+    /// The parts of a character that decomposes canonically.
+    fn parts(code: u32) -> Option<&'static [u32]> {
+        Some(CANONICAL[CANONICAL.binary_search_by_key(&code, |row| row.0).ok()?].2)
+    }
+
+    /// The same, compatibly too.
+    fn wide_parts(code: u32) -> Option<&'static [u32]> {
+        match COMPATIBLE.binary_search_by_key(&code, |row| row.0) {
+            Ok(index) => Some(COMPATIBLE[index].1),
+            Err(_) => parts(code),
+        }
+    }
+
     /// The text's characters decomposed, those between starters in the order of their classes.
-    fn decomposed(text: &str) -> Vec<u32> {
+    fn decomposed(text: &str, parts: fn(u32) -> Option<&'static [u32]>) -> Vec<u32> {
         let mut out = Vec::new();
         for code in text.chars().map(u32::from) {
-            match CANONICAL.binary_search_by_key(&code, |row| row.0) {
-                Ok(index) => out.extend_from_slice(CANONICAL[index].2),
-                Err(_) if (SYLLABLES..SYLLABLES_END).contains(&code) => {
+            match parts(code) {
+                Some(parts) => out.extend_from_slice(parts),
+                None if (SYLLABLES..SYLLABLES_END).contains(&code) => {
                     let index = code - SYLLABLES;
                     out.extend([FIRSTS + index / THIRD / SECOND, SECONDS + index / THIRD % SECOND]);
                     out.extend(Some(THIRDS + index % THIRD).filter(|third| *third != THIRDS));
                 }
-                Err(_) => out.push(code),
+                None => out.push(code),
             }
         }
         for run in out.split_mut(|code| class(*code) == 0) {
@@ -285,9 +306,9 @@ mod tests {
     use super::unicode_ident::{is_xid_continue, is_xid_start};
     use super::unicode_width::UnicodeWidthChar;
     use super::ucd_script::Script;
-    use super::unicode_normalization::is_nfc;
+    use super::unicode_normalization::{is_nfc, to_nfkc};
     use super::{has, is_within, CANONICAL, CATEGORY_RUNS, CLASS_RUNS, IDENTIFIER_CONTINUE, IDENTIFIER_START};
-    use super::{PROPERTY_RUNS, SCRIPT_RUNS, WIDTH_RUNS};
+    use super::{COMPATIBLE, PROPERTY_RUNS, SCRIPT_RUNS, WIDTH_RUNS};
     use crate::shim::alloc::Global;
 
     #[test]
@@ -312,6 +333,7 @@ mod tests {
             assert!(runs.windows(2).all(|pair| pair[0].0 < pair[1].0 && pair[0].1 != pair[1].1));
         }
         assert!(CANONICAL.windows(2).all(|pair| pair[0].0 < pair[1].0));
+        assert!(COMPATIBLE.windows(2).all(|pair| pair[0].0 < pair[1].0));
     }
 
     #[test]
@@ -330,6 +352,25 @@ mod tests {
             "\u{958}x",
         ] {
             assert_eq!(is_nfc(Global, text).ok(), Some(false), "{text:?}");
+        }
+    }
+
+    #[test]
+    fn texts_have_the_form_nfkc() {
+        for (text, form) in [
+            ("", ""),
+            ("aB1", "aB1"),
+            ("\u{ff41}", "a"),
+            ("\u{fb01}x", "fix"),
+            ("e\u{301}", "\u{e9}"),
+            ("\u{212b}", "\u{c5}"),
+            ("\u{1d400}\u{b2}", "A2"),
+            ("\u{ff76}\u{ff9e}", "\u{30ac}"),
+            ("\u{3131}\u{314f}", "\u{ac00}"),
+            ("\u{1e9b}\u{323}", "\u{1e69}"),
+            ("\u{fdfb}", "\u{62c}\u{644} \u{62c}\u{644}\u{627}\u{644}\u{647}"),
+        ] {
+            assert_eq!(to_nfkc(Global, text).ok().map(|it| it.into_rust()), Some(form.to_string()), "{text:?}");
         }
     }
 

@@ -6,9 +6,8 @@ use crate::rust_check::finding::{Finding, Place};
 use crate::rust_check::options::Form;
 use crate::rust_check::place::{byte_count, last_line, split_chars};
 use crate::rust_check::told::tell_hidden;
-use crate::rust_check::words::{name_of, sentence_of};
 use crate::rust_check::writing::{write_excerpt, write_message};
-use proved::explain::{ExplainError, Explained, Reason, explain};
+use proved::explain::{ExplainError, Explained, Hint, Reason, Stretch, advice, explain};
 use crate::messages::Failure;
 use proved::pm_span::Span;
 use proved::pm_span::parts::{bounds, char_count};
@@ -48,7 +47,8 @@ fn check_text<W: Write>(
     match explain(alloc, text) {
         Ok(None) => Ok(false),
         Ok(Some(explained)) => {
-            write_fault(alloc, form, path, text, &explained, writer)?;
+            let hint = advice(alloc, text, &explained)?;
+            write_fault(alloc, form, path, text, &explained, &hint, writer)?;
             Ok(true)
         }
         Err(ExplainError::MapFull) => Err(Failure::MapFull),
@@ -59,60 +59,184 @@ fn check_text<W: Write>(
 // The fault of the text.
 fn fault<'a>(text: &'a str, explained: &Explained) -> Finding<'a>
 {
-    let name = name_of(&explained.reason);
-    let says = sentence_of(&explained.reason);
-    found_at(name, says, text, explained.at.span)
+    let reason = &explained.reason;
+    found_at(reason.name(), reason.message(), text, explained.at.span)
 }
 
-// Writes what is said of the fault.
+// Writes what is said of the fault, and what helps besides.
 fn write_fault<W: Write>(
     alloc: Global,
     form: Form,
     path: &str,
     text: &str,
     explained: &Explained,
+    hint: &Option<Hint>,
     writer: &mut W,
 ) -> io::Result<()>
 {
     write_message(alloc, form, path, &fault(text, explained), writer)?;
-    write_note(alloc, form, path, text, explained, writer)
+    write_note(alloc, form, path, text, explained, hint, writer)
 }
 
-// Writes what is said below the fault: of a closer that doesn't match, where the opener stands that waits for another.
+// Writes what is said below the fault.
 fn write_note<W: Write>(
     alloc: Global,
     form: Form,
     path: &str,
     text: &str,
     explained: &Explained,
+    hint: &Option<Hint>,
     writer: &mut W,
 ) -> io::Result<()>
 {
-    match (form, &explained.reason, &explained.innermost) {
-        (Form::Long, Reason::MismatchedCloser, Some(opener)) => {
-            let opener = found_at("", "", text, opener.at.span);
-            write_waiting(alloc, Colours::none(), path, &opener, writer)
-        }
-        (Form::Coloured, Reason::MismatchedCloser, Some(opener)) => {
-            let opener = found_at("", "", text, opener.at.span);
-            write_waiting(alloc, Colours::terminal(), path, &opener, writer)
-        }
+    match form {
+        Form::Long => write_notes(alloc, Colours::none(), path, text, explained, hint, writer),
+        Form::Coloured => write_notes(
+            alloc,
+            Colours::terminal(),
+            path,
+            text,
+            explained,
+            hint,
+            writer,
+        ),
         _ => Ok(()),
     }
 }
 
-// Writes where an opener stands.
+// Writes the same in these colours.
+fn write_notes<W: Write>(
+    alloc: Global,
+    colours: Colours,
+    path: &str,
+    text: &str,
+    explained: &Explained,
+    hint: &Option<Hint>,
+    writer: &mut W,
+) -> io::Result<()>
+{
+    write_waiting(alloc, colours, path, text, explained, writer)?;
+    write_hint(alloc, colours, path, text, hint, writer)
+}
+
+// Writes of a closer that doesn't match where the opener stands that waits for another.
 fn write_waiting<W: Write>(
     alloc: Global,
     colours: Colours,
     path: &str,
-    opener: &Finding<'_>,
+    text: &str,
+    explained: &Explained,
+    writer: &mut W,
+) -> io::Result<()>
+{
+    match (&explained.reason, &explained.innermost) {
+        (Reason::MismatchedCloser, Some(opener)) => write_place(
+            alloc,
+            colours,
+            path,
+            "this opener waits",
+            text,
+            opener.at,
+            writer,
+        ),
+        _ => Ok(()),
+    }
+}
+
+// Writes what helps besides.
+fn write_hint<W: Write>(
+    alloc: Global,
+    colours: Colours,
+    path: &str,
+    text: &str,
+    hint: &Option<Hint>,
+    writer: &mut W,
+) -> io::Result<()>
+{
+    match hint {
+        Some(Hint::Comments { depth, closed }) => write_comments(
+            alloc, colours, path, text, *depth, *closed, writer,
+        ),
+        Some(Hint::Quote(at)) => write_place(
+            alloc,
+            colours,
+            path,
+            "the quote that came nearest to ending it",
+            text,
+            *at,
+            writer,
+        ),
+        None => Ok(()),
+    }
+}
+
+// Writes how many comments are open, and which ended last.
+fn write_comments<W: Write>(
+    alloc: Global,
+    colours: Colours,
+    path: &str,
+    text: &str,
+    depth: usize,
+    closed: Option<Stretch>,
+    writer: &mut W,
+) -> io::Result<()>
+{
+    write_depth(colours, depth, writer)?;
+    write_closed(alloc, colours, path, text, closed, writer)
+}
+
+// Writes how many comments are open, if that is more than one.
+fn write_depth<W: Write>(colours: Colours, depth: usize, writer: &mut W) -> io::Result<()>
+{
+    if depth <= 1 {
+        return Ok(());
+    }
+    let Colours { strong, off, .. } = colours;
+    writeln!(
+        writer,
+        "{strong}note{off}: comments that are open at the end of the text: {depth}"
+    )
+}
+
+// Writes which comment ended last, if one did.
+fn write_closed<W: Write>(
+    alloc: Global,
+    colours: Colours,
+    path: &str,
+    text: &str,
+    closed: Option<Stretch>,
+    writer: &mut W,
+) -> io::Result<()>
+{
+    match closed {
+        Some(at) => write_place(
+            alloc,
+            colours,
+            path,
+            "the comment in it that ended last",
+            text,
+            at,
+            writer,
+        ),
+        None => Ok(()),
+    }
+}
+
+// Writes what stands at this place.
+fn write_place<W: Write>(
+    alloc: Global,
+    colours: Colours,
+    path: &str,
+    says: &str,
+    text: &str,
+    at: Stretch,
     writer: &mut W,
 ) -> io::Result<()>
 {
     let Colours { strong, off, .. } = colours;
-    writeln!(writer, "{strong}note{off}: this opener waits")?;
-    write_excerpt(alloc, colours, path, opener, writer)
+    writeln!(writer, "{strong}note{off}: {says}")?;
+    let place = found_at("", "", text, at.span);
+    write_excerpt(alloc, colours, path, &place, writer)
 }
 
 // What is found where the span says.

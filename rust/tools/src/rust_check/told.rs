@@ -4,6 +4,7 @@
 use crate::rust_check::ends::{odd, tell_line_ends};
 use crate::rust_check::finding::{Finding, Place};
 use crate::rust_check::hidden::{Hidden, hides_as};
+use crate::rust_check::name_forms::NameForms;
 use crate::rust_check::names::is_mixed;
 use crate::rust_check::options::Form;
 use crate::rust_check::turns::is_balanced;
@@ -41,6 +42,7 @@ fn tell_pieces<W: Write>(
 ) -> io::Result<()>
 {
     let mut place = Place::front();
+    let mut forms = NameForms::new(alloc);
     let mut walk = pieces(text);
     while let Some(next) = walk.next_piece() {
         tell_name(
@@ -50,6 +52,7 @@ fn tell_pieces<W: Write>(
             place,
             next.piece.kind,
             next.text,
+            &mut forms,
             found,
             writer,
         )?;
@@ -60,7 +63,7 @@ fn tell_pieces<W: Write>(
     Ok(())
 }
 
-// Writes a line for what is odd about the piece, if it is a name.
+// Writes a line for what is odd about the piece, if it is a name, and takes that into account.
 fn tell_name<W: Write>(
     alloc: Global,
     form: Form,
@@ -68,6 +71,7 @@ fn tell_name<W: Write>(
     place: Place,
     kind: PieceKind<'_>,
     text: &str,
+    forms: &mut NameForms,
     found: &mut bool,
     writer: &mut W,
 ) -> io::Result<()>
@@ -89,7 +93,15 @@ fn tell_name<W: Write>(
         text,
         place,
     );
-    tell_if(alloc, form, path, is_mixed(name), &finding, found, writer)
+    tell_if(alloc, form, path, is_mixed(name), &finding, found, writer)?;
+    let is_other = forms.take(alloc, name)?;
+    let finding = odd(
+        "name-like-another",
+        "a name that the form NFKC makes one with a name before it",
+        text,
+        place,
+    );
+    tell_if(alloc, form, path, is_other, &finding, found, writer)
 }
 
 // Writes a line for a finding, if it is one.

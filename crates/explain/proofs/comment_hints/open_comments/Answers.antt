@@ -1,6 +1,7 @@
 use Rattle.std.proofs.Common.{◌∙◌, rules, subst}
 use Rattle.explain.specs.HintWalk.{IsSign}
-use Rattle.explain.proofs.OpenCommentLemmas.{walk_begins, walk_closes, walk_ends, walk_has_open, walk_opens, walk_passes}
+use Rattle.explain.proofs.OpenCommentLemmas.{walk_begins, walk_closes, walk_ends, walk_has_open, walk_opens}
+use Rattle.explain.proofs.OpenCommentLemmas.{walk_passes}
 use Rattle.explain.proofs.comment_hints.open_comments.Goals as goal
 
 pub loop-sign-init : goal.loop-sign-init

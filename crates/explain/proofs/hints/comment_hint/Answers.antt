@@ -35,8 +35,8 @@ between-requires-clause-from c =
     let same = ap chars (c.new-start.ensures.rest ∙ c.range_from.ensures.value)
     ∙ seam_drop c.args.text.now is.0 (codes "/*" ++ is.1) c.args.at.start c.utf8.text is.2 is.3.start in (
       is.0 ++ told.1.before.part,
-      whole_past (chars c.args.text.now) (codes "/*" ++ is.1) (chars c.in-Some.from.rest.now) is.0 told.1.before.part is.2
-          (sym same ∙ told.1.before.whole),
+      whole_past (chars c.args.text.now) (codes "/*" ++ is.1) (chars c.in-Some.from.rest.now) is.0 told.1.before.part
+          is.2 (sym same ∙ told.1.before.whole),
     )
 
 pub between-requires-clause-to : goal.between-requires-clause-to

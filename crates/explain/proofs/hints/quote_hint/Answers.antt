@@ -10,14 +10,16 @@ use Rattle.explain.proofs.hints.quote_hint.Goals as goal
 pub range_from-requires : goal.range_from-requires
 range_from-requires c =
     let is = c.requires.stands in
-    λ _. seam_boundary c.args.text.now (is.1 ++ is.2) is.3 c.args.at.end c.utf8.text (past_opening _ is.1 is.2 is.3 is.4) is.6.end
+    λ _. seam_boundary c.args.text.now (is.1 ++ is.2) is.3 c.args.at.end c.utf8.text
+    (past_opening _ is.1 is.2 is.3 is.4) is.6.end
 
 pub between-requires-clause-from : goal.between-requires-clause-from
 between-requires-clause-from c =
     let is = c.requires.stands in
     let told = c.in_ok-from.ensures in
     let same = ap chars (c.new-inside.ensures.rest ∙ c.range_from.ensures.value)
-    ∙ seam_drop c.args.text.now (is.1 ++ is.2) is.3 c.args.at.end c.utf8.text (past_opening _ is.1 is.2 is.3 is.4) is.6.end in (
+    ∙ seam_drop c.args.text.now (is.1 ++ is.2) is.3 c.args.at.end c.utf8.text
+    (past_opening _ is.1 is.2 is.3 is.4) is.6.end in (
       (is.1 ++ is.2) ++ told.before.part,
       whole_past (chars c.args.text.now) is.3 (chars c.in_ok-from.from.rest.now) (is.1 ++ is.2) told.before.part
           (past_opening _ is.1 is.2 is.3 is.4) (sym same ∙ told.before.whole),
@@ -33,7 +35,8 @@ between-requires-clause-room c =
     let is = c.requires.stands in
     let told = c.in_ok-from.ensures in
     let same = ap chars (c.new-inside.ensures.rest ∙ c.range_from.ensures.value)
-    ∙ seam_drop c.args.text.now (is.1 ++ is.2) is.3 c.args.at.end c.utf8.text (past_opening _ is.1 is.2 is.3 is.4) is.6.end in
+    ∙ seam_drop c.args.text.now (is.1 ++ is.2) is.3 c.args.at.end c.utf8.text
+    (past_opening _ is.1 is.2 is.3 is.4) is.6.end in
     omega (
       arith,
       c.requires.fits,

@@ -14,6 +14,8 @@ loop-next-init g c =
       within = rw place within_front;
       begin = rw (place, walk.rest) (omega arith);
       done = [];
+      before = [];
+      names = c.new-forms.ensures;
       told = tells_none _ _ _ _;
       goes = λ more rest left.
           front_on _ _ (chars c.args.text.now) _ more rest walk.front (ap chars walk.rest) place left;
@@ -25,6 +27,7 @@ loop-next-preserved g c =
     let step = c.in-Some.ensures.found in
     let next = c.in-Some.next in
     let piece = c.in_ok-place.ensures in
+    let named = c.in_ok-tell_name.ensures (chars next.text.now) so.before so.names in
     record {
       within = piece.within;
       begin = omega (
@@ -35,10 +38,12 @@ loop-next-preserved g c =
         length-append next.text.now c.next_piece.new.self.rest.now,
       );
       done = _;
+      before = _;
+      names = named.1;
       told = tells_more _ _ _ _ _ _ _ _ _ _ so.told
-          (tells_more _ _ _ _ _ _ _ _ _ _ (c.in_ok-tell_name.ensures (chars next.text.now)) piece.told);
+          (tells_more _ _ _ _ _ _ _ _ _ _ named.0 piece.told);
       goes = λ more rest left.
-          piece_on _ _ _ (chars c.args.text.now) _ _ _ _ more rest step
+          piece_on _ _ _ so.before (chars c.args.text.now) _ _ _ _ more rest step
           (c.is_literal-literal.ensures (chars next.text.now))
           piece.place so.goes left;
     }
