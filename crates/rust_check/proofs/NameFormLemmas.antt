@@ -1,13 +1,11 @@
 -- The first name of each form, with one name more.
-use Rattle.std.proofs.Common.{◌≡◌, ◌∙◌, ℕ, Bool, true, false, not, List, [], ◌∷◌, Option, Some, None, nat_eq, refl, sym}
+use Rattle.std.proofs.Common.{◌≡◌, ◌∙◌, ℕ, Bool, true, false, not, List, ◌∷◌, Option, Some, None, refl, sym}
 use Rattle.std.proofs.Common.{ap, subst, bytes_eq, string_bytes, String}
-use Rattle.std.specs.HashMap.{HashMap, UpdatesBy, get_by_text}
+use Rattle.std.specs.HashMap.{HashMap, get_by_text}
 use Rattle.std.specs.Map.{update}
 use Rattle.std.specs.Str.{encode_utf8_all}
-use Rattle.std.specs.String.{string_eq}
 use Rattle.std.proofs.lemmas.Bool.{cond-false, cond-true}
 use Rattle.std.proofs.lemmas.Bool.Decides.{same_from_decides}
-use Rattle.std.proofs.lemmas.Map.Text.{hash_map_updates_text}
 use Rattle.std.proofs.lemmas.Slice.Eq.{bytes_eq-Decides}
 use Rattle.std.proofs.lemmas.Str.{encodes_same}
 use Rattle.unicode_normalization.specs.Forms.{nfkc}

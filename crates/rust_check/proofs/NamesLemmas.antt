@@ -73,7 +73,8 @@ name_told form path place name text good apart other first second third names ol
     ap (λ b. if b then second ∷ [] else []) parts ∙ ap (λ x. if is_mixed name then x ∷ [] else []) two in
     let last : (if other then third ∷ [] else [])
     ≡ (if is_other name names
-    then odd (codes "name-like-another") (codes "a name that the form NFKC makes one with a name before it") text place ∷ []
+    then odd (codes "name-like-another") (codes "a name that the form NFKC makes one with a name before it") text
+    place ∷ []
     else []) =
     ap (λ b. if b then third ∷ [] else []) likes ∙ ap (λ x. if is_other name names then x ∷ [] else []) three in
     tells_more form path _ _ old between new before so_far after

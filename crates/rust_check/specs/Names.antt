@@ -74,7 +74,8 @@ found_in_name place before name text =
     then odd (codes "name-of-mixed-scripts") (codes "a name of scripts that are not written together") text place ∷ []
     else [])
     ++ (if is_other name before
-    then odd (codes "name-like-another") (codes "a name that the form NFKC makes one with a name before it") text place ∷ []
+    then odd (codes "name-like-another") (codes "a name that the form NFKC makes one with a name before it") text
+    place ∷ []
     else []))
 
 -- a piece of this kind

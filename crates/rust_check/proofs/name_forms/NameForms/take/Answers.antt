@@ -1,8 +1,7 @@
-use Rattle.std.proofs.Common.{◌≡◌, ◌∙◌, ℕ, List, Some, None, ap, bytes_eq, not, subst, sym, string_bytes}
-use Rattle.std.specs.HashMap.{UpdatesBy, get_by_text}
+use Rattle.std.proofs.Common.{◌≡◌, ◌∙◌, Some, ap, bytes_eq, not, subst, sym, string_bytes}
+use Rattle.std.specs.HashMap.{get_by_text}
 use Rattle.std.specs.Map.{update}
 use Rattle.std.specs.Str.{chars, encode_utf8_all}
-use Rattle.std.specs.String.{string_eq}
 use Rattle.std.proofs.lemmas.Map.Text.{hash_map_updates_text}
 use Rattle.std.proofs.lemmas.Str.{encodes-chars}
 use Rattle.rust_check.proofs.NameFormLemmas.{new_told, other_told}
