@@ -4,8 +4,8 @@
 Usage: bench/searches.py SOURCES [NAME..]
        FIND_CALLS=PROGRAM bench/searches.py SOURCES [NAME..]
 SOURCES is a folder of Rust files. For each NAME (else `new`, `unwrap`, `clone`, `parse`) it tells the least of 25 runs
-in turn, of `find_calls NAME` and of `grep -nE 'NAME *\\('`, which finds calls in comments and literals too. The program is
-crates/find_calls, as `rt run` builds it, or PROGRAM, as the one of rust/tools.
+in turn, of `find_calls NAME` and of `grep -nE 'NAME *\\('`, which finds calls in comments and literals too. The program
+is crates/find_calls, as `rt run` builds it, or PROGRAM, as the one of rust/tools.
 """
 import os
 import pathlib
