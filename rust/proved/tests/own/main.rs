@@ -1,14 +1,12 @@
 //! The library's own tests, erased as the library is.
 #![allow(clippy::all, dead_code, unreachable_code, unused_imports, unused_variables)]
 
-#[cfg(all(
-    feature = "declarations",
-    feature = "explain",
-    feature = "layout",
-    feature = "quoting",
-    feature = "token_buffer"
-))]
-mod extra_tests;
+#[cfg(all(feature = "token_buffer", feature = "explain"))]
+mod buffer_tests;
+#[cfg(feature = "declarations")]
+mod declarations_tests;
+#[cfg(feature = "quoting")]
+mod quoting_tests;
 mod shim;
 mod stream_tests;
 mod token_tests;

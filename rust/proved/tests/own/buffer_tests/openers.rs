@@ -1,4 +1,4 @@
-// Made from crates/extra_tests/src/openers.rt by rust/erase: change that file, not this one.
+// Made from crates/buffer_tests/src/openers.rt by rust/erase: change that file, not this one.
 //! Where the openers stand that `explain` tells.
 
 use crate::shim::prelude::{AllocGlobal, HostRuntime, String, format};

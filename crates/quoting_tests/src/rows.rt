@@ -1,16 +1,13 @@
-// Made from crates/extra_tests/src/quotes.rt by rust/erase: change that file, not this one.
-
-use crate::shim::prelude::{AllocGlobal, HostRuntime, String, format};
-
 // What comes out of trees of each kind. What is printed is parsed again and compared.
-use crate::extra_tests::checks::{comes_back, parsed};
-use crate::extra_tests::trees::{Inner, Leaf, Tree, quoted};
-use proved::proc_macro2::{Delimiter, Group, ParseError, Punct, Spacing, Span, TokenStream, TokenTree};
-use proved::quoting::{Quote, QuoteError, TemplateError};
-use crate::shim::alloc::{AllocError, Global};
-use crate::shim::fmt::{Debug, Display};
-use crate::shim::process::Abort;
-use crate::shim::test::Fail;
+use crate::trees::{Inner, Leaf, Tree, quoted};
+use proc_macro2::{
+    Delimiter, Group, ParseError, Punct, SourceMap, Spacing, Span, TokenStream, TokenTree,
+};
+use quoting::{Quote, QuoteError, TemplateError};
+use std::alloc::{AllocError, Global};
+use std::fmt::{Debug, Display};
+use std::process::Abort;
+use std::test::Fail;
 
 /// Trees, and what the quote of them is printed as. The first ones are the uses that the README shows.
 const PRINTED: &[(&[Tree], &str)] = &[
@@ -123,6 +120,12 @@ const NESTED: &[Tree] = &[
     ),
 ];
 
+/// Whether the text parses to the same tokens as the stream.
+fn comes_back(alloc: Global, stream: &TokenStream, text: &str) -> Result<bool, ParseError> {
+    let back = TokenStream::from_str(text, &mut SourceMap::new(alloc))?;
+    Ok(stream.same_tokens(&back))
+}
+
 /// Asserts what the stream is printed as, and that it comes back.
 fn check_stream(
     rt: &(impl Abort + AllocGlobal),
@@ -130,8 +133,9 @@ fn check_stream(
     want: &str,
 ) -> Result<(), ParseError> {
     let text = format!(in rt.alloc(); "{stream}")?;
-    assert_eq!(text.as_str(), want);
-    assert!(comes_back(rt.alloc(), stream, text.as_str())?,
+    assert_eq!(rt; text.as_str(), want);
+    assert!(rt;
+        comes_back(rt.alloc(), stream, text.as_str())?,
         "of {want:?}"
     );
     Ok(())
@@ -158,16 +162,15 @@ fn check_refused(
 ) -> Result<(), Fail> {
     let quote = quoted(rt, trees)?;
     match quote.finish() {
-        Err(QuoteError::LoneQuote) => assert!(is_lone_quote),
-        Err(QuoteError::NoneGroup) => assert!(!is_lone_quote),
-        _ => assert!(false),
+        Err(QuoteError::LoneQuote) => assert!(rt; is_lone_quote),
+        Err(QuoteError::NoneGroup) => assert!(rt; !is_lone_quote),
+        _ => assert!(rt; false),
     }
     Ok(())
 }
 
 #[test]
-fn trees_are_printed_so_that_they_come_back() -> Result<(), Fail> {
-    let rt = HostRuntime;
+fn trees_are_printed_so_that_they_come_back(rt: HostRuntime) -> Result<(), Fail> {
     for &(trees, want) in PRINTED {
         check_printed(&rt, trees, want)?;
     }
@@ -175,8 +178,7 @@ fn trees_are_printed_so_that_they_come_back() -> Result<(), Fail> {
 }
 
 #[test]
-fn what_no_spacing_mends_is_told() -> Result<(), Fail> {
-    let rt = HostRuntime;
+fn what_no_spacing_mends_is_told(rt: HostRuntime) -> Result<(), Fail> {
     for &(trees, is_lone_quote) in REFUSED {
         check_refused(&rt, trees, is_lone_quote)?;
     }
@@ -190,19 +192,17 @@ fn shown(rt: &(impl Abort + AllocGlobal), trees: &[Tree]) -> Result<String, Fail
 }
 
 #[test]
-fn the_last_mark_is_alone_and_others_stay_joint() -> Result<(), Fail> {
-    let rt = HostRuntime;
+fn the_last_mark_is_alone_and_others_stay_joint(rt: HostRuntime) -> Result<(), Fail> {
     let colons = &[Tree::One(Leaf::Joint(':')), Tree::One(Leaf::Joint(':'))];
     let shown = shown(&rt, colons)?;
     let want =
         "TokenStream [Punct { char: ':', spacing: Joint }, Punct { char: ':', spacing: Alone }]";
-    assert_eq!(shown.as_str(), want);
+    assert_eq!(rt; shown.as_str(), want);
     Ok(())
 }
 
 #[test]
-fn marks_in_groups_are_respaced_and_the_quote_stays() -> Result<(), Fail> {
-    let rt = HostRuntime;
+fn marks_in_groups_are_respaced_and_the_quote_stays(rt: HostRuntime) -> Result<(), Fail> {
     let quote = quoted(&rt, NESTED)?;
     for _ in 0..2 {
         check_quote(&rt, &quote, "a { (b) [+] -> }")?;
@@ -229,10 +229,9 @@ pub fn quote_of(alloc: Global, stream: TokenStream) -> Result<Quote, Fail> {
 }
 
 #[test]
-fn deep_groups_are_respaced_without_a_deep_stack() -> Result<(), Fail> {
-    let rt = HostRuntime;
+fn deep_groups_are_respaced_without_a_deep_stack(rt: HostRuntime) -> Result<(), Fail> {
     let quote = quote_of(rt.alloc(), deep_groups(rt.alloc(), 100_000)?)?;
-    assert!(quote.finish()?.is_well_spaced());
+    assert!(rt; quote.finish()?.is_well_spaced());
     Ok(())
 }
 
@@ -243,7 +242,7 @@ fn says<T: Display>(
     want: &str,
 ) -> Result<(), AllocError> {
     let text = format!(in rt.alloc(); "{error}")?;
-    assert_eq!(text.as_str(), want);
+    assert_eq!(rt; text.as_str(), want);
     Ok(())
 }
 
@@ -254,13 +253,12 @@ fn shows<T: Debug>(
     want: &str,
 ) -> Result<(), AllocError> {
     let text = format!(in rt.alloc(); "{error:?}")?;
-    assert_eq!(text.as_str(), want);
+    assert_eq!(rt; text.as_str(), want);
     Ok(())
 }
 
 #[test]
-fn errors_say_why() -> Result<(), AllocError> {
-    let rt = HostRuntime;
+fn errors_say_why(rt: HostRuntime) -> Result<(), AllocError> {
     says(&rt, &QuoteError::NoneGroup, "a group has no delimiters")?;
     shows(&rt, &QuoteError::LoneQuote, "LoneQuote")?;
     let no_hole = TemplateError::NoHole(Span::call_site());
@@ -272,32 +270,30 @@ fn errors_say_why() -> Result<(), AllocError> {
 /// Adds a mark that is Joint, so that it is made Alone, and a group of a name to the quote.
 fn push_pair(rt: &(impl Abort + AllocGlobal), quote: &mut Quote) -> Result<(), Fail> {
     quote.push(TokenTree::Punct(Punct::new('+', Spacing::Joint)))?;
-    let name = parsed(rt.alloc(), "x")?;
+    let name = TokenStream::from_str("x", &mut SourceMap::new(rt.alloc()))?;
     quote.push(TokenTree::Group(Group::new(Delimiter::Parenthesis, name)))?;
     Ok(())
 }
 
 #[test]
-fn forty_thousand_trees_are_finished() -> Result<(), Fail> {
-    let rt = HostRuntime;
+fn forty_thousand_trees_are_finished(rt: HostRuntime) -> Result<(), Fail> {
     let mut quote = Quote::new(rt.alloc());
     for _ in 0..20_000 {
         push_pair(&rt, &mut quote)?;
     }
     let stream = quote.finish()?;
-    assert_eq!(stream.trees().len(), 40_000);
-    assert!(stream.is_well_spaced());
+    assert_eq!(rt; stream.trees().len(), 40_000);
+    assert!(rt; stream.is_well_spaced());
     Ok(())
 }
 
 #[test]
-fn the_trees_of_a_text_go_between_others() -> Result<(), Fail> {
-    let rt = HostRuntime;
+fn the_trees_of_a_text_go_between_others(rt: HostRuntime) -> Result<(), Fail> {
     let mut quote = quoted(
         &rt,
         &[Tree::One(Leaf::Name("x")), Tree::One(Leaf::Alone(':'))],
     )?;
-    let kind = parsed(rt.alloc(), "std::vec::Vec<u8>")?;
+    let kind = TokenStream::from_str("std::vec::Vec<u8>", &mut SourceMap::new(rt.alloc()))?;
     quote.push_stream(kind)?;
     quote.push(TokenTree::Punct(Punct::new(',', Spacing::Joint)))?;
     check_quote(&rt, &quote, "x : std :: vec :: Vec < u8 > ,")

@@ -1,13 +1,8 @@
-// Made from crates/extra_tests/src/tightest_texts.rt by rust/erase: change that file, not this one.
-
-use crate::shim::prelude::{AllocGlobal, HostRuntime};
-
 // The tightest texts of short streams: where neighbours have to stay apart, and where they may touch.
-use crate::extra_tests::checks::{comes_back, parsed};
-use crate::extra_tests::choosers::{Always, laid_out};
-use proved::layout::Gap;
-use crate::shim::process::Abort;
-use crate::shim::test::Fail;
+use crate::choosers::{Always, laid_out, stream_of};
+use layout::Gap;
+use std::process::Abort;
+use std::test::Fail;
 
 /// A source, and its text with no gap but where one has to stand.
 const TIGHTEST: &[(&str, &str)] = &[
@@ -47,17 +42,16 @@ const TIGHTEST: &[(&str, &str)] = &[
 
 /// Asserts the tightest text of the source's stream, and that it comes back.
 fn check_tightest(rt: &(impl Abort + AllocGlobal), source: &str, want: &str) -> Result<(), Fail> {
-    let stream = parsed(rt.alloc(), source)?;
+    let stream = stream_of(rt, source)?;
     let text = laid_out(rt, &stream, &mut Always(Gap::Nothing))?;
-    assert_eq!(text.as_str(), want, "of {source}");
-    let back = comes_back(rt.alloc(), &stream, want)?;
-    assert!(back, "of {source}");
+    assert_eq!(rt; text.as_str(), want, "of {source}");
+    let back = stream_of(rt, want)?;
+    assert!(rt; stream.same_tokens(&back), "of {source}");
     Ok(())
 }
 
 #[test]
-fn tightest_texts() -> Result<(), Fail> {
-    let rt = HostRuntime;
+fn tightest_texts(rt: HostRuntime) -> Result<(), Fail> {
     for &(source, want) in TIGHTEST {
         check_tightest(&rt, source, want)?;
     }

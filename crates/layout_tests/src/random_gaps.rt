@@ -1,9 +1,9 @@
 // Random streams, each with the tightest, the loosest and random gaps: all its texts come back.
-use crate::checks::{comes_back, parsed};
-use crate::choosers::{Always, laid_out};
-use crate::random::Random;
+ghost use Rattle.std.specs.Prelude.{◌<◌, length};
+
+use crate::choosers::{Always, laid_out, stream_of};
 use layout::{Chooser, Gap, Place};
-use proc_macro2::TokenStream;
+use proc_macro2::{SourceMap, TokenStream};
 use std::alloc::{AllocError, Global};
 use std::process::Abort;
 use std::test::Fail;
@@ -21,13 +21,40 @@ const PIECES: &[&str] = &[
     "[", "]", "{", "}", " ", " ", " ", "\n",
 ];
 
-/// A text of up to 12 pieces.
-fn random_text(alloc: Global, random: &mut Random) -> Result<String, AllocError> {
-    let mut text = String::new(alloc);
-    for _ in 0..random.below(13) {
-        text.push_str(random.one_of(PIECES))?;
+/// A source of random numbers, which chooses gaps at random.
+#[derive(Drop)]
+struct Random {
+    /// The last number, which isn't 0.
+    state: u64,
+}
+
+impl Random {
+    /// A text of up to 12 pieces.
+    fn text(&mut self, alloc: Global) -> Result<String, AllocError> {
+        let mut text = String::new(alloc);
+        for _ in 0..self.below(13) {
+            text.push_str(self.one_of(PIECES))?;
+        }
+        Ok(text)
     }
-    Ok(text)
+
+    /// One of these values, of which there are some.
+    fn one_of<T: Copy>(&mut self, values: &[T]) -> T
+        requires { 0 < length values.now }
+    {
+        values[self.below(values.len() as u64) as usize]
+    }
+
+    /// A number below the bound, which isn't 0.
+    fn below(&mut self, bound: u64) -> u64
+        requires { 0 < bound }
+        ensures { result < bound }
+    {
+        self.state ^= self.state << 13;
+        self.state ^= self.state >> 7;
+        self.state ^= self.state << 17;
+        self.state % bound
+    }
 }
 
 impl Chooser for Random {
@@ -47,8 +74,8 @@ fn check<C: Chooser>(
     chooser: &mut C,
 ) -> Result<(), Fail> {
     let text = laid_out(rt, stream, chooser)?;
-    let back = comes_back(rt.alloc(), stream, text.as_str())?;
-    assert!(rt; back, "{text}");
+    let back = stream_of(rt, text.as_str())?;
+    assert!(rt; stream.same_tokens(&back), "{text}");
     Ok(())
 }
 
@@ -66,8 +93,8 @@ fn check_gaps(
 
 /// Makes a text, and asserts so of its stream if it parses. Answers whether it does.
 fn check_text(rt: &(impl Abort + AllocGlobal), random: &mut Random) -> Result<bool, Fail> {
-    let text = random_text(rt.alloc(), random)?;
-    match parsed(rt.alloc(), text.as_str()) {
+    let text = random.text(rt.alloc())?;
+    match TokenStream::from_str(text.as_str(), &mut SourceMap::new(rt.alloc())) {
         Ok(stream) => {
             check_gaps(rt, &stream, random)?;
             Ok(true)

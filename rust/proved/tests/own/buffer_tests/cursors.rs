@@ -1,4 +1,4 @@
-// Made from crates/extra_tests/src/cursors.rt by rust/erase: change that file, not this one.
+// Made from crates/buffer_tests/src/cursors.rt by rust/erase: change that file, not this one.
 
 use crate::shim::prelude::{AllocGlobal, HostRuntime, String, format};
 

@@ -1,11 +1,14 @@
+// Made from crates/quoting_tests/src/templates.rt by rust/erase: change that file, not this one.
+
+use crate::shim::prelude::{AllocGlobal, HostRuntime, String, Vec, format};
+
 // Templates as a program that writes code uses them.
-use crate::checks::parsed;
-use crate::quotes::check_quote;
-use proc_macro2::{SourceMap, Span, TokenStream, TokenTree};
-use quoting::{Hole, Quote, TemplateError};
-use std::alloc::{AllocError, Global};
-use std::process::Abort;
-use std::test::Fail;
+use crate::quoting_tests::rows::check_quote;
+use proved::proc_macro2::{SourceMap, Span, TokenStream, TokenTree};
+use proved::quoting::{Hole, Quote, TemplateError};
+use crate::shim::alloc::{AllocError, Global};
+use crate::shim::process::Abort;
+use crate::shim::test::Fail;
 
 /// What the holes of a template are filled with: the name and the text of each that stands for one stream, and the name
 /// and the texts of each that stands for a list.
@@ -16,10 +19,13 @@ struct Given {
 }
 
 /// What the texts of given holes parse to.
-#[derive(Drop)]
 struct Fillings {
     ones: Vec<TokenStream>,
     lists: Vec<Vec<TokenStream>>,
+}
+
+fn parsed(alloc: Global, text: &str) -> Result<TokenStream, Fail> {
+    Ok(TokenStream::from_str(text, &mut SourceMap::new(alloc))?)
 }
 
 fn parsed_list(alloc: Global, texts: &[&str]) -> Result<Vec<TokenStream>, Fail> {
@@ -91,7 +97,7 @@ fn check_filled(
     want: &str,
 ) -> Result<(), Fail> {
     let code = filled(rt.alloc(), template, given)?;
-    assert_eq!(rt; code.as_str(), want, "of {template:?}");
+    assert_eq!(code.as_str(), want, "of {template:?}");
     Ok(())
 }
 
@@ -154,10 +160,10 @@ fn check_fault(
 ) -> Result<(), AllocError> {
     match fault(rt.alloc(), template, holes)? {
         Some((message, start, end)) => {
-            assert_eq!(rt; message.as_str(), want.0, "of {template:?}");
-            assert_eq!(rt; (start, end), (want.1, want.2), "of {template:?}");
+            assert_eq!(message.as_str(), want.0, "of {template:?}");
+            assert_eq!((start, end), (want.1, want.2), "of {template:?}");
         }
-        None => assert!(rt; false, "no fault of {template:?}"),
+        None => assert!(false, "no fault of {template:?}"),
     }
     Ok(())
 }
@@ -243,7 +249,8 @@ const BORROWED: Given = Given {
 };
 
 #[test]
-fn templates_are_filled(rt: HostRuntime) -> Result<(), Fail> {
+fn templates_are_filled() -> Result<(), Fail> {
+    let rt = HostRuntime;
     for &(template, given, want) in FILLED {
         check_filled(&rt, template, given, want)?;
     }
@@ -251,7 +258,8 @@ fn templates_are_filled(rt: HostRuntime) -> Result<(), Fail> {
 }
 
 #[test]
-fn tokens_of_the_template_and_of_the_holes_keep_their_spans(rt: HostRuntime) -> Result<(), Fail> {
+fn tokens_of_the_template_and_of_the_holes_keep_their_spans() -> Result<(), Fail> {
+    let rt = HostRuntime;
     let alloc = rt.alloc();
     let mut map = SourceMap::new(alloc);
     let name = TokenStream::from_str("point", &mut map)?;
@@ -259,7 +267,7 @@ fn tokens_of_the_template_and_of_the_holes_keep_their_spans(rt: HostRuntime) -> 
     quote.parse("let #name = (1);", &mut map, &[Hole::one("name", &name)])?;
     let stream = quote.finish()?;
     let [word, name, equals, group, end] = stream.trees() else {
-        assert!(rt; false, "five trees");
+        assert!(false, "five trees");
         return Ok(());
     };
     for (tree, want) in [
@@ -269,7 +277,7 @@ fn tokens_of_the_template_and_of_the_holes_keep_their_spans(rt: HostRuntime) -> 
         (group, "(1)"),
         (end, ";"),
     ] {
-        assert_eq!(rt; text_of(tree, &map), Some(want));
+        assert_eq!(text_of(tree, &map), Some(want));
     }
     Ok(())
 }
@@ -285,7 +293,8 @@ const HOLES: Given = Given {
 };
 
 #[test]
-fn each_fault_has_its_span(rt: HostRuntime) -> Result<(), Fail> {
+fn each_fault_has_its_span() -> Result<(), Fail> {
+    let rt = HostRuntime;
     let rows = [
         ("#x + #y", ("no hole of this name", 6, 7)),
         ("#r#x", ("no hole of this name", 1, 4)),
@@ -305,7 +314,8 @@ fn each_fault_has_its_span(rt: HostRuntime) -> Result<(), Fail> {
 }
 
 #[test]
-fn parentheses_come_before_what_is_wrong_inside(rt: HostRuntime) -> Result<(), Fail> {
+fn parentheses_come_before_what_is_wrong_inside() -> Result<(), Fail> {
+    let rt = HostRuntime;
     let no_hole = "no hole of this name";
     let no_list = "a repetition that names no list";
     let nested = "a repetition inside a repetition";
@@ -371,7 +381,8 @@ fn check_deep(
 }
 
 #[test]
-fn a_list_is_found_deeper_than_groups_may_nest(rt: HostRuntime) -> Result<(), Fail> {
+fn a_list_is_found_deeper_than_groups_may_nest() -> Result<(), Fail> {
+    let rt = HostRuntime;
     let too_deep = "groups nested too deep";
     let rows = [
         ("#( ", "#two", " )*", 64, (too_deep, 66, 72)),
@@ -400,19 +411,19 @@ fn a_list_is_found_deeper_than_groups_may_nest(rt: HostRuntime) -> Result<(), Fa
 }
 
 #[test]
-fn groups_nest_64_deep(rt: HostRuntime) -> Result<(), Fail> {
+fn groups_nest_64_deep() -> Result<(), Fail> {
+    let rt = HostRuntime;
     let template = deep(rt.alloc(), "", "x", "", 64)?;
     let code = filled_by(rt.alloc(), template.as_str(), &[])?;
-    assert_eq!(rt; code.len(), 129);
+    assert_eq!(code.len(), 129);
     check_deep(&rt, ("", "x", ""), 65, ("groups nested too deep", 64, 67))
 }
 
 /// Asserts that neither a hole that is missing nor a fault of the template's text is accepted.
 fn check_refused(rt: &(impl Abort + AllocGlobal), quote: &mut Quote) {
     let mut map = SourceMap::new(rt.alloc());
-    assert!(rt; quote.parse("b #y", &mut map, &[]).is_err());
-    assert!(rt;
-        matches!(
+    assert!(quote.parse("b #y", &mut map, &[]).is_err());
+    assert!(matches!(
             quote.parse("b (", &mut map, &[]),
             Err(TemplateError::Parse(_))
         )
@@ -428,11 +439,12 @@ fn fill(alloc: Global, quote: &mut Quote) -> Result<(), Fail> {
 }
 
 #[test]
-fn a_fault_leaves_the_quote_as_it_was(rt: HostRuntime) -> Result<(), Fail> {
+fn a_fault_leaves_the_quote_as_it_was() -> Result<(), Fail> {
+    let rt = HostRuntime;
     let mut quote = Quote::new(rt.alloc());
     fill(rt.alloc(), &mut quote)?;
     check_refused(&rt, &mut quote);
     check_quote(&rt, &quote, "a ;")?;
-    assert!(rt; matches!(quote.finish()?.trees().first(), Some(TokenTree::Ident(_))));
+    assert!(matches!(quote.finish()?.trees().first(), Some(TokenTree::Ident(_))));
     Ok(())
 }

@@ -1,7 +1,6 @@
 // Choosers, and the texts that they make.
-use crate::checks::parsed;
-use layout::{Chooser, Gap, LayoutError, Place, text_with};
-use proc_macro2::{Punct, Spacing, TokenStream, TokenTree};
+use layout::{Chooser, Gap, LayoutError, Place, text_with, write_with};
+use proc_macro2::{SourceMap, Spacing, TokenStream};
 use std::process::Abort;
 use std::test::Fail;
 
@@ -33,6 +32,11 @@ impl Chooser for Lines {
     }
 }
 
+/// The stream that a text parses to.
+pub fn stream_of(rt: &(impl Abort + AllocGlobal), text: &str) -> Result<TokenStream, Fail> {
+    Ok(TokenStream::from_str(text, &mut SourceMap::new(rt.alloc()))?)
+}
+
 /// The stream's text with the chooser's gaps. It is well spaced.
 pub fn laid_out<C: Chooser>(
     rt: &(impl Abort + AllocGlobal),
@@ -62,7 +66,7 @@ fn check_gap(
 
 #[test]
 fn the_chosen_gap_is_written(rt: HostRuntime) -> Result<(), Fail> {
-    let stream = parsed(rt.alloc(), "a+=b(c)")?;
+    let stream = stream_of(&rt, "a+=b(c)")?;
     check_gap(&rt, &stream, Gap::Nothing, "a+=b(c)")?;
     check_gap(&rt, &stream, Gap::Space, " a += b ( c ) ")?;
     let lines = "\n  a\n  +=\n  b\n  (\n  c\n  )\n  ";
@@ -71,7 +75,7 @@ fn the_chosen_gap_is_written(rt: HostRuntime) -> Result<(), Fail> {
 
 #[test]
 fn places_are_told_in_order(rt: HostRuntime) -> Result<(), Fail> {
-    let stream = parsed(rt.alloc(), "a{b(c)}d")?;
+    let stream = stream_of(&rt, "a{b(c)}d")?;
     let mut lines = Lines { asked: 0, ends: 0 };
     let text = laid_out(&rt, &stream, &mut lines)?;
     assert_eq!(rt; text.as_str(), "a\n{\n b\n (\n  c\n )\n}\nd");
@@ -81,10 +85,10 @@ fn places_are_told_in_order(rt: HostRuntime) -> Result<(), Fail> {
 }
 
 /// The stream of a mark that is Joint.
-pub fn joint_mark(rt: &(impl Abort + AllocGlobal)) -> Result<TokenStream, Fail> {
-    assert!(rt; Punct::is_punct_char('+'));
-    let mark = Punct::new('+', Spacing::Joint);
-    Ok(TokenStream::from_tree(rt.alloc(), TokenTree::Punct(mark))?)
+fn joint_mark(rt: &(impl Abort + AllocGlobal)) -> Result<TokenStream, Fail> {
+    assert!(rt; proc_macro2::Punct::is_punct_char('+'));
+    let mark = proc_macro2::Punct::new('+', Spacing::Joint);
+    Ok(TokenStream::from_tree(rt.alloc(), proc_macro2::TokenTree::Punct(mark))?)
 }
 
 #[test]
@@ -92,5 +96,25 @@ fn a_stream_that_is_not_well_spaced_has_no_text(rt: HostRuntime) -> Result<(), F
     let stream = joint_mark(&rt)?;
     let text = text_with(&stream, &mut Always(Gap::Space), rt.alloc());
     assert!(rt; matches!(&text, Err(LayoutError::NotWellSpaced)));
+    Ok(())
+}
+
+#[test]
+fn a_stream_that_is_not_well_spaced_is_not_written(rt: HostRuntime) -> Result<(), Fail> {
+    let stream = joint_mark(&rt)?;
+    let mut written = Vec::new(rt.alloc());
+    let answer = write_with(&stream, &mut Always(Gap::Space), rt.alloc(), &mut written);
+    assert!(rt; matches!(&answer, Err(LayoutError::NotWellSpaced)));
+    assert!(rt; written.is_empty());
+    Ok(())
+}
+
+#[test]
+fn a_stream_is_written(rt: HostRuntime) -> Result<(), Fail> {
+    let stream = stream_of(&rt, "fn f")?;
+    let mut written = Vec::new(rt.alloc());
+    let answer = write_with(&stream, &mut Always(Gap::Nothing), rt.alloc(), &mut written);
+    assert!(rt; answer.is_ok());
+    assert_eq!(rt; written.as_slice(), b"fn f".as_slice());
     Ok(())
 }

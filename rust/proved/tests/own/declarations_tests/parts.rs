@@ -1,12 +1,16 @@
+// Made from crates/declarations_tests/src/parts.rt by rust/erase: change that file, not this one.
+
+use crate::shim::prelude::{AllocGlobal, HostRuntime};
+
 // Texts, and the trees of the part at their front.
-use declarations::{
+use proved::declarations::{
     Fault, split_attributes, split_bounds, split_expression, split_field, split_fields,
     split_generics, split_item, split_tuple_field, split_tuple_fields, split_type, split_variant,
     split_variants, split_visibility, split_where,
 };
-use proc_macro2::{SourceMap, TokenStream, TokenTree};
-use std::process::Abort;
-use std::test::Fail;
+use proved::proc_macro2::{SourceMap, TokenStream, TokenTree};
+use crate::shim::process::Abort;
+use crate::shim::test::Fail;
 
 #[derive(Clone, Copy, Debug, PartialEq, Eq)]
 enum Part {
@@ -33,7 +37,7 @@ enum Answer {
     FaultAt(usize),
 }
 
-use crate::declaration_parts::Answer::{FaultAt, Reads};
+use crate::declarations_tests::parts::Answer::{FaultAt, Reads};
 
 fn answer_of(found: Result<(&[TokenTree], &[TokenTree]), Fault>) -> Answer {
     match found {
@@ -65,13 +69,14 @@ fn check(rt: &(impl Abort + AllocGlobal), part: Part, rows: &[(&str, Answer)]) -
     for (text, wanted) in rows {
         let stream = TokenStream::from_str(text, &mut SourceMap::new(rt.alloc()))?;
         let found = read(part, stream.trees());
-        assert!(rt; found == *wanted, "{part:?} of {text:?}: {found:?}");
+        assert!(found == *wanted, "{part:?} of {text:?}: {found:?}");
     }
     Ok(())
 }
 
 #[test]
-fn a_type_ends_where_an_operand_stands_and_no_step_follows(rt: HostRuntime) -> Result<(), Fail> {
+fn a_type_ends_where_an_operand_stands_and_no_step_follows() -> Result<(), Fail> {
+    let rt = HostRuntime;
     check(
         &rt,
         Part::Type,
@@ -107,7 +112,8 @@ fn a_type_ends_where_an_operand_stands_and_no_step_follows(rt: HostRuntime) -> R
 }
 
 #[test]
-fn parentheses_restrict_a_visibility_or_are_a_type(rt: HostRuntime) -> Result<(), Fail> {
+fn parentheses_restrict_a_visibility_or_are_a_type() -> Result<(), Fail> {
+    let rt = HostRuntime;
     check(
         &rt,
         Part::Visibility,
@@ -135,7 +141,8 @@ fn parentheses_restrict_a_visibility_or_are_a_type(rt: HostRuntime) -> Result<()
 }
 
 #[test]
-fn fields_have_attributes_names_and_types(rt: HostRuntime) -> Result<(), Fail> {
+fn fields_have_attributes_names_and_types() -> Result<(), Fail> {
+    let rt = HostRuntime;
     check(
         &rt,
         Part::Attributes,
@@ -175,7 +182,8 @@ fn fields_have_attributes_names_and_types(rt: HostRuntime) -> Result<(), Fail> {
 }
 
 #[test]
-fn a_discriminant_ends_at_a_comma_that_is_in_no_brackets(rt: HostRuntime) -> Result<(), Fail> {
+fn a_discriminant_ends_at_a_comma_that_is_in_no_brackets() -> Result<(), Fail> {
+    let rt = HostRuntime;
     check(
         &rt,
         Part::Expression,
@@ -228,7 +236,8 @@ fn a_discriminant_ends_at_a_comma_that_is_in_no_brackets(rt: HostRuntime) -> Res
 }
 
 #[test]
-fn generics_and_where_clauses_end_before_the_body(rt: HostRuntime) -> Result<(), Fail> {
+fn generics_and_where_clauses_end_before_the_body() -> Result<(), Fail> {
+    let rt = HostRuntime;
     check(
         &rt,
         Part::Generics,
@@ -256,7 +265,8 @@ fn generics_and_where_clauses_end_before_the_body(rt: HostRuntime) -> Result<(),
 }
 
 #[test]
-fn items_are_structs_enums_and_unions(rt: HostRuntime) -> Result<(), Fail> {
+fn items_are_structs_enums_and_unions() -> Result<(), Fail> {
+    let rt = HostRuntime;
     check(
         &rt,
         Part::Item,

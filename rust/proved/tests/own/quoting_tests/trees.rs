@@ -1,4 +1,4 @@
-// Made from crates/extra_tests/src/trees.rt by rust/erase: change that file, not this one.
+// Made from crates/quoting_tests/src/trees.rt by rust/erase: change that file, not this one.
 //! Trees as the rows of tests note them.
 
 use crate::shim::prelude::{AllocGlobal, Vec};

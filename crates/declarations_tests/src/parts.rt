@@ -1,16 +1,12 @@
-// Made from crates/extra_tests/src/declaration_parts.rt by rust/erase: change that file, not this one.
-
-use crate::shim::prelude::{AllocGlobal, HostRuntime};
-
 // Texts, and the trees of the part at their front.
-use proved::declarations::{
+use declarations::{
     Fault, split_attributes, split_bounds, split_expression, split_field, split_fields,
     split_generics, split_item, split_tuple_field, split_tuple_fields, split_type, split_variant,
     split_variants, split_visibility, split_where,
 };
-use proved::proc_macro2::{SourceMap, TokenStream, TokenTree};
-use crate::shim::process::Abort;
-use crate::shim::test::Fail;
+use proc_macro2::{SourceMap, TokenStream, TokenTree};
+use std::process::Abort;
+use std::test::Fail;
 
 #[derive(Clone, Copy, Debug, PartialEq, Eq)]
 enum Part {
@@ -37,7 +33,7 @@ enum Answer {
     FaultAt(usize),
 }
 
-use crate::extra_tests::declaration_parts::Answer::{FaultAt, Reads};
+use crate::parts::Answer::{FaultAt, Reads};
 
 fn answer_of(found: Result<(&[TokenTree], &[TokenTree]), Fault>) -> Answer {
     match found {
@@ -69,14 +65,13 @@ fn check(rt: &(impl Abort + AllocGlobal), part: Part, rows: &[(&str, Answer)]) -
     for (text, wanted) in rows {
         let stream = TokenStream::from_str(text, &mut SourceMap::new(rt.alloc()))?;
         let found = read(part, stream.trees());
-        assert!(found == *wanted, "{part:?} of {text:?}: {found:?}");
+        assert!(rt; found == *wanted, "{part:?} of {text:?}: {found:?}");
     }
     Ok(())
 }
 
 #[test]
-fn a_type_ends_where_an_operand_stands_and_no_step_follows() -> Result<(), Fail> {
-    let rt = HostRuntime;
+fn a_type_ends_where_an_operand_stands_and_no_step_follows(rt: HostRuntime) -> Result<(), Fail> {
     check(
         &rt,
         Part::Type,
@@ -112,8 +107,7 @@ fn a_type_ends_where_an_operand_stands_and_no_step_follows() -> Result<(), Fail>
 }
 
 #[test]
-fn parentheses_restrict_a_visibility_or_are_a_type() -> Result<(), Fail> {
-    let rt = HostRuntime;
+fn parentheses_restrict_a_visibility_or_are_a_type(rt: HostRuntime) -> Result<(), Fail> {
     check(
         &rt,
         Part::Visibility,
@@ -141,8 +135,7 @@ fn parentheses_restrict_a_visibility_or_are_a_type() -> Result<(), Fail> {
 }
 
 #[test]
-fn fields_have_attributes_names_and_types() -> Result<(), Fail> {
-    let rt = HostRuntime;
+fn fields_have_attributes_names_and_types(rt: HostRuntime) -> Result<(), Fail> {
     check(
         &rt,
         Part::Attributes,
@@ -182,8 +175,7 @@ fn fields_have_attributes_names_and_types() -> Result<(), Fail> {
 }
 
 #[test]
-fn a_discriminant_ends_at_a_comma_that_is_in_no_brackets() -> Result<(), Fail> {
-    let rt = HostRuntime;
+fn a_discriminant_ends_at_a_comma_that_is_in_no_brackets(rt: HostRuntime) -> Result<(), Fail> {
     check(
         &rt,
         Part::Expression,
@@ -236,8 +228,7 @@ fn a_discriminant_ends_at_a_comma_that_is_in_no_brackets() -> Result<(), Fail> {
 }
 
 #[test]
-fn generics_and_where_clauses_end_before_the_body() -> Result<(), Fail> {
-    let rt = HostRuntime;
+fn generics_and_where_clauses_end_before_the_body(rt: HostRuntime) -> Result<(), Fail> {
     check(
         &rt,
         Part::Generics,
@@ -265,8 +256,7 @@ fn generics_and_where_clauses_end_before_the_body() -> Result<(), Fail> {
 }
 
 #[test]
-fn items_are_structs_enums_and_unions() -> Result<(), Fail> {
-    let rt = HostRuntime;
+fn items_are_structs_enums_and_unions(rt: HostRuntime) -> Result<(), Fail> {
     check(
         &rt,
         Part::Item,

@@ -1,12 +1,13 @@
-// Made from crates/extra_tests/src/random_trees.rt by rust/erase: change that file, not this one.
+// Made from crates/quoting_tests/src/random_trees.rt by rust/erase: change that file, not this one.
 
 use crate::shim::prelude::{HostRuntime, Vec, format, vec};
 
 // Short lists of random trees: a quote gives a stream exactly where some choice of spacings is well spaced. All
 // choices are tried.
-use crate::extra_tests::checks::comes_back;
-use crate::extra_tests::random::Random;
-use proved::proc_macro2::{Delimiter, Group, Ident, Literal, Punct, Spacing, Span, TokenStream, TokenTree};
+
+use proved::proc_macro2::{
+    Delimiter, Group, Ident, Literal, Punct, SourceMap, Spacing, Span, TokenStream, TokenTree,
+};
 use proved::quoting::{Quote, QuoteError};
 use crate::shim::alloc::Global;
 use crate::shim::process::Abort;
@@ -38,16 +39,32 @@ struct Choice {
     last: bool,
 }
 
-/// A case at random.
-fn random_case(random: &mut Random) -> Case {
-    Case {
-        first: random.below(11),
-        second: random.below(11),
-        third: random.below(11),
-        inner: random.below(11),
-        innermost: random.below(11),
-        last: random.below(11),
-        delimiter: random.below(10),
+/// A source of random numbers.
+struct Random {
+    /// The last number, which isn't 0.
+    state: u64,
+}
+
+impl Random {
+    /// A number below the bound, which isn't 0.
+    fn below(&mut self, bound: u64) -> u64
+    {
+        self.state ^= self.state << 13;
+        self.state ^= self.state >> 7;
+        self.state ^= self.state << 17;
+        self.state % bound
+    }
+
+    fn case(&mut self) -> Case {
+        Case {
+            first: self.below(11),
+            second: self.below(11),
+            third: self.below(11),
+            inner: self.below(11),
+            innermost: self.below(11),
+            last: self.below(11),
+            delimiter: self.below(10),
+        }
     }
 }
 
@@ -127,9 +144,10 @@ fn quoted(alloc: Global, case: Case, number: u32) -> Result<Quote, Fail> {
 }
 
 /// Whether the printed text parses to the same tokens.
-fn is_printed_back(alloc: Global, stream: &TokenStream) -> Result<bool, Fail> {
+fn comes_back(alloc: Global, stream: &TokenStream) -> Result<bool, Fail> {
     let text = format!(in alloc; "{stream}")?;
-    Ok(comes_back(alloc, stream, text.as_str())?)
+    let back = TokenStream::from_str(text.as_str(), &mut SourceMap::new(alloc))?;
+    Ok(stream.same_tokens(&back))
 }
 
 #[test]
@@ -139,13 +157,13 @@ fn a_stream_is_given_exactly_where_some_choice_is_well_spaced() -> Result<(), Fa
     let mut random = Random { state: 7 };
     let mut given: u32 = 0;
     for _ in 0..LISTS {
-        let case = random_case(&mut random);
+        let case = random.case();
         let number = random.below(64) as u32;
         let may = has_a_choice(alloc, case)?;
         match quoted(alloc, case, number)?.finish() {
             Ok(stream) => {
                 assert!(may, "of {case:?}");
-                assert!(is_printed_back(alloc, &stream)?, "of {case:?}");
+                assert!(comes_back(alloc, &stream)?, "of {case:?}");
                 given = given.saturating_add(1);
             }
             Err(QuoteError::Memory(error)) => return Err(Fail::from(error)),

@@ -1,0 +1,5 @@
+//! Tests of the parts of declarations: texts with the trees that each part takes, or where the fault stands.
+#![tactic(auto)]
+
+#[cfg(test)]
+mod parts;

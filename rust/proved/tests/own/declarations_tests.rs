@@ -1,0 +1,5 @@
+// Made from crates/declarations_tests/src/lib.rt by rust/erase: change that file, not this one.
+//! Tests of the parts of declarations: texts with the trees that each part takes, or where the fault stands.
+
+#[cfg(test)]
+mod parts;

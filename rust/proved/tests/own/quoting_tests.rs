@@ -1,0 +1,11 @@
+// Made from crates/quoting_tests/src/lib.rt by rust/erase: change that file, not this one.
+//! Tests of quotes: what is printed of each kind of trees, with the uses of the README, templates, and trees at random.
+
+#[cfg(test)]
+mod random_trees;
+#[cfg(test)]
+mod rows;
+#[cfg(test)]
+mod templates;
+#[cfg(test)]
+mod trees;
