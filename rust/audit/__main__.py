@@ -23,8 +23,8 @@ import sys
 
 TOP = pathlib.Path(__file__).resolve().parents[2]
 PACKAGES = [TOP / 'rust/proved', TOP / 'rust/tools']
-# What isn't erased: tests within the library, what is for them alone, tests of sizes and writers, and each `main`.
-LEFT_OUT = {'tests.rt', 'failing.rt', 'sizes.rt', 'writers.rt', 'main.rt'}
+# What isn't erased: tests within the library, what is for them alone, tests of sizes, and each `main`.
+LEFT_OUT = {'tests.rt', 'failing.rt', 'sizes.rt', 'main.rt'}
 KNOWN = pathlib.Path(__file__).parent / 'whitelist.txt'
 MADE = re.compile(r'// Made from (\S+) by rust/erase')
 

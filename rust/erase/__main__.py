@@ -32,9 +32,9 @@ TESTED = ['conformance']
 OWN_TESTS = ['two_lexers', 'token_tests', 'stream_tests', 'buffer_tests', 'quoting_tests', 'declarations_tests']
 # The programs, and the library that they share.
 PROGRAMS = ['messages', 'tokens', 'highlight', 'find_calls', 'pretty', 'rust_check', 'same', 'indent']
-# What isn't erased: tests within the library, what is for them alone, tests of how many bytes a value takes in Rattle
-# and of its `Vec` as a writer, and each `main`, which is by hand.
-LEFT_OUT = {'tests.rt', 'failing.rt', 'sizes.rt', 'writers.rt', 'main.rt'}
+# What isn't erased: tests within the library, what is for them alone, tests of how many bytes a value takes in Rattle,
+# and each `main`, which is by hand.
+LEFT_OUT = {'tests.rt', 'failing.rt', 'sizes.rt', 'main.rt'}
 
 
 def erased(text, crate, source, package):

@@ -204,14 +204,14 @@ def models(file):
 
 @rule
 def tests(file):
-    """Leaves out the modules of tests within the library, and those of what is so in Rattle alone.
+    """Leaves out the modules of tests within the library, and those of how many bytes a value takes in Rattle.
 
         #[cfg(test)] mod tests; fn one() {} #[cfg(test)] mod tests { use super::*; } #[cfg(test)] mod sizes;
         => fn one() {}
     """
     goes = set()
     for at, token in enumerate(file.tokens):
-        for name in ('tests', 'sizes', 'writers'):
+        for name in ('tests', 'sizes'):
             for end in found(file.tokens, at, f'# [ cfg ( test ) ] mod {name} ;'):
                 goes |= set(range(at, end + 1))
                 file.count('tests')
