@@ -12,6 +12,7 @@ use Rattle.declarations.specs.Signs.{Sign, signs, classes_of, trees_of, BeginsWi
 use Rattle.declarations.specs.Forms.{IsFrom}
 use Rattle.declarations.specs.Grammar.{step, ends}
 use Rattle.declarations.specs.Walk.{walk, Stops}
+use Rattle.declarations.specs.Whole.{Walked}
 use Rattle.declarations.specs.declared.class.Class.{Class}
 use Rattle.declarations.specs.declared.grammar.Place.{Place}
 
@@ -36,13 +37,6 @@ same_front (a ∷ p) (b ∷ q) r s whole same =
     let classes : classes_of p ≡ classes_of q = cc in
     let more = same_front p q r s rest classes in
     cc
-
--- where the signs were walked over up to a place
-pub record Walked (start : Place) (trees left : List TokenTree) (place : Place) : Type 0 where
-  pub front : List Sign
-  pub read : signs trees ≡ front ++ signs left
-  pub whole : trees ≡ trees_of front ++ left
-  pub walks : walk step start (classes_of front) ≡ Some place
 
 -- with room for the depth to grow
 pub record Walking (start : Place) (trees left : List TokenTree) (place : Place) : Type 0 where
@@ -85,10 +79,9 @@ same_back a b x y whole same =
 
 -- something is read where the walk may end
 pub split_read : (start : Place) (trees left part rest : List TokenTree) (place : Place)
-    → Walking start trees left place → ends place ≡ true → Stops step place (classes_of (signs left))
+    → Walked start trees left place → ends place ≡ true → Stops step place (classes_of (signs left))
     → trees ≡ part ++ rest → length rest ≡ length left → Reads (IsFrom start) trees part rest
-split_read start trees left part rest place walking ended stops whole counted =
-    let walked = walking.walked in
+split_read start trees left part rest place walked ended stops whole counted =
     let same : left ≡ rest =
     same_back (trees_of walked.front) part left rest (sym walked.whole ∙ whole) (sym counted) in
     record {
@@ -147,10 +140,9 @@ no_longer start place front (class ∷ after) walks wrong stops =
     no_front step ends start place front class walks wrong stops
 
 pub split_fault : (start : Place) (trees left : List TokenTree) (place : Place) (at : ℕ)
-    → Walking start trees left place → ends place ≡ false → Stops step place (classes_of (signs left))
+    → Walked start trees left place → ends place ≡ false → Stops step place (classes_of (signs left))
     → at + length left ≡ length trees → FaultAt (IsFrom start) trees at
-split_fault start trees left place at walking wrong stops counted =
-    let walked = walking.walked in
+split_fault start trees left place at walked wrong stops counted =
     let sum = ap length walked.whole ∙ length-append (trees_of walked.front) left in
     record {
       front = walked.front;

@@ -4,3 +4,5 @@ pub mod Grammar
 pub mod Forms
 pub mod Signs
 pub mod Reading
+pub mod Whole
+pub mod Item

@@ -12,6 +12,7 @@
 mod class;
 mod fault;
 mod grammar;
+mod item;
 mod parts;
 mod signs;
 mod types;
@@ -19,6 +20,7 @@ mod walk;
 
 pub use class::Class;
 pub use fault::Fault;
+pub use item::{Body, Fields, TypeItem, parse_type_item};
 pub use parts::{
     split_attributes, split_bounds, split_expression, split_field, split_fields, split_generics,
     split_item, split_tuple_field, split_tuple_fields, split_type, split_variant, split_variants,

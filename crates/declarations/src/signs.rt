@@ -156,7 +156,7 @@ fn operator_class(mark: char) -> Class
     }
 }
 
-fn name_class(ident: &Ident) -> Class
+pub(crate) fn name_class(ident: &Ident) -> Class
     ensures { result ≡ name_class ident.now }
 {
     if let Some(class) = path_class(ident) {

@@ -1,6 +1,6 @@
 use Rattle.std.proofs.Common.{length}
 use Rattle.declarations.proofs.ReadingLemmas.{Walking}
-use Rattle.declarations.proofs.walk.split_from.Given as goal
+use Rattle.declarations.proofs.walk.walk_from.Given as goal
 
 abbrev pub invariant-loop-next : goal.invariant-loop-next
 invariant-loop-next l = Walking l.fn.start l.trees l.left l.place

@@ -1,0 +1,506 @@
+-- Where the generic parameters and the where clause of an item end.
+use Rattle.std.proofs.Common.{◌≡◌, refl, sym, ◌∙◌, ap, subst, inl, inr, ℕ, ◌==◌, ◌&&◌, Bool, true, false}
+use Rattle.std.proofs.Common.{Option, Some, None, arith, if◌then◌else◌}
+use Rattle.std.proofs.lemmas.Bool.{and_parts, and_right}
+use Rattle.std.proofs.lemmas.Bool.Decides.{nat_tests}
+use Rattle.declarations.proofs.CutLemmas.{Takes, Beside}
+use Rattle.declarations.proofs.PartLemmas.{at, range}
+use Rattle.declarations.specs.Grammar.{step, ends, shifted, closing, body, else_type, follow, is_alone, rule_ends}
+use Rattle.declarations.specs.Grammar.{range_state, turned, after_angle, ranged}
+use Rattle.declarations.specs.TypeStep.{step_of, may_end}
+use Rattle.declarations.specs.declared.class.Class.{Class}
+use Rattle.declarations.specs.declared.class.Class.TheVariants as signs
+use Rattle.declarations.specs.declared.grammar.Item.{Item}
+use Rattle.declarations.specs.declared.grammar.Item.TheVariants as items
+use Rattle.declarations.specs.declared.grammar.Place.{Place}
+use Rattle.declarations.specs.declared.grammar.Rule.{Rule}
+use Rattle.declarations.specs.declared.grammar.Rule.TheVariants as rules
+use Rattle.declarations.specs.declared.grammar.Shift.{Shift}
+use Rattle.declarations.specs.declared.grammar.Spot.{Spot}
+use Rattle.declarations.specs.declared.grammar.Spot.TheVariants as spots
+use Rattle.declarations.specs.declared.grammar.State.TheVariants as states
+use Rattle.declarations.specs.declared.types.Turn.{Turn}
+use Rattle.declarations.specs.declared.types.Turn.TheVariants as turns
+use Rattle.declarations.specs.declared.types.TypeState.{TypeState}
+use Rattle.declarations.specs.declared.types.TypeState.TheVariants as types
+use Rattle.declarations.specs.declared.types.TypeStep.{TypeStep}
+
+-- what is declared around generic parameters
+pub data Declared : Type 0 where
+  structure : Declared
+  tuple : Declared
+  braced : Declared
+
+abbrev pub item_of : Declared → Item
+item_of structure = items.Struct
+item_of tuple = items.Tuple
+item_of braced = items.Braced
+
+pub not_alone : (i : Declared) → is_alone (item_of i) ≡ false
+not_alone structure = refl
+not_alone tuple = refl
+not_alone braced = refl
+
+-- ---- steps within types and bounds
+
+-- a rule after which a type's bracket goes on as any other
+pub data Ranged : Type 0 where
+  parameter : Ranged
+  type_parameter : Ranged
+  const_parameter : Ranged
+  bounded : Ranged
+  bounds : Ranged
+
+abbrev pub rule_of : Ranged → Rule
+rule_of parameter = rules.Parameter
+rule_of type_parameter = rules.TypeParameter
+rule_of const_parameter = rules.ConstParameter
+rule_of bounded = rules.Bounded
+rule_of bounds = rules.Predicate
+
+plain_angle : (r : Ranged) (state : TypeState) → after_angle (rule_of r) state ≡ states.Range state
+plain_angle parameter state = refl
+plain_angle type_parameter state = refl
+plain_angle const_parameter state = refl
+plain_angle bounded state = refl
+plain_angle bounds state = refl
+
+plain_state : (r : Ranged) (state : TypeState) (turn : Turn) (depth : ℕ)
+    → range_state (rule_of r) state turn depth ≡ states.Range state
+plain_state r state turns.Stay depth = refl
+plain_state r state turns.Open depth = refl
+plain_state r state turns.Close depth =
+    elim (depth == 0) as (λ b. (if b then after_angle (rule_of r) state else states.Range state) ≡ states.Range state)
+    [ true ↦ plain_angle r state | false ↦ refl ]
+
+range_some : (i : Item) (r : Ranged) (state : TypeState) (depth : ℕ) (class : Class) (taken : TypeStep)
+    → step_of state class (depth == 0) ≡ Some taken
+    → step (range i (rule_of r) state depth) class
+    ≡ Some (range i (rule_of r) taken.state (turned taken.turn depth))
+range_some i r state depth class taken is =
+    rw is (ap (λ s. Some (record {
+      item = i;
+      rule = rule_of r;
+      state = s;
+      depth = turned taken.turn depth;
+    })) (plain_state r taken.state taken.turn (turned taken.turn depth)))
+
+abbrev follows : Bool → Item → Ranged → ℕ → Class → Option Place
+follows may i r depth class = if may then shifted depth (follow i (rule_of r) class) else None
+
+pub range_none : (i : Item) (r : Ranged) (state : TypeState) (depth : ℕ) (class : Class)
+    → step_of state class (depth == 0) ≡ None
+    → step (range i (rule_of r) state depth) class ≡ follows ((depth == 0) && may_end state) i r depth class
+range_none i r state depth class is = rw is refl
+
+-- where the type or the bounds may end, and else nowhere
+data Outside (state : TypeState) (depth : ℕ) : Type 0 where
+  inside : ((depth == 0) && may_end state) ≡ false → Outside state depth
+  outside : depth ≡ 0 → may_end state ≡ true → Outside state depth
+
+where_outside : (state : TypeState) (depth : ℕ) → Outside state depth
+where_outside state depth =
+    elim ((depth == 0) && may_end state) as (λ b. ((depth == 0) && may_end state) ≡ b → Outside state depth) [
+      | true ↦ λ h.
+          let both = and_parts (depth == 0) (may_end state) h in
+          let zero : depth ≡ 0 = grind (arith, nat_tests, both.0) in
+          outside zero both.1
+      | false ↦ λ h. inside h
+    ] refl
+
+-- the places of a region, within types and without
+abbrev TakesRange : {G : Type 0} → (G → Place) → (G → Place) → (Class → Option Place) → Item → Ranged → TypeState → ℕ
+    → Class → Type 0
+TakesRange outer inner goes i r state depth class =
+    Takes outer inner (goes class) (ends (range items.Alone (rule_of r) state depth))
+    (step (range i (rule_of r) state depth) class) (step (range items.Alone (rule_of r) state depth) class)
+
+abbrev TakesFollow : {G : Type 0} → (G → Place) → (G → Place) → (Class → Option Place) → Item → Ranged → TypeState
+    → Class → Type 0
+TakesFollow outer inner goes i r state class =
+    Takes outer inner (goes class) (may_end state && rule_ends items.Alone (rule_of r))
+    (shifted 0 (follow i (rule_of r) class)) (shifted 0 (follow items.Alone (rule_of r) class))
+
+takes_outside : {G : Type 0} (outer inner : G → Place) (goes : Class → Option Place) (i : Item) (r : Ranged)
+    (state : TypeState) (class : Class) → step_of state class true ≡ None → may_end state ≡ true
+    → TakesFollow outer inner goes i r state class → TakesRange outer inner goes i r state 0 class
+takes_outside outer inner goes i r state class is may takes =
+    let whole : step (range i (rule_of r) state 0) class ≡ shifted 0 (follow i (rule_of r) class) =
+    range_none i r state 0 class is ∙ ap (λ b. follows b i r 0 class) may in
+    let part : step (range items.Alone (rule_of r) state 0) class ≡ shifted 0 (follow items.Alone (rule_of r) class) =
+    range_none items.Alone r state 0 class is ∙ ap (λ b. follows b items.Alone r 0 class) may in
+    subst (λ w. Takes outer inner (goes class) (ends (range items.Alone (rule_of r) state 0)) w
+    (step (range items.Alone (rule_of r) state 0) class)) (sym whole)
+    (subst (λ p. Takes outer inner (goes class) (ends (range items.Alone (rule_of r) state 0))
+    (shifted 0 (follow i (rule_of r) class)) p) (sym part) takes)
+
+takes_range : {G : Type 0} (outer inner : G → Place) (goes : Class → Option Place) (i : Item) (r : Ranged)
+    (places : TypeState → ℕ → G) (state : TypeState) (depth : ℕ) (class : Class)
+    → ((s : TypeState) (d : ℕ) → outer (places s d) ≡ range i (rule_of r) s d)
+    → ((s : TypeState) (d : ℕ) → inner (places s d) ≡ range items.Alone (rule_of r) s d)
+    → (may_end state ≡ true → TakesFollow outer inner goes i r state class)
+    → TakesRange outer inner goes i r state depth class
+takes_range outer inner goes i r places state depth class outers inners follow_takes =
+    elim (step_of state class (depth == 0)) as (λ o. step_of state class (depth == 0) ≡ o
+    → TakesRange outer inner goes i r state depth class) [
+      | Some taken ↦ λ is.
+          let to = places taken.state (turned taken.turn depth) in
+          let whole = range_some i r state depth class taken is in
+          let part = range_some items.Alone r state depth class taken is in
+          subst (λ p. Takes outer inner (goes class) (ends (range items.Alone (rule_of r) state depth))
+          (step (range i (rule_of r) state depth) class) p) (sym part) (
+            to,
+            sym (inners taken.state (turned taken.turn depth)),
+            whole ∙ ap Some (sym (outers taken.state (turned taken.turn depth))),
+          )
+      | None ↦ λ is.
+          let whole = range_none i r state depth class is in
+          let part = range_none items.Alone r state depth class is in
+          elim (where_outside state depth) [
+            | inside h ↦
+                subst (λ p. Takes outer inner (goes class) (ends (range items.Alone (rule_of r) state depth))
+                (step (range i (rule_of r) state depth) class) p)
+                (sym (part ∙ ap (λ b. follows b items.Alone r depth class) h))
+                (inl (whole ∙ ap (λ b. follows b i r depth class) h))
+            | outside none may ↦
+                let at_zero : step_of state class true ≡ None = sym (ap (λ d. step_of state class (d == 0)) none) ∙ is in
+                subst (λ d. TakesRange outer inner goes i r state d class) (sym none)
+                (takes_outside outer inner goes i r state class at_zero may (follow_takes may))
+          ]
+    ] refl
+
+-- a type that begins at a spot
+abbrev begun : Item → Ranged → Spot → Place
+begun i r spot = record { item = i; rule = rule_of r; state = states.At spot; depth = 0 }
+
+begun_at : (i : Item) (r : Ranged) (spot : Spot) (taken : TypeStep)
+    → ranged (begun i r spot) (Some taken) ≡ Some (range i (rule_of r) taken.state (turned taken.turn 0))
+begun_at i r spot taken =
+    ap (λ s. Some (record { item = i; rule = rule_of r; state = s; depth = turned taken.turn 0 }))
+    (plain_state r taken.state taken.turn (turned taken.turn 0))
+
+takes_type : {G : Type 0} (outer inner : G → Place) (after : Option Place) (ended : Bool) (i : Item) (r : Ranged)
+    (spot : Spot) (places : TypeState → ℕ → G) (taken : Option TypeStep)
+    → ((s : TypeState) (d : ℕ) → outer (places s d) ≡ range i (rule_of r) s d)
+    → ((s : TypeState) (d : ℕ) → inner (places s d) ≡ range items.Alone (rule_of r) s d)
+    → Takes outer inner after ended (ranged (begun i r spot) taken) (ranged (begun items.Alone r spot) taken)
+takes_type outer inner after ended i r spot places None outers inners = inl refl
+takes_type outer inner after ended i r spot places (Some taken) outers inners =
+    let to = places taken.state (turned taken.turn 0) in
+    let part : range items.Alone (rule_of r) taken.state (turned taken.turn 0) ≡ inner to =
+    sym (inners taken.state (turned taken.turn 0)) in
+    subst (λ p. Takes outer inner after ended (ranged (begun i r spot) (Some taken)) p)
+    (sym (begun_at items.Alone r spot taken))
+    (to, part, begun_at i r spot taken ∙ ap Some (sym (outers taken.state (turned taken.turn 0))))
+
+-- ---- generic parameters
+
+pub data Spotted : Type 0 where
+  generics : Spotted
+  before_parameter : Spotted
+  parameter_hash : Spotted
+  attributed : Spotted
+  lifetime_name : Spotted
+  type_name : Spotted
+  const_name : Spotted
+  const_colon : Spotted
+  const_default : Spotted
+  const_minus : Spotted
+  const_end : Spotted
+  closed : Spotted
+
+abbrev pub spot_of : Spotted → Spot
+spot_of generics = spots.Generics
+spot_of before_parameter = spots.Parameter
+spot_of parameter_hash = spots.ParameterHash
+spot_of attributed = spots.ParameterAttributed
+spot_of lifetime_name = spots.LifetimeName
+spot_of type_name = spots.TypeName
+spot_of const_name = spots.ConstName
+spot_of const_colon = spots.ConstColon
+spot_of const_default = spots.ConstDefault
+spot_of const_minus = spots.ConstMinus
+spot_of const_end = spots.ConstEnd
+spot_of closed = spots.AfterGenerics
+
+pub data GenericPlace : Type 0 where
+  spotted : Spotted → GenericPlace
+  of_parameter : TypeState → ℕ → GenericPlace
+  of_type : TypeState → ℕ → GenericPlace
+  of_const : TypeState → ℕ → GenericPlace
+
+abbrev pub generic_place : Item → GenericPlace → Place
+generic_place i (spotted s) = at i (spot_of s)
+generic_place i (of_parameter state depth) = range i rules.Parameter state depth
+generic_place i (of_type state depth) = range i rules.TypeParameter state depth
+generic_place i (of_const state depth) = range i rules.ConstParameter state depth
+
+abbrev pub after_generics : Item → Class → Option Place
+after_generics i class = shifted 0 (closing i class)
+
+closing_alone : (class : Class) → closing items.Alone class ≡ None
+closing_alone signs.Where = refl
+closing_alone signs.Parentheses = refl
+closing_alone signs.Restriction = refl
+closing_alone class = refl
+
+pub plain_spot : (s : Option Shift) (place : Place) (class : Class)
+    → else_type s (record place { depth = 0 }) spots.AfterGenerics class ≡ shifted 0 s
+plain_spot None place class = refl
+plain_spot (Some s) place class = refl
+
+plain_generics : (s : Option Shift) (place : Place) (class : Class)
+    → else_type s (record place { depth = 0 }) spots.Generics class ≡ shifted 0 s
+plain_generics None place class = refl
+plain_generics (Some s) place class = refl
+
+abbrev TakesGeneric : Item → GenericPlace → Class → Type 0
+TakesGeneric i g class =
+    Takes (generic_place i) (generic_place items.Alone) (after_generics i class) (ends (generic_place items.Alone g))
+    (step (generic_place i g) class) (step (generic_place items.Alone g) class)
+
+generics_takes : (i : Item) (class : Class) → TakesGeneric i (spotted generics) class
+generics_takes i signs.Less = (spotted before_parameter, refl, refl)
+generics_takes i signs.LessJoint = (spotted before_parameter, refl, refl)
+generics_takes i class = inr (refl, plain_generics (closing i class) (at i spots.Generics) class)
+
+parameter_takes : (i : Item) (class : Class) → TakesGeneric i (spotted before_parameter) class
+parameter_takes i signs.Greater = (spotted closed, refl, refl)
+parameter_takes i signs.Hash = (spotted parameter_hash, refl, refl)
+parameter_takes i signs.Lifetime = (spotted lifetime_name, refl, refl)
+parameter_takes i signs.Word = (spotted type_name, refl, refl)
+parameter_takes i signs.Union = (spotted type_name, refl, refl)
+parameter_takes i signs.Const = (spotted const_name, refl, refl)
+parameter_takes i class = inl refl
+
+attributed_takes : (i : Item) (class : Class) → TakesGeneric i (spotted attributed) class
+attributed_takes i signs.Hash = (spotted parameter_hash, refl, refl)
+attributed_takes i signs.Lifetime = (spotted lifetime_name, refl, refl)
+attributed_takes i signs.Word = (spotted type_name, refl, refl)
+attributed_takes i signs.Union = (spotted type_name, refl, refl)
+attributed_takes i signs.Const = (spotted const_name, refl, refl)
+attributed_takes i class = inl refl
+
+hash_takes : (i : Item) (class : Class) → TakesGeneric i (spotted parameter_hash) class
+hash_takes i signs.Brackets = (spotted attributed, refl, refl)
+hash_takes i class = inl refl
+
+lifetime_takes : (i : Item) (class : Class) → TakesGeneric i (spotted lifetime_name) class
+lifetime_takes i signs.Colon = (of_parameter types.Open 0, refl, refl)
+lifetime_takes i signs.Comma = (spotted before_parameter, refl, refl)
+lifetime_takes i signs.Greater = (spotted closed, refl, refl)
+lifetime_takes i class = inl refl
+
+type_takes : (i : Item) (class : Class) → TakesGeneric i (spotted type_name) class
+type_takes i signs.Colon = (of_type types.Open 0, refl, refl)
+type_takes i signs.Equals = (of_parameter types.Wanted 0, refl, refl)
+type_takes i signs.Comma = (spotted before_parameter, refl, refl)
+type_takes i signs.Greater = (spotted closed, refl, refl)
+type_takes i class = inl refl
+
+const_takes : (i : Item) (class : Class) → TakesGeneric i (spotted const_name) class
+const_takes i signs.Word = (spotted const_colon, refl, refl)
+const_takes i signs.Union = (spotted const_colon, refl, refl)
+const_takes i class = inl refl
+
+colon_takes : (i : Item) (class : Class) → TakesGeneric i (spotted const_colon) class
+colon_takes i signs.Colon = (of_const types.Wanted 0, refl, refl)
+colon_takes i class = inl refl
+
+minus_takes : (i : Item) (class : Class) → TakesGeneric i (spotted const_minus) class
+minus_takes i signs.Literal = (spotted const_end, refl, refl)
+minus_takes i class = inl refl
+
+end_takes : (i : Item) (class : Class) → TakesGeneric i (spotted const_end) class
+end_takes i signs.Comma = (spotted before_parameter, refl, refl)
+end_takes i signs.Greater = (spotted closed, refl, refl)
+end_takes i class = inl refl
+
+closed_takes : (i : Item) (class : Class) → TakesGeneric i (spotted closed) class
+closed_takes i class =
+    subst (λ s. Takes (generic_place i) (generic_place items.Alone) (after_generics i class) true
+    (step (at i spots.AfterGenerics) class) (else_type s (at items.Alone spots.AfterGenerics) spots.AfterGenerics class))
+    (sym (closing_alone class)) (inr (refl, plain_spot (closing i class) (at i spots.AfterGenerics) class))
+
+default_takes : (i : Item) (class : Class) → TakesGeneric i (spotted const_default) class
+default_takes i signs.Literal = (spotted const_end, refl, refl)
+default_takes i signs.Braces = (spotted const_end, refl, refl)
+default_takes i signs.Truth = (spotted const_end, refl, refl)
+default_takes i signs.Minus = (spotted const_minus, refl, refl)
+default_takes i class =
+    takes_type (generic_place i) (generic_place items.Alone) (after_generics i class) false i parameter
+    spots.ConstDefault of_parameter (step_of types.Wanted class true) (λ s d. refl) (λ s d. refl)
+
+spotted_takes : (i : Item) (s : Spotted) (class : Class) → TakesGeneric i (spotted s) class
+spotted_takes i generics class = generics_takes i class
+spotted_takes i before_parameter class = parameter_takes i class
+spotted_takes i parameter_hash class = hash_takes i class
+spotted_takes i attributed class = attributed_takes i class
+spotted_takes i lifetime_name class = lifetime_takes i class
+spotted_takes i type_name class = type_takes i class
+spotted_takes i const_name class = const_takes i class
+spotted_takes i const_colon class = colon_takes i class
+spotted_takes i const_default class = default_takes i class
+spotted_takes i const_minus class = minus_takes i class
+spotted_takes i const_end class = end_takes i class
+spotted_takes i closed class = closed_takes i class
+
+-- what follows the type or the bounds of a parameter
+abbrev FollowsParameter : Item → Ranged → Class → Type 0
+FollowsParameter i r class =
+    (ended : Bool) → Takes (generic_place i) (generic_place items.Alone) (after_generics i class) ended
+    (shifted 0 (follow i (rule_of r) class)) (shifted 0 (follow items.Alone (rule_of r) class))
+
+parameter_follows : (i : Item) (class : Class) → FollowsParameter i parameter class
+parameter_follows i signs.Comma ended = (spotted before_parameter, refl, refl)
+parameter_follows i signs.Greater ended = (spotted closed, refl, refl)
+parameter_follows i class ended = inl refl
+
+type_follows : (i : Item) (class : Class) → FollowsParameter i type_parameter class
+type_follows i signs.Comma ended = (spotted before_parameter, refl, refl)
+type_follows i signs.Greater ended = (spotted closed, refl, refl)
+type_follows i signs.Equals ended = (of_parameter types.Wanted 0, refl, refl)
+type_follows i class ended = inl refl
+
+const_follows : (i : Item) (class : Class) → FollowsParameter i const_parameter class
+const_follows i signs.Comma ended = (spotted before_parameter, refl, refl)
+const_follows i signs.Greater ended = (spotted closed, refl, refl)
+const_follows i signs.Equals ended = (spotted const_default, refl, refl)
+const_follows i class ended = inl refl
+
+generic_takes : (i : Item) (g : GenericPlace) (class : Class) → TakesGeneric i g class
+generic_takes i (spotted s) class = spotted_takes i s class
+generic_takes i (of_parameter state depth) class =
+    takes_range (generic_place i) (generic_place items.Alone) (after_generics i) i parameter of_parameter state depth
+    class (λ s d. refl) (λ s d. refl) (λ may. parameter_follows i class _)
+generic_takes i (of_type state depth) class =
+    takes_range (generic_place i) (generic_place items.Alone) (after_generics i) i type_parameter of_type state depth
+    class (λ s d. refl) (λ s d. refl) (λ may. type_follows i class _)
+generic_takes i (of_const state depth) class =
+    takes_range (generic_place i) (generic_place items.Alone) (after_generics i) i const_parameter of_const state depth
+    class (λ s d. refl) (λ s d. refl) (λ may. const_follows i class _)
+
+generic_unended : (i : Item) → is_alone i ≡ false → (g : GenericPlace) → ends (generic_place i g) ≡ false
+generic_unended i declared (spotted generics) = declared
+generic_unended i declared (spotted before_parameter) = refl
+generic_unended i declared (spotted parameter_hash) = refl
+generic_unended i declared (spotted attributed) = refl
+generic_unended i declared (spotted lifetime_name) = refl
+generic_unended i declared (spotted type_name) = refl
+generic_unended i declared (spotted const_name) = refl
+generic_unended i declared (spotted const_colon) = refl
+generic_unended i declared (spotted const_default) = refl
+generic_unended i declared (spotted const_minus) = refl
+generic_unended i declared (spotted const_end) = refl
+generic_unended i declared (spotted closed) = declared
+generic_unended i declared (of_parameter state depth) = and_right ((depth == 0) && may_end state) false refl
+generic_unended i declared (of_type state depth) = and_right ((depth == 0) && may_end state) false refl
+generic_unended i declared (of_const state depth) = and_right ((depth == 0) && may_end state) false refl
+
+pub generics_beside : (i : Item) → is_alone i ≡ false
+    → Beside (generic_place i) (generic_place items.Alone) (after_generics i)
+generics_beside i declared = record { takes = generic_takes i; unended = generic_unended i declared }
+
+-- ---- a where clause
+
+pub data ClausePlace : Type 0 where
+  predicate : ClausePlace
+  of_type : TypeState → ℕ → ClausePlace
+  of_bounds : TypeState → ℕ → ClausePlace
+
+abbrev pub clause_place : Item → ClausePlace → Place
+clause_place i predicate = at i spots.Predicate
+clause_place i (of_type state depth) = range i rules.Bounded state depth
+clause_place i (of_bounds state depth) = range i rules.Predicate state depth
+
+-- the body follows, and no fields in parentheses
+abbrev pub after_clause : Item → Class → Option Place
+after_clause i class = shifted 0 (body i class)
+
+abbrev is_body : Class → Bool
+is_body signs.Braces = true
+is_body signs.Semicolon = true
+is_body _ = false
+
+no_body : (i : Item) (class : Class) → is_body class ≡ false → body i class ≡ None
+no_body items.Alone class other = refl
+no_body items.Variants class other = refl
+no_body items.Struct signs.Braces other = cc
+no_body items.Struct signs.Semicolon other = cc
+no_body items.Struct class other = refl
+no_body items.Tuple signs.Semicolon other = cc
+no_body items.Tuple class other = refl
+no_body items.Braced signs.Braces other = cc
+no_body items.Braced class other = refl
+
+abbrev TakesClause : Item → ClausePlace → Class → Type 0
+TakesClause i g class =
+    Takes (clause_place i) (clause_place items.Alone) (after_clause i class) (ends (clause_place items.Alone g))
+    (step (clause_place i g) class) (step (clause_place items.Alone g) class)
+
+plain_braces : (s : Option Shift) (place : Place)
+    → else_type s (record place { depth = 0 }) spots.Predicate signs.Braces ≡ shifted 0 s
+plain_braces None place = refl
+plain_braces (Some s) place = refl
+
+plain_semicolon : (s : Option Shift) (place : Place)
+    → else_type s (record place { depth = 0 }) spots.Predicate signs.Semicolon ≡ shifted 0 s
+plain_semicolon None place = refl
+plain_semicolon (Some s) place = refl
+
+bounded_takes : (i : Item) (class : Class) → is_body class ≡ false → TakesClause i predicate class
+bounded_takes i class other =
+    subst (λ s. Takes (clause_place i) (clause_place items.Alone) (after_clause i class) true
+    (else_type s (at i spots.Predicate) spots.Predicate class) (step (at items.Alone spots.Predicate) class))
+    (sym (no_body i class other))
+    (takes_type (clause_place i) (clause_place items.Alone) (after_clause i class) true i bounded spots.Predicate
+    of_type (step_of types.Wanted class true) (λ s d. refl) (λ s d. refl))
+
+predicate_takes : (i : Item) (class : Class) → TakesClause i predicate class
+predicate_takes i signs.Braces = inr (refl, plain_braces (body i signs.Braces) (at i spots.Predicate))
+predicate_takes i signs.Semicolon = inr (refl, plain_semicolon (body i signs.Semicolon) (at i spots.Predicate))
+predicate_takes i class = bounded_takes i class refl
+
+abbrev FollowsClause : Item → Ranged → Class → Type 0
+FollowsClause i r class =
+    Takes (clause_place i) (clause_place items.Alone) (after_clause i class) (rule_ends items.Alone (rule_of r))
+    (shifted 0 (follow i (rule_of r) class)) (shifted 0 (follow items.Alone (rule_of r) class))
+
+type_ends : (i : Item) (class : Class) → FollowsClause i bounded class
+type_ends i signs.Colon = (of_bounds types.Open 0, refl, refl)
+type_ends i class = inl refl
+
+bounds_end : (i : Item) (class : Class) → FollowsClause i bounds class
+bounds_end i signs.Comma = (predicate, refl, refl)
+bounds_end i class = inr (refl, refl)
+
+clause_takes : (i : Item) (g : ClausePlace) (class : Class) → TakesClause i g class
+clause_takes i predicate class = predicate_takes i class
+clause_takes i (of_type state depth) class =
+    takes_range (clause_place i) (clause_place items.Alone) (after_clause i) i bounded of_type state depth class
+    (λ s d. refl) (λ s d. refl)
+    (λ may. subst (λ b. Takes (clause_place i) (clause_place items.Alone) (after_clause i class) (b && false)
+    (shifted 0 (follow i rules.Bounded class)) (shifted 0 (follow items.Alone rules.Bounded class))) (sym may)
+    (type_ends i class))
+clause_takes i (of_bounds state depth) class =
+    takes_range (clause_place i) (clause_place items.Alone) (after_clause i) i bounds of_bounds state depth class
+    (λ s d. refl) (λ s d. refl)
+    (λ may. subst (λ b. Takes (clause_place i) (clause_place items.Alone) (after_clause i class) (b && true)
+    (shifted 0 (follow i rules.Predicate class)) (shifted 0 (follow items.Alone rules.Predicate class))) (sym may)
+    (bounds_end i class))
+
+clause_unended : (i : Item) → is_alone i ≡ false → (g : ClausePlace) → ends (clause_place i g) ≡ false
+clause_unended i declared predicate = declared
+clause_unended i declared (of_type state depth) = and_right ((depth == 0) && may_end state) false refl
+clause_unended i declared (of_bounds state depth) =
+    and_right ((depth == 0) && may_end state) (is_alone i) declared
+
+pub clause_beside : (i : Item) → is_alone i ≡ false
+    → Beside (clause_place i) (clause_place items.Alone) (after_clause i)
+clause_beside i declared = record { takes = clause_takes i; unended = clause_unended i declared }
+
+-- where it may begin, with no fields in parentheses before it
+abbrev pub IsTupleOf : Item → Class → Type 0
+IsTupleOf items.Struct signs.Parentheses = Unit {0}
+IsTupleOf items.Struct signs.Restriction = Unit {0}
+IsTupleOf i class = ⊥

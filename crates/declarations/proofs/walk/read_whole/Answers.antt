@@ -1,0 +1,18 @@
+use Rattle.std.proofs.Common.{◌≡◌, ◌∙◌, ap, ◌==◌, true, false, length, arith}
+use Rattle.declarations.specs.Grammar.{ends}
+use Rattle.declarations.proofs.WholeLemmas.{whole_fault}
+use Rattle.declarations.proofs.walk.read_whole.Goals as goal
+use Rattle.declarations.proofs.walk.read_whole.Goals.{else-is_empty-via-then-is_empty+else-may_end}
+use Rattle.declarations.proofs.walk.read_whole.Goals.{else-is_empty-via-else-is_empty}
+
+pub returns-else-is_empty-clause-fault : goal.returns-else-is_empty-clause-fault
+returns-else-is_empty-clause-fault c =
+    let wrong : ends c.walk_from.result.0 ≡ true → length c.walk_from.result.1.now ≡ 0 → ⊥ =
+    elim c.else-is_empty.branch [
+      | else-is_empty-via-then-is_empty+else-may_end w ↦ λ ended none. (cc)
+      | else-is_empty-via-else-is_empty w ↦ λ ended none.
+          let no : false ≡ (0 == 0) = w.if-is_empty.ensures ∙ ap (λ n. n == 0) none in
+          cc
+    ] in
+    whole_fault c.args.start c.args.trees.now c.walk_from.result.1.now c.walk_from.result.0 _
+    c.walk_from.ensures.walked c.walk_from.ensures.stops wrong (omega arith)
