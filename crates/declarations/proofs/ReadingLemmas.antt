@@ -14,7 +14,7 @@ use Rattle.declarations.specs.Grammar.{step, ends}
 use Rattle.declarations.specs.Walk.{walk, Stops}
 use Rattle.declarations.specs.Whole.{Walked}
 use Rattle.declarations.specs.declared.class.Class.{Class}
-use Rattle.declarations.specs.declared.grammar.Place.{Place}
+use Rattle.declarations.specs.declared.place.Place.{Place}
 
 pub classes-append : (front back : List Sign) → classes_of (front ++ back) ≡ classes_of front ++ classes_of back
 classes-append [] back = refl

@@ -10,15 +10,17 @@
 #![tactic(auto)]
 
 mod class;
+mod expression;
 mod fault;
 mod grammar;
 mod item;
 mod parts;
+mod place;
 mod signs;
 mod types;
 mod walk;
 
-pub use class::Class;
+pub use class::{Class, Keyword, Word};
 pub use fault::Fault;
 pub use item::{Body, Fields, TypeItem, parse_type_item};
 pub use parts::{

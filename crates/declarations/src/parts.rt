@@ -2,14 +2,33 @@
 ghost use Rattle.std.specs.Prelude.{IfErr, IfOk};
 ghost use Rattle.declarations.specs.Forms.{AreAttributes, AreBounds, AreFields, AreGenerics, AreTupleFields, IsField};
 ghost use Rattle.declarations.specs.Forms.{IsItem, IsTupleField, IsType, IsVisibility, IsWhere};
-ghost use Rattle.declarations.specs.Forms.{AreVariants, IsExpression, IsVariant};
+ghost use Rattle.declarations.specs.Forms.{AreVariants, IsExpression, IsFrom, IsVariant, start};
 ghost use Rattle.declarations.specs.Reading.{FaultAt, IsOnly, Reads};
 
 use crate::fault::Fault;
-use crate::grammar::{Item, Place, Rule, Spot, State};
+use crate::place::{Item, Part, Place, Rule, Spot, State};
 use crate::types::TypeState;
 use crate::walk::split_from;
 use pm_stream::TokenTree;
+
+// What is read where no item is declared around it.
+fn split_alone<'a>(
+    trees: &'a [TokenTree],
+    rule: Rule,
+    state: State,
+) -> Result<(&'a [TokenTree], &'a [TokenTree]), Fault>
+    ensures ok { IfOk result (λ found. Reads (IsFrom (start rule state)) trees.now found.0.now found.1.now) }
+    ensures only { IfOk result (λ found. IsOnly (IsFrom (start rule state)) trees.now found.0.now found.1.now) }
+    ensures fault { IfErr result (λ fault. FaultAt (IsFrom (start rule state)) trees.now fault.at) }
+{
+    let start = Place {
+        item: Item::Alone,
+        rule,
+        state,
+        depth: 0,
+    };
+    split_from(trees, start)
+}
 
 /// The type at the front of the trees, and the trees after it.
 ///
@@ -20,13 +39,7 @@ pub fn split_type(trees: &[TokenTree]) -> Result<(&[TokenTree], &[TokenTree]), F
     ensures only { IfOk result (λ found. IsOnly IsType trees.now found.0.now found.1.now) }
     ensures fault { IfErr result (λ fault. FaultAt IsType trees.now fault.at) }
 {
-    let start = Place {
-        item: Item::Alone,
-        rule: Rule::Alone,
-        state: State::Range(TypeState::Wanted),
-        depth: 0,
-    };
-    split_from(trees, start)
+    split_alone(trees, Rule::Alone, State::Range(TypeState::Wanted))
 }
 
 /// The bounds at the front of the trees, which may be none, and the trees after them.
@@ -37,13 +50,7 @@ pub fn split_bounds(trees: &[TokenTree]) -> Result<(&[TokenTree], &[TokenTree]),
     ensures only { IfOk result (λ found. IsOnly AreBounds trees.now found.0.now found.1.now) }
     ensures fault { IfErr result (λ fault. FaultAt AreBounds trees.now fault.at) }
 {
-    let start = Place {
-        item: Item::Alone,
-        rule: Rule::Alone,
-        state: State::Range(TypeState::Open),
-        depth: 0,
-    };
-    split_from(trees, start)
+    split_alone(trees, Rule::Alone, State::Range(TypeState::Bound))
 }
 
 /// The outer attributes at the front of the trees, which may be none, and the trees after them.
@@ -54,13 +61,11 @@ pub fn split_attributes(trees: &[TokenTree]) -> Result<(&[TokenTree], &[TokenTre
     ensures only { IfOk result (λ found. IsOnly AreAttributes trees.now found.0.now found.1.now) }
     ensures fault { IfErr result (λ fault. FaultAt AreAttributes trees.now fault.at) }
 {
-    let start = Place {
-        item: Item::Alone,
-        rule: Rule::Alone,
-        state: State::At(Spot::Attributes),
-        depth: 0,
-    };
-    split_from(trees, start)
+    split_alone(
+        trees,
+        Rule::Alone,
+        State::At(Spot::Before(Part::Attributes)),
+    )
 }
 
 /// The visibility at the front of the trees, which may be left out, and the trees after it.
@@ -72,13 +77,11 @@ pub fn split_visibility(trees: &[TokenTree]) -> Result<(&[TokenTree], &[TokenTre
     ensures only { IfOk result (λ found. IsOnly IsVisibility trees.now found.0.now found.1.now) }
     ensures fault { IfErr result (λ fault. FaultAt IsVisibility trees.now fault.at) }
 {
-    let start = Place {
-        item: Item::Alone,
-        rule: Rule::Alone,
-        state: State::At(Spot::Visibility),
-        depth: 0,
-    };
-    split_from(trees, start)
+    split_alone(
+        trees,
+        Rule::Alone,
+        State::At(Spot::Before(Part::Visibility)),
+    )
 }
 
 /// The named field at the front of the trees, with its attributes and visibility, and the trees after it.
@@ -89,13 +92,7 @@ pub fn split_field(trees: &[TokenTree]) -> Result<(&[TokenTree], &[TokenTree]), 
     ensures only { IfOk result (λ found. IsOnly IsField trees.now found.0.now found.1.now) }
     ensures fault { IfErr result (λ fault. FaultAt IsField trees.now fault.at) }
 {
-    let start = Place {
-        item: Item::Alone,
-        rule: Rule::Alone,
-        state: State::At(Spot::Field),
-        depth: 0,
-    };
-    split_from(trees, start)
+    split_alone(trees, Rule::Alone, State::At(Spot::Before(Part::Field)))
 }
 
 /// The field without a name at the front of the trees, with its attributes and visibility, and the trees after it.
@@ -106,13 +103,11 @@ pub fn split_tuple_field(trees: &[TokenTree]) -> Result<(&[TokenTree], &[TokenTr
     ensures only { IfOk result (λ found. IsOnly IsTupleField trees.now found.0.now found.1.now) }
     ensures fault { IfErr result (λ fault. FaultAt IsTupleField trees.now fault.at) }
 {
-    let start = Place {
-        item: Item::Alone,
-        rule: Rule::Alone,
-        state: State::At(Spot::TupleField),
-        depth: 0,
-    };
-    split_from(trees, start)
+    split_alone(
+        trees,
+        Rule::Alone,
+        State::At(Spot::Before(Part::TupleField)),
+    )
 }
 
 /// The named fields at the front of the trees, with `,` between two and perhaps after the last, and the trees after
@@ -124,13 +119,7 @@ pub fn split_fields(trees: &[TokenTree]) -> Result<(&[TokenTree], &[TokenTree]),
     ensures only { IfOk result (λ found. IsOnly AreFields trees.now found.0.now found.1.now) }
     ensures fault { IfErr result (λ fault. FaultAt AreFields trees.now fault.at) }
 {
-    let start = Place {
-        item: Item::Alone,
-        rule: Rule::Fields,
-        state: State::At(Spot::Field),
-        depth: 0,
-    };
-    split_from(trees, start)
+    split_alone(trees, Rule::Fields, State::At(Spot::Before(Part::Field)))
 }
 
 /// The fields without names at the front of the trees, with `,` between two and perhaps after the last, and the trees
@@ -140,13 +129,11 @@ pub fn split_tuple_fields(trees: &[TokenTree]) -> Result<(&[TokenTree], &[TokenT
     ensures only { IfOk result (λ found. IsOnly AreTupleFields trees.now found.0.now found.1.now) }
     ensures fault { IfErr result (λ fault. FaultAt AreTupleFields trees.now fault.at) }
 {
-    let start = Place {
-        item: Item::Alone,
-        rule: Rule::TupleFields,
-        state: State::At(Spot::TupleField),
-        depth: 0,
-    };
-    split_from(trees, start)
+    split_alone(
+        trees,
+        Rule::TupleFields,
+        State::At(Spot::Before(Part::TupleField)),
+    )
 }
 
 /// The variant at the front of the trees, with its attributes, visibility and discriminant, and the trees after it.
@@ -158,13 +145,7 @@ pub fn split_variant(trees: &[TokenTree]) -> Result<(&[TokenTree], &[TokenTree])
     ensures only { IfOk result (λ found. IsOnly IsVariant trees.now found.0.now found.1.now) }
     ensures fault { IfErr result (λ fault. FaultAt IsVariant trees.now fault.at) }
 {
-    let start = Place {
-        item: Item::Alone,
-        rule: Rule::Alone,
-        state: State::At(Spot::Variant),
-        depth: 0,
-    };
-    split_from(trees, start)
+    split_alone(trees, Rule::Alone, State::At(Spot::Before(Part::Variant)))
 }
 
 /// The variants at the front of the trees, with `,` between two and perhaps after the last, and the trees after them.
@@ -178,7 +159,7 @@ pub fn split_variants(trees: &[TokenTree]) -> Result<(&[TokenTree], &[TokenTree]
     let start = Place {
         item: Item::Variants,
         rule: Rule::Alone,
-        state: State::At(Spot::Variant),
+        state: State::At(Spot::Before(Part::Variant)),
         depth: 0,
     };
     split_from(trees, start)
@@ -192,13 +173,7 @@ pub fn split_expression(trees: &[TokenTree]) -> Result<(&[TokenTree], &[TokenTre
     ensures only { IfOk result (λ found. IsOnly IsExpression trees.now found.0.now found.1.now) }
     ensures fault { IfErr result (λ fault. FaultAt IsExpression trees.now fault.at) }
 {
-    let start = Place {
-        item: Item::Alone,
-        rule: Rule::Alone,
-        state: State::At(Spot::Expression),
-        depth: 0,
-    };
-    split_from(trees, start)
+    split_alone(trees, Rule::Alone, State::At(Spot::Expression))
 }
 
 /// The generic parameters at the front of the trees in their angle brackets, which may be left out, and the trees after
@@ -210,13 +185,7 @@ pub fn split_generics(trees: &[TokenTree]) -> Result<(&[TokenTree], &[TokenTree]
     ensures only { IfOk result (λ found. IsOnly AreGenerics trees.now found.0.now found.1.now) }
     ensures fault { IfErr result (λ fault. FaultAt AreGenerics trees.now fault.at) }
 {
-    let start = Place {
-        item: Item::Alone,
-        rule: Rule::Alone,
-        state: State::At(Spot::Generics),
-        depth: 0,
-    };
-    split_from(trees, start)
+    split_alone(trees, Rule::Alone, State::At(Spot::Generics))
 }
 
 /// The where clause at the front of the trees, which may be left out, and the trees after it.
@@ -227,13 +196,7 @@ pub fn split_where(trees: &[TokenTree]) -> Result<(&[TokenTree], &[TokenTree]), 
     ensures only { IfOk result (λ found. IsOnly IsWhere trees.now found.0.now found.1.now) }
     ensures fault { IfErr result (λ fault. FaultAt IsWhere trees.now fault.at) }
 {
-    let start = Place {
-        item: Item::Alone,
-        rule: Rule::Alone,
-        state: State::At(Spot::Where),
-        depth: 0,
-    };
-    split_from(trees, start)
+    split_alone(trees, Rule::Alone, State::At(Spot::Where))
 }
 
 /// The struct, enum or union at the front of the trees, with its attributes and visibility, and the trees after it.
@@ -245,11 +208,5 @@ pub fn split_item(trees: &[TokenTree]) -> Result<(&[TokenTree], &[TokenTree]), F
     ensures only { IfOk result (λ found. IsOnly IsItem trees.now found.0.now found.1.now) }
     ensures fault { IfErr result (λ fault. FaultAt IsItem trees.now fault.at) }
 {
-    let start = Place {
-        item: Item::Alone,
-        rule: Rule::Alone,
-        state: State::At(Spot::Item),
-        depth: 0,
-    };
-    split_from(trees, start)
+    split_alone(trees, Rule::Alone, State::At(Spot::Before(Part::TypeItem)))
 }

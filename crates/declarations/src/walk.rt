@@ -9,7 +9,7 @@ ghost use Rattle.declarations.specs.Whole.{IsWhole, ReadsAll, Walked};
 ghost use Rattle.declarations.specs.declared.class.Class.{Class as ClassValue};
 
 use crate::fault::Fault;
-use crate::grammar::Place;
+use crate::place::Place;
 use crate::signs::first_sign;
 use pm_stream::TokenTree;
 

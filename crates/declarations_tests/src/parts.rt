@@ -4,7 +4,7 @@ use declarations::{
     split_generics, split_item, split_tuple_field, split_tuple_fields, split_type, split_variant,
     split_variants, split_visibility, split_where,
 };
-use proc_macro2::{SourceMap, TokenStream, TokenTree};
+use proc_macro2::{Delimiter, Group, SourceMap, TokenStream, TokenTree};
 use std::process::Abort;
 use std::test::Fail;
 
@@ -70,6 +70,23 @@ fn check(rt: &(impl Abort + AllocGlobal), part: Part, rows: &[(&str, Answer)]) -
     Ok(())
 }
 
+// The same where the first text is in a group without delimiters, before the second.
+fn check_unseen(
+    rt: &(impl Abort + AllocGlobal),
+    part: Part,
+    rows: &[(&str, &str, Answer)],
+) -> Result<(), Fail> {
+    for (inside, after, wanted) in rows {
+        let mut map = SourceMap::new(rt.alloc());
+        let group = Group::new(Delimiter::None, TokenStream::from_str(inside, &mut map)?);
+        let mut stream = TokenStream::from_tree(rt.alloc(), TokenTree::Group(group))?;
+        stream.extend_streams([TokenStream::from_str(after, &mut map)?])?;
+        let found = read(part, stream.trees());
+        assert!(rt; found == *wanted, "{part:?} of {inside:?} before {after:?}: {found:?}");
+    }
+    Ok(())
+}
+
 #[test]
 fn a_type_ends_where_an_operand_stands_and_no_step_follows(rt: HostRuntime) -> Result<(), Fail> {
     check(
@@ -89,6 +106,10 @@ fn a_type_ends_where_an_operand_stands_and_no_step_follows(rt: HostRuntime) -> R
             ("*const extern \"C\" fn(A) = x", Reads(6)),
             ("Vec<u8, b: u8", FaultAt(7)),
             ("A::", FaultAt(3)),
+            ("Foo<,>", FaultAt(2)),
+            ("Foo<A,,>", FaultAt(4)),
+            ("A + + B", Reads(2)),
+            ("Foo<'a, T: 'b + U,>,", Reads(13)),
             ("* A", FaultAt(1)),
             ("r#struct", Reads(1)),
             ("struct", FaultAt(0)),
@@ -132,6 +153,41 @@ fn parentheses_restrict_a_visibility_or_are_a_type(rt: HostRuntime) -> Result<()
         )],
     )?;
     check(&rt, Part::TupleField, &[("pub (crate)", FaultAt(2))])
+}
+
+#[test]
+fn groups_without_delimiters_are_what_they_hold(rt: HostRuntime) -> Result<(), Fail> {
+    check_unseen(
+        &rt,
+        Part::Visibility,
+        &[
+            ("", "x", Reads(1)),
+            ("pub", "x", Reads(1)),
+            ("pub(in a)", "x", Reads(1)),
+            ("pub (A)", "x", Reads(0)),
+            ("pub x", "x", Reads(0)),
+        ],
+    )?;
+    check_unseen(
+        &rt,
+        Part::TupleField,
+        &[
+            ("pub", "(crate), B", Reads(2)),
+            ("A", ", B", Reads(1)),
+            ("", "", FaultAt(1)),
+        ],
+    )?;
+    check_unseen(&rt, Part::Field, &[("", "a: u8, b", Reads(4))])?;
+    check_unseen(&rt, Part::Item, &[("pub", "struct S;", Reads(4))])?;
+    check_unseen(
+        &rt,
+        Part::Expression,
+        &[
+            ("1 + 2", "* 3, B", Reads(3)),
+            ("{ 1 }", "+ 1", Reads(3)),
+        ],
+    )?;
+    check_unseen(&rt, Part::Type, &[("{ 1 }", "", FaultAt(0))])
 }
 
 #[test]

@@ -10,14 +10,16 @@
 //! The grammar stands on signs: a tree, or two that are read as one. README.md has it whole.
 
 mod class;
+mod expression;
 mod fault;
 mod grammar;
 mod parts;
+mod place;
 mod signs;
 mod types;
 mod walk;
 
-pub use class::Class;
+pub use class::{Class, Keyword, Word};
 pub use fault::Fault;
 pub use parts::{
     split_attributes, split_bounds, split_expression, split_field, split_fields, split_generics,

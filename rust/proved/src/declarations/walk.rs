@@ -2,7 +2,7 @@
 //! Walks over the signs of trees, by the grammar.
 
 use crate::declarations::fault::Fault;
-use crate::declarations::grammar::Place;
+use crate::declarations::place::Place;
 use crate::declarations::signs::first_sign;
 use crate::pm_stream::TokenTree;
 

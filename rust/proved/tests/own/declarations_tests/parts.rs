@@ -8,7 +8,7 @@ use proved::declarations::{
     split_generics, split_item, split_tuple_field, split_tuple_fields, split_type, split_variant,
     split_variants, split_visibility, split_where,
 };
-use proved::proc_macro2::{SourceMap, TokenStream, TokenTree};
+use proved::proc_macro2::{Delimiter, Group, SourceMap, TokenStream, TokenTree};
 use crate::shim::process::Abort;
 use crate::shim::test::Fail;
 
@@ -74,6 +74,23 @@ fn check(rt: &(impl Abort + AllocGlobal), part: Part, rows: &[(&str, Answer)]) -
     Ok(())
 }
 
+// The same where the first text is in a group without delimiters, before the second.
+fn check_unseen(
+    rt: &(impl Abort + AllocGlobal),
+    part: Part,
+    rows: &[(&str, &str, Answer)],
+) -> Result<(), Fail> {
+    for (inside, after, wanted) in rows {
+        let mut map = SourceMap::new(rt.alloc());
+        let group = Group::new(Delimiter::None, TokenStream::from_str(inside, &mut map)?);
+        let mut stream = TokenStream::from_tree(rt.alloc(), TokenTree::Group(group))?;
+        stream.extend_streams([TokenStream::from_str(after, &mut map)?])?;
+        let found = read(part, stream.trees());
+        assert!(found == *wanted, "{part:?} of {inside:?} before {after:?}: {found:?}");
+    }
+    Ok(())
+}
+
 #[test]
 fn a_type_ends_where_an_operand_stands_and_no_step_follows() -> Result<(), Fail> {
     let rt = HostRuntime;
@@ -94,6 +111,10 @@ fn a_type_ends_where_an_operand_stands_and_no_step_follows() -> Result<(), Fail>
             ("*const extern \"C\" fn(A) = x", Reads(6)),
             ("Vec<u8, b: u8", FaultAt(7)),
             ("A::", FaultAt(3)),
+            ("Foo<,>", FaultAt(2)),
+            ("Foo<A,,>", FaultAt(4)),
+            ("A + + B", Reads(2)),
+            ("Foo<'a, T: 'b + U,>,", Reads(13)),
             ("* A", FaultAt(1)),
             ("r#struct", Reads(1)),
             ("struct", FaultAt(0)),
@@ -138,6 +159,42 @@ fn parentheses_restrict_a_visibility_or_are_a_type() -> Result<(), Fail> {
         )],
     )?;
     check(&rt, Part::TupleField, &[("pub (crate)", FaultAt(2))])
+}
+
+#[test]
+fn groups_without_delimiters_are_what_they_hold() -> Result<(), Fail> {
+    let rt = HostRuntime;
+    check_unseen(
+        &rt,
+        Part::Visibility,
+        &[
+            ("", "x", Reads(1)),
+            ("pub", "x", Reads(1)),
+            ("pub(in a)", "x", Reads(1)),
+            ("pub (A)", "x", Reads(0)),
+            ("pub x", "x", Reads(0)),
+        ],
+    )?;
+    check_unseen(
+        &rt,
+        Part::TupleField,
+        &[
+            ("pub", "(crate), B", Reads(2)),
+            ("A", ", B", Reads(1)),
+            ("", "", FaultAt(1)),
+        ],
+    )?;
+    check_unseen(&rt, Part::Field, &[("", "a: u8, b", Reads(4))])?;
+    check_unseen(&rt, Part::Item, &[("pub", "struct S;", Reads(4))])?;
+    check_unseen(
+        &rt,
+        Part::Expression,
+        &[
+            ("1 + 2", "* 3, B", Reads(3)),
+            ("{ 1 }", "+ 1", Reads(3)),
+        ],
+    )?;
+    check_unseen(&rt, Part::Type, &[("{ 1 }", "", FaultAt(0))])
 }
 
 #[test]
