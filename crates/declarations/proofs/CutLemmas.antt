@@ -10,7 +10,7 @@ use Rattle.declarations.specs.Reading.{Reads, FaultAt, IsOnly}
 use Rattle.declarations.specs.Signs.{Sign, signs, classes_of}
 use Rattle.declarations.specs.Walk.{walk}
 use Rattle.declarations.specs.declared.class.Class.{Class}
-use Rattle.declarations.specs.declared.grammar.Place.{Place}
+use Rattle.declarations.specs.declared.place.Place.{Place}
 
 -- all trees are walked over from the place to an end
 pub record Goes (place : Place) (trees : List TokenTree) : Type 0 where

@@ -1,6 +1,6 @@
 -- The parts of an item that is read whole, one after another.
 use Rattle.std.proofs.Common.{◌≡◌, refl, sym, ◌∙◌, ap, subst, ℕ, Bool, true, false, List, [], ◌∷◌, ◌++◌, Some}
-use Rattle.std.proofs.Common.{append-nil, inr}
+use Rattle.std.proofs.Common.{append-nil, inl, inr, ◌⊎◌}
 use Rattle.pm_token.specs.Leaf.{Name}
 use Rattle.pm_token.specs.declared.delimiters.Delimiter.{Delimiter}
 use Rattle.pm_token.specs.declared.delimiters.Delimiter.TheVariants as delimiters
@@ -12,28 +12,32 @@ use Rattle.declarations.proofs.CutLemmas.{Goes, Cut, Begins, Takes, cut, firsts,
 use Rattle.declarations.proofs.PartLemmas.{at, Front, item, before, attributed, among_attributes, attribute_place}
 use Rattle.declarations.proofs.PartLemmas.{start, attributes_beside, after_attributes, within_visibility}
 use Rattle.declarations.proofs.PartLemmas.{visibility_place, visibility_first, visibility_beside, after_visibility}
-use Rattle.declarations.proofs.RegionLemmas.{Declared, structure, tuple, braced, item_of, not_alone, generic_place}
+use Rattle.declarations.proofs.RegionLemmas.{Declared, structure, tuple, enumeration, union, item_of, not_alone}
+use Rattle.declarations.proofs.RegionLemmas.{generic_place}
 use Rattle.declarations.proofs.RegionLemmas.{spotted, generics, generics_beside, after_generics, plain_spot}
 use Rattle.declarations.proofs.RegionLemmas.{clause_place, clause_beside, after_clause, predicate}
 use Rattle.declarations.proofs.SignLemmas.{trees_of-signs, no_signs}
-use Rattle.declarations.proofs.SortLemmas.{sort_of, named, grouped, names, groups}
+use Rattle.declarations.proofs.SortLemmas.{sort_of, named, grouped, names, groups, unseen}
 use Rattle.declarations.proofs.WalkLemmas.{after, walk-cons}
 use Rattle.declarations.specs.Forms.{IsFrom, IsItem, AreAttributes, IsVisibility, AreGenerics, IsWhere}
 use Rattle.declarations.specs.Grammar.{step, ends, closing}
 use Rattle.declarations.specs.Item as spec
-use Rattle.declarations.specs.Item.{IsNameClass, IsLeft, IsTypeItem, HasEnding}
+use Rattle.declarations.specs.Item.{AreBracesLeft, InBraces, IsNameClass, IsLeft, IsTypeItem, HasEnding}
 use Rattle.declarations.specs.declared.item.TypeItem.{TypeItem}
 use Rattle.declarations.specs.Reading.{Reads, FaultAt, IsOnly}
 use Rattle.declarations.specs.Signs.{Sign, signs, classes_of, group_class, is_restriction, name_class}
-use Rattle.declarations.specs.Signs.{parentheses_class}
+use Rattle.declarations.specs.Signs.{parentheses_class, unseen_class}
 use Rattle.declarations.specs.Walk.{walk}
 use Rattle.declarations.specs.Whole.{ReadsAll}
 use Rattle.declarations.specs.declared.class.Class.{Class}
 use Rattle.declarations.specs.declared.class.Class.TheVariants as signs
-use Rattle.declarations.specs.declared.grammar.Item.TheVariants as items
-use Rattle.declarations.specs.declared.grammar.Place.{Place}
-use Rattle.declarations.specs.declared.grammar.Spot.{Spot}
-use Rattle.declarations.specs.declared.grammar.Spot.TheVariants as spots
+use Rattle.declarations.specs.declared.class.Keyword.TheVariants as keywords
+use Rattle.declarations.specs.declared.class.Word.TheVariants as words
+use Rattle.declarations.specs.declared.place.Item.TheVariants as items
+use Rattle.declarations.specs.declared.place.Part.TheVariants as parts
+use Rattle.declarations.specs.declared.place.Place.{Place}
+use Rattle.declarations.specs.declared.place.Spot.{Spot}
+use Rattle.declarations.specs.declared.place.Spot.TheVariants as spots
 
 -- ---- all trees
 
@@ -69,11 +73,11 @@ goes_first place next trees more sign read steps goes = record {
 -- ---- attributes and a visibility
 
 pub attributes_cut : (front : Front) (trees : List TokenTree) → Goes (at items.Alone (before front)) trees
-    → Cut (at items.Alone spots.Attributes) (after_attributes front) trees
+    → Cut (at items.Alone (spots.Before parts.Attributes)) (after_attributes front) trees
 attributes_cut front trees goes =
     let beside = attributes_beside front in
     cut (among_attributes front) attribute_place (after_attributes front) beside (signs trees)
-    (at items.Alone (before front)) (at items.Alone spots.Attributes) trees goes.last refl
+    (at items.Alone (before front)) (at items.Alone (spots.Before parts.Attributes)) trees goes.last refl
     (firsts (among_attributes front) attribute_place (after_attributes front) beside start (signs trees))
     goes.walks goes.ended
 
@@ -83,28 +87,23 @@ attributed_step front signs.Hash next steps = cc
 attributed_step front class next steps = steps
 
 pub visibility_cut : (front : Front) (trees : List TokenTree) → Begins (after_attributes front) trees
-    → Cut (at items.Alone spots.Visibility) (after_visibility front) trees
+    → Cut (at items.Alone (spots.Before parts.Visibility)) (after_visibility front) trees
 visibility_cut front trees begins =
     let place = at items.Alone (attributed front) in
     let goes = goes_first place begins.next trees begins.more begins.sign begins.begins
     (attributed_step front begins.sign.class begins.next begins.steps) begins.left in
     cut (within_visibility front) visibility_place (after_visibility front) (visibility_beside front)
-    (begins.sign ∷ signs begins.more) place (at items.Alone spots.Visibility) trees goes.last begins.begins
+    (begins.sign ∷ signs begins.more) place (at items.Alone (spots.Before parts.Visibility)) trees goes.last begins.begins
     (visibility_first front begins.sign.class begins.next begins.steps)
     (ap (λ ss. walk step place (classes_of ss)) (sym begins.begins) ∙ goes.walks) goes.ended
 
 -- ---- the keyword and the name of an item
 
-abbrev pub name_spot : Declared → Spot
-name_spot structure = spots.StructName
-name_spot tuple = spots.StructName
-name_spot braced = spots.BracedName
-
 -- what a keyword declares
 abbrev pub Declares : Class → Declared → Type 0
-Declares signs.Struct structure = Unit {0}
-Declares signs.Enum braced = Unit {0}
-Declares signs.Union braced = Unit {0}
+Declares (signs.Keyword keywords.Struct) structure = Unit {0}
+Declares (signs.Keyword keywords.Enum) enumeration = Unit {0}
+Declares (signs.Word words.Union) union = Unit {0}
 Declares class i = ⊥
 
 pub record Keyword (trees : List TokenTree) : Type 0 where
@@ -113,18 +112,20 @@ pub record Keyword (trees : List TokenTree) : Type 0 where
   pub kind : Declared
   pub whole : trees ≡ Ident ident ∷ more
   pub declares : Declares (name_class ident) kind
-  pub left : Goes (at (item_of kind) (name_spot kind)) more
+  pub left : Goes (at (item_of kind) spots.Name) more
 
 pub record Led (class : Class) (next : Place) : Type 0 where
   pub kind : Declared
   pub sort : sort_of class ≡ names
   pub declares : Declares class kind
-  pub is : next ≡ at (item_of kind) (name_spot kind)
+  pub is : next ≡ at (item_of kind) spots.Name
 
 led_by : (class : Class) (next : Place) → after_visibility item class ≡ Some next → Led class next
-led_by signs.Struct next steps = record { kind = structure; sort = refl; declares = tt; is = (cc) }
-led_by signs.Enum next steps = record { kind = braced; sort = refl; declares = tt; is = (cc) }
-led_by signs.Union next steps = record { kind = braced; sort = refl; declares = tt; is = (cc) }
+led_by (signs.Keyword keywords.Struct) next steps =
+    record { kind = structure; sort = refl; declares = tt; is = (cc) }
+led_by (signs.Keyword keywords.Enum) next steps =
+    record { kind = enumeration; sort = refl; declares = tt; is = (cc) }
+led_by (signs.Word words.Union) next steps = record { kind = union; sort = refl; declares = tt; is = (cc) }
 led_by class next steps = cc
 
 pub keyword_of : (trees : List TokenTree) → Begins (after_visibility item) trees → Keyword trees
@@ -155,34 +156,15 @@ record LedName (place : Place) (class : Class) (next : Place) : Type 0 where
   is : next ≡ place
 
 led_name : (kind : Declared) (class : Class) (next : Place)
-    → step (at (item_of kind) (name_spot kind)) class ≡ Some next → (kind ≡ tuple → ⊥)
-    → LedName (at (item_of kind) spots.Generics) class next
-led_name structure signs.Word next steps other = record { sort = refl; is_name = tt; is = (cc) }
-led_name structure signs.Union next steps other = record { sort = refl; is_name = tt; is = (cc) }
-led_name structure class next steps other = cc
-led_name braced signs.Word next steps other = record { sort = refl; is_name = tt; is = (cc) }
-led_name braced signs.Union next steps other = record { sort = refl; is_name = tt; is = (cc) }
-led_name braced class next steps other = cc
-led_name tuple class next steps other = absurd (other refl)
+    → step (at (item_of kind) spots.Name) class ≡ Some next → LedName (at (item_of kind) spots.Generics) class next
+led_name kind (signs.Word word) next steps = record { sort = refl; is_name = tt; is = (cc) }
+led_name kind class next steps = cc
 
-names_end : (kind : Declared) → ends (at (item_of kind) (name_spot kind)) ≡ false
-names_end structure = refl
-names_end tuple = refl
-names_end braced = refl
-
-no_tuple : (class : Class) (kind : Declared) → Declares class kind → kind ≡ tuple → ⊥
-no_tuple signs.Struct tuple declares is = declares
-no_tuple signs.Enum tuple declares is = declares
-no_tuple signs.Union tuple declares is = declares
-no_tuple class tuple declares is = declares
-no_tuple class structure declares is = cc
-no_tuple class braced declares is = cc
-
-pub name_of : (kind : Declared) (class : Class) (trees : List TokenTree) → Declares class kind
-    → Goes (at (item_of kind) (name_spot kind)) trees → Named (at (item_of kind) spots.Generics) trees
-name_of kind class trees declares goes =
-    let begins = begins_whole (at (item_of kind) (name_spot kind)) trees goes (names_end kind) in
-    let led = led_name kind begins.sign.class begins.next begins.steps (no_tuple class kind declares) in
+pub name_of : (kind : Declared) (trees : List TokenTree) → Goes (at (item_of kind) spots.Name) trees
+    → Named (at (item_of kind) spots.Generics) trees
+name_of kind trees goes =
+    let begins = begins_whole (at (item_of kind) spots.Name) trees goes refl in
+    let led = led_name kind begins.sign.class begins.next begins.steps in
     let found = named trees begins.sign (signs begins.more) begins.begins led.sort in
     let is : begins.sign.class ≡ name_class found.0 = ap (λ s. s.class) found.1.is in
     let one : begins.sign.trees ≡ Ident found.0 ∷ [] = ap (λ s. s.trees) found.1.is in
@@ -200,7 +182,7 @@ pub generics_cut : (kind : Declared) (trees : List TokenTree) → Goes (at (item
     → Cut (at items.Alone spots.Generics) (after_generics (item_of kind)) trees
 generics_cut kind trees goes =
     let i = item_of kind in
-    let beside = generics_beside i (not_alone kind) in
+    let beside = generics_beside kind in
     cut (generic_place i) (generic_place items.Alone) (after_generics i) beside (signs trees) (at i spots.Generics)
     (at items.Alone spots.Generics) trees goes.last refl
     (firsts (generic_place i) (generic_place items.Alone) (after_generics i) beside (spotted generics) (signs trees))
@@ -211,7 +193,7 @@ pub goes_after_generics : (kind : Declared) (trees : List TokenTree) → Begins 
 goes_after_generics kind trees begins =
     let i = item_of kind in
     goes_first (at i spots.AfterGenerics) begins.next trees begins.more begins.sign begins.begins
-    (plain_spot (closing i begins.sign.class) (at i spots.AfterGenerics) begins.sign.class ∙ begins.steps) begins.left
+    (plain_spot kind (closing i begins.sign.class) begins.sign.class ∙ begins.steps) begins.left
 
 -- ---- a where clause and the body
 
@@ -225,14 +207,16 @@ clause_first : (kind : Declared) (class : Class) → (IsTuple kind class → ⊥
     → Takes (clause_place (item_of kind)) (clause_place items.Alone) (after_clause (item_of kind) class)
     (ends (at items.Alone spots.Where)) (step (at (item_of kind) spots.AfterGenerics) class)
     (step (at items.Alone spots.Where) class)
-clause_first structure signs.Where other = (predicate, refl, refl)
+clause_first structure (signs.Keyword keywords.Where) other = (predicate, refl, refl)
 clause_first structure signs.Parentheses other = absurd (other tt)
 clause_first structure signs.Restriction other = absurd (other tt)
 clause_first structure class other = inr (refl, refl)
-clause_first tuple signs.Where other = (predicate, refl, refl)
+clause_first tuple (signs.Keyword keywords.Where) other = (predicate, refl, refl)
 clause_first tuple class other = inr (refl, refl)
-clause_first braced signs.Where other = (predicate, refl, refl)
-clause_first braced class other = inr (refl, refl)
+clause_first enumeration (signs.Keyword keywords.Where) other = (predicate, refl, refl)
+clause_first enumeration class other = inr (refl, refl)
+clause_first union (signs.Keyword keywords.Where) other = (predicate, refl, refl)
+clause_first union class other = inr (refl, refl)
 
 after_generics_end : (kind : Declared) → ends (at (item_of kind) spots.AfterGenerics) ≡ false
 after_generics_end kind = not_alone kind
@@ -248,58 +232,62 @@ clause_cut kind trees goes other =
     let i = item_of kind in
     let begins = begins_whole (at i spots.AfterGenerics) trees goes (after_generics_end kind) in
     let first : NoTuple kind (begins.sign ∷ signs begins.more) = subst (NoTuple kind) begins.begins other in
-    cut (clause_place i) (clause_place items.Alone) (after_clause i) (clause_beside i (not_alone kind))
+    cut (clause_place i) (clause_place items.Alone) (after_clause i) (clause_beside kind)
     (begins.sign ∷ signs begins.more) (at i spots.AfterGenerics) (at items.Alone spots.Where) trees goes.last
     begins.begins (clause_first kind begins.sign.class first)
     (ap (λ ss. walk step (at i spots.AfterGenerics) (classes_of ss)) (sym begins.begins) ∙ goes.walks) goes.ended
 
 -- nothing follows an item
-nothing_more : (trees : List TokenTree) (all : List Sign) → signs trees ≡ all
-    → Goes (at items.Alone spots.ItemEnd) trees → trees ≡ []
-nothing_more trees [] read goes = no_signs trees (ap classes_of read)
-nothing_more trees (sign ∷ all) read goes =
-    let walks : after step (step (at items.Alone spots.ItemEnd) sign.class) (classes_of all) ≡ Some goes.last =
-    sym (walk-cons step (at items.Alone spots.ItemEnd) sign.class (classes_of all))
-    ∙ ap (λ ss. walk step (at items.Alone spots.ItemEnd) (classes_of ss)) (sym read) ∙ goes.walks in
+nothing_more : (kind : Declared) (trees : List TokenTree) (all : List Sign) → signs trees ≡ all
+    → Goes (at (item_of kind) spots.ItemEnd) trees → trees ≡ []
+nothing_more kind trees [] read goes = no_signs trees (ap classes_of read)
+nothing_more kind trees (sign ∷ all) read goes =
+    let end = at (item_of kind) spots.ItemEnd in
+    let walks : after step (step end sign.class) (classes_of all) ≡ Some goes.last =
+    sym (walk-cons step end sign.class (classes_of all))
+    ∙ ap (λ ss. walk step end (classes_of ss)) (sym read) ∙ goes.walks in
     cc
+
+-- the body of an enum or a union is in braces
+abbrev pub IsBraced : Declared → Type 0
+IsBraced enumeration = Unit {0}
+IsBraced union = Unit {0}
+IsBraced kind = ⊥
 
 -- the last sign of an item
 pub data LastOf (kind : Declared) (trees : List TokenTree) : Type 0 where
-  braces : (g : Grouped) → trees ≡ Group g ∷ [] → g.delimiter ≡ delimiters.Brace → (kind ≡ tuple → ⊥)
-      → LastOf kind trees
-  semicolon : classes_of (signs trees) ≡ signs.Semicolon ∷ [] → (kind ≡ braced → ⊥) → LastOf kind trees
+  braces : (g : Grouped) → trees ≡ Group g ∷ [] → InBraces g → (kind ≡ tuple → ⊥) → LastOf kind trees
+  semicolon : classes_of (signs trees) ≡ signs.Semicolon ∷ [] → (IsBraced kind → ⊥) → LastOf kind trees
 
 abbrev EndBy : Declared → Class → Type 0
 EndBy structure signs.Braces = Unit {0}
 EndBy structure signs.Semicolon = Unit {0}
 EndBy tuple signs.Semicolon = Unit {0}
-EndBy braced signs.Braces = Unit {0}
+EndBy enumeration signs.Braces = Unit {0}
+EndBy union signs.Braces = Unit {0}
 EndBy kind class = ⊥
 
+abbrev IsEnd : Declared → Class → Place → Type 0
+IsEnd kind class next = EndBy kind class × (next ≡ at (item_of kind) spots.ItemEnd)
+
 end_by : (kind : Declared) (class : Class) (next : Place) → after_clause (item_of kind) class ≡ Some next
-    → EndBy kind class × (next ≡ at items.Alone spots.ItemEnd)
+    → IsEnd kind class next
 end_by structure signs.Braces next steps = (tt, cc)
 end_by structure signs.Semicolon next steps = (tt, cc)
 end_by structure class next steps = cc
 end_by tuple signs.Semicolon next steps = (tt, cc)
 end_by tuple class next steps = cc
-end_by braced signs.Braces next steps = (tt, cc)
-end_by braced class next steps = cc
-
--- the class of a group tells its delimiters
-brace_of : (d : Delimiter) (f : Forest) → group_class d f ≡ signs.Braces → d ≡ delimiters.Brace
-brace_of delimiters.Parenthesis f is =
-    elim (is_restriction f) as (λ b. parentheses_class b ≡ signs.Braces → delimiters.Parenthesis ≡ delimiters.Brace)
-    [ true ↦ λ h. cc | false ↦ λ h. cc ] is
-brace_of delimiters.Bracket f is = cc
-brace_of delimiters.Brace f is = refl
-brace_of delimiters.None f is = cc
+end_by enumeration signs.Braces next steps = (tt, cc)
+end_by enumeration class next steps = cc
+end_by union signs.Braces next steps = (tt, cc)
+end_by union class next steps = cc
 
 parenthesis_of : (d : Delimiter) (f : Forest) → IsTuple structure (group_class d f) → d ≡ delimiters.Parenthesis
 parenthesis_of delimiters.Parenthesis f is = refl
 parenthesis_of delimiters.Bracket f is = absurd is
 parenthesis_of delimiters.Brace f is = absurd is
-parenthesis_of delimiters.None f is = absurd is
+parenthesis_of delimiters.None f is =
+    absurd (unseen (λ class. IsTuple structure class → ⊥) f (λ h. h) (λ h. h) (λ h. h) is)
 
 braces_end : (kind : Declared) (trees more : List TokenTree) (sign : Sign) → signs trees ≡ sign ∷ signs more
     → trees ≡ sign.trees ++ more → more ≡ [] → sign.class ≡ signs.Braces → (kind ≡ tuple → ⊥) → LastOf kind trees
@@ -308,7 +296,7 @@ braces_end kind trees more sign read whole none is other =
     let class : sign.class ≡ group_class found.0.delimiter found.0.stream = ap (λ s. s.class) found.1.is in
     let one : sign.trees ≡ Group found.0 ∷ [] = ap (λ s. s.trees) found.1.is in
     braces found.0 (whole ∙ ap (λ ts. ts ++ more) one ∙ ap (λ m. Group found.0 ∷ m) none)
-    (brace_of found.0.delimiter found.0.stream (sym class ∙ is)) other
+    (sym class ∙ is) other
 
 ends_by : (kind : Declared) (trees more : List TokenTree) (sign : Sign) → signs trees ≡ sign ∷ signs more
     → trees ≡ sign.trees ++ more → more ≡ [] → (class : Class) → sign.class ≡ class → EndBy kind class
@@ -316,20 +304,23 @@ ends_by : (kind : Declared) (trees more : List TokenTree) (sign : Sign) → sign
 ends_by structure trees more sign read whole none signs.Braces is end =
     braces_end structure trees more sign read whole none is (λ same. cc)
 ends_by structure trees more sign read whole none signs.Semicolon is end =
-    semicolon (ap classes_of read ∙ ap (λ m. sign.class ∷ classes_of (signs m)) none ∙ ap (λ c. c ∷ []) is) (λ same. cc)
+    semicolon (ap classes_of read ∙ ap (λ m. sign.class ∷ classes_of (signs m)) none ∙ ap (λ c. c ∷ []) is) (λ no. no)
 ends_by structure trees more sign read whole none class is end = absurd end
 ends_by tuple trees more sign read whole none signs.Semicolon is end =
-    semicolon (ap classes_of read ∙ ap (λ m. sign.class ∷ classes_of (signs m)) none ∙ ap (λ c. c ∷ []) is) (λ same. cc)
+    semicolon (ap classes_of read ∙ ap (λ m. sign.class ∷ classes_of (signs m)) none ∙ ap (λ c. c ∷ []) is) (λ no. no)
 ends_by tuple trees more sign read whole none class is end = absurd end
-ends_by braced trees more sign read whole none signs.Braces is end =
-    braces_end braced trees more sign read whole none is (λ same. cc)
-ends_by braced trees more sign read whole none class is end = absurd end
+ends_by enumeration trees more sign read whole none signs.Braces is end =
+    braces_end enumeration trees more sign read whole none is (λ same. cc)
+ends_by enumeration trees more sign read whole none class is end = absurd end
+ends_by union trees more sign read whole none signs.Braces is end =
+    braces_end union trees more sign read whole none is (λ same. cc)
+ends_by union trees more sign read whole none class is end = absurd end
 
 pub last_of : (kind : Declared) (trees : List TokenTree) → Begins (after_clause (item_of kind)) trees
     → LastOf kind trees
 last_of kind trees begins =
     let end = end_by kind begins.sign.class begins.next begins.steps in
-    let none = nothing_more begins.more (signs begins.more) refl (subst (λ p. Goes p begins.more) end.1 begins.left) in
+    let none = nothing_more kind begins.more (signs begins.more) refl (subst (λ p. Goes p begins.more) end.1 begins.left) in
     ends_by kind trees begins.more begins.sign begins.begins begins.follows none begins.sign.class refl end.0
 
 -- ---- fields in parentheses
@@ -385,42 +376,44 @@ pub tuple_none : (all : List Sign) → NoTuple tuple all
 tuple_none [] = tt
 tuple_none (sign ∷ all) = λ is. is
 
-pub braced_none : (all : List Sign) → NoTuple braced all
-braced_none [] = tt
-braced_none (sign ∷ all) = λ is. is
+pub braced_none : (kind : Declared) (all : List Sign) → IsBraced kind → NoTuple kind all
+braced_none kind [] braced = tt
+braced_none enumeration (sign ∷ all) braced = λ is. is
+braced_none union (sign ∷ all) braced = λ is. is
+braced_none kind (sign ∷ all) braced = absurd braced
 
 -- ---- what is left after each part that was found
 
 pub after_attributes-found : (trees part rest : List TokenTree) → ReadsAll IsItem trees
     → IsOnly AreAttributes trees part rest → Begins (after_attributes item) rest
 after_attributes-found trees part rest all only =
-    let start = at items.Alone spots.Item in
-    begins_after (at items.Alone spots.Attributes) (after_attributes item) trees part rest
+    let start = at items.Alone (before item) in
+    begins_after (at items.Alone (spots.Before parts.Attributes)) (after_attributes item) trees part rest
     (attributes_cut item trees (goes_whole start trees all)) only
 
 pub attributes_stand : (trees : List TokenTree) (fault : ℕ) → ReadsAll IsItem trees
     → FaultAt AreAttributes trees fault → ⊥
 attributes_stand trees fault all wrong =
-    let start = at items.Alone spots.Item in
-    no_fault (at items.Alone spots.Attributes) (after_attributes item) trees fault
+    let start = at items.Alone (before item) in
+    no_fault (at items.Alone (spots.Before parts.Attributes)) (after_attributes item) trees fault
     (attributes_cut item trees (goes_whole start trees all)) wrong
 
 pub after_visibility-found : (trees part rest : List TokenTree) → Begins (after_attributes item) trees
     → IsOnly IsVisibility trees part rest → Begins (after_visibility item) rest
 after_visibility-found trees part rest begins only =
-    begins_after (at items.Alone spots.Visibility) (after_visibility item) trees part rest
+    begins_after (at items.Alone (spots.Before parts.Visibility)) (after_visibility item) trees part rest
     (visibility_cut item trees begins) only
 
 pub visibility_stands : (trees : List TokenTree) (fault : ℕ) → Begins (after_attributes item) trees
     → FaultAt IsVisibility trees fault → ⊥
 visibility_stands trees fault begins wrong =
-    no_fault (at items.Alone spots.Visibility) (after_visibility item) trees fault
+    no_fault (at items.Alone (spots.Before parts.Visibility)) (after_visibility item) trees fault
     (visibility_cut item trees begins) wrong
 
 pub record AfterKeyword (ident : Name) (trees : List TokenTree) : Type 0 where
   pub kind : Declared
   pub declares : Declares (name_class ident) kind
-  pub left : Goes (at (item_of kind) (name_spot kind)) trees
+  pub left : Goes (at (item_of kind) spots.Name) trees
 
 pub after_keyword-found : (trees rest : List TokenTree) (ident : Name) → Begins (after_visibility item) trees
     → trees ≡ Ident ident ∷ rest → AfterKeyword ident rest
@@ -432,7 +425,7 @@ after_keyword-found trees rest ident begins whole =
     record {
       kind = keyword.kind;
       declares = subst (λ i. Declares (name_class i) keyword.kind) idents keyword.declares;
-      left = subst (Goes (at (item_of keyword.kind) (name_spot keyword.kind))) rests keyword.left;
+      left = subst (Goes (at (item_of keyword.kind) spots.Name)) rests keyword.left;
     }
 
 pub keyword_stands : (trees : List TokenTree) → Begins (after_visibility item) trees
@@ -450,7 +443,7 @@ pub record AfterName (keyword name : Name) (trees : List TokenTree) : Type 0 whe
 pub after_name-found : (keyword name : Name) (trees rest : List TokenTree) → AfterKeyword keyword trees
     → trees ≡ Ident name ∷ rest → AfterName keyword name rest
 after_name-found keyword name trees rest found whole =
-    let named = name_of found.kind (name_class keyword) trees found.declares found.left in
+    let named = name_of found.kind trees found.left in
     let same : Ident named.ident ∷ named.more ≡ Ident name ∷ rest = sym named.whole ∙ whole in
     let idents : named.ident ≡ name = cc in
     let rests : named.more ≡ rest = cc in
@@ -464,7 +457,7 @@ after_name-found keyword name trees rest found whole =
 pub name_stands : (keyword : Name) (trees : List TokenTree) → AfterKeyword keyword trees
     → ((ident : Name) (rest : List TokenTree) → trees ≡ Ident ident ∷ rest → ⊥) → ⊥
 name_stands keyword trees found none =
-    let named = name_of found.kind (name_class keyword) trees found.declares found.left in
+    let named = name_of found.kind trees found.left in
     none named.ident named.more named.whole
 
 pub generics_stand : (keyword name : Name) (trees : List TokenTree) (fault : ℕ) → AfterName keyword name trees
@@ -475,9 +468,12 @@ generics_stand keyword name trees fault found wrong =
 
 left_by : (class : Class) (kind : Declared) (trees : List TokenTree) → Declares class kind
     → Goes (at (item_of kind) spots.AfterGenerics) trees → IsLeft class trees
-left_by signs.Struct structure trees declares goes = reads_whole (at items.Struct spots.AfterGenerics) trees goes
-left_by signs.Enum braced trees declares goes = reads_whole (at items.Braced spots.AfterGenerics) trees goes
-left_by signs.Union braced trees declares goes = reads_whole (at items.Braced spots.AfterGenerics) trees goes
+left_by (signs.Keyword keywords.Struct) structure trees declares goes =
+    reads_whole (at items.Struct spots.AfterGenerics) trees goes
+left_by (signs.Keyword keywords.Enum) enumeration trees declares goes =
+    inl (reads_whole (at items.Enum spots.AfterGenerics) trees goes)
+left_by (signs.Word words.Union) union trees declares goes =
+    inr (reads_whole (at items.Union spots.AfterGenerics) trees goes)
 left_by class kind trees declares goes = absurd declares
 
 pub left_of : (keyword name : Name) (trees part rest : List TokenTree) → AfterName keyword name trees
@@ -547,15 +543,16 @@ no_semicolon delimiters.Parenthesis f is =
     elim (is_restriction f) as (λ b. parentheses_class b ≡ signs.Semicolon → ⊥) [ true ↦ λ h. cc | false ↦ λ h. cc ] is
 no_semicolon delimiters.Bracket f is = cc
 no_semicolon delimiters.Brace f is = cc
-no_semicolon delimiters.None f is = cc
+no_semicolon delimiters.None f is =
+    unseen (λ class. class ≡ signs.Semicolon → ⊥) f (λ h. cc) (λ h. cc) (λ h. cc) is
 
 pub braces_found : (kind : Declared) (trees rest : List TokenTree) (g : Grouped) → LastOf kind trees
-    → trees ≡ Group g ∷ rest → (g.delimiter ≡ delimiters.Brace) × (rest ≡ [])
+    → trees ≡ Group g ∷ rest → InBraces g × (rest ≡ [])
 braces_found kind trees rest g (braces group whole is other) found =
     let same : Group group ∷ [] ≡ Group g ∷ rest = sym whole ∙ found in
     let groups : group ≡ g = cc in
     let rests : rest ≡ [] = cc in
-    (ap (λ x. x.delimiter) (sym groups) ∙ is, rests)
+    (subst InBraces groups is, rests)
 braces_found kind trees rest g (semicolon class other) found =
     let classes : group_class g.delimiter g.stream ∷ classes_of (signs rest) ≡ signs.Semicolon ∷ [] =
     ap classes_of (sym (signs_group g rest) ∙ ap signs (sym found)) ∙ class in
@@ -572,10 +569,44 @@ pub tuple_semicolon : (trees : List TokenTree) → LastOf tuple trees → classe
 tuple_semicolon trees (braces group whole is other) = absurd (other refl)
 tuple_semicolon trees (semicolon class other) = class
 
-pub braced_group : (trees : List TokenTree) → LastOf braced trees
+-- ---- an enum or a union, after its generic parameters
+
+pub record Braced (trees : List TokenTree) : Type 0 where
+  pub kind : Declared
+  pub braced : IsBraced kind
+  pub left : ReadsAll (IsFrom (at (item_of kind) spots.AfterGenerics)) trees
+
+pub braced_by : (trees : List TokenTree) → AreBracesLeft trees → Braced trees
+braced_by trees (inl left) = record { kind = enumeration; braced = tt; left = left }
+braced_by trees (inr left) = record { kind = union; braced = tt; left = left }
+
+pub braced_clause : (trees : List TokenTree) (fault : ℕ) → AreBracesLeft trees → FaultAt IsWhere trees fault → ⊥
+braced_clause trees fault left wrong =
+    let by = braced_by trees left in
+    clause_stands by.kind trees fault by.left (braced_none by.kind (signs trees) by.braced) wrong
+
+pub record BracedLast (trees : List TokenTree) : Type 0 where
+  pub kind : Declared
+  pub braced : IsBraced kind
+  pub last : LastOf kind trees
+
+pub braced_last : (trees part rest : List TokenTree) → AreBracesLeft trees → IsOnly IsWhere trees part rest
+    → BracedLast rest
+braced_last trees part rest left only =
+    let by = braced_by trees left in
+    record {
+      kind = by.kind;
+      braced = by.braced;
+      last = last_found by.kind trees part rest by.left (braced_none by.kind (signs trees) by.braced) only;
+    }
+
+pub braced_group : (trees : List TokenTree) → BracedLast trees
     → ((g : Grouped) (rest : List TokenTree) → trees ≡ Group g ∷ rest → ⊥) → ⊥
-braced_group trees (braces group whole is other) none = none group [] whole
-braced_group trees (semicolon class other) none = other refl
+braced_group trees by none =
+    elim by.last [
+      | braces group whole is other ↦ none group [] whole
+      | semicolon class other ↦ other by.braced
+    ]
 
 -- a where clause, read of it and what follows it
 pub clause_before : (trees clause rest other : List TokenTree) → Reads IsWhere trees clause rest → rest ≡ other

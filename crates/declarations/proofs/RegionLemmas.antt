@@ -10,15 +10,17 @@ use Rattle.declarations.specs.Grammar.{range_state, turned, after_angle, ranged}
 use Rattle.declarations.specs.TypeStep.{step_of, may_end}
 use Rattle.declarations.specs.declared.class.Class.{Class}
 use Rattle.declarations.specs.declared.class.Class.TheVariants as signs
-use Rattle.declarations.specs.declared.grammar.Item.{Item}
-use Rattle.declarations.specs.declared.grammar.Item.TheVariants as items
-use Rattle.declarations.specs.declared.grammar.Place.{Place}
-use Rattle.declarations.specs.declared.grammar.Rule.{Rule}
-use Rattle.declarations.specs.declared.grammar.Rule.TheVariants as rules
-use Rattle.declarations.specs.declared.grammar.Shift.{Shift}
-use Rattle.declarations.specs.declared.grammar.Spot.{Spot}
-use Rattle.declarations.specs.declared.grammar.Spot.TheVariants as spots
-use Rattle.declarations.specs.declared.grammar.State.TheVariants as states
+use Rattle.declarations.specs.declared.class.Keyword.TheVariants as keywords
+use Rattle.declarations.specs.declared.place.Item.{Item}
+use Rattle.declarations.specs.declared.place.Item.TheVariants as items
+use Rattle.declarations.specs.declared.place.Part.TheVariants as parts
+use Rattle.declarations.specs.declared.place.Place.{Place}
+use Rattle.declarations.specs.declared.place.Rule.{Rule}
+use Rattle.declarations.specs.declared.place.Rule.TheVariants as rules
+use Rattle.declarations.specs.declared.place.Shift.{Shift}
+use Rattle.declarations.specs.declared.place.Spot.{Spot}
+use Rattle.declarations.specs.declared.place.Spot.TheVariants as spots
+use Rattle.declarations.specs.declared.place.State.TheVariants as states
 use Rattle.declarations.specs.declared.types.Turn.{Turn}
 use Rattle.declarations.specs.declared.types.Turn.TheVariants as turns
 use Rattle.declarations.specs.declared.types.TypeState.{TypeState}
@@ -29,17 +31,20 @@ use Rattle.declarations.specs.declared.types.TypeStep.{TypeStep}
 pub data Declared : Type 0 where
   structure : Declared
   tuple : Declared
-  braced : Declared
+  enumeration : Declared
+  union : Declared
 
 abbrev pub item_of : Declared → Item
 item_of structure = items.Struct
 item_of tuple = items.Tuple
-item_of braced = items.Braced
+item_of enumeration = items.Enum
+item_of union = items.Union
 
 pub not_alone : (i : Declared) → is_alone (item_of i) ≡ false
 not_alone structure = refl
 not_alone tuple = refl
-not_alone braced = refl
+not_alone enumeration = refl
+not_alone union = refl
 
 -- ---- steps within types and bounds
 
@@ -211,9 +216,9 @@ pub data Spotted : Type 0 where
 
 abbrev pub spot_of : Spotted → Spot
 spot_of generics = spots.Generics
-spot_of before_parameter = spots.Parameter
-spot_of parameter_hash = spots.ParameterHash
-spot_of attributed = spots.ParameterAttributed
+spot_of before_parameter = spots.Before parts.Parameter
+spot_of parameter_hash = spots.Hash parts.Parameter
+spot_of attributed = spots.Attributed parts.Parameter
 spot_of lifetime_name = spots.LifetimeName
 spot_of type_name = spots.TypeName
 spot_of const_name = spots.ConstName
@@ -239,46 +244,65 @@ abbrev pub after_generics : Item → Class → Option Place
 after_generics i class = shifted 0 (closing i class)
 
 closing_alone : (class : Class) → closing items.Alone class ≡ None
-closing_alone signs.Where = refl
+closing_alone (signs.Keyword keywords.Where) = refl
 closing_alone signs.Parentheses = refl
 closing_alone signs.Restriction = refl
 closing_alone class = refl
 
-pub plain_spot : (s : Option Shift) (place : Place) (class : Class)
-    → else_type s (record place { depth = 0 }) spots.AfterGenerics class ≡ shifted 0 s
-plain_spot None place class = refl
-plain_spot (Some s) place class = refl
+-- what follows generic parameters, or none, is no type
+pub plain_spot : (kind : Declared) (s : Option Shift) (class : Class)
+    → else_type s (at (item_of kind) spots.AfterGenerics) spots.AfterGenerics class ≡ shifted 0 s
+plain_spot kind (Some s) class = refl
+plain_spot structure None class = refl
+plain_spot tuple None class = refl
+plain_spot enumeration None class = refl
+plain_spot union None class = refl
 
-plain_generics : (s : Option Shift) (place : Place) (class : Class)
-    → else_type s (record place { depth = 0 }) spots.Generics class ≡ shifted 0 s
-plain_generics None place class = refl
-plain_generics (Some s) place class = refl
+plain_generics : (kind : Declared) (s : Option Shift) (class : Class)
+    → else_type s (at (item_of kind) spots.Generics) spots.Generics class ≡ shifted 0 s
+plain_generics kind None class = refl
+plain_generics kind (Some s) class = refl
+
+-- where the part ends and the whole goes on
+takes_end : {G : Type 0} (outer inner : G → Place) (after whole part : Option Place) (ended : Bool) → part ≡ None
+    → ended ≡ true → whole ≡ after → Takes outer inner after ended whole part
+takes_end outer inner after whole part ended none may same =
+    subst (Takes outer inner after ended whole) (sym none) (inr (may, same))
 
 abbrev TakesGeneric : Item → GenericPlace → Class → Type 0
 TakesGeneric i g class =
     Takes (generic_place i) (generic_place items.Alone) (after_generics i class) (ends (generic_place items.Alone g))
     (step (generic_place i g) class) (step (generic_place items.Alone g) class)
 
-generics_takes : (i : Item) (class : Class) → TakesGeneric i (spotted generics) class
-generics_takes i signs.Less = (spotted before_parameter, refl, refl)
-generics_takes i signs.LessJoint = (spotted before_parameter, refl, refl)
-generics_takes i class = inr (refl, plain_generics (closing i class) (at i spots.Generics) class)
+generics_end : (kind : Declared) (class : Class) → step (at items.Alone spots.Generics) class ≡ None
+    → step (at (item_of kind) spots.Generics) class ≡ after_generics (item_of kind) class
+    → TakesGeneric (item_of kind) (spotted generics) class
+generics_end kind class none same =
+    takes_end (generic_place (item_of kind)) (generic_place items.Alone) (after_generics (item_of kind) class)
+    (step (at (item_of kind) spots.Generics) class) (step (at items.Alone spots.Generics) class) true none refl same
+
+generics_takes : (kind : Declared) (class : Class) → TakesGeneric (item_of kind) (spotted generics) class
+generics_takes kind signs.Less = (spotted before_parameter, refl, refl)
+generics_takes kind signs.LessJoint = (spotted before_parameter, refl, refl)
+generics_takes kind (signs.Keyword keywords.Where) =
+    generics_end kind (signs.Keyword keywords.Where) refl
+    (plain_generics kind (closing (item_of kind) (signs.Keyword keywords.Where)) (signs.Keyword keywords.Where))
+generics_takes kind class =
+    generics_end kind class refl (plain_generics kind (closing (item_of kind) class) class)
 
 parameter_takes : (i : Item) (class : Class) → TakesGeneric i (spotted before_parameter) class
 parameter_takes i signs.Greater = (spotted closed, refl, refl)
 parameter_takes i signs.Hash = (spotted parameter_hash, refl, refl)
 parameter_takes i signs.Lifetime = (spotted lifetime_name, refl, refl)
-parameter_takes i signs.Word = (spotted type_name, refl, refl)
-parameter_takes i signs.Union = (spotted type_name, refl, refl)
-parameter_takes i signs.Const = (spotted const_name, refl, refl)
+parameter_takes i (signs.Word word) = (spotted type_name, refl, refl)
+parameter_takes i (signs.Keyword keywords.Const) = (spotted const_name, refl, refl)
 parameter_takes i class = inl refl
 
 attributed_takes : (i : Item) (class : Class) → TakesGeneric i (spotted attributed) class
 attributed_takes i signs.Hash = (spotted parameter_hash, refl, refl)
 attributed_takes i signs.Lifetime = (spotted lifetime_name, refl, refl)
-attributed_takes i signs.Word = (spotted type_name, refl, refl)
-attributed_takes i signs.Union = (spotted type_name, refl, refl)
-attributed_takes i signs.Const = (spotted const_name, refl, refl)
+attributed_takes i (signs.Word word) = (spotted type_name, refl, refl)
+attributed_takes i (signs.Keyword keywords.Const) = (spotted const_name, refl, refl)
 attributed_takes i class = inl refl
 
 hash_takes : (i : Item) (class : Class) → TakesGeneric i (spotted parameter_hash) class
@@ -286,21 +310,20 @@ hash_takes i signs.Brackets = (spotted attributed, refl, refl)
 hash_takes i class = inl refl
 
 lifetime_takes : (i : Item) (class : Class) → TakesGeneric i (spotted lifetime_name) class
-lifetime_takes i signs.Colon = (of_parameter types.Open 0, refl, refl)
+lifetime_takes i signs.Colon = (of_parameter types.Bound 0, refl, refl)
 lifetime_takes i signs.Comma = (spotted before_parameter, refl, refl)
 lifetime_takes i signs.Greater = (spotted closed, refl, refl)
 lifetime_takes i class = inl refl
 
 type_takes : (i : Item) (class : Class) → TakesGeneric i (spotted type_name) class
-type_takes i signs.Colon = (of_type types.Open 0, refl, refl)
+type_takes i signs.Colon = (of_type types.Bound 0, refl, refl)
 type_takes i signs.Equals = (of_parameter types.Wanted 0, refl, refl)
 type_takes i signs.Comma = (spotted before_parameter, refl, refl)
 type_takes i signs.Greater = (spotted closed, refl, refl)
 type_takes i class = inl refl
 
 const_takes : (i : Item) (class : Class) → TakesGeneric i (spotted const_name) class
-const_takes i signs.Word = (spotted const_colon, refl, refl)
-const_takes i signs.Union = (spotted const_colon, refl, refl)
+const_takes i (signs.Word word) = (spotted const_colon, refl, refl)
 const_takes i class = inl refl
 
 colon_takes : (i : Item) (class : Class) → TakesGeneric i (spotted const_colon) class
@@ -316,11 +339,12 @@ end_takes i signs.Comma = (spotted before_parameter, refl, refl)
 end_takes i signs.Greater = (spotted closed, refl, refl)
 end_takes i class = inl refl
 
-closed_takes : (i : Item) (class : Class) → TakesGeneric i (spotted closed) class
-closed_takes i class =
-    subst (λ s. Takes (generic_place i) (generic_place items.Alone) (after_generics i class) true
-    (step (at i spots.AfterGenerics) class) (else_type s (at items.Alone spots.AfterGenerics) spots.AfterGenerics class))
-    (sym (closing_alone class)) (inr (refl, plain_spot (closing i class) (at i spots.AfterGenerics) class))
+closed_takes : (kind : Declared) (class : Class) → TakesGeneric (item_of kind) (spotted closed) class
+closed_takes kind class =
+    takes_end (generic_place (item_of kind)) (generic_place items.Alone) (after_generics (item_of kind) class)
+    (step (at (item_of kind) spots.AfterGenerics) class) (step (at items.Alone spots.AfterGenerics) class) true
+    (ap (λ s. else_type s (at items.Alone spots.AfterGenerics) spots.AfterGenerics class) (closing_alone class)) refl
+    (plain_spot kind (closing (item_of kind) class) class)
 
 default_takes : (i : Item) (class : Class) → TakesGeneric i (spotted const_default) class
 default_takes i signs.Literal = (spotted const_end, refl, refl)
@@ -331,19 +355,19 @@ default_takes i class =
     takes_type (generic_place i) (generic_place items.Alone) (after_generics i class) false i parameter
     spots.ConstDefault of_parameter (step_of types.Wanted class true) (λ s d. refl) (λ s d. refl)
 
-spotted_takes : (i : Item) (s : Spotted) (class : Class) → TakesGeneric i (spotted s) class
-spotted_takes i generics class = generics_takes i class
-spotted_takes i before_parameter class = parameter_takes i class
-spotted_takes i parameter_hash class = hash_takes i class
-spotted_takes i attributed class = attributed_takes i class
-spotted_takes i lifetime_name class = lifetime_takes i class
-spotted_takes i type_name class = type_takes i class
-spotted_takes i const_name class = const_takes i class
-spotted_takes i const_colon class = colon_takes i class
-spotted_takes i const_default class = default_takes i class
-spotted_takes i const_minus class = minus_takes i class
-spotted_takes i const_end class = end_takes i class
-spotted_takes i closed class = closed_takes i class
+spotted_takes : (kind : Declared) (s : Spotted) (class : Class) → TakesGeneric (item_of kind) (spotted s) class
+spotted_takes kind generics class = generics_takes kind class
+spotted_takes kind before_parameter class = parameter_takes (item_of kind) class
+spotted_takes kind parameter_hash class = hash_takes (item_of kind) class
+spotted_takes kind attributed class = attributed_takes (item_of kind) class
+spotted_takes kind lifetime_name class = lifetime_takes (item_of kind) class
+spotted_takes kind type_name class = type_takes (item_of kind) class
+spotted_takes kind const_name class = const_takes (item_of kind) class
+spotted_takes kind const_colon class = colon_takes (item_of kind) class
+spotted_takes kind const_default class = default_takes (item_of kind) class
+spotted_takes kind const_minus class = minus_takes (item_of kind) class
+spotted_takes kind const_end class = end_takes (item_of kind) class
+spotted_takes kind closed class = closed_takes kind class
 
 -- what follows the type or the bounds of a parameter
 abbrev FollowsParameter : Item → Ranged → Class → Type 0
@@ -368,38 +392,49 @@ const_follows i signs.Greater ended = (spotted closed, refl, refl)
 const_follows i signs.Equals ended = (spotted const_default, refl, refl)
 const_follows i class ended = inl refl
 
-generic_takes : (i : Item) (g : GenericPlace) (class : Class) → TakesGeneric i g class
-generic_takes i (spotted s) class = spotted_takes i s class
-generic_takes i (of_parameter state depth) class =
+range_takes : (i : Item) (g : GenericPlace) (class : Class) → ((s : Spotted) → TakesGeneric i (spotted s) class)
+    → TakesGeneric i g class
+range_takes i (spotted s) class spot = spot s
+range_takes i (of_parameter state depth) class spot =
     takes_range (generic_place i) (generic_place items.Alone) (after_generics i) i parameter of_parameter state depth
     class (λ s d. refl) (λ s d. refl) (λ may. parameter_follows i class _)
-generic_takes i (of_type state depth) class =
+range_takes i (of_type state depth) class spot =
     takes_range (generic_place i) (generic_place items.Alone) (after_generics i) i type_parameter of_type state depth
     class (λ s d. refl) (λ s d. refl) (λ may. type_follows i class _)
-generic_takes i (of_const state depth) class =
+range_takes i (of_const state depth) class spot =
     takes_range (generic_place i) (generic_place items.Alone) (after_generics i) i const_parameter of_const state depth
     class (λ s d. refl) (λ s d. refl) (λ may. const_follows i class _)
 
-generic_unended : (i : Item) → is_alone i ≡ false → (g : GenericPlace) → ends (generic_place i g) ≡ false
-generic_unended i declared (spotted generics) = declared
-generic_unended i declared (spotted before_parameter) = refl
-generic_unended i declared (spotted parameter_hash) = refl
-generic_unended i declared (spotted attributed) = refl
-generic_unended i declared (spotted lifetime_name) = refl
-generic_unended i declared (spotted type_name) = refl
-generic_unended i declared (spotted const_name) = refl
-generic_unended i declared (spotted const_colon) = refl
-generic_unended i declared (spotted const_default) = refl
-generic_unended i declared (spotted const_minus) = refl
-generic_unended i declared (spotted const_end) = refl
-generic_unended i declared (spotted closed) = declared
-generic_unended i declared (of_parameter state depth) = and_right ((depth == 0) && may_end state) false refl
-generic_unended i declared (of_type state depth) = and_right ((depth == 0) && may_end state) false refl
-generic_unended i declared (of_const state depth) = and_right ((depth == 0) && may_end state) false refl
+generic_takes : (kind : Declared) (g : GenericPlace) (class : Class) → TakesGeneric (item_of kind) g class
+generic_takes kind g class = range_takes (item_of kind) g class (λ s. spotted_takes kind s class)
 
-pub generics_beside : (i : Item) → is_alone i ≡ false
-    → Beside (generic_place i) (generic_place items.Alone) (after_generics i)
-generics_beside i declared = record { takes = generic_takes i; unended = generic_unended i declared }
+-- only lists of fields and variants end before one
+parameter_unended : (kind : Declared) → ends (at (item_of kind) (spots.Before parts.Parameter)) ≡ false
+parameter_unended structure = refl
+parameter_unended tuple = refl
+parameter_unended enumeration = refl
+parameter_unended union = refl
+
+generic_unended : (kind : Declared) (g : GenericPlace) → ends (generic_place (item_of kind) g) ≡ false
+generic_unended kind (spotted generics) = not_alone kind
+generic_unended kind (spotted before_parameter) = parameter_unended kind
+generic_unended kind (spotted parameter_hash) = refl
+generic_unended kind (spotted attributed) = refl
+generic_unended kind (spotted lifetime_name) = refl
+generic_unended kind (spotted type_name) = refl
+generic_unended kind (spotted const_name) = refl
+generic_unended kind (spotted const_colon) = refl
+generic_unended kind (spotted const_default) = refl
+generic_unended kind (spotted const_minus) = refl
+generic_unended kind (spotted const_end) = refl
+generic_unended kind (spotted closed) = not_alone kind
+generic_unended kind (of_parameter state depth) = and_right ((depth == 0) && may_end state) false refl
+generic_unended kind (of_type state depth) = and_right ((depth == 0) && may_end state) false refl
+generic_unended kind (of_const state depth) = and_right ((depth == 0) && may_end state) false refl
+
+pub generics_beside : (kind : Declared)
+    → Beside (generic_place (item_of kind)) (generic_place items.Alone) (after_generics (item_of kind))
+generics_beside kind = record { takes = generic_takes kind; unended = generic_unended kind }
 
 -- ---- a where clause
 
@@ -422,16 +457,18 @@ is_body signs.Braces = true
 is_body signs.Semicolon = true
 is_body _ = false
 
-no_body : (i : Item) (class : Class) → is_body class ≡ false → body i class ≡ None
-no_body items.Alone class other = refl
-no_body items.Variants class other = refl
-no_body items.Struct signs.Braces other = cc
-no_body items.Struct signs.Semicolon other = cc
-no_body items.Struct class other = refl
-no_body items.Tuple signs.Semicolon other = cc
-no_body items.Tuple class other = refl
-no_body items.Braced signs.Braces other = cc
-no_body items.Braced class other = refl
+no_body : (kind : Declared) (class : Class) → is_body class ≡ false → body (item_of kind) class ≡ None
+no_body kind signs.Braces other = cc
+no_body kind signs.Semicolon other = cc
+no_body structure class other = refl
+no_body tuple class other = refl
+no_body enumeration class other = refl
+no_body union class other = refl
+
+alone_body : (class : Class) → body items.Alone class ≡ None
+alone_body signs.Braces = refl
+alone_body signs.Semicolon = refl
+alone_body class = refl
 
 abbrev TakesClause : Item → ClausePlace → Class → Type 0
 TakesClause i g class =
@@ -448,18 +485,26 @@ plain_semicolon : (s : Option Shift) (place : Place)
 plain_semicolon None place = refl
 plain_semicolon (Some s) place = refl
 
-bounded_takes : (i : Item) (class : Class) → is_body class ≡ false → TakesClause i predicate class
-bounded_takes i class other =
+bounded_takes : (kind : Declared) (class : Class) → is_body class ≡ false
+    → TakesClause (item_of kind) predicate class
+bounded_takes kind class other =
+    let i = item_of kind in
     subst (λ s. Takes (clause_place i) (clause_place items.Alone) (after_clause i class) true
     (else_type s (at i spots.Predicate) spots.Predicate class) (step (at items.Alone spots.Predicate) class))
-    (sym (no_body i class other))
+    (sym (no_body kind class other))
+    (subst (λ s. Takes (clause_place i) (clause_place items.Alone) (after_clause i class) true
+    (else_type None (at i spots.Predicate) spots.Predicate class)
+    (else_type s (at items.Alone spots.Predicate) spots.Predicate class))
+    (sym (alone_body class))
     (takes_type (clause_place i) (clause_place items.Alone) (after_clause i class) true i bounded spots.Predicate
-    of_type (step_of types.Wanted class true) (λ s d. refl) (λ s d. refl))
+    of_type (step_of types.Wanted class true) (λ s d. refl) (λ s d. refl)))
 
-predicate_takes : (i : Item) (class : Class) → TakesClause i predicate class
-predicate_takes i signs.Braces = inr (refl, plain_braces (body i signs.Braces) (at i spots.Predicate))
-predicate_takes i signs.Semicolon = inr (refl, plain_semicolon (body i signs.Semicolon) (at i spots.Predicate))
-predicate_takes i class = bounded_takes i class refl
+predicate_takes : (kind : Declared) (class : Class) → TakesClause (item_of kind) predicate class
+predicate_takes kind signs.Braces =
+    inr (refl, plain_braces (body (item_of kind) signs.Braces) (at (item_of kind) spots.Predicate))
+predicate_takes kind signs.Semicolon =
+    inr (refl, plain_semicolon (body (item_of kind) signs.Semicolon) (at (item_of kind) spots.Predicate))
+predicate_takes kind class = bounded_takes kind class refl
 
 abbrev FollowsClause : Item → Ranged → Class → Type 0
 FollowsClause i r class =
@@ -467,27 +512,31 @@ FollowsClause i r class =
     (shifted 0 (follow i (rule_of r) class)) (shifted 0 (follow items.Alone (rule_of r) class))
 
 type_ends : (i : Item) (class : Class) → FollowsClause i bounded class
-type_ends i signs.Colon = (of_bounds types.Open 0, refl, refl)
+type_ends i signs.Colon = (of_bounds types.Bound 0, refl, refl)
 type_ends i class = inl refl
 
 bounds_end : (i : Item) (class : Class) → FollowsClause i bounds class
 bounds_end i signs.Comma = (predicate, refl, refl)
 bounds_end i class = inr (refl, refl)
 
-clause_takes : (i : Item) (g : ClausePlace) (class : Class) → TakesClause i g class
-clause_takes i predicate class = predicate_takes i class
-clause_takes i (of_type state depth) class =
+clause_range_takes : (i : Item) (g : ClausePlace) (class : Class) → TakesClause i predicate class
+    → TakesClause i g class
+clause_range_takes i predicate class first = first
+clause_range_takes i (of_type state depth) class first =
     takes_range (clause_place i) (clause_place items.Alone) (after_clause i) i bounded of_type state depth class
     (λ s d. refl) (λ s d. refl)
     (λ may. subst (λ b. Takes (clause_place i) (clause_place items.Alone) (after_clause i class) (b && false)
     (shifted 0 (follow i rules.Bounded class)) (shifted 0 (follow items.Alone rules.Bounded class))) (sym may)
     (type_ends i class))
-clause_takes i (of_bounds state depth) class =
+clause_range_takes i (of_bounds state depth) class first =
     takes_range (clause_place i) (clause_place items.Alone) (after_clause i) i bounds of_bounds state depth class
     (λ s d. refl) (λ s d. refl)
     (λ may. subst (λ b. Takes (clause_place i) (clause_place items.Alone) (after_clause i class) (b && true)
     (shifted 0 (follow i rules.Predicate class)) (shifted 0 (follow items.Alone rules.Predicate class))) (sym may)
     (bounds_end i class))
+
+clause_takes : (kind : Declared) (g : ClausePlace) (class : Class) → TakesClause (item_of kind) g class
+clause_takes kind g class = clause_range_takes (item_of kind) g class (predicate_takes kind class)
 
 clause_unended : (i : Item) → is_alone i ≡ false → (g : ClausePlace) → ends (clause_place i g) ≡ false
 clause_unended i declared predicate = declared
@@ -495,12 +544,6 @@ clause_unended i declared (of_type state depth) = and_right ((depth == 0) && may
 clause_unended i declared (of_bounds state depth) =
     and_right ((depth == 0) && may_end state) (is_alone i) declared
 
-pub clause_beside : (i : Item) → is_alone i ≡ false
-    → Beside (clause_place i) (clause_place items.Alone) (after_clause i)
-clause_beside i declared = record { takes = clause_takes i; unended = clause_unended i declared }
-
--- where it may begin, with no fields in parentheses before it
-abbrev pub IsTupleOf : Item → Class → Type 0
-IsTupleOf items.Struct signs.Parentheses = Unit {0}
-IsTupleOf items.Struct signs.Restriction = Unit {0}
-IsTupleOf i class = ⊥
+pub clause_beside : (kind : Declared)
+    → Beside (clause_place (item_of kind)) (clause_place items.Alone) (after_clause (item_of kind))
+clause_beside kind = record { takes = clause_takes kind; unended = clause_unended (item_of kind) (not_alone kind) }

@@ -5,15 +5,17 @@ use Rattle.std.specs.Prelude.{codes}
 use Rattle.pm_token.specs.Leaf.{Name, is_joint}
 use Rattle.pm_token.specs.declared.delimiters.Delimiter.{Delimiter}
 use Rattle.pm_token.specs.declared.delimiters.Delimiter.TheVariants as delimiters
+use Rattle.pm_stream.specs.Forest.{Forest}
 use Rattle.pm_stream.specs.declared.stream.Group.{Group as Grouped}
 use Rattle.pm_stream.specs.declared.stream.TokenTree.{TokenTree}
 use Rattle.pm_stream.specs.declared.stream.TokenTree.TheVariants.{Group, Ident, Punct, Literal}
 use Rattle.declarations.proofs.SignLemmas.{signs-cons, paired}
-use Rattle.declarations.specs.Signs.{Sign, signs, group_class, name_class, path_class, type_class, expression_class}
-use Rattle.declarations.specs.Signs.{is_restriction, item_class, mark_class, marks_class, or_else}
-use Rattle.declarations.specs.Signs.{is_written, is_truth, is_type_front, is_early_keyword, is_middle_keyword}
-use Rattle.declarations.specs.Signs.{is_late_keyword, pair_class, parentheses_class, tree_class}
+use Rattle.declarations.specs.Signs.{Sign, signs, class_or_name, group_class, is_block, is_restriction, is_truth}
+use Rattle.declarations.specs.Signs.{is_visibility, is_written, keyword_of, keyword_or_word, mark_class, marks_class}
+use Rattle.declarations.specs.Signs.{name_class, operand_class, operator_class, or_else, pair_class, path_class}
+use Rattle.declarations.specs.Signs.{parentheses_class, tree_class, unseen_class}
 use Rattle.declarations.specs.declared.class.Class.{Class}
+use Rattle.declarations.specs.declared.class.Keyword.{Keyword}
 use Rattle.declarations.specs.declared.class.Class.TheVariants as signs
 
 -- what the trees of a sign are
@@ -29,6 +31,7 @@ sort_of signs.Restriction = groups
 sort_of signs.Parentheses = groups
 sort_of signs.Brackets = groups
 sort_of signs.Braces = groups
+sort_of signs.Visibility = groups
 sort_of signs.Invisible = groups
 sort_of signs.Less = marks
 sort_of signs.LessJoint = marks
@@ -50,12 +53,18 @@ sort_of signs.Dot = marks
 sort_of signs.Infix = marks
 sort_of signs.Mark = marks
 sort_of signs.Literal = literals
-sort_of signs.Lifetime = pairs
-sort_of signs.PathSeparator = pairs
-sort_of signs.Arrow = pairs
-sort_of signs.LessEquals = pairs
-sort_of signs.Bars = pairs
-sort_of _ = names
+sort_of (signs.Word word) = names
+sort_of signs.SelfValue = names
+sort_of signs.SelfType = names
+sort_of signs.Super = names
+sort_of signs.Crate = names
+sort_of signs.Underscore = names
+sort_of signs.As = names
+sort_of signs.Truth = names
+sort_of signs.Await = names
+sort_of signs.Jump = names
+sort_of (signs.Keyword keyword) = names
+sort_of _ = pairs
 
 -- the first value whose condition holds
 abbrev choice : {A : Type 0} → List (Bool × A) → A → A
@@ -84,68 +93,33 @@ abbrev MayBe : Sort → Option Class → Type 0
 MayBe sort None = Unit {0}
 MayBe sort (Some class) = sort_of class ≡ sort
 
+abbrev operator_rows : ℕ → List (Bool × Class)
+operator_rows c =
+    (c == 124, signs.Bar) ∷ (c == 46, signs.Dot) ∷
+    ((c == 47) || ((c == 37) || ((c == 94) || (c == 64))), signs.Infix) ∷ []
+
+operator_sort : (c : ℕ) → IsSort marks (operator_class c)
+operator_sort c = chosen (IsSort marks) (operator_rows c) signs.Mark (refl, (refl, (refl, tt))) refl
+
+abbrev late_mark_rows : ℕ → List (Bool × Class)
+late_mark_rows c =
+    (c == 43, signs.Plus) ∷ (c == 45, signs.Minus) ∷ (c == 42, signs.Star) ∷ (c == 38, signs.And) ∷
+    (c == 63, signs.Question) ∷ (c == 33, signs.Exclamation) ∷ (c == 35, signs.Hash) ∷ (c == 126, signs.Tilde) ∷ []
+
 abbrev mark_rows : ℕ → Bool → List (Bool × Class)
 mark_rows c joint =
     ((c == 60) && joint, signs.LessJoint) ∷ (c == 60, signs.Less) ∷ (c == 62, signs.Greater) ∷
-    (c == 44, signs.Comma) ∷ (c == 58, signs.Colon) ∷ (c == 59, signs.Semicolon) ∷ (c == 61, signs.Equals) ∷
-    (c == 43, signs.Plus) ∷ (c == 45, signs.Minus) ∷ (c == 42, signs.Star) ∷ (c == 38, signs.And) ∷
-    (c == 63, signs.Question) ∷ (c == 33, signs.Exclamation) ∷ (c == 35, signs.Hash) ∷
-    (c == 126, signs.Tilde) ∷ (c == 124, signs.Bar) ∷ (c == 46, signs.Dot) ∷
-    ((c == 47) || ((c == 37) || ((c == 94) || (c == 64))), signs.Infix) ∷ []
+    (c == 44, signs.Comma) ∷ (c == 58, signs.Colon) ∷ (c == 59, signs.Semicolon) ∷ (c == 61, signs.Equals) ∷ []
 
 mark_sort : (c : ℕ) (joint : Bool) → IsSort marks (mark_class c joint)
 mark_sort c joint =
-    chosen (IsSort marks) (mark_rows c joint) signs.Mark (
-      refl,
-      (
-        refl,
-        (
-          refl,
-          (
-            refl,
-            (
-              refl,
-              (
-                refl,
-                (
-                  refl,
-                  (
-                    refl,
-                    (
-                      refl,
-                      (
-                        refl,
-                        (
-                          refl,
-                          (
-                            refl,
-                            (
-                              refl,
-                              (
-                                refl,
-                                (
-                                  refl,
-                                  (refl, (refl, (refl, tt))),
-                                ),
-                              ),
-                            ),
-                          ),
-                        ),
-                      ),
-                    ),
-                  ),
-                ),
-              ),
-            ),
-          ),
-        ),
-      ),
-    )
-    refl
+    chosen (IsSort marks) (mark_rows c joint) (choice (late_mark_rows c) (operator_class c))
+    (refl, (refl, (refl, (refl, (refl, (refl, (refl, tt)))))))
+    (chosen (IsSort marks) (late_mark_rows c) (operator_class c)
+    (refl, (refl, (refl, (refl, (refl, (refl, (refl, (refl, tt)))))))) (operator_sort c))
 
-or_else_sort : (o : Option Class) (class : Class) → MayBe names o → IsSort names class
-    → IsSort names (or_else o class)
-or_else_sort None class first second = second
+or_else_sort : (o other : Option Class) → MayBe names o → MayBe names other → MayBe names (or_else o other)
+or_else_sort None other first second = second
 or_else_sort (Some class) other first second = first
 
 abbrev path_rows : Name → List (Bool × Option Class)
@@ -160,50 +134,31 @@ path_sort i =
     (refl, (refl, (refl, (refl, (refl, tt)))))
     tt
 
-abbrev type_rows : Name → List (Bool × Option Class)
-type_rows i =
-    (is_written i (codes "mut"), Some signs.Mut) ∷ (is_written i (codes "const"), Some signs.Const) ∷
-    (is_written i (codes "extern"), Some signs.Extern) ∷ (is_written i (codes "for"), Some signs.For) ∷
-    (is_written i (codes "as"), Some signs.As) ∷ (is_truth i, Some signs.Truth) ∷
-    (is_type_front i, Some signs.TypeFront) ∷ []
-
-type_sort : (i : Name) → MayBe names (type_class i)
-type_sort i =
-    chosen (MayBe names) (type_rows i) None
-    (refl, (refl, (refl, (refl, (refl, (refl, (refl, tt)))))))
-    tt
-
-abbrev expression_rows : Name → List (Bool × Option Class)
-expression_rows i =
+abbrev operand_rows : Name → List (Bool × Option Class)
+operand_rows i =
+    (is_truth i, Some signs.Truth) ∷ (is_written i (codes "as"), Some signs.As) ∷
     (is_written i (codes "await"), Some signs.Await) ∷ (is_written i (codes "continue"), Some signs.Await) ∷
     (is_written i (codes "return"), Some signs.Jump) ∷ (is_written i (codes "break"), Some signs.Jump) ∷
     (is_written i (codes "yield"), Some signs.Jump) ∷ []
 
-expression_sort : (i : Name) → MayBe names (expression_class i)
-expression_sort i =
-    chosen (MayBe names) (expression_rows i) None
-    (refl, (refl, (refl, (refl, (refl, tt)))))
+operand_sort : (i : Name) → MayBe names (operand_class i)
+operand_sort i =
+    chosen (MayBe names) (operand_rows i) None
+    (refl, (refl, (refl, (refl, (refl, (refl, (refl, tt)))))))
     tt
 
-abbrev item_rows : Name → List (Bool × Class)
-item_rows i =
-    (is_written i (codes "in"), signs.In) ∷ (is_written i (codes "pub"), signs.Pub) ∷
-    (is_written i (codes "where"), signs.Where) ∷ (is_written i (codes "struct"), signs.Struct) ∷
-    (is_written i (codes "enum"), signs.Enum) ∷ (is_written i (codes "union"), signs.Union) ∷
-    (is_early_keyword i, signs.Keyword) ∷ (is_middle_keyword i, signs.Keyword) ∷
-    (is_late_keyword i, signs.Keyword) ∷ []
+keyword_sort : (o : Option Keyword) (i : Name) → IsSort names (keyword_or_word o i)
+keyword_sort None i = refl
+keyword_sort (Some keyword) i = refl
 
-item_sort : (i : Name) → IsSort names (item_class i)
-item_sort i =
-    chosen (IsSort names) (item_rows i) signs.Word
-    (refl, (refl, (refl, (refl, (refl, (refl, (refl, (refl, (refl, tt)))))))))
-    refl
+class_sort : (o : Option Class) (i : Name) → MayBe names o → IsSort names (class_or_name o i)
+class_sort None i may = keyword_sort (keyword_of i) i
+class_sort (Some class) i may = may
 
 name_sort : (i : Name) → IsSort names (name_class i)
 name_sort i =
-    or_else_sort (path_class i) (or_else (type_class i) (or_else (expression_class i) (item_class i))) (path_sort i)
-    (or_else_sort (type_class i) (or_else (expression_class i) (item_class i)) (type_sort i)
-    (or_else_sort (expression_class i) (item_class i) (expression_sort i) (item_sort i)))
+    class_sort (or_else (path_class i) (operand_class i)) i
+    (or_else_sort (path_class i) (operand_class i) (path_sort i) (operand_sort i))
 
 abbrev marks_rows : ℕ → ℕ → List (Bool × Option Class)
 marks_rows first second =
@@ -227,12 +182,19 @@ pair_sort (Group g) second = tt
 pair_sort (Ident i) second = tt
 pair_sort (Literal l) second = tt
 
+-- what all groups without delimiters have
+pub unseen : (P : Class → Type 0) (inside : Forest) → P signs.Visibility → P signs.Braces → P signs.Invisible
+    → P (unseen_class inside)
+unseen P inside visibility braces other =
+    either P (is_visibility inside) signs.Visibility (if is_block inside then signs.Braces else signs.Invisible)
+    visibility (either P (is_block inside) signs.Braces signs.Invisible braces other)
+
 group_sort : (g : Grouped) (d : Delimiter) → IsSort groups (group_class d g.stream)
 group_sort g delimiters.Parenthesis =
     elim (is_restriction g.stream) as (λ b. IsSort groups (parentheses_class b)) [ true ↦ refl | false ↦ refl ]
 group_sort g delimiters.Bracket = refl
 group_sort g delimiters.Brace = refl
-group_sort g delimiters.None = refl
+group_sort g delimiters.None = unseen (IsSort groups) g.stream refl refl refl
 
 -- the first sign is this one tree
 pub record IsTree (trees : List TokenTree) (sign : Sign) (tree : TokenTree) : Type 0 where

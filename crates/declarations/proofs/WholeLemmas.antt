@@ -14,7 +14,7 @@ use Rattle.declarations.specs.Signs.{signs, classes_of, trees_of}
 use Rattle.declarations.specs.Walk.{walk, Stops}
 use Rattle.declarations.specs.Whole.{IsWhole, ReadsAll, Walked}
 use Rattle.declarations.specs.declared.class.Class.{Class}
-use Rattle.declarations.specs.declared.grammar.Place.{Place}
+use Rattle.declarations.specs.declared.place.Place.{Place}
 
 -- all trees are read where the walk over all of them may end
 pub whole_read : (start : Place) (trees left : List TokenTree) (place : Place) → Walked start trees left place

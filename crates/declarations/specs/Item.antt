@@ -1,21 +1,23 @@
 -- The parts of a struct, an enum or a union, in reading order.
-use Rattle.std.specs.Prelude.{◌≡◌, List, [], ◌∷◌, ◌++◌}
+use Rattle.std.specs.Prelude.{◌≡◌, ◌⊎◌, List, [], ◌∷◌, ◌++◌}
 use Rattle.pm_token.specs.declared.delimiters.Delimiter.TheVariants as delimiters
 use Rattle.pm_stream.specs.declared.stream.Group.{Group as Grouped}
 use Rattle.pm_stream.specs.declared.stream.TokenTree.{TokenTree}
 use Rattle.pm_stream.specs.declared.stream.TokenTree.TheVariants.{Group, Ident}
 use Rattle.declarations.specs.Forms.{IsFrom, IsItem, AreAttributes, IsVisibility, AreGenerics, IsWhere}
 use Rattle.declarations.specs.Reading.{Reads}
-use Rattle.declarations.specs.Signs.{signs, classes_of, name_class}
+use Rattle.declarations.specs.Signs.{signs, classes_of, group_class, name_class}
 use Rattle.declarations.specs.Whole.{ReadsAll}
 use Rattle.declarations.specs.declared.class.Class.{Class}
 use Rattle.declarations.specs.declared.class.Class.TheVariants as classes
-use Rattle.declarations.specs.declared.grammar.Item.{Item}
-use Rattle.declarations.specs.declared.grammar.Item.TheVariants as items
-use Rattle.declarations.specs.declared.grammar.Place.{Place}
-use Rattle.declarations.specs.declared.grammar.Rule.TheVariants as rules
-use Rattle.declarations.specs.declared.grammar.Spot.TheVariants as spots
-use Rattle.declarations.specs.declared.grammar.State.TheVariants as states
+use Rattle.declarations.specs.declared.class.Keyword.TheVariants as keywords
+use Rattle.declarations.specs.declared.class.Word.TheVariants as words
+use Rattle.declarations.specs.declared.place.Item.{Item}
+use Rattle.declarations.specs.declared.place.Item.TheVariants as items
+use Rattle.declarations.specs.declared.place.Place.{Place}
+use Rattle.declarations.specs.declared.place.Rule.TheVariants as rules
+use Rattle.declarations.specs.declared.place.Spot.TheVariants as spots
+use Rattle.declarations.specs.declared.place.State.TheVariants as states
 use Rattle.declarations.specs.declared.item.Body.{Body}
 use Rattle.declarations.specs.declared.item.Body.TheVariants as bodies
 use Rattle.declarations.specs.declared.item.Fields.TheVariants as fields
@@ -60,21 +62,27 @@ parts_of item = item.attributes.now ++ after_attributes item
 
 -- ---- what each part is
 
--- a word may be a name, `union` too
+-- a word may be a name
 abbrev pub IsNameClass : Class → Type 0
-IsNameClass classes.Word = Unit {0}
-IsNameClass classes.Union = Unit {0}
+IsNameClass (classes.Word word) = Unit {0}
 IsNameClass class = ⊥
+
+-- a group in braces, or one without delimiters that holds one in braces alone
+abbrev pub InBraces : Grouped → Type 0
+InBraces g = group_class g.delimiter g.stream ≡ classes.Braces
 
 -- the body that the keyword calls for, and a `;` after a struct without braces alone
 abbrev pub HasBody : Class → Body → List TokenTree → Type 0
-HasBody classes.Struct (bodies.Struct (fields.Named g)) semicolon =
-    (g.now.delimiter ≡ delimiters.Brace) × (semicolon ≡ [])
-HasBody classes.Struct (bodies.Struct (fields.Tuple g)) semicolon =
+HasBody (classes.Keyword keywords.Struct) (bodies.Struct (fields.Named g)) semicolon =
+    InBraces g.now × (semicolon ≡ [])
+HasBody (classes.Keyword keywords.Struct) (bodies.Struct (fields.Tuple g)) semicolon =
     (g.now.delimiter ≡ delimiters.Parenthesis) × (classes_of (signs semicolon) ≡ classes.Semicolon ∷ [])
-HasBody classes.Struct (bodies.Struct fields.Unit) semicolon = classes_of (signs semicolon) ≡ classes.Semicolon ∷ []
-HasBody classes.Enum (bodies.Enum g) semicolon = (g.now.delimiter ≡ delimiters.Brace) × (semicolon ≡ [])
-HasBody classes.Union (bodies.Union g) semicolon = (g.now.delimiter ≡ delimiters.Brace) × (semicolon ≡ [])
+HasBody (classes.Keyword keywords.Struct) (bodies.Struct fields.Unit) semicolon =
+    classes_of (signs semicolon) ≡ classes.Semicolon ∷ []
+HasBody (classes.Keyword keywords.Enum) (bodies.Enum g) semicolon =
+    InBraces g.now × (semicolon ≡ [])
+HasBody (classes.Word words.Union) (bodies.Union g) semicolon =
+    InBraces g.now × (semicolon ≡ [])
 HasBody class body semicolon = ⊥
 
 -- the trees after the generic parameters are this where clause and body
@@ -88,7 +96,7 @@ pub record HasEnding (keyword : Class) (trees : List TokenTree) (body : Body) (c
 pub record HasBraces (trees clause : List TokenTree) (group : Grouped) (after : List TokenTree) : Type 0 where
   pub whole : trees ≡ clause ++ Group group ∷ after
   pub clause_reads : Reads IsWhere (clause ++ Group group ∷ after) clause (Group group ∷ after)
-  pub braces : group.delimiter ≡ delimiters.Brace
+  pub braces : InBraces group
   pub none : after ≡ []
 
 -- the trees are an item, and these are its parts: in order they are the trees, and each is what its rule reads of the
@@ -108,9 +116,14 @@ pub record IsTypeItem (trees : List TokenTree) (item : TypeItem) : Type 0 where
 abbrev pub behind_generics : Item → Place
 behind_generics item = record { item = item; rule = rules.Alone; state = states.At spots.AfterGenerics; depth = 0 }
 
+-- of an enum or a union
+abbrev pub AreBracesLeft : List TokenTree → Type 0
+AreBracesLeft trees =
+    ReadsAll (IsFrom (behind_generics items.Enum)) trees ⊎ ReadsAll (IsFrom (behind_generics items.Union)) trees
+
 -- after the generic parameters of an item of this keyword
 abbrev pub IsLeft : Class → List TokenTree → Type 0
-IsLeft classes.Struct trees = ReadsAll (IsFrom (behind_generics items.Struct)) trees
-IsLeft classes.Enum trees = ReadsAll (IsFrom (behind_generics items.Braced)) trees
-IsLeft classes.Union trees = ReadsAll (IsFrom (behind_generics items.Braced)) trees
+IsLeft (classes.Keyword keywords.Struct) trees = ReadsAll (IsFrom (behind_generics items.Struct)) trees
+IsLeft (classes.Keyword keywords.Enum) trees = AreBracesLeft trees
+IsLeft (classes.Word words.Union) trees = AreBracesLeft trees
 IsLeft class trees = ⊥

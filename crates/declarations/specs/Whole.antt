@@ -8,7 +8,7 @@ use Rattle.declarations.specs.Reading.{Reads}
 use Rattle.declarations.specs.Signs.{Sign, signs, classes_of, trees_of}
 use Rattle.declarations.specs.Walk.{walk}
 use Rattle.declarations.specs.declared.class.Class.{Class}
-use Rattle.declarations.specs.declared.grammar.Place.{Place}
+use Rattle.declarations.specs.declared.place.Place.{Place}
 
 -- the form, with nothing after it
 abbrev pub IsWhole : (List Class → List Class → Type 0) → List Class → List Class → Type 0

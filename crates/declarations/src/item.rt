@@ -5,16 +5,17 @@ ghost use Rattle.pm_stream.specs.declared.stream.TokenTree.{TokenTree as Tree};
 ghost use Rattle.pm_stream.specs.declared.stream.TokenTree.TheVariants as trees_are;
 ghost use Rattle.pm_token.specs.Leaf.{Name};
 ghost use Rattle.declarations.specs.Forms.{IsFrom, IsItem};
-ghost use Rattle.declarations.specs.Item.{HasBraces, HasEnding, IsLeft, IsTypeItem, behind_generics};
+ghost use Rattle.declarations.specs.Item.{AreBracesLeft, HasBraces, HasEnding, IsLeft, IsTypeItem, behind_generics};
 ghost use Rattle.declarations.specs.Reading.{FaultAt};
 ghost use Rattle.declarations.specs.Whole.{IsWhole, ReadsAll};
 ghost use Rattle.declarations.specs.declared.class.Class.TheVariants as classes;
-ghost use Rattle.declarations.specs.declared.grammar.Item.TheVariants as items;
+ghost use Rattle.declarations.specs.declared.class.Keyword.TheVariants as keywords;
+ghost use Rattle.declarations.specs.declared.place.Item.TheVariants as items;
 
-use crate::class::Class;
+use crate::class::{Class, Keyword};
 use crate::fault::Fault;
-use crate::grammar::{Item, Place, Rule, Spot, State};
 use crate::parts::{split_attributes, split_generics, split_visibility, split_where};
+use crate::place::{Item, Part, Place, Rule, Spot, State};
 use crate::signs::name_class;
 use crate::walk::read_whole;
 use pm_stream::{Group, TokenTree};
@@ -22,11 +23,14 @@ use pm_token::{Delimiter, Ident};
 
 /// A struct, an enum or a union: its parts in reading order, but that the fields in parentheses of a struct stand
 /// before its where clause.
+///
+/// A macro by example passes a fragment as a group without delimiters. Such a group that holds a visibility, or
+/// nothing, is the visibility, and one that holds braces alone is the body: the part is that group.
 #[derive(Clone, Copy, Debug)]
 pub struct TypeItem<'a> {
     /// The outer attributes, which may be none.
     pub attributes: &'a [TokenTree],
-    /// The visibility, which may be left out.
+    /// The visibility, which may be left out, or one group without delimiters.
     pub visibility: &'a [TokenTree],
     /// `struct`, `enum` or `union`.
     pub keyword: &'a Ident,
@@ -68,7 +72,8 @@ pub enum Fields<'a> {
 ///
 /// It answers `Ok` exactly where [`split_item`](crate::split_item) reads all of the trees, and else the fault, which
 /// stands before the first tree that is too many or doesn't fit. What stands within the braces or parentheses of the
-/// body isn't read. It takes no memory.
+/// body isn't read. A group without delimiters that holds a whole item is a fault: its own trees are to be given. It
+/// takes no memory.
 ///
 /// Of `pub struct S<T>(T) where T: A;` the visibility is `pub`, the name `S`, the generic parameters are `<T>`, the
 /// fields `(T)`, and the where clause is `where T: A`.
@@ -79,7 +84,7 @@ pub fn parse_type_item(trees: &[TokenTree]) -> Result<TypeItem<'_>, Fault>
     let start = Place {
         item: Item::Alone,
         rule: Rule::Alone,
-        state: State::At(Spot::Item),
+        state: State::At(Spot::Before(Part::TypeItem)),
         depth: 0,
     };
     match read_whole(trees, start) {
@@ -125,8 +130,8 @@ fn ending_of<'a>(keyword: Class, trees: &'a [TokenTree]) -> Result<Ending<'a>, F
         ending.semicolon.now) (λ fault. ⊥) }
 {
     match keyword {
-        Class::Struct => struct_ending(trees),
-        Class::Enum => {
+        Class::Keyword(Keyword::Struct) => struct_ending(trees),
+        Class::Keyword(Keyword::Enum) => {
             let (where_clause, variants, semicolon) = braces_of(trees)?;
             Ok(Ending {
                 where_clause,
@@ -147,8 +152,8 @@ fn ending_of<'a>(keyword: Class, trees: &'a [TokenTree]) -> Result<Ending<'a>, F
 
 fn struct_ending(trees: &[TokenTree]) -> Result<Ending<'_>, Fault>
     requires { ReadsAll (IsFrom (behind_generics items.Struct)) trees.now }
-    ensures { MatchResult result (λ ending. HasEnding classes.Struct trees.now ending.body ending.where_clause.now
-        ending.semicolon.now) (λ fault. ⊥) }
+    ensures { MatchResult result (λ ending. HasEnding (classes.Keyword keywords.Struct) trees.now ending.body
+        ending.where_clause.now ending.semicolon.now) (λ fault. ⊥) }
 {
     match split_parentheses(trees) {
         Some((fields, rest)) => {
@@ -168,8 +173,8 @@ fn plain_ending(trees: &[TokenTree]) -> Result<Ending<'_>, Fault>
     requires left { ReadsAll (IsFrom (behind_generics items.Struct)) trees.now }
     requires plain { (group : Grouped) → (rest : List Tree) → trees.now ≡ trees_are.Group group ∷ rest
         → group.delimiter ≡ Delimiter.Parenthesis → ⊥ }
-    ensures { MatchResult result (λ ending. HasEnding classes.Struct trees.now ending.body ending.where_clause.now
-        ending.semicolon.now) (λ fault. ⊥) }
+    ensures { MatchResult result (λ ending. HasEnding (classes.Keyword keywords.Struct) trees.now ending.body
+        ending.where_clause.now ending.semicolon.now) (λ fault. ⊥) }
 {
     let (where_clause, rest) = split_where(trees)?;
     match split_group(rest) {
@@ -188,7 +193,7 @@ fn plain_ending(trees: &[TokenTree]) -> Result<Ending<'_>, Fault>
 
 // A where clause and the braces after it.
 fn braces_of(trees: &[TokenTree]) -> Result<(&[TokenTree], &Group, &[TokenTree]), Fault>
-    requires { ReadsAll (IsFrom (behind_generics items.Braced)) trees.now }
+    requires { AreBracesLeft trees.now }
     ensures { MatchResult result (λ found. HasBraces trees.now found.0.now found.1.now found.2.now) (λ fault. ⊥) }
 {
     let (where_clause, rest) = split_where(trees)?;
