@@ -56,7 +56,7 @@ reads_whole place trees goes = record {
 }
 
 -- the walk from a place over a first sign and what it goes on with
-goes_first : (place next : Place) (trees more : List TokenTree) (sign : Sign) → signs trees ≡ sign ∷ signs more
+pub goes_first : (place next : Place) (trees more : List TokenTree) (sign : Sign) → signs trees ≡ sign ∷ signs more
     → step place sign.class ≡ Some next → Goes next more → Goes place trees
 goes_first place next trees more sign read steps goes = record {
   last = goes.last;
@@ -334,7 +334,7 @@ last_of kind trees begins =
 
 -- ---- fields in parentheses
 
-signs_group : (g : Grouped) (rest : List TokenTree) → signs (Group g ∷ rest)
+pub signs_group : (g : Grouped) (rest : List TokenTree) → signs (Group g ∷ rest)
     ≡ record { class = group_class g.delimiter g.stream; trees = Group g ∷ [] } ∷ signs rest
 signs_group g [] = refl
 signs_group g (tree ∷ rest) = refl

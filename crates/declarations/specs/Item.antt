@@ -1,5 +1,6 @@
 -- The parts of a struct, an enum or a union, in reading order.
-use Rattle.std.specs.Prelude.{◌≡◌, List, [], ◌∷◌, ◌++◌}
+use Rattle.std.specs.Prelude.{◌≡◌, List, [], ◌∷◌, ◌++◌, Bool, true, false, not}
+use Rattle.pm_token.specs.Leaf.{Name}
 use Rattle.pm_token.specs.declared.delimiters.Delimiter.TheVariants as delimiters
 use Rattle.pm_stream.specs.declared.stream.Group.{Group as Grouped}
 use Rattle.pm_stream.specs.declared.stream.TokenTree.{TokenTree}
@@ -65,6 +66,15 @@ abbrev pub IsNameClass : Class → Type 0
 IsNameClass classes.Word = Unit {0}
 IsNameClass classes.Union = Unit {0}
 IsNameClass class = ⊥
+
+abbrev pub is_name_class : Class → Bool
+is_name_class classes.Word = true
+is_name_class classes.Union = true
+is_name_class class = false
+
+-- an identifier that can't be a name
+abbrev pub is_keyword : Name → Bool
+is_keyword ident = not (is_name_class (name_class ident))
 
 -- the body that the keyword calls for, and a `;` after a struct without braces alone
 abbrev pub HasBody : Class → Body → List TokenTree → Type 0

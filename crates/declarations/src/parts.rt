@@ -1,5 +1,6 @@
 //! The parts of declarations, each at the front of trees.
-ghost use Rattle.std.specs.Prelude.{IfErr, IfOk};
+ghost use Rattle.std.specs.Prelude.{◌≡◌, IfErr, IfOk};
+ghost use Rattle.declarations.specs.Fault.{extent_at};
 ghost use Rattle.declarations.specs.Forms.{AreAttributes, AreBounds, AreFields, AreGenerics, AreTupleFields, IsField};
 ghost use Rattle.declarations.specs.Forms.{IsItem, IsTupleField, IsType, IsVisibility, IsWhere};
 ghost use Rattle.declarations.specs.Forms.{AreVariants, IsExpression, IsVariant};
@@ -19,6 +20,7 @@ pub fn split_type(trees: &[TokenTree]) -> Result<(&[TokenTree], &[TokenTree]), F
     ensures ok { IfOk result (λ found. Reads IsType trees.now found.0.now found.1.now) }
     ensures only { IfOk result (λ found. IsOnly IsType trees.now found.0.now found.1.now) }
     ensures fault { IfErr result (λ fault. FaultAt IsType trees.now fault.at) }
+    ensures span { IfErr result (λ fault. fault.span ≡ extent_at trees.now fault.at) }
 {
     let start = Place {
         item: Item::Alone,
@@ -36,6 +38,7 @@ pub fn split_bounds(trees: &[TokenTree]) -> Result<(&[TokenTree], &[TokenTree]),
     ensures ok { IfOk result (λ found. Reads AreBounds trees.now found.0.now found.1.now) }
     ensures only { IfOk result (λ found. IsOnly AreBounds trees.now found.0.now found.1.now) }
     ensures fault { IfErr result (λ fault. FaultAt AreBounds trees.now fault.at) }
+    ensures span { IfErr result (λ fault. fault.span ≡ extent_at trees.now fault.at) }
 {
     let start = Place {
         item: Item::Alone,
@@ -53,6 +56,7 @@ pub fn split_attributes(trees: &[TokenTree]) -> Result<(&[TokenTree], &[TokenTre
     ensures ok { IfOk result (λ found. Reads AreAttributes trees.now found.0.now found.1.now) }
     ensures only { IfOk result (λ found. IsOnly AreAttributes trees.now found.0.now found.1.now) }
     ensures fault { IfErr result (λ fault. FaultAt AreAttributes trees.now fault.at) }
+    ensures span { IfErr result (λ fault. fault.span ≡ extent_at trees.now fault.at) }
 {
     let start = Place {
         item: Item::Alone,
@@ -71,6 +75,7 @@ pub fn split_visibility(trees: &[TokenTree]) -> Result<(&[TokenTree], &[TokenTre
     ensures ok { IfOk result (λ found. Reads IsVisibility trees.now found.0.now found.1.now) }
     ensures only { IfOk result (λ found. IsOnly IsVisibility trees.now found.0.now found.1.now) }
     ensures fault { IfErr result (λ fault. FaultAt IsVisibility trees.now fault.at) }
+    ensures span { IfErr result (λ fault. fault.span ≡ extent_at trees.now fault.at) }
 {
     let start = Place {
         item: Item::Alone,
@@ -88,6 +93,7 @@ pub fn split_field(trees: &[TokenTree]) -> Result<(&[TokenTree], &[TokenTree]), 
     ensures ok { IfOk result (λ found. Reads IsField trees.now found.0.now found.1.now) }
     ensures only { IfOk result (λ found. IsOnly IsField trees.now found.0.now found.1.now) }
     ensures fault { IfErr result (λ fault. FaultAt IsField trees.now fault.at) }
+    ensures span { IfErr result (λ fault. fault.span ≡ extent_at trees.now fault.at) }
 {
     let start = Place {
         item: Item::Alone,
@@ -105,6 +111,7 @@ pub fn split_tuple_field(trees: &[TokenTree]) -> Result<(&[TokenTree], &[TokenTr
     ensures ok { IfOk result (λ found. Reads IsTupleField trees.now found.0.now found.1.now) }
     ensures only { IfOk result (λ found. IsOnly IsTupleField trees.now found.0.now found.1.now) }
     ensures fault { IfErr result (λ fault. FaultAt IsTupleField trees.now fault.at) }
+    ensures span { IfErr result (λ fault. fault.span ≡ extent_at trees.now fault.at) }
 {
     let start = Place {
         item: Item::Alone,
@@ -123,6 +130,7 @@ pub fn split_fields(trees: &[TokenTree]) -> Result<(&[TokenTree], &[TokenTree]),
     ensures ok { IfOk result (λ found. Reads AreFields trees.now found.0.now found.1.now) }
     ensures only { IfOk result (λ found. IsOnly AreFields trees.now found.0.now found.1.now) }
     ensures fault { IfErr result (λ fault. FaultAt AreFields trees.now fault.at) }
+    ensures span { IfErr result (λ fault. fault.span ≡ extent_at trees.now fault.at) }
 {
     let start = Place {
         item: Item::Alone,
@@ -139,6 +147,7 @@ pub fn split_tuple_fields(trees: &[TokenTree]) -> Result<(&[TokenTree], &[TokenT
     ensures ok { IfOk result (λ found. Reads AreTupleFields trees.now found.0.now found.1.now) }
     ensures only { IfOk result (λ found. IsOnly AreTupleFields trees.now found.0.now found.1.now) }
     ensures fault { IfErr result (λ fault. FaultAt AreTupleFields trees.now fault.at) }
+    ensures span { IfErr result (λ fault. fault.span ≡ extent_at trees.now fault.at) }
 {
     let start = Place {
         item: Item::Alone,
@@ -157,6 +166,7 @@ pub fn split_variant(trees: &[TokenTree]) -> Result<(&[TokenTree], &[TokenTree])
     ensures ok { IfOk result (λ found. Reads IsVariant trees.now found.0.now found.1.now) }
     ensures only { IfOk result (λ found. IsOnly IsVariant trees.now found.0.now found.1.now) }
     ensures fault { IfErr result (λ fault. FaultAt IsVariant trees.now fault.at) }
+    ensures span { IfErr result (λ fault. fault.span ≡ extent_at trees.now fault.at) }
 {
     let start = Place {
         item: Item::Alone,
@@ -174,6 +184,7 @@ pub fn split_variants(trees: &[TokenTree]) -> Result<(&[TokenTree], &[TokenTree]
     ensures ok { IfOk result (λ found. Reads AreVariants trees.now found.0.now found.1.now) }
     ensures only { IfOk result (λ found. IsOnly AreVariants trees.now found.0.now found.1.now) }
     ensures fault { IfErr result (λ fault. FaultAt AreVariants trees.now fault.at) }
+    ensures span { IfErr result (λ fault. fault.span ≡ extent_at trees.now fault.at) }
 {
     let start = Place {
         item: Item::Variants,
@@ -191,6 +202,7 @@ pub fn split_expression(trees: &[TokenTree]) -> Result<(&[TokenTree], &[TokenTre
     ensures ok { IfOk result (λ found. Reads IsExpression trees.now found.0.now found.1.now) }
     ensures only { IfOk result (λ found. IsOnly IsExpression trees.now found.0.now found.1.now) }
     ensures fault { IfErr result (λ fault. FaultAt IsExpression trees.now fault.at) }
+    ensures span { IfErr result (λ fault. fault.span ≡ extent_at trees.now fault.at) }
 {
     let start = Place {
         item: Item::Alone,
@@ -209,6 +221,7 @@ pub fn split_generics(trees: &[TokenTree]) -> Result<(&[TokenTree], &[TokenTree]
     ensures ok { IfOk result (λ found. Reads AreGenerics trees.now found.0.now found.1.now) }
     ensures only { IfOk result (λ found. IsOnly AreGenerics trees.now found.0.now found.1.now) }
     ensures fault { IfErr result (λ fault. FaultAt AreGenerics trees.now fault.at) }
+    ensures span { IfErr result (λ fault. fault.span ≡ extent_at trees.now fault.at) }
 {
     let start = Place {
         item: Item::Alone,
@@ -226,6 +239,7 @@ pub fn split_where(trees: &[TokenTree]) -> Result<(&[TokenTree], &[TokenTree]), 
     ensures ok { IfOk result (λ found. Reads IsWhere trees.now found.0.now found.1.now) }
     ensures only { IfOk result (λ found. IsOnly IsWhere trees.now found.0.now found.1.now) }
     ensures fault { IfErr result (λ fault. FaultAt IsWhere trees.now fault.at) }
+    ensures span { IfErr result (λ fault. fault.span ≡ extent_at trees.now fault.at) }
 {
     let start = Place {
         item: Item::Alone,
@@ -244,6 +258,7 @@ pub fn split_item(trees: &[TokenTree]) -> Result<(&[TokenTree], &[TokenTree]), F
     ensures ok { IfOk result (λ found. Reads IsItem trees.now found.0.now found.1.now) }
     ensures only { IfOk result (λ found. IsOnly IsItem trees.now found.0.now found.1.now) }
     ensures fault { IfErr result (λ fault. FaultAt IsItem trees.now fault.at) }
+    ensures span { IfErr result (λ fault. fault.span ≡ extent_at trees.now fault.at) }
 {
     let start = Place {
         item: Item::Alone,
