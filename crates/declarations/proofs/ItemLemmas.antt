@@ -524,7 +524,8 @@ pub clause_stands : (kind : Declared) (trees : List TokenTree) (fault : ℕ)
     → ReadsAll (IsFrom (at (item_of kind) spots.AfterGenerics)) trees → NoTuple kind (signs trees)
     → FaultAt IsWhere trees fault → ⊥
 clause_stands kind trees fault all none wrong =
-    no_fault (at items.Alone spots.Where) (after_clause (item_of kind)) trees fault (clause_of kind trees all none) wrong
+    no_fault (at items.Alone spots.Where) (after_clause (item_of kind)) trees fault
+    (clause_of kind trees all none) wrong
 
 pub last_found : (kind : Declared) (trees part rest : List TokenTree)
     → ReadsAll (IsFrom (at (item_of kind) spots.AfterGenerics)) trees → NoTuple kind (signs trees)

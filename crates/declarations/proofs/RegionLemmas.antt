@@ -163,7 +163,8 @@ takes_range outer inner goes i r places state depth class outers inners follow_t
                 (sym (part ∙ ap (λ b. follows b items.Alone r depth class) h))
                 (inl (whole ∙ ap (λ b. follows b i r depth class) h))
             | outside none may ↦
-                let at_zero : step_of state class true ≡ None = sym (ap (λ d. step_of state class (d == 0)) none) ∙ is in
+                let at_zero : step_of state class true ≡ None =
+                sym (ap (λ d. step_of state class (d == 0)) none) ∙ is in
                 subst (λ d. TakesRange outer inner goes i r state d class) (sym none)
                 (takes_outside outer inner goes i r state class at_zero may (follow_takes may))
           ]
@@ -319,7 +320,8 @@ end_takes i class = inl refl
 closed_takes : (i : Item) (class : Class) → TakesGeneric i (spotted closed) class
 closed_takes i class =
     subst (λ s. Takes (generic_place i) (generic_place items.Alone) (after_generics i class) true
-    (step (at i spots.AfterGenerics) class) (else_type s (at items.Alone spots.AfterGenerics) spots.AfterGenerics class))
+    (step (at i spots.AfterGenerics) class)
+    (else_type s (at items.Alone spots.AfterGenerics) spots.AfterGenerics class))
     (sym (closing_alone class)) (inr (refl, plain_spot (closing i class) (at i spots.AfterGenerics) class))
 
 default_takes : (i : Item) (class : Class) → TakesGeneric i (spotted const_default) class

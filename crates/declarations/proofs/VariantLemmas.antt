@@ -99,7 +99,8 @@ data Left (place : Place) (trees : List TokenTree) : Type 0 where
 left_of : (place : Place) (trees : List TokenTree) (all : List Sign) → signs trees ≡ all → Goes place trees
     → Left place trees
 left_of place trees [] read goes = ended (no_signs trees (ap classes_of read))
-left_of place trees (sign ∷ all) read goes = goes_on (begun_by place trees sign all read goes.last goes.walks goes.ended)
+left_of place trees (sign ∷ all) read goes =
+    goes_on (begun_by place trees sign all read goes.last goes.walks goes.ended)
 
 value_left : (trees : List TokenTree) → Left (at items.Alone spots.VariantEnd) trees → Value trees
 value_left trees (ended none) = nothing none
