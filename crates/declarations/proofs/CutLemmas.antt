@@ -171,15 +171,10 @@ pub record Begins (goes : Class → Option Place) (trees : List TokenTree) : Typ
   pub steps : goes sign.class ≡ Some next
   pub left : Goes next more
 
-begun : (place : Place) (trees : List TokenTree) (all : List Sign) → signs trees ≡ all → (last : Place)
-    → walk step place (classes_of (signs trees)) ≡ Some last → ends last ≡ true → ends place ≡ false
+pub begun_by : (place : Place) (trees : List TokenTree) (sign : Sign) (all : List Sign) → signs trees ≡ sign ∷ all
+    → (last : Place) → walk step place (classes_of (signs trees)) ≡ Some last → ends last ≡ true
     → Begins (step place) trees
-begun place trees [] read last walks ended unended =
-    let here : walk step place (classes_of []) ≡ Some last =
-    ap (λ ss. walk step place (classes_of ss)) (sym read) ∙ walks in
-    let same : place ≡ last = cc in
-    absurd (cc)
-begun place trees (sign ∷ all) read last walks ended unended =
+begun_by place trees sign all read last walks ended =
     let behind = behind_first trees sign all read in
     let goes_on : after step (step place sign.class) (classes_of all) ≡ Some last =
     sym (walk-cons step place sign.class (classes_of all))
@@ -198,6 +193,16 @@ begun place trees (sign ∷ all) read last walks ended unended =
         ended = ended;
       };
     }
+
+begun : (place : Place) (trees : List TokenTree) (all : List Sign) → signs trees ≡ all → (last : Place)
+    → walk step place (classes_of (signs trees)) ≡ Some last → ends last ≡ true → ends place ≡ false
+    → Begins (step place) trees
+begun place trees [] read last walks ended unended =
+    let here : walk step place (classes_of []) ≡ Some last =
+    ap (λ ss. walk step place (classes_of ss)) (sym read) ∙ walks in
+    let same : place ≡ last = cc in
+    absurd (cc)
+begun place trees (sign ∷ all) read last walks ended unended = begun_by place trees sign all read last walks ended
 
 -- where the part that was found is the only one
 pub begins_after : (part : Place) (goes : Class → Option Place) (trees first middle : List TokenTree)

@@ -60,7 +60,7 @@ reads_whole place trees goes = record {
 }
 
 -- the walk from a place over a first sign and what it goes on with
-goes_first : (place next : Place) (trees more : List TokenTree) (sign : Sign) → signs trees ≡ sign ∷ signs more
+pub goes_first : (place next : Place) (trees more : List TokenTree) (sign : Sign) → signs trees ≡ sign ∷ signs more
     → step place sign.class ≡ Some next → Goes next more → Goes place trees
 goes_first place next trees more sign read steps goes = record {
   last = goes.last;
@@ -93,7 +93,8 @@ visibility_cut front trees begins =
     let goes = goes_first place begins.next trees begins.more begins.sign begins.begins
     (attributed_step front begins.sign.class begins.next begins.steps) begins.left in
     cut (within_visibility front) visibility_place (after_visibility front) (visibility_beside front)
-    (begins.sign ∷ signs begins.more) place (at items.Alone (spots.Before parts.Visibility)) trees goes.last begins.begins
+    (begins.sign ∷ signs begins.more) place (at items.Alone (spots.Before parts.Visibility)) trees goes.last
+    begins.begins
     (visibility_first front begins.sign.class begins.next begins.steps)
     (ap (λ ss. walk step place (classes_of ss)) (sym begins.begins) ∙ goes.walks) goes.ended
 
@@ -320,12 +321,13 @@ pub last_of : (kind : Declared) (trees : List TokenTree) → Begins (after_claus
     → LastOf kind trees
 last_of kind trees begins =
     let end = end_by kind begins.sign.class begins.next begins.steps in
-    let none = nothing_more kind begins.more (signs begins.more) refl (subst (λ p. Goes p begins.more) end.1 begins.left) in
+    let none = nothing_more kind begins.more (signs begins.more) refl
+    (subst (λ p. Goes p begins.more) end.1 begins.left) in
     ends_by kind trees begins.more begins.sign begins.begins begins.follows none begins.sign.class refl end.0
 
 -- ---- fields in parentheses
 
-signs_group : (g : Grouped) (rest : List TokenTree) → signs (Group g ∷ rest)
+pub signs_group : (g : Grouped) (rest : List TokenTree) → signs (Group g ∷ rest)
     ≡ record { class = group_class g.delimiter g.stream; trees = Group g ∷ [] } ∷ signs rest
 signs_group g [] = refl
 signs_group g (tree ∷ rest) = refl
@@ -520,7 +522,8 @@ pub clause_stands : (kind : Declared) (trees : List TokenTree) (fault : ℕ)
     → ReadsAll (IsFrom (at (item_of kind) spots.AfterGenerics)) trees → NoTuple kind (signs trees)
     → FaultAt IsWhere trees fault → ⊥
 clause_stands kind trees fault all none wrong =
-    no_fault (at items.Alone spots.Where) (after_clause (item_of kind)) trees fault (clause_of kind trees all none) wrong
+    no_fault (at items.Alone spots.Where) (after_clause (item_of kind)) trees fault
+    (clause_of kind trees all none) wrong
 
 pub last_found : (kind : Declared) (trees part rest : List TokenTree)
     → ReadsAll (IsFrom (at (item_of kind) spots.AfterGenerics)) trees → NoTuple kind (signs trees)

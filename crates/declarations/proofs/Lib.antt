@@ -8,3 +8,5 @@ pub mod PartLemmas
 pub mod RegionLemmas
 pub mod SortLemmas
 pub mod ItemLemmas
+pub mod FieldLemmas
+pub mod VariantLemmas

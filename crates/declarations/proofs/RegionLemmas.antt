@@ -168,7 +168,8 @@ takes_range outer inner goes i r places state depth class outers inners follow_t
                 (sym (part ∙ ap (λ b. follows b items.Alone r depth class) h))
                 (inl (whole ∙ ap (λ b. follows b i r depth class) h))
             | outside none may ↦
-                let at_zero : step_of state class true ≡ None = sym (ap (λ d. step_of state class (d == 0)) none) ∙ is in
+                let at_zero : step_of state class true ≡ None =
+                sym (ap (λ d. step_of state class (d == 0)) none) ∙ is in
                 subst (λ d. TakesRange outer inner goes i r state d class) (sym none)
                 (takes_outside outer inner goes i r state class at_zero may (follow_takes may))
           ]

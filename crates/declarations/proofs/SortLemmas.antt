@@ -174,7 +174,8 @@ marks_sort first second =
     tt
 
 pair_sort : (first second : TokenTree) → MayBe pairs (pair_class first second)
-pair_sort (Punct p) (Punct q) = either (MayBe pairs) (is_joint p.spacing) (marks_class p.mark q.mark) None (marks_sort p.mark q.mark) tt
+pair_sort (Punct p) (Punct q) =
+    either (MayBe pairs) (is_joint p.spacing) (marks_class p.mark q.mark) None (marks_sort p.mark q.mark) tt
 pair_sort (Punct p) (Ident i) = either (MayBe pairs) (p.mark == 39) (Some signs.Lifetime) None refl tt
 pair_sort (Punct p) (Group g) = tt
 pair_sort (Punct p) (Literal l) = tt

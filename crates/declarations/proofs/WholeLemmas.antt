@@ -1,12 +1,15 @@
 -- Trees that are read whole.
+use Rattle.std.proofs.Common.{drop}
 use Rattle.std.proofs.Common.{◌≡◌, refl, sym, ◌∙◌, ap, ℕ, ◌+◌, true, List, [], ◌∷◌, ◌++◌, Some}
 use Rattle.std.proofs.Common.{None, length, arith, append_assoc, append-nil}
 use Rattle.std.proofs.lemmas.List.{length-append}
+use Rattle.std.proofs.Math.Seq.{drop-append_seam}
 use Rattle.pm_stream.specs.declared.stream.TokenTree.{TokenTree}
 use Rattle.declarations.proofs.WalkLemmas.{after, walk-append, walk-cons}
 use Rattle.declarations.proofs.PlaceLemmas.{goes_on}
 use Rattle.declarations.proofs.ReadingLemmas.{classes-append}
 use Rattle.declarations.proofs.SignLemmas.{no_signs}
+use Rattle.declarations.specs.Fault.{first_extent, extent_at}
 use Rattle.declarations.specs.Forms.{IsFrom}
 use Rattle.declarations.specs.Grammar.{step, ends}
 use Rattle.declarations.specs.Reading.{FaultAt, StopsBefore}
@@ -102,3 +105,12 @@ whole_fault start trees left place at walked stops wrong counted =
           reads.stands.0.last walked.walks stops (λ ended none. wrong ended (no_classes left none)) all
           reads.stands.0.walks reads.stands.0.ended;
     }
+
+-- the first tree that is left is the one before which so many stand
+pub span_at : (start : Place) (trees left : List TokenTree) (place : Place) (at : ℕ) → Walked start trees left place
+    → at + length left ≡ length trees → first_extent left ≡ extent_at trees at
+span_at start trees left place at walked counted =
+    let sum = ap length walked.whole ∙ length-append (trees_of walked.front) left in
+    let count : length (trees_of walked.front) ≡ at = omega arith in
+    ap first_extent (sym (drop-append_seam (trees_of walked.front) left)
+    ∙ ap (λ n. drop n (trees_of walked.front ++ left)) count ∙ ap (drop at) (sym walked.whole))

@@ -1,5 +1,6 @@
 -- The parts of a struct, an enum or a union, in reading order.
-use Rattle.std.specs.Prelude.{◌≡◌, ◌⊎◌, List, [], ◌∷◌, ◌++◌}
+use Rattle.std.specs.Prelude.{◌≡◌, ◌⊎◌, List, [], ◌∷◌, ◌++◌, Bool, true, false, not}
+use Rattle.pm_token.specs.Leaf.{Name}
 use Rattle.pm_token.specs.declared.delimiters.Delimiter.TheVariants as delimiters
 use Rattle.pm_stream.specs.declared.stream.Group.{Group as Grouped}
 use Rattle.pm_stream.specs.declared.stream.TokenTree.{TokenTree}
@@ -66,6 +67,15 @@ parts_of item = item.attributes.now ++ after_attributes item
 abbrev pub IsNameClass : Class → Type 0
 IsNameClass (classes.Word word) = Unit {0}
 IsNameClass class = ⊥
+
+-- the same, as a test
+abbrev pub is_name_class : Class → Bool
+is_name_class (classes.Word word) = true
+is_name_class class = false
+
+-- an identifier that can't be a name
+abbrev pub is_keyword : Name → Bool
+is_keyword ident = not (is_name_class (name_class ident))
 
 -- a group in braces, or one without delimiters that holds one in braces alone
 abbrev pub InBraces : Grouped → Type 0

@@ -8,3 +8,6 @@ pub mod Signs
 pub mod Reading
 pub mod Whole
 pub mod Item
+pub mod Field
+pub mod Fault
+pub mod Variant

@@ -1,7 +1,5 @@
 -- Trees that are read whole, and walks over their signs.
-use Rattle.std.specs.Prelude.{◌≡◌, List, [], ◌∷◌, ◌++◌, Some}
-use Rattle.pm_span.specs.Extent.{Extent, nowhere}
-use Rattle.pm_stream.specs.TreeSpan.{extent_of}
+use Rattle.std.specs.Prelude.{◌≡◌, List, [], ◌++◌, Some}
 use Rattle.pm_stream.specs.declared.stream.TokenTree.{TokenTree}
 use Rattle.declarations.specs.Grammar.{step}
 use Rattle.declarations.specs.Reading.{Reads}
@@ -24,8 +22,3 @@ pub record Walked (start : Place) (trees left : List TokenTree) (place : Place) 
   pub read : signs trees ≡ front ++ signs left
   pub whole : trees ≡ trees_of front ++ left
   pub walks : walk step start (classes_of front) ≡ Some place
-
--- where the first of these trees stands
-abbrev pub first_extent : List TokenTree → Extent
-first_extent [] = nowhere
-first_extent (tree ∷ left) = extent_of tree

@@ -1,5 +1,6 @@
 //! The parts of declarations, each at the front of trees.
-ghost use Rattle.std.specs.Prelude.{IfErr, IfOk};
+ghost use Rattle.std.specs.Prelude.{◌≡◌, IfErr, IfOk};
+ghost use Rattle.declarations.specs.Fault.{extent_at};
 ghost use Rattle.declarations.specs.Forms.{AreAttributes, AreBounds, AreFields, AreGenerics, AreTupleFields, IsField};
 ghost use Rattle.declarations.specs.Forms.{IsItem, IsTupleField, IsType, IsVisibility, IsWhere};
 ghost use Rattle.declarations.specs.Forms.{AreVariants, IsExpression, IsFrom, IsVariant, start};
@@ -20,6 +21,7 @@ fn split_alone<'a>(
     ensures ok { IfOk result (λ found. Reads (IsFrom (start rule state)) trees.now found.0.now found.1.now) }
     ensures only { IfOk result (λ found. IsOnly (IsFrom (start rule state)) trees.now found.0.now found.1.now) }
     ensures fault { IfErr result (λ fault. FaultAt (IsFrom (start rule state)) trees.now fault.at) }
+    ensures span { IfErr result (λ fault. fault.span ≡ extent_at trees.now fault.at) }
 {
     let start = Place {
         item: Item::Alone,
@@ -38,6 +40,7 @@ pub fn split_type(trees: &[TokenTree]) -> Result<(&[TokenTree], &[TokenTree]), F
     ensures ok { IfOk result (λ found. Reads IsType trees.now found.0.now found.1.now) }
     ensures only { IfOk result (λ found. IsOnly IsType trees.now found.0.now found.1.now) }
     ensures fault { IfErr result (λ fault. FaultAt IsType trees.now fault.at) }
+    ensures span { IfErr result (λ fault. fault.span ≡ extent_at trees.now fault.at) }
 {
     split_alone(trees, Rule::Alone, State::Range(TypeState::Wanted))
 }
@@ -49,6 +52,7 @@ pub fn split_bounds(trees: &[TokenTree]) -> Result<(&[TokenTree], &[TokenTree]),
     ensures ok { IfOk result (λ found. Reads AreBounds trees.now found.0.now found.1.now) }
     ensures only { IfOk result (λ found. IsOnly AreBounds trees.now found.0.now found.1.now) }
     ensures fault { IfErr result (λ fault. FaultAt AreBounds trees.now fault.at) }
+    ensures span { IfErr result (λ fault. fault.span ≡ extent_at trees.now fault.at) }
 {
     split_alone(trees, Rule::Alone, State::Range(TypeState::Bound))
 }
@@ -60,6 +64,7 @@ pub fn split_attributes(trees: &[TokenTree]) -> Result<(&[TokenTree], &[TokenTre
     ensures ok { IfOk result (λ found. Reads AreAttributes trees.now found.0.now found.1.now) }
     ensures only { IfOk result (λ found. IsOnly AreAttributes trees.now found.0.now found.1.now) }
     ensures fault { IfErr result (λ fault. FaultAt AreAttributes trees.now fault.at) }
+    ensures span { IfErr result (λ fault. fault.span ≡ extent_at trees.now fault.at) }
 {
     split_alone(
         trees,
@@ -76,6 +81,7 @@ pub fn split_visibility(trees: &[TokenTree]) -> Result<(&[TokenTree], &[TokenTre
     ensures ok { IfOk result (λ found. Reads IsVisibility trees.now found.0.now found.1.now) }
     ensures only { IfOk result (λ found. IsOnly IsVisibility trees.now found.0.now found.1.now) }
     ensures fault { IfErr result (λ fault. FaultAt IsVisibility trees.now fault.at) }
+    ensures span { IfErr result (λ fault. fault.span ≡ extent_at trees.now fault.at) }
 {
     split_alone(
         trees,
@@ -91,6 +97,7 @@ pub fn split_field(trees: &[TokenTree]) -> Result<(&[TokenTree], &[TokenTree]), 
     ensures ok { IfOk result (λ found. Reads IsField trees.now found.0.now found.1.now) }
     ensures only { IfOk result (λ found. IsOnly IsField trees.now found.0.now found.1.now) }
     ensures fault { IfErr result (λ fault. FaultAt IsField trees.now fault.at) }
+    ensures span { IfErr result (λ fault. fault.span ≡ extent_at trees.now fault.at) }
 {
     split_alone(trees, Rule::Alone, State::At(Spot::Before(Part::Field)))
 }
@@ -102,6 +109,7 @@ pub fn split_tuple_field(trees: &[TokenTree]) -> Result<(&[TokenTree], &[TokenTr
     ensures ok { IfOk result (λ found. Reads IsTupleField trees.now found.0.now found.1.now) }
     ensures only { IfOk result (λ found. IsOnly IsTupleField trees.now found.0.now found.1.now) }
     ensures fault { IfErr result (λ fault. FaultAt IsTupleField trees.now fault.at) }
+    ensures span { IfErr result (λ fault. fault.span ≡ extent_at trees.now fault.at) }
 {
     split_alone(
         trees,
@@ -118,6 +126,7 @@ pub fn split_fields(trees: &[TokenTree]) -> Result<(&[TokenTree], &[TokenTree]),
     ensures ok { IfOk result (λ found. Reads AreFields trees.now found.0.now found.1.now) }
     ensures only { IfOk result (λ found. IsOnly AreFields trees.now found.0.now found.1.now) }
     ensures fault { IfErr result (λ fault. FaultAt AreFields trees.now fault.at) }
+    ensures span { IfErr result (λ fault. fault.span ≡ extent_at trees.now fault.at) }
 {
     split_alone(trees, Rule::Fields, State::At(Spot::Before(Part::Field)))
 }
@@ -128,6 +137,7 @@ pub fn split_tuple_fields(trees: &[TokenTree]) -> Result<(&[TokenTree], &[TokenT
     ensures ok { IfOk result (λ found. Reads AreTupleFields trees.now found.0.now found.1.now) }
     ensures only { IfOk result (λ found. IsOnly AreTupleFields trees.now found.0.now found.1.now) }
     ensures fault { IfErr result (λ fault. FaultAt AreTupleFields trees.now fault.at) }
+    ensures span { IfErr result (λ fault. fault.span ≡ extent_at trees.now fault.at) }
 {
     split_alone(
         trees,
@@ -144,6 +154,7 @@ pub fn split_variant(trees: &[TokenTree]) -> Result<(&[TokenTree], &[TokenTree])
     ensures ok { IfOk result (λ found. Reads IsVariant trees.now found.0.now found.1.now) }
     ensures only { IfOk result (λ found. IsOnly IsVariant trees.now found.0.now found.1.now) }
     ensures fault { IfErr result (λ fault. FaultAt IsVariant trees.now fault.at) }
+    ensures span { IfErr result (λ fault. fault.span ≡ extent_at trees.now fault.at) }
 {
     split_alone(trees, Rule::Alone, State::At(Spot::Before(Part::Variant)))
 }
@@ -155,6 +166,7 @@ pub fn split_variants(trees: &[TokenTree]) -> Result<(&[TokenTree], &[TokenTree]
     ensures ok { IfOk result (λ found. Reads AreVariants trees.now found.0.now found.1.now) }
     ensures only { IfOk result (λ found. IsOnly AreVariants trees.now found.0.now found.1.now) }
     ensures fault { IfErr result (λ fault. FaultAt AreVariants trees.now fault.at) }
+    ensures span { IfErr result (λ fault. fault.span ≡ extent_at trees.now fault.at) }
 {
     let start = Place {
         item: Item::Variants,
@@ -172,6 +184,7 @@ pub fn split_expression(trees: &[TokenTree]) -> Result<(&[TokenTree], &[TokenTre
     ensures ok { IfOk result (λ found. Reads IsExpression trees.now found.0.now found.1.now) }
     ensures only { IfOk result (λ found. IsOnly IsExpression trees.now found.0.now found.1.now) }
     ensures fault { IfErr result (λ fault. FaultAt IsExpression trees.now fault.at) }
+    ensures span { IfErr result (λ fault. fault.span ≡ extent_at trees.now fault.at) }
 {
     split_alone(trees, Rule::Alone, State::At(Spot::Expression))
 }
@@ -184,6 +197,7 @@ pub fn split_generics(trees: &[TokenTree]) -> Result<(&[TokenTree], &[TokenTree]
     ensures ok { IfOk result (λ found. Reads AreGenerics trees.now found.0.now found.1.now) }
     ensures only { IfOk result (λ found. IsOnly AreGenerics trees.now found.0.now found.1.now) }
     ensures fault { IfErr result (λ fault. FaultAt AreGenerics trees.now fault.at) }
+    ensures span { IfErr result (λ fault. fault.span ≡ extent_at trees.now fault.at) }
 {
     split_alone(trees, Rule::Alone, State::At(Spot::Generics))
 }
@@ -195,6 +209,7 @@ pub fn split_where(trees: &[TokenTree]) -> Result<(&[TokenTree], &[TokenTree]), 
     ensures ok { IfOk result (λ found. Reads IsWhere trees.now found.0.now found.1.now) }
     ensures only { IfOk result (λ found. IsOnly IsWhere trees.now found.0.now found.1.now) }
     ensures fault { IfErr result (λ fault. FaultAt IsWhere trees.now fault.at) }
+    ensures span { IfErr result (λ fault. fault.span ≡ extent_at trees.now fault.at) }
 {
     split_alone(trees, Rule::Alone, State::At(Spot::Where))
 }
@@ -207,6 +222,7 @@ pub fn split_item(trees: &[TokenTree]) -> Result<(&[TokenTree], &[TokenTree]), F
     ensures ok { IfOk result (λ found. Reads IsItem trees.now found.0.now found.1.now) }
     ensures only { IfOk result (λ found. IsOnly IsItem trees.now found.0.now found.1.now) }
     ensures fault { IfErr result (λ fault. FaultAt IsItem trees.now fault.at) }
+    ensures span { IfErr result (λ fault. fault.span ≡ extent_at trees.now fault.at) }
 {
     split_alone(trees, Rule::Alone, State::At(Spot::Before(Part::TypeItem)))
 }

@@ -1,5 +1,6 @@
 //! Walks over the signs of trees, by the grammar.
-ghost use Rattle.std.specs.Prelude.{◌≡◌, ◌≢◌, ◌+◌, ◌≤◌, ◌<◌, ◌^◌, IfErr, IfNone, IfOk, IfSome, OnOk, drop, length};
+ghost use Rattle.std.specs.Prelude.{◌≡◌, ◌≢◌, ◌+◌, ◌≤◌, ◌<◌, ◌^◌, IfErr, IfNone, IfOk, IfSome, OnOk, length};
+ghost use Rattle.declarations.specs.Fault.{extent_at};
 ghost use Rattle.declarations.specs.Forms.{IsFrom};
 ghost use Rattle.declarations.specs.Grammar.{step};
 ghost use Rattle.declarations.specs.Reading.{FaultAt, IsOnly, Reads};
@@ -22,13 +23,14 @@ pub(crate) fn split_from<'a>(
     ensures ok { IfOk result (λ found. Reads (IsFrom start) trees.now found.0.now found.1.now) }
     ensures only { IfOk result (λ found. IsOnly (IsFrom start) trees.now found.0.now found.1.now) }
     ensures fault { IfErr result (λ fault. FaultAt (IsFrom start) trees.now fault.at) }
+    ensures span { IfErr result (λ fault. fault.span ≡ extent_at trees.now fault.at) }
 {
     let (place, left) = walk_from(trees, start);
     let at = trees.len() - left.len();
     if place.may_end() {
         Ok(trees.split_at(at))
     } else {
-        Err(Fault::before(at, left))
+        Err(Fault::ahead_of(at, left))
     }
 }
 
@@ -37,12 +39,13 @@ pub(crate) fn read_whole(trees: &[TokenTree], start: Place) -> Result<(), Fault>
     requires { start.depth ≡ 0 }
     ensures ok { OnOk result (ReadsAll (IsFrom start) trees.now) }
     ensures fault { IfErr result (λ fault. FaultAt (IsWhole (IsFrom start)) trees.now fault.at) }
+    ensures span { IfErr result (λ fault. fault.span ≡ extent_at trees.now fault.at) }
 {
     let (place, left) = walk_from(trees, start);
     if left.is_empty() && place.may_end() {
         Ok(())
     } else {
-        Err(Fault::before(trees.len() - left.len(), left))
+        Err(Fault::ahead_of(trees.len() - left.len(), left))
     }
 }
 

@@ -2,4 +2,6 @@
 #![tactic(auto)]
 
 #[cfg(test)]
+mod items;
+#[cfg(test)]
 mod parts;

@@ -1,6 +1,6 @@
 use Rattle.std.proofs.Common.{◌≡◌, ◌∙◌, ap, ◌==◌, true, false, length, arith}
 use Rattle.declarations.specs.Grammar.{ends}
-use Rattle.declarations.proofs.WholeLemmas.{whole_fault}
+use Rattle.declarations.proofs.WholeLemmas.{span_at, whole_fault}
 use Rattle.declarations.proofs.walk.read_whole.Goals as goal
 use Rattle.declarations.proofs.walk.read_whole.Goals.{else-is_empty-via-then-is_empty+else-may_end}
 use Rattle.declarations.proofs.walk.read_whole.Goals.{else-is_empty-via-else-is_empty}
@@ -16,3 +16,9 @@ returns-else-is_empty-clause-fault c =
     ] in
     whole_fault c.args.start c.args.trees.now c.walk_from.result.1.now c.walk_from.result.0 _
     c.walk_from.ensures.walked c.walk_from.ensures.stops wrong (omega arith)
+
+pub returns-else-is_empty-clause-span : goal.returns-else-is_empty-clause-span
+returns-else-is_empty-clause-span c =
+    c.ahead_of.ensures.span
+    ∙ span_at c.args.start c.args.trees.now c.walk_from.result.1.now c.walk_from.result.0 _ c.walk_from.ensures.walked
+    (omega arith)

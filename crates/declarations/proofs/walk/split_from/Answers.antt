@@ -1,5 +1,6 @@
-use Rattle.std.proofs.Common.{arith}
+use Rattle.std.proofs.Common.{◌∙◌, arith}
 use Rattle.declarations.proofs.ReadingLemmas.{split_read, split_only, split_fault}
+use Rattle.declarations.proofs.WholeLemmas.{span_at}
 use Rattle.declarations.specs.Forms.{IsFrom}
 use Rattle.declarations.specs.Reading.{Reads}
 use Rattle.declarations.proofs.walk.split_from.Goals as goal
@@ -22,3 +23,9 @@ pub returns-else-may_end-clause-fault : goal.returns-else-may_end-clause-fault
 returns-else-may_end-clause-fault c =
     split_fault c.args.start c.args.trees.now c.walk_from.result.1.now c.walk_from.result.0 _
     c.walk_from.ensures.walked (cc) c.walk_from.ensures.stops (omega arith)
+
+pub returns-else-may_end-clause-span : goal.returns-else-may_end-clause-span
+returns-else-may_end-clause-span c =
+    c.ahead_of.ensures.span
+    ∙ span_at c.args.start c.args.trees.now c.walk_from.result.1.now c.walk_from.result.0 _ c.walk_from.ensures.walked
+    (omega arith)
