@@ -2,7 +2,10 @@ pub mod TypeStep
 pub mod Walk
 pub mod Moves
 pub mod Expression
+pub mod Header
+pub mod Front
 pub mod Grammar
 pub mod Forms
 pub mod Signs
 pub mod Reading
+pub mod Kind

@@ -2,4 +2,6 @@
 #![tactic(auto)]
 
 #[cfg(test)]
+mod any_items;
+#[cfg(test)]
 mod parts;

@@ -9,21 +9,25 @@
 //!
 //! The grammar stands on signs: a tree, or two that are read as one. README.md has it whole.
 
+mod any_item;
 mod class;
 mod expression;
 mod fault;
+mod front;
 mod grammar;
+mod header;
 mod parts;
 mod place;
 mod signs;
 mod types;
 mod walk;
 
+pub use any_item::{AnyItem, ItemKind, split_any_item};
 pub use class::{Class, Keyword, Word};
 pub use fault::Fault;
 pub use parts::{
     split_attributes, split_bounds, split_expression, split_field, split_fields, split_generics,
-    split_item, split_tuple_field, split_tuple_fields, split_type, split_variant, split_variants,
-    split_visibility, split_where,
+    split_inner_attributes, split_item, split_tuple_field, split_tuple_fields, split_type,
+    split_variant, split_variants, split_visibility, split_where,
 };
 pub use signs::first_sign;
