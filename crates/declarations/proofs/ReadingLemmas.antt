@@ -215,5 +215,6 @@ split_fault start trees left later place at walking wrong stops counted =
           is_front step ends start place goes.final (classes_of walked.front) goes.more
           walked.walks goes.walks goes.ended;
       longest = no_longer start place (classes_of walked.front) (classes_of (signs left)) walked.walks wrong stops;
-      nothing = nothing_read start trees left place (first_name later) (classes_of (signs left)) walked wrong stops refl;
+      nothing =
+          nothing_read start trees left place (first_name later) (classes_of (signs left)) walked wrong stops refl;
     }

@@ -50,16 +50,16 @@ pub enum ItemKind {
 #[derive(Clone, Copy)]
 pub struct AnyItem<'a> {
     pub kind: ItemKind,
-    /// `_` of a constant without a name; of an external crate that which is not of its `as`; none of an `impl`, a `use`,
-    /// a block of foreign items, a group, or a macro call that has none.
+    /// The name; `_` of a constant without one, and of an external crate not that of its `as`. An `impl`, a `use`, a
+    /// block of foreign items, a group and most macro calls have none.
     pub name: Option<&'a Ident>,
     pub trees: &'a [TokenTree],
 }
 
 /// The item at the front of the trees, and the trees after it.
 ///
-/// It is any item that may stand in a file, a module, a trait, an `impl` or a block of foreign items. What stands within
-/// its groups isn't read. Of `pub fn f() {} struct S;` it is `pub fn f() {}`, a function with the name `f`.
+/// It is any item that may stand in a file, a module, a trait, an `impl` or a block of foreign items. What stands
+/// within its groups isn't read. Of `pub fn f() {} struct S;` it is `pub fn f() {}`, a function with the name `f`.
 pub fn split_any_item<'a>(trees: &'a [TokenTree]) -> Result<(AnyItem<'a>, &'a [TokenTree]), Fault>
     // The kind and the name are those of the one walk over the item's signs.
 {

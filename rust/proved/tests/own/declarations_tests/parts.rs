@@ -93,7 +93,9 @@ fn check_unseen(
         let mut stream = TokenStream::from_tree(rt.alloc(), TokenTree::Group(group))?;
         stream.extend_streams([TokenStream::from_str(after, &mut map)?])?;
         let found = read(part, stream.trees());
-        assert!(found == *wanted, "{part:?} of {inside:?} before {after:?}: {found:?}");
+        assert!(found == *wanted,
+            "{part:?} of {inside:?} before {after:?}: {found:?}"
+        );
     }
     Ok(())
 }
@@ -196,18 +198,12 @@ fn groups_without_delimiters_are_what_they_hold() -> Result<(), Fail> {
     check_unseen(
         &rt,
         Part::AnyItem,
-        &[
-            ("struct S;", "fn", Reads(1)),
-            ("", "fn f() {}", Reads(5)),
-        ],
+        &[("struct S;", "fn", Reads(1)), ("", "fn f() {}", Reads(5))],
     )?;
     check_unseen(
         &rt,
         Part::Expression,
-        &[
-            ("1 + 2", "* 3, B", Reads(3)),
-            ("{ 1 }", "+ 1", Reads(3)),
-        ],
+        &[("1 + 2", "* 3, B", Reads(3)), ("{ 1 }", "+ 1", Reads(3))],
     )?;
     check_unseen(&rt, Part::Type, &[("", "", FaultAt(0))])
 }
