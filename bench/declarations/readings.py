@@ -5,7 +5,7 @@ For each part, and each list of signs over an alphabet, it looks for all reading
 must be one at most. The walk by the tables in `specs/` must end exactly where there is one, and go on exactly where
 the list is a front of one. The tables are read from the definitions, so a wrong row of these shows here.
 
-Usage: readings.py [LENGTH]
+Usage: readings.py [LENGTH [PART]]
 """
 import os
 import re
@@ -165,7 +165,7 @@ def shifted(depth, shift):
 
 class Tables:
     def __init__(self):
-        files = ("TypeStep", "Moves", "Expression", "Grammar")
+        files = ("TypeStep", "Moves", "Expression", "Header", "Front", "Grammar")
         self.equations = {}
         for name in files:
             with open(os.path.join(SPECS, name + ".antt")) as file:
@@ -179,7 +179,7 @@ class Tables:
         return self.known[key]
 
     def first(self, name, arguments):
-        if name in ("turn_to", "go"):
+        if name in ("turn_to", "go", "type_from"):
             return arguments
         for patterns, value in self.equations[name]:
             bound = {}
@@ -224,8 +224,8 @@ class Tables:
         shift = self.call("spot_step", item, rule, name, sign)
         if shift is not None:
             return shifted(depth, shift)
-        rule = self.call("spot_type", rule, name)
-        return rule and self.range(item, rule, "Wanted", depth, sign)
+        start = self.call("spot_type", item, rule, name)
+        return start and self.range(item, start[0], start[1], depth, sign)
 
     def ends(self, place):
         item, rule, (kind, name), depth = place
@@ -279,6 +279,24 @@ PARTS = [
         "Struct Word Parentheses Braces Semicolon Where Colon", "Enum Union Word Braces Semicolon Where Colon",
         "Struct Word Less Greater Semicolon Lifetime",
         "Hash Brackets Pub Restriction Visibility Struct Word Semicolon"]),
+    ("inner_attributes", "Alone", "Alone", ("At", "Inner"), ["HashBang Hash Brackets"]),
+    ("any_item", "Alone", "Alone", ("At", ("Before", "AnyItem")), [
+        "Hash Brackets Pub Restriction Visibility Invisible Struct Word Semicolon",
+        "Const Async Unsafe Safe Extern Literal Fn Word Parentheses Semicolon",
+        "Default Const Safe Fn Word Colon Equals Semicolon",
+        "Fn Word Less Greater Parentheses Arrow Where Braces Semicolon",
+        "Const Static Mut Word Underscore Colon Equals Semicolon Less Greater",
+        "Type Word Colon Equals Semicolon Where Plus Comma",
+        "Trait Unsafe Auto Word Colon Equals Braces Where",
+        "Impl Less Greater Word Colon Comma For Braces",
+        "Impl Const Exclamation Word For Where Braces Colon",
+        "Impl Less Greater Lifetime Hash Brackets As PathSeparator Word Braces",
+        "Impl Less Word Equals Greater And Plus For Braces",
+        "Mod Unsafe Word Semicolon Braces Extern Crate As SelfValue",
+        "Use Word PathSeparator As Star Braces Semicolon Underscore",
+        "Word PathSeparator Exclamation Parentheses Braces Semicolon Crate",
+        "Union Auto Default Safe Trait Exclamation Word Braces Fn",
+        "Macro Word Parentheses Braces Brackets Exclamation Semicolon"]),
 ]
 
 
@@ -287,7 +305,10 @@ def main():
     with open(os.path.join(HERE, "grammar.txt")) as file:
         reader = Reader(grammar(file.read()))
     tables, wrong, count = Tables(), 0, 0
+    wanted = sys.argv[2:] or [part[0] for part in PARTS]
     for part, item, rule, state, alphabets in PARTS:
+        if part not in wanted:
+            continue
         fronts = whole = 0
         for alphabet in alphabets:
             open_fronts = [((), (item, rule, state, 0))]

@@ -20,9 +20,10 @@ use Rattle.declarations.proofs.SignLemmas.{trees_of-signs, no_signs}
 use Rattle.declarations.proofs.SortLemmas.{sort_of, named, grouped, names, groups, unseen}
 use Rattle.declarations.proofs.WalkLemmas.{after, walk-cons}
 use Rattle.declarations.specs.Forms.{IsFrom, IsItem, AreAttributes, IsVisibility, AreGenerics, IsWhere}
-use Rattle.declarations.specs.Grammar.{step, ends, closing}
+use Rattle.declarations.specs.Grammar.{step, ends}
+use Rattle.declarations.specs.Header.{closing}
 use Rattle.declarations.specs.Item as spec
-use Rattle.declarations.specs.Item.{AreBracesLeft, InBraces, IsNameClass, IsLeft, IsTypeItem, HasEnding}
+use Rattle.declarations.specs.Item.{AreBracesLeft, IsNameClass, IsLeft, IsTypeItem, HasEnding}
 use Rattle.declarations.specs.declared.item.TypeItem.{TypeItem}
 use Rattle.declarations.specs.Reading.{Reads, FaultAt, IsOnly}
 use Rattle.declarations.specs.Signs.{Sign, signs, classes_of, group_class, is_restriction, name_class}
@@ -257,7 +258,8 @@ IsBraced kind = ⊥
 
 -- the last sign of an item
 pub data LastOf (kind : Declared) (trees : List TokenTree) : Type 0 where
-  braces : (g : Grouped) → trees ≡ Group g ∷ [] → InBraces g → (kind ≡ tuple → ⊥) → LastOf kind trees
+  braces : (g : Grouped) → trees ≡ Group g ∷ [] → g.delimiter ≡ delimiters.Brace → (kind ≡ tuple → ⊥)
+      → LastOf kind trees
   semicolon : classes_of (signs trees) ≡ signs.Semicolon ∷ [] → (IsBraced kind → ⊥) → LastOf kind trees
 
 abbrev EndBy : Declared → Class → Type 0
@@ -283,12 +285,22 @@ end_by enumeration class next steps = cc
 end_by union signs.Braces next steps = (tt, cc)
 end_by union class next steps = cc
 
+-- the class of a group tells its delimiters
+pub brace_of : (d : Delimiter) (f : Forest) → group_class d f ≡ signs.Braces → d ≡ delimiters.Brace
+brace_of delimiters.Parenthesis f is =
+    elim (is_restriction f) as (λ b. parentheses_class b ≡ signs.Braces → delimiters.Parenthesis ≡ delimiters.Brace)
+    [ true ↦ λ h. cc | false ↦ λ h. cc ] is
+brace_of delimiters.Bracket f is = cc
+brace_of delimiters.Brace f is = refl
+brace_of delimiters.None f is =
+    unseen (λ class. class ≡ signs.Braces → delimiters.None ≡ delimiters.Brace) f (λ h. cc) (λ h. cc) is
+
 parenthesis_of : (d : Delimiter) (f : Forest) → IsTuple structure (group_class d f) → d ≡ delimiters.Parenthesis
 parenthesis_of delimiters.Parenthesis f is = refl
 parenthesis_of delimiters.Bracket f is = absurd is
 parenthesis_of delimiters.Brace f is = absurd is
 parenthesis_of delimiters.None f is =
-    absurd (unseen (λ class. IsTuple structure class → ⊥) f (λ h. h) (λ h. h) (λ h. h) is)
+    absurd (unseen (λ class. IsTuple structure class → ⊥) f (λ h. h) (λ h. h) is)
 
 braces_end : (kind : Declared) (trees more : List TokenTree) (sign : Sign) → signs trees ≡ sign ∷ signs more
     → trees ≡ sign.trees ++ more → more ≡ [] → sign.class ≡ signs.Braces → (kind ≡ tuple → ⊥) → LastOf kind trees
@@ -297,7 +309,7 @@ braces_end kind trees more sign read whole none is other =
     let class : sign.class ≡ group_class found.0.delimiter found.0.stream = ap (λ s. s.class) found.1.is in
     let one : sign.trees ≡ Group found.0 ∷ [] = ap (λ s. s.trees) found.1.is in
     braces found.0 (whole ∙ ap (λ ts. ts ++ more) one ∙ ap (λ m. Group found.0 ∷ m) none)
-    (sym class ∙ is) other
+    (brace_of found.0.delimiter found.0.stream (sym class ∙ is)) other
 
 ends_by : (kind : Declared) (trees more : List TokenTree) (sign : Sign) → signs trees ≡ sign ∷ signs more
     → trees ≡ sign.trees ++ more → more ≡ [] → (class : Class) → sign.class ≡ class → EndBy kind class
@@ -547,15 +559,15 @@ no_semicolon delimiters.Parenthesis f is =
 no_semicolon delimiters.Bracket f is = cc
 no_semicolon delimiters.Brace f is = cc
 no_semicolon delimiters.None f is =
-    unseen (λ class. class ≡ signs.Semicolon → ⊥) f (λ h. cc) (λ h. cc) (λ h. cc) is
+    unseen (λ class. class ≡ signs.Semicolon → ⊥) f (λ h. cc) (λ h. cc) is
 
 pub braces_found : (kind : Declared) (trees rest : List TokenTree) (g : Grouped) → LastOf kind trees
-    → trees ≡ Group g ∷ rest → InBraces g × (rest ≡ [])
+    → trees ≡ Group g ∷ rest → (g.delimiter ≡ delimiters.Brace) × (rest ≡ [])
 braces_found kind trees rest g (braces group whole is other) found =
     let same : Group group ∷ [] ≡ Group g ∷ rest = sym whole ∙ found in
     let groups : group ≡ g = cc in
     let rests : rest ≡ [] = cc in
-    (subst InBraces groups is, rests)
+    (ap (λ x. x.delimiter) (sym groups) ∙ is, rests)
 braces_found kind trees rest g (semicolon class other) found =
     let classes : group_class g.delimiter g.stream ∷ classes_of (signs rest) ≡ signs.Semicolon ∷ [] =
     ap classes_of (sym (signs_group g rest) ∙ ap signs (sym found)) ∙ class in

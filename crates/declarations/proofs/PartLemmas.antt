@@ -18,6 +18,7 @@ use Rattle.declarations.specs.declared.place.Shift.{Shift}
 use Rattle.declarations.specs.declared.place.Spot.{Spot}
 use Rattle.declarations.specs.declared.place.Spot.TheVariants as spots
 use Rattle.declarations.specs.declared.place.State.TheVariants as states
+use Rattle.declarations.specs.declared.place.TypeStart.{TypeStart}
 use Rattle.declarations.specs.declared.types.TypeState.{TypeState}
 use Rattle.declarations.specs.declared.types.TypeState.TheVariants as types
 use Rattle.declarations.specs.declared.types.TypeStep.{TypeStep}
@@ -65,17 +66,21 @@ ranged_same : (p q : Spot) (rule : Rule) (taken : Option TypeStep)
 ranged_same p q rule None = refl
 ranged_same p q rule (Some taken) = refl
 
-type_same : (p q : Spot) (rule : Option Rule) (class : Class)
-    → type_at rule (at items.Alone p) class ≡ type_at rule (at items.Alone q) class
+type_same : (p q : Spot) (begun : Option TypeStart) (class : Class)
+    → type_at begun (at items.Alone p) class ≡ type_at begun (at items.Alone q) class
 type_same p q None class = refl
-type_same p q (Some rule) class = ranged_same p q rule (step_of types.Wanted class true)
+type_same p q (Some begun) class = ranged_same p q begun.rule (step_of begun.state class true)
+
+-- the type that may begin at a spot where no item is declared
+abbrev type_of : Spot → Option TypeStart
+type_of spot = spot_type items.Alone rules.Alone spot
 
 else_same : (p q : Spot) (s : Option Shift) (class : Class)
-    → spot_type rules.Alone p ≡ spot_type rules.Alone q
+    → type_of p ≡ type_of q
     → else_type s (at items.Alone p) p class ≡ else_type s (at items.Alone q) q class
 else_same p q (Some s) class same = refl
 else_same p q None class same =
-    type_same p q (spot_type rules.Alone p) class ∙ ap (λ rule. type_at rule (at items.Alone q) class) same
+    type_same p q (type_of p) class ∙ ap (λ o. type_at o (at items.Alone q) class) same
 
 -- ---- attributes
 
@@ -105,7 +110,7 @@ TakesAttribute front g class =
     (step (among_attributes front g) class) (step (attribute_place g) class)
 
 types_same : (front : Front)
-    → spot_type rules.Alone (before front) ≡ spot_type rules.Alone (attributed front)
+    → type_of (before front) ≡ type_of (attributed front)
 types_same item = refl
 types_same field = refl
 types_same tuple_field = refl
@@ -204,8 +209,8 @@ TakesVisibility front from part class =
 -- where there is none, and after `pub`, stands what may stand after a visibility
 abbrev SameTypes : Front → Type 0
 SameTypes front =
-    (spot_type rules.Alone (attributed front) ≡ spot_type rules.Alone (spots.Visible (part_of front)))
-    × (spot_type rules.Alone (public front) ≡ spot_type rules.Alone (spots.Visible (part_of front)))
+    (type_of (attributed front) ≡ type_of (spots.Visible (part_of front)))
+    × (type_of (public front) ≡ type_of (spots.Visible (part_of front)))
 
 visible_types : (front : Front) → SameTypes front
 visible_types item = (refl, refl)

@@ -5,8 +5,9 @@ use Rattle.std.proofs.lemmas.Bool.{and_parts, and_right}
 use Rattle.std.proofs.lemmas.Bool.Decides.{nat_tests}
 use Rattle.declarations.proofs.CutLemmas.{Takes, Beside}
 use Rattle.declarations.proofs.PartLemmas.{at, range}
-use Rattle.declarations.specs.Grammar.{step, ends, shifted, closing, body, else_type, follow, is_alone, rule_ends}
-use Rattle.declarations.specs.Grammar.{range_state, turned, after_angle, ranged}
+use Rattle.declarations.specs.Grammar.{step, ends, shifted, else_type, follow, rule_ends, range_state, turned}
+use Rattle.declarations.specs.Grammar.{after_angle, ranged}
+use Rattle.declarations.specs.Header.{body, closing, is_alone}
 use Rattle.declarations.specs.TypeStep.{step_of, may_end}
 use Rattle.declarations.specs.declared.class.Class.{Class}
 use Rattle.declarations.specs.declared.class.Class.TheVariants as signs

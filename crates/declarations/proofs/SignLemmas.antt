@@ -11,7 +11,7 @@ use Rattle.pm_stream.specs.declared.stream.TokenTree.{TokenTree}
 use Rattle.pm_stream.specs.declared.stream.TokenTree.TheVariants.{Group, Ident, Punct, Literal}
 use Rattle.declarations.specs.Signs.{Sign, signs, signs_after, pair_class, tree_class, BeginsWith, is_restriction}
 use Rattle.declarations.specs.Signs.{classes_of, trees_of}
-use Rattle.declarations.specs.Signs.{is_block, is_braced, is_pub, is_visibility, may_restrict, restricts, restricts_in}
+use Rattle.declarations.specs.Signs.{is_pub, is_visibility, may_restrict, restricts, restricts_in}
 use Rattle.declarations.specs.declared.class.Class.{Class}
 
 -- the signs of trees, by whether the first two are read as one
@@ -163,11 +163,3 @@ restricting_first trees first rest g last whole is none =
     let all : forest trees ≡ forest (Group g ∷ rest) = ap forest whole ∙ ap (λ f. forest (f ∷ rest)) is in
     let nil_rest : is_nil (forest rest) ≡ last = nil_forest rest ∙ sym none in
     ap (λ l. restricts_in g.delimiter g.stream l) (sym nil_rest) ∙ ap may_restrict (sym all)
-
-pub block_first : (stream : Forest) (trees : List TokenTree) (first : TokenTree) (rest : List TokenTree)
-    (g : Grouped) (last : Bool) → forest trees ≡ stream → trees ≡ first ∷ rest → first ≡ Group g
-    → last ≡ (length rest == 0) → is_braced g.delimiter last ≡ is_block stream
-block_first stream trees first rest g last held whole is none =
-    let all : stream ≡ forest (Group g ∷ rest) = sym held ∙ ap forest whole ∙ ap (λ f. forest (f ∷ rest)) is in
-    let nil_rest : is_nil (forest rest) ≡ last = nil_forest rest ∙ sym none in
-    ap (is_braced g.delimiter) (sym nil_rest) ∙ ap is_block (sym all)

@@ -10,10 +10,10 @@ use Rattle.pm_stream.specs.declared.stream.Group.{Group as Grouped}
 use Rattle.pm_stream.specs.declared.stream.TokenTree.{TokenTree}
 use Rattle.pm_stream.specs.declared.stream.TokenTree.TheVariants.{Group, Ident, Punct, Literal}
 use Rattle.declarations.proofs.SignLemmas.{signs-cons, paired}
-use Rattle.declarations.specs.Signs.{Sign, signs, class_or_name, group_class, is_block, is_restriction, is_truth}
+use Rattle.declarations.specs.Signs.{Sign, signs, class_or_name, group_class, is_restriction, is_truth}
 use Rattle.declarations.specs.Signs.{is_visibility, is_written, keyword_of, keyword_or_word, mark_class, marks_class}
 use Rattle.declarations.specs.Signs.{name_class, operand_class, operator_class, or_else, pair_class, path_class}
-use Rattle.declarations.specs.Signs.{parentheses_class, tree_class, unseen_class}
+use Rattle.declarations.specs.Signs.{joint_class, loose_class, parentheses_class, tree_class, unseen_class}
 use Rattle.declarations.specs.declared.class.Class.{Class}
 use Rattle.declarations.specs.declared.class.Keyword.{Keyword}
 use Rattle.declarations.specs.declared.class.Class.TheVariants as signs
@@ -173,9 +173,22 @@ marks_sort first second =
     (refl, (refl, (refl, (refl, tt))))
     tt
 
+loose_sort : (first second : ℕ) → MayBe pairs (loose_class first second)
+loose_sort first second =
+    either (MayBe pairs) ((first == 35) && (second == 33)) (Some signs.HashBang) None refl tt
+
+or_pair : (o other : Option Class) → MayBe pairs o → MayBe pairs other → MayBe pairs (or_else o other)
+or_pair None other first second = second
+or_pair (Some class) other first second = first
+
+joint_sort : (first second : ℕ) → MayBe pairs (joint_class first second)
+joint_sort first second =
+    or_pair (marks_class first second) (loose_class first second) (marks_sort first second) (loose_sort first second)
+
 pair_sort : (first second : TokenTree) → MayBe pairs (pair_class first second)
 pair_sort (Punct p) (Punct q) =
-    either (MayBe pairs) (is_joint p.spacing) (marks_class p.mark q.mark) None (marks_sort p.mark q.mark) tt
+    either (MayBe pairs) (is_joint p.spacing) (joint_class p.mark q.mark) (loose_class p.mark q.mark)
+    (joint_sort p.mark q.mark) (loose_sort p.mark q.mark)
 pair_sort (Punct p) (Ident i) = either (MayBe pairs) (p.mark == 39) (Some signs.Lifetime) None refl tt
 pair_sort (Punct p) (Group g) = tt
 pair_sort (Punct p) (Literal l) = tt
@@ -184,18 +197,16 @@ pair_sort (Ident i) second = tt
 pair_sort (Literal l) second = tt
 
 -- what all groups without delimiters have
-pub unseen : (P : Class → Type 0) (inside : Forest) → P signs.Visibility → P signs.Braces → P signs.Invisible
+pub unseen : (P : Class → Type 0) (inside : Forest) → P signs.Visibility → P signs.Invisible
     → P (unseen_class inside)
-unseen P inside visibility braces other =
-    either P (is_visibility inside) signs.Visibility (if is_block inside then signs.Braces else signs.Invisible)
-    visibility (either P (is_block inside) signs.Braces signs.Invisible braces other)
+unseen P inside visibility other = either P (is_visibility inside) signs.Visibility signs.Invisible visibility other
 
 group_sort : (g : Grouped) (d : Delimiter) → IsSort groups (group_class d g.stream)
 group_sort g delimiters.Parenthesis =
     elim (is_restriction g.stream) as (λ b. IsSort groups (parentheses_class b)) [ true ↦ refl | false ↦ refl ]
 group_sort g delimiters.Bracket = refl
 group_sort g delimiters.Brace = refl
-group_sort g delimiters.None = unseen (IsSort groups) g.stream refl refl refl
+group_sort g delimiters.None = unseen (IsSort groups) g.stream refl refl
 
 -- the first sign is this one tree
 pub record IsTree (trees : List TokenTree) (sign : Sign) (tree : TokenTree) : Type 0 where

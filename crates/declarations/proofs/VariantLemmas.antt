@@ -22,7 +22,7 @@ use Rattle.declarations.specs.declared.item.Fields.{Fields}
 use Rattle.declarations.specs.declared.item.Fields.TheVariants as fields
 use Rattle.declarations.specs.declared.variant.Variant.{Variant}
 use Rattle.declarations.specs.Grammar.{step}
-use Rattle.declarations.specs.Item.{InBraces, IsNameClass}
+use Rattle.declarations.specs.Item.{IsNameClass}
 use Rattle.declarations.specs.Signs.{Sign, signs, classes_of, name_class, group_class, is_restriction}
 use Rattle.declarations.specs.Signs.{parentheses_class, tree_class}
 use Rattle.declarations.specs.Whole.{ReadsAll}
@@ -116,7 +116,7 @@ value_of trees goes = value_left trees (left_of (at items.Alone spots.VariantEnd
 pub data FieldsLeft (trees : List TokenTree) : Type 0 where
   unit : ((g : Grouped) (rest : List TokenTree) → trees ≡ Group g ∷ rest → ⊥) → Value trees → FieldsLeft trees
   within : (g : Grouped) (rest : List TokenTree) → trees ≡ Group g ∷ rest
-      → (g.delimiter ≡ delimiters.Parenthesis) ⊎ InBraces g → Value rest → FieldsLeft trees
+      → (g.delimiter ≡ delimiters.Parenthesis) ⊎ (g.delimiter ≡ delimiters.Brace) → Value rest → FieldsLeft trees
 
 -- what its name leads to
 abbrev AfterName : Class → Place → Type 0
@@ -134,28 +134,27 @@ after_name signs.Braces next steps = cc
 after_name signs.Equals next steps = cc
 after_name class next steps = cc
 
-abbrev IsOfFields : Delimiter → Class → Type 0
-IsOfFields d class = (d ≡ delimiters.Parenthesis) ⊎ (class ≡ signs.Braces)
+abbrev IsOfFields : Delimiter → Type 0
+IsOfFields d = (d ≡ delimiters.Parenthesis) ⊎ (d ≡ delimiters.Brace)
 
 abbrev MayHoldFields : Class → Type 0
 MayHoldFields class = (class ≡ signs.Parentheses) ⊎ ((class ≡ signs.Restriction) ⊎ (class ≡ signs.Braces))
 
-no_parentheses : (d : Delimiter) (class : Class) → (class ≡ signs.Parentheses → ⊥) → (class ≡ signs.Restriction → ⊥)
-    → MayHoldFields class → IsOfFields d class
-no_parentheses d class first second (inl is) = absurd (first is)
-no_parentheses d class first second (inr (inl is)) = absurd (second is)
-no_parentheses d class first second (inr (inr is)) = inr is
+no_fields : (class : Class) → (class ≡ signs.Parentheses → ⊥) → (class ≡ signs.Restriction → ⊥)
+    → (class ≡ signs.Braces → ⊥) → MayHoldFields class → ⊥
+no_fields class first second third (inl is) = first is
+no_fields class first second third (inr (inl is)) = second is
+no_fields class first second third (inr (inr is)) = third is
 
-delimits : (d : Delimiter) (f : Forest) → MayHoldFields (group_class d f) → IsOfFields d (group_class d f)
+delimits : (d : Delimiter) (f : Forest) → MayHoldFields (group_class d f) → IsOfFields d
 delimits delimiters.Parenthesis f which = inl refl
 delimits delimiters.Brace f which = inr refl
 delimits delimiters.Bracket f which =
-    no_parentheses delimiters.Bracket signs.Brackets (λ is. cc) (λ is. cc) which
+    absurd (no_fields signs.Brackets (λ is. cc) (λ is. cc) (λ is. cc) which)
 delimits delimiters.None f which =
-    unseen (λ class. MayHoldFields class → IsOfFields delimiters.None class) f
-    (no_parentheses delimiters.None signs.Visibility (λ is. cc) (λ is. cc))
-    (no_parentheses delimiters.None signs.Braces (λ is. cc) (λ is. cc))
-    (no_parentheses delimiters.None signs.Invisible (λ is. cc) (λ is. cc)) which
+    absurd (unseen (λ class. MayHoldFields class → ⊥) f
+    (no_fields signs.Visibility (λ is. cc) (λ is. cc) (λ is. cc))
+    (no_fields signs.Invisible (λ is. cc) (λ is. cc) (λ is. cc)) which)
 
 group_left : (trees more : List TokenTree) (sign : Sign) (next : Place) → signs trees ≡ sign ∷ signs more
     → trees ≡ sign.trees ++ more → sort_of sign.class ≡ groups
@@ -174,7 +173,7 @@ no_equals delimiters.Parenthesis f is =
     elim (is_restriction f) as (λ b. parentheses_class b ≡ signs.Equals → ⊥) [ true ↦ λ h. cc | false ↦ λ h. cc ] is
 no_equals delimiters.Bracket f is = cc
 no_equals delimiters.Brace f is = cc
-no_equals delimiters.None f is = unseen (λ class. class ≡ signs.Equals → ⊥) f (λ h. cc) (λ h. cc) (λ h. cc) is
+no_equals delimiters.None f is = unseen (λ class. class ≡ signs.Equals → ⊥) f (λ h. cc) (λ h. cc) is
 
 no_group : (trees : List TokenTree) (sign : Sign) (all : List Sign) → signs trees ≡ sign ∷ all
     → sign.class ≡ signs.Equals → (g : Grouped) (rest : List TokenTree) → trees ≡ Group g ∷ rest → ⊥
@@ -246,7 +245,7 @@ fielded trees (fields.Named g) rest (within group after whole (inr is) value) sp
     let rests : after ≡ rest = cc in
     record {
       whole = splits.0;
-      delimited = subst InBraces groups is;
+      delimited = ap (λ x. x.delimiter) (sym groups) ∙ is;
       value = subst Value rests value;
     }
 

@@ -1,9 +1,10 @@
 -- Trees that are read whole.
 use Rattle.std.proofs.Common.{drop}
 use Rattle.std.proofs.Common.{◌≡◌, refl, sym, ◌∙◌, ap, ℕ, ◌+◌, true, List, [], ◌∷◌, ◌++◌, Some}
-use Rattle.std.proofs.Common.{None, length, arith, append_assoc, append-nil}
+use Rattle.std.proofs.Common.{Option, None, length, arith, append_assoc, append-nil}
 use Rattle.std.proofs.lemmas.List.{length-append}
 use Rattle.std.proofs.Math.Seq.{drop-append_seam}
+use Rattle.pm_token.specs.Leaf.{Name}
 use Rattle.pm_stream.specs.declared.stream.TokenTree.{TokenTree}
 use Rattle.declarations.proofs.WalkLemmas.{after, walk-append, walk-cons}
 use Rattle.declarations.proofs.PlaceLemmas.{goes_on}
@@ -12,16 +13,16 @@ use Rattle.declarations.proofs.SignLemmas.{no_signs}
 use Rattle.declarations.specs.Fault.{first_extent, extent_at}
 use Rattle.declarations.specs.Forms.{IsFrom}
 use Rattle.declarations.specs.Grammar.{step, ends}
-use Rattle.declarations.specs.Reading.{FaultAt, StopsBefore}
+use Rattle.declarations.specs.Reading.{FaultAt, StopsBefore, Walked}
 use Rattle.declarations.specs.Signs.{signs, classes_of, trees_of}
 use Rattle.declarations.specs.Walk.{walk, Stops}
-use Rattle.declarations.specs.Whole.{IsWhole, ReadsAll, Walked}
+use Rattle.declarations.specs.Whole.{IsWhole, ReadsAll}
 use Rattle.declarations.specs.declared.class.Class.{Class}
 use Rattle.declarations.specs.declared.place.Place.{Place}
 
 -- all trees are read where the walk over all of them may end
-pub whole_read : (start : Place) (trees left : List TokenTree) (place : Place) → Walked start trees left place
-    → ends place ≡ true → length left ≡ 0 → ReadsAll (IsFrom start) trees
+pub whole_read : {name : Option Name} → (start : Place) (trees left : List TokenTree) (place : Place)
+    → Walked start trees left place name → ends place ≡ true → length left ≡ 0 → ReadsAll (IsFrom start) trees
 whole_read start trees [] place walked ended none = record {
   piece = walked.front;
   read = walked.read;
@@ -65,8 +66,8 @@ nothing start place front (sign ∷ left) piece last walks stops wrong whole goe
 no_classes : (left : List TokenTree) → classes_of (signs left) ≡ [] → length left ≡ 0
 no_classes left none = ap length (no_signs left none)
 
-pub whole_fault : (start : Place) (trees left : List TokenTree) (place : Place) (at : ℕ)
-    → Walked start trees left place → Stops step place (classes_of (signs left))
+pub whole_fault : {name : Option Name} → (start : Place) (trees left : List TokenTree) (place : Place) (at : ℕ)
+    → Walked start trees left place name → Stops step place (classes_of (signs left))
     → (ends place ≡ true → length left ≡ 0 → ⊥) → at + length left ≡ length trees
     → FaultAt (IsWhole (IsFrom start)) trees at
 whole_fault start trees left place at walked stops wrong counted =
@@ -107,8 +108,8 @@ whole_fault start trees left place at walked stops wrong counted =
     }
 
 -- the first tree that is left is the one before which so many stand
-pub span_at : (start : Place) (trees left : List TokenTree) (place : Place) (at : ℕ) → Walked start trees left place
-    → at + length left ≡ length trees → first_extent left ≡ extent_at trees at
+pub span_at : {name : Option Name} → (start : Place) (trees left : List TokenTree) (place : Place) (at : ℕ)
+    → Walked start trees left place name → at + length left ≡ length trees → first_extent left ≡ extent_at trees at
 span_at start trees left place at walked counted =
     let sum = ap length walked.whole ∙ length-append (trees_of walked.front) left in
     let count : length (trees_of walked.front) ≡ at = omega arith in

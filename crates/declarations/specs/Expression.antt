@@ -1,5 +1,5 @@
 -- Where the expressions of discriminants end.
-use Rattle.std.specs.Prelude.{Option, Some, None}
+use Rattle.std.specs.Prelude.{Option, None}
 use Rattle.declarations.specs.Moves.{open_angle, to_spot}
 use Rattle.declarations.specs.declared.class.Class.{Class}
 use Rattle.declarations.specs.declared.class.Class.TheVariants as signs

@@ -81,3 +81,14 @@ IsWhere = IsFrom (start rules.Alone (states.At spots.Where))
 -- a struct, an enum or a union: attributes, a visibility, its keyword and name, generics, where clause and body
 abbrev pub IsItem : List Class → List Class → Type 0
 IsItem = IsFrom (start rules.Alone (states.At (spots.Before parts.TypeItem)))
+
+-- inner attributes, any number of `#!` and brackets
+abbrev pub AreInnerAttributes : List Class → List Class → Type 0
+AreInnerAttributes = IsFrom (start rules.Alone (states.At spots.Inner))
+
+-- any item: what it begins with, its name, header and body, or a group without delimiters
+abbrev pub any_item : Place
+any_item = start rules.Alone (states.At (spots.Before parts.AnyItem))
+
+abbrev pub IsAnyItem : List Class → List Class → Type 0
+IsAnyItem = IsFrom any_item

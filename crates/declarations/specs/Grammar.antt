@@ -2,12 +2,13 @@
 use Rattle.std.specs.Prelude.{ℕ, ◌+◌, ◌-◌, ◌==◌, ◌&&◌, Bool, true, false, Option, Some, None, if◌then◌else◌}
 use Rattle.declarations.specs.Expression.{cast, cast_whole, closure, expression, expression_dot, expression_less}
 use Rattle.declarations.specs.Expression.{expression_open, expression_whole, variant_end}
-use Rattle.declarations.specs.Moves.{at_spot, to_bounds, to_spot, to_type}
+use Rattle.declarations.specs.Front.{declaration, front_names, front_step, front_type, type_item, unmarked_item}
+use Rattle.declarations.specs.Header.{body, closing, generics, header, is_alone}
+use Rattle.declarations.specs.Moves.{at_spot, only, to_bounds, to_spot, to_type, type_from}
 use Rattle.declarations.specs.TypeStep.{step_of, may_end}
 use Rattle.declarations.specs.declared.class.Class.{Class}
 use Rattle.declarations.specs.declared.class.Class.TheVariants as signs
 use Rattle.declarations.specs.declared.class.Keyword.TheVariants as keywords
-use Rattle.declarations.specs.declared.class.Word.TheVariants as words
 use Rattle.declarations.specs.declared.place.Item.{Item}
 use Rattle.declarations.specs.declared.place.Item.TheVariants as items
 use Rattle.declarations.specs.declared.place.Part.{Part}
@@ -20,67 +21,12 @@ use Rattle.declarations.specs.declared.place.Spot.{Spot}
 use Rattle.declarations.specs.declared.place.Spot.TheVariants as spots
 use Rattle.declarations.specs.declared.place.State.{State}
 use Rattle.declarations.specs.declared.place.State.TheVariants as states
+use Rattle.declarations.specs.declared.place.TypeStart.{TypeStart}
 use Rattle.declarations.specs.declared.types.Turn.{Turn}
 use Rattle.declarations.specs.declared.types.Turn.TheVariants as turns
 use Rattle.declarations.specs.declared.types.TypeState.{TypeState}
 use Rattle.declarations.specs.declared.types.TypeState.TheVariants as types
 use Rattle.declarations.specs.declared.types.TypeStep.{TypeStep}
-
-abbrev pub only : Bool → Option Shift → Option Shift
-only true shift = shift
-only false shift = None
-
--- ---- items
-
--- whether a body in braces may end the item
-abbrev pub in_braces : Item → Bool
-in_braces items.Struct = true
-in_braces items.Enum = true
-in_braces items.Union = true
-in_braces _ = false
-
--- whether `;` may end it
-abbrev pub in_semicolon : Item → Bool
-in_semicolon items.Struct = true
-in_semicolon items.Tuple = true
-in_semicolon _ = false
-
--- after the generic parameters of an item, its fields in parentheses, or its where clause
-abbrev pub body : Item → Class → Option Shift
-body item signs.Braces = only (in_braces item) (to_spot item spots.ItemEnd)
-body item signs.Semicolon = only (in_semicolon item) (to_spot item spots.ItemEnd)
-body item _ = None
-
--- whether no item is declared around a part, whose body would have to follow
-abbrev pub is_alone : Item → Bool
-is_alone items.Alone = true
-is_alone items.Variants = true
-is_alone _ = false
-
--- a where clause of an item
-abbrev pub where_clause : Item → Option Shift
-where_clause items.Alone = None
-where_clause items.Variants = None
-where_clause item = to_spot item spots.Predicate
-
--- the fields in parentheses of a struct
-abbrev pub tuple_fields : Item → Option Shift
-tuple_fields items.Struct = to_spot items.Tuple spots.AfterGenerics
-tuple_fields _ = None
-
--- what may stand before the body
-abbrev pub closing : Item → Class → Option Shift
-closing item (signs.Keyword keywords.Where) = where_clause item
-closing item signs.Parentheses = tuple_fields item
-closing item signs.Restriction = tuple_fields item
-closing item class = body item class
-
--- before the keyword of a struct, an enum or a union
-abbrev pub type_item : Class → Option Shift
-type_item (signs.Keyword keywords.Struct) = to_spot items.Struct spots.Name
-type_item (signs.Keyword keywords.Enum) = to_spot items.Enum spots.Name
-type_item (signs.Word words.Union) = to_spot items.Union spots.Name
-type_item _ = None
 
 -- ---- generic parameters
 
@@ -124,7 +70,13 @@ begin parts.Field item rule (signs.Word _) = at_spot item rule spots.FieldName
 begin parts.Variant item rule (signs.Word _) = at_spot item rule spots.VariantName
 begin parts.Parameter item rule class = parameter item class
 begin parts.TypeItem item rule class = type_item class
+begin parts.AnyItem item rule class = declaration class
 begin _ item rule _ = None
+
+-- the same where no visibility stands before it
+abbrev pub unmarked : Part → Item → Rule → Class → Option Shift
+unmarked parts.AnyItem item rule class = unmarked_item class
+unmarked part item rule class = begin part item rule class
 
 abbrev pub has_visibility : Part → Bool
 has_visibility parts.Attributes = false
@@ -136,7 +88,7 @@ abbrev pub attributed : Part → Item → Rule → Class → Option Shift
 attributed part item rule (signs.Keyword keywords.Pub) =
     only (has_visibility part) (at_spot item rule (spots.Public part))
 attributed part item rule signs.Visibility = only (has_visibility part) (at_spot item rule (spots.Visible part))
-attributed part item rule class = begin part item rule class
+attributed part item rule class = unmarked part item rule class
 
 abbrev pub has_attributes : Part → Bool
 has_attributes parts.Visibility = false
@@ -185,6 +137,9 @@ follow item rules.ConstParameter class = parameter_end item class
 follow item rules.Bounded signs.Colon = to_bounds item rules.Predicate
 follow item rules.Predicate signs.Comma = to_spot item spots.Predicate
 follow item rules.Predicate class = body item class
+follow item rules.Target (signs.Keyword keywords.For) = to_type item rules.Header
+follow item rules.Target class = header item class
+follow item rules.Header class = header item class
 follow item _ _ = None
 
 -- what a sign leads to at a spot
@@ -207,9 +162,7 @@ spot_step item rule spots.ExpressionHash signs.Brackets = to_spot item spots.Exp
 spot_step item rule spots.Closure class = closure item class
 spot_step item rule spots.Cast class = cast item class
 spot_step item rule spots.CastWhole class = cast_whole item class
-spot_step item rule spots.Generics signs.Less = to_spot item (spots.Before parts.Parameter)
-spot_step item rule spots.Generics signs.LessJoint = to_spot item (spots.Before parts.Parameter)
-spot_step item rule spots.Generics class = closing item class
+spot_step item rule spots.Generics class = generics item class
 spot_step item rule spots.LifetimeName class = lifetime_name item class
 spot_step item rule spots.TypeName class = type_name item class
 spot_step item rule spots.ConstName (signs.Word _) = to_spot item spots.ConstColon
@@ -221,17 +174,27 @@ spot_step item rule spots.AfterGenerics class = closing item class
 spot_step item rule spots.Where (signs.Keyword keywords.Where) = to_spot item spots.Predicate
 spot_step item rule spots.Predicate class = body item class
 spot_step item rule spots.Name (signs.Word _) = to_spot item spots.Generics
+spot_step item rule (spots.Front front) class = front_step item front class
+spot_step item rule spots.Inner signs.HashBang = to_spot item spots.InnerHash
+spot_step item rule spots.InnerHash signs.Brackets = to_spot item spots.Inner
 spot_step item rule _ _ = None
 
--- the rule of a type that may begin at a spot
-abbrev pub spot_type : Rule → Spot → Option Rule
-spot_type rule (spots.Before parts.TupleField) = Some rule
-spot_type rule (spots.Attributed parts.TupleField) = Some rule
-spot_type rule (spots.Public parts.TupleField) = Some rule
-spot_type rule (spots.Visible parts.TupleField) = Some rule
-spot_type rule spots.ConstDefault = Some rules.Parameter
-spot_type rule spots.Predicate = Some rules.Bounded
-spot_type rule _ = None
+-- after the generic parameters of an `impl` a type begins
+abbrev pub closing_type : Item → Option TypeStart
+closing_type items.Impl = type_from rules.Target types.Wanted
+closing_type _ = None
+
+-- the type that may begin at a spot
+abbrev pub spot_type : Item → Rule → Spot → Option TypeStart
+spot_type item rule (spots.Before parts.TupleField) = type_from rule types.Wanted
+spot_type item rule (spots.Attributed parts.TupleField) = type_from rule types.Wanted
+spot_type item rule (spots.Public parts.TupleField) = type_from rule types.Wanted
+spot_type item rule (spots.Visible parts.TupleField) = type_from rule types.Wanted
+spot_type item rule spots.AfterGenerics = closing_type item
+spot_type item rule spots.ConstDefault = type_from rules.Parameter types.Wanted
+spot_type item rule spots.Predicate = type_from rules.Bounded types.Wanted
+spot_type item rule (spots.Front front) = front_type front
+spot_type item rule _ = None
 
 -- ---- steps
 
@@ -276,13 +239,13 @@ else_follow (Some next) place state class = Some next
 else_follow None place state class =
     if (place.depth == 0) && may_end state then shifted place.depth (follow place.item place.rule class) else None
 
-abbrev pub type_at : Option Rule → Place → Class → Option Place
+abbrev pub type_at : Option TypeStart → Place → Class → Option Place
 type_at None place class = None
-type_at (Some rule) place class = range_step (record place { rule = rule }) types.Wanted class
+type_at (Some start) place class = range_step (record place { rule = start.rule }) start.state class
 
 abbrev pub else_type : Option Shift → Place → Spot → Class → Option Place
 else_type (Some s) place spot class = shifted place.depth (Some s)
-else_type None place spot class = type_at (spot_type place.rule spot) place class
+else_type None place spot class = type_at (spot_type place.item place.rule spot) place class
 
 abbrev pub step_from : State → Place → Class → Option Place
 step_from (states.Range state) place class = else_follow (range_step place state class) place state class
@@ -300,6 +263,7 @@ rule_ends item rules.Alone = true
 rule_ends item rules.Fields = true
 rule_ends item rules.TupleFields = true
 rule_ends item rules.Predicate = is_alone item
+rule_ends item rules.Header = is_alone item
 rule_ends item rules.Angle = true
 rule_ends item rules.CastAngle = true
 rule_ends item rules.ClosureAngle = true
@@ -333,6 +297,7 @@ spot_ends item rule spots.ExpressionOpen = true
 spot_ends item rule spots.ExpressionWhole = true
 spot_ends item rule spots.CastWhole = true
 spot_ends item rule spots.ItemEnd = true
+spot_ends item rule spots.Inner = true
 spot_ends item rule _ = false
 
 abbrev pub ends_at : State → Place → Bool
@@ -342,3 +307,22 @@ ends_at (states.At spot) place = spot_ends place.item place.rule spot
 -- whether what is read may end there
 abbrev pub ends : Place → Bool
 ends place = ends_at place.state place
+
+-- ---- names and kinds
+
+-- whether an item's name is wanted
+abbrev pub wants_name : State → Bool
+wants_name (states.At spots.Name) = true
+wants_name (states.At (spots.Front front)) = front_names front
+wants_name _ = false
+
+-- what it may be
+abbrev pub is_name : Class → Bool
+is_name (signs.Word _) = true
+is_name signs.SelfValue = true
+is_name signs.Underscore = true
+is_name _ = false
+
+-- whether a sign of this class is an item's name
+abbrev pub names : Place → Class → Bool
+names place class = wants_name place.state && is_name class

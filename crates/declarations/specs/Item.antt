@@ -7,7 +7,7 @@ use Rattle.pm_stream.specs.declared.stream.TokenTree.{TokenTree}
 use Rattle.pm_stream.specs.declared.stream.TokenTree.TheVariants.{Group, Ident}
 use Rattle.declarations.specs.Forms.{IsFrom, IsItem, AreAttributes, IsVisibility, AreGenerics, IsWhere}
 use Rattle.declarations.specs.Reading.{Reads}
-use Rattle.declarations.specs.Signs.{signs, classes_of, group_class, name_class}
+use Rattle.declarations.specs.Signs.{signs, classes_of, name_class}
 use Rattle.declarations.specs.Whole.{ReadsAll}
 use Rattle.declarations.specs.declared.class.Class.{Class}
 use Rattle.declarations.specs.declared.class.Class.TheVariants as classes
@@ -77,22 +77,18 @@ is_name_class class = false
 abbrev pub is_keyword : Name → Bool
 is_keyword ident = not (is_name_class (name_class ident))
 
--- a group in braces, or one without delimiters that holds one in braces alone
-abbrev pub InBraces : Grouped → Type 0
-InBraces g = group_class g.delimiter g.stream ≡ classes.Braces
-
 -- the body that the keyword calls for, and a `;` after a struct without braces alone
 abbrev pub HasBody : Class → Body → List TokenTree → Type 0
 HasBody (classes.Keyword keywords.Struct) (bodies.Struct (fields.Named g)) semicolon =
-    InBraces g.now × (semicolon ≡ [])
+    (g.now.delimiter ≡ delimiters.Brace) × (semicolon ≡ [])
 HasBody (classes.Keyword keywords.Struct) (bodies.Struct (fields.Tuple g)) semicolon =
     (g.now.delimiter ≡ delimiters.Parenthesis) × (classes_of (signs semicolon) ≡ classes.Semicolon ∷ [])
 HasBody (classes.Keyword keywords.Struct) (bodies.Struct fields.Unit) semicolon =
     classes_of (signs semicolon) ≡ classes.Semicolon ∷ []
 HasBody (classes.Keyword keywords.Enum) (bodies.Enum g) semicolon =
-    InBraces g.now × (semicolon ≡ [])
+    (g.now.delimiter ≡ delimiters.Brace) × (semicolon ≡ [])
 HasBody (classes.Word words.Union) (bodies.Union g) semicolon =
-    InBraces g.now × (semicolon ≡ [])
+    (g.now.delimiter ≡ delimiters.Brace) × (semicolon ≡ [])
 HasBody class body semicolon = ⊥
 
 -- the trees after the generic parameters are this where clause and body
@@ -106,7 +102,7 @@ pub record HasEnding (keyword : Class) (trees : List TokenTree) (body : Body) (c
 pub record HasBraces (trees clause : List TokenTree) (group : Grouped) (after : List TokenTree) : Type 0 where
   pub whole : trees ≡ clause ++ Group group ∷ after
   pub clause_reads : Reads IsWhere (clause ++ Group group ∷ after) clause (Group group ∷ after)
-  pub braces : InBraces group
+  pub braces : group.delimiter ≡ delimiters.Brace
   pub none : after ≡ []
 
 -- the trees are an item, and these are its parts: in order they are the trees, and each is what its rule reads of the

@@ -2,6 +2,8 @@ pub mod TypeStep
 pub mod Walk
 pub mod Moves
 pub mod Expression
+pub mod Header
+pub mod Front
 pub mod Grammar
 pub mod Forms
 pub mod Signs
@@ -11,3 +13,4 @@ pub mod Item
 pub mod Field
 pub mod Fault
 pub mod Variant
+pub mod Kind

@@ -210,22 +210,9 @@ is_visibility nil = true
 is_visibility (leaf token lo hi rest) = is_pub_by token (may_restrict rest)
 is_visibility (group d lo hi inside rest) = false
 
--- whether a group is in braces, and the last tree
-abbrev pub is_braced : Delimiter → Bool → Bool
-is_braced delimiters.Brace last = last
-is_braced _ last = false
-
--- whether trees are one group in braces
-abbrev pub is_block : Forest → Bool
-is_block nil = false
-is_block (leaf token lo hi rest) = false
-is_block (group d lo hi inside rest) = is_braced d (is_nil rest)
-
 -- a group without delimiters
 abbrev pub unseen_class : Forest → Class
-unseen_class inside =
-    if is_visibility inside then classes.Visibility
-    else (if is_block inside then classes.Braces else classes.Invisible)
+unseen_class inside = if is_visibility inside then classes.Visibility else classes.Invisible
 
 abbrev pub group_class : Delimiter → Forest → Class
 group_class delimiters.Parenthesis inside = parentheses_class (is_restriction inside)
@@ -240,8 +227,11 @@ tree_class (Ident i) = name_class i
 tree_class (Punct p) = mark_class p.mark (is_joint p.spacing)
 tree_class (Literal l) = classes.Literal
 
--- two marks that are read as one where the first is Joint: `::` (58, 58), `->` (45, 62), `<=` (60, 61) and `||`
--- (124, 124)
+-- two marks that are read as one, Joint or not: `#` (35) and `!` (33)
+abbrev pub loose_class : ℕ → ℕ → Option Class
+loose_class first second = if (first == 35) && (second == 33) then Some classes.HashBang else None
+
+-- two that are where the first is Joint: `::` (58, 58), `->` (45, 62), `<=` (60, 61) and `||` (124, 124)
 abbrev pub marks_class : ℕ → ℕ → Option Class
 marks_class first second =
     if (first == 58) && (second == 58) then Some classes.PathSeparator
@@ -249,9 +239,13 @@ marks_class first second =
     else (if (first == 60) && (second == 61) then Some classes.LessEquals
     else (if (first == 124) && (second == 124) then Some classes.Bars else None)))
 
+abbrev pub joint_class : ℕ → ℕ → Option Class
+joint_class first second = or_else (marks_class first second) (loose_class first second)
+
 -- the class of two trees that are read as one sign, if they are: those marks, or `'` (39) and an identifier
 abbrev pub pair_class : TokenTree → TokenTree → Option Class
-pair_class (Punct p) (Punct q) = if is_joint p.spacing then marks_class p.mark q.mark else None
+pair_class (Punct p) (Punct q) =
+    if is_joint p.spacing then joint_class p.mark q.mark else loose_class p.mark q.mark
 pair_class (Punct p) (Ident i) = if p.mark == 39 then Some classes.Lifetime else None
 pair_class _ _ = None
 

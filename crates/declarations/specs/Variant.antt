@@ -6,7 +6,7 @@ use Rattle.pm_stream.specs.declared.stream.TokenTree.{TokenTree}
 use Rattle.pm_stream.specs.declared.stream.TokenTree.TheVariants.{Group, Ident}
 use Rattle.declarations.specs.Field.{HasFront}
 use Rattle.declarations.specs.Forms.{IsVariant, IsExpression}
-use Rattle.declarations.specs.Item.{InBraces, IsNameClass}
+use Rattle.declarations.specs.Item.{IsNameClass}
 use Rattle.declarations.specs.Reading.{Reads}
 use Rattle.declarations.specs.Signs.{name_class, tree_class}
 use Rattle.declarations.specs.Whole.{ReadsAll}
@@ -23,7 +23,7 @@ with_fields fields.Unit rest = rest
 
 -- what a group's delimiters say of fields
 abbrev pub AreDelimited : Fields → Type 0
-AreDelimited (fields.Named g) = InBraces g.now
+AreDelimited (fields.Named g) = g.now.delimiter ≡ delimiters.Brace
 AreDelimited (fields.Tuple g) = g.now.delimiter ≡ delimiters.Parenthesis
 AreDelimited fields.Unit = Unit {0}
 

@@ -1,19 +1,22 @@
 //! The grammar of declarations: what may follow each place.
 ghost use Rattle.std.specs.Prelude.{◌≡◌, ◌+◌, ◌≤◌, ◌<◌, ◌^◌, IfSome};
-ghost use Rattle.declarations.specs.Grammar.{after_angle, attributed, before, before_first, begin, body, closing};
-ghost use Rattle.declarations.specs.Grammar.{const_default, ends, follow, has_attributes, has_visibility, in_braces};
-ghost use Rattle.declarations.specs.Grammar.{in_semicolon, is_alone, is_front, lifetime_name, parameter};
-ghost use Rattle.declarations.specs.Grammar.{parameter_end, part_ends, public, range_state, range_step, rule_ends};
-ghost use Rattle.declarations.specs.Grammar.{shifted, spot_ends, spot_step, spot_type, step, tuple_fields};
-ghost use Rattle.declarations.specs.Grammar.{type_item, type_name, variant_body, variant_value, where_clause};
+ghost use Rattle.declarations.specs.Grammar.{after_angle, attributed, before, before_first, begin, closing_type};
+ghost use Rattle.declarations.specs.Grammar.{const_default, ends, follow, has_attributes, has_visibility, is_front};
+ghost use Rattle.declarations.specs.Grammar.{is_name, names, wants_name};
+ghost use Rattle.declarations.specs.Grammar.{lifetime_name, parameter, parameter_end, part_ends, public, range_state};
+ghost use Rattle.declarations.specs.Grammar.{range_step, rule_ends, shifted, spot_ends, spot_step, spot_type, step};
+ghost use Rattle.declarations.specs.Grammar.{type_name, unmarked, variant_body, variant_value};
 
-use crate::class::{Class, Keyword, Word};
+use crate::class::{Class, Keyword};
 use crate::expression::{
     cast, cast_whole, closure, expression, expression_dot, expression_less, expression_open,
     expression_whole, variant_end,
 };
+use crate::front::{declaration, front_names, front_step, front_type, type_item, unmarked_item};
+use crate::header::{body, closing, generics, header, is_alone};
 use crate::place::{
-    Item, Part, Place, Rule, Shift, Spot, State, at_spot, to_bounds, to_spot, to_type,
+    Item, Part, Place, Rule, Shift, Spot, State, TypeStart, at_spot, to_bounds, to_spot, to_type,
+    type_from,
 };
 use crate::types::{Turn, TypeState, may_end, type_step};
 
@@ -39,14 +42,14 @@ impl Place {
                 if let Some(shift) = spot_step(self.item, self.rule, spot, class) {
                     return shifted(self.depth, Some(shift));
                 }
-                let rule = spot_type(self.rule, spot)?;
+                let start = spot_type(self.item, self.rule, spot)?;
                 let place = Place {
                     item: self.item,
-                    rule,
+                    rule: start.rule,
                     state: self.state,
                     depth: self.depth,
                 };
-                range_step(place, TypeState::Wanted, class)
+                range_step(place, start.state, class)
             }
         }
     }
@@ -61,6 +64,34 @@ impl Place {
                 && rule_ends(self.item, self.rule),
             State::At(spot) => spot_ends(self.item, self.rule, spot),
         }
+    }
+
+    /// Whether a sign of this class is an item's name.
+    pub fn names(self, class: Class) -> bool
+        ensures { result ≡ names self class }
+    {
+        wants_name(self.state) && is_name(class)
+    }
+}
+
+// Whether an item's name is wanted.
+fn wants_name(state: State) -> bool
+    ensures { result ≡ wants_name state }
+{
+    match state {
+        State::At(Spot::Name) => true,
+        State::At(Spot::Front(front)) => front_names(front),
+        _ => false,
+    }
+}
+
+// What it may be.
+fn is_name(class: Class) -> bool
+    ensures { result ≡ is_name class }
+{
+    match class {
+        Class::Word(_) | Class::SelfValue | Class::Underscore => true,
+        _ => false,
     }
 }
 
@@ -136,90 +167,6 @@ fn range_state(rule: Rule, state: TypeState, turn: Turn, depth: usize) -> State
     }
 }
 
-// Whether a body in braces may end the item.
-fn in_braces(item: Item) -> bool
-    ensures { result ≡ in_braces item }
-{
-    match item {
-        Item::Struct | Item::Enum | Item::Union => true,
-        _ => false,
-    }
-}
-
-// Whether `;` may end it.
-fn in_semicolon(item: Item) -> bool
-    ensures { result ≡ in_semicolon item }
-{
-    match item {
-        Item::Struct | Item::Tuple => true,
-        _ => false,
-    }
-}
-
-// After the generic parameters of an item, its fields in parentheses, or its where clause.
-fn body(item: Item, class: Class) -> Option<Shift>
-    ensures { result ≡ body item class }
-{
-    match class {
-        Class::Braces if in_braces(item) => to_spot(item, Spot::ItemEnd),
-        Class::Semicolon if in_semicolon(item) => to_spot(item, Spot::ItemEnd),
-        _ => None,
-    }
-}
-
-// Whether no item is declared around a part, whose body would have to follow.
-fn is_alone(item: Item) -> bool
-    ensures { result ≡ is_alone item }
-{
-    match item {
-        Item::Alone | Item::Variants => true,
-        _ => false,
-    }
-}
-
-// A where clause of an item.
-fn where_clause(item: Item) -> Option<Shift>
-    ensures { result ≡ where_clause item }
-{
-    match item {
-        Item::Alone | Item::Variants => None,
-        _ => to_spot(item, Spot::Predicate),
-    }
-}
-
-// The fields in parentheses of a struct.
-fn tuple_fields(item: Item) -> Option<Shift>
-    ensures { result ≡ tuple_fields item }
-{
-    match item {
-        Item::Struct => to_spot(Item::Tuple, Spot::AfterGenerics),
-        _ => None,
-    }
-}
-
-// What may stand before the body.
-fn closing(item: Item, class: Class) -> Option<Shift>
-    ensures { result ≡ closing item class }
-{
-    match class {
-        Class::Keyword(Keyword::Where) => where_clause(item),
-        Class::Parentheses | Class::Restriction => tuple_fields(item),
-        _ => body(item, class),
-    }
-}
-
-// Before the keyword of a struct, an enum or a union.
-fn type_item(class: Class) -> Option<Shift>
-    ensures { result ≡ type_item class }
-{
-    match class {
-        Class::Keyword(Keyword::Struct) => to_spot(Item::Struct, Spot::Name),
-        Class::Keyword(Keyword::Enum) => to_spot(Item::Enum, Spot::Name),
-        Class::Word(Word::Union) => to_spot(Item::Union, Spot::Name),
-        _ => None,
-    }
-}
-
 // After a generic parameter that is whole.
 fn parameter_end(item: Item, class: Class) -> Option<Shift>
     ensures { result ≡ parameter_end item class }
@@ -284,7 +231,18 @@ fn begin(part: Part, item: Item, rule: Rule, class: Class) -> Option<Shift>
         (Part::Variant, Class::Word(_)) => at_spot(item, rule, Spot::VariantName),
         (Part::Parameter, _) => parameter(item, class),
         (Part::TypeItem, _) => type_item(class),
+        (Part::AnyItem, _) => declaration(class),
         _ => None,
+    }
+}
+
+// The same where no visibility stands before it.
+fn unmarked(part: Part, item: Item, rule: Rule, class: Class) -> Option<Shift>
+    ensures { result ≡ unmarked part item rule class }
+{
+    match part {
+        Part::AnyItem => unmarked_item(class),
+        _ => begin(part, item, rule, class),
     }
 }
 
@@ -307,7 +265,7 @@ fn attributed(part: Part, item: Item, rule: Rule, class: Class) -> Option<Shift>
         }
         Class::Visibility if has_visibility(part) => at_spot(item, rule, Spot::Visible(part)),
         Class::Keyword(Keyword::Pub) | Class::Visibility => None,
-        _ => begin(part, item, rule, class),
+        _ => unmarked(part, item, rule, class),
     }
 }
 
@@ -388,6 +346,9 @@ fn follow(item: Item, rule: Rule, class: Class) -> Option<Shift>
         (Rule::Bounded, Class::Colon) => to_bounds(item, Rule::Predicate),
         (Rule::Predicate, Class::Comma) => to_spot(item, Spot::Predicate),
         (Rule::Predicate, _) => body(item, class),
+        (Rule::Target, Class::Keyword(Keyword::For)) => to_type(item, Rule::Header),
+        (Rule::Target, _) => header(item, class),
+        (Rule::Header, _) => header(item, class),
         _ => None,
     }
 }
@@ -415,10 +376,8 @@ fn spot_step(item: Item, rule: Rule, spot: Spot, class: Class) -> Option<Shift>
         (Spot::Closure, _) => closure(item, class),
         (Spot::Cast, _) => cast(item, class),
         (Spot::CastWhole, _) => cast_whole(item, class),
-        (Spot::Generics, Class::Less | Class::LessJoint) => {
-            to_spot(item, Spot::Before(Part::Parameter))
-        }
-        (Spot::Generics | Spot::AfterGenerics, _) => closing(item, class),
+        (Spot::Generics, _) => generics(item, class),
+        (Spot::AfterGenerics, _) => closing(item, class),
         (Spot::LifetimeName, _) => lifetime_name(item, class),
         (Spot::TypeName, _) => type_name(item, class),
         (Spot::ConstName, Class::Word(_)) => to_spot(item, Spot::ConstColon),
@@ -429,21 +388,36 @@ fn spot_step(item: Item, rule: Rule, spot: Spot, class: Class) -> Option<Shift>
         (Spot::Where, Class::Keyword(Keyword::Where)) => to_spot(item, Spot::Predicate),
         (Spot::Predicate, _) => body(item, class),
         (Spot::Name, Class::Word(_)) => to_spot(item, Spot::Generics),
+        (Spot::Front(front), _) => front_step(item, front, class),
+        (Spot::Inner, Class::HashBang) => to_spot(item, Spot::InnerHash),
+        (Spot::InnerHash, Class::Brackets) => to_spot(item, Spot::Inner),
         _ => None,
     }
 }
 
-// The rule of a type that may begin at a spot.
-fn spot_type(rule: Rule, spot: Spot) -> Option<Rule>
-    ensures { result ≡ spot_type rule spot }
+// After the generic parameters of an `impl` a type begins.
+fn closing_type(item: Item) -> Option<TypeStart>
+    ensures { result ≡ closing_type item }
+{
+    match item {
+        Item::Impl => type_from(Rule::Target, TypeState::Wanted),
+        _ => None,
+    }
+}
+
+// The type that may begin at a spot.
+fn spot_type(item: Item, rule: Rule, spot: Spot) -> Option<TypeStart>
+    ensures { result ≡ spot_type item rule spot }
 {
     match spot {
         Spot::Before(Part::TupleField)
         | Spot::Attributed(Part::TupleField)
         | Spot::Public(Part::TupleField)
-        | Spot::Visible(Part::TupleField) => Some(rule),
-        Spot::ConstDefault => Some(Rule::Parameter),
-        Spot::Predicate => Some(Rule::Bounded),
+        | Spot::Visible(Part::TupleField) => type_from(rule, TypeState::Wanted),
+        Spot::AfterGenerics => closing_type(item),
+        Spot::ConstDefault => type_from(Rule::Parameter, TypeState::Wanted),
+        Spot::Predicate => type_from(Rule::Bounded, TypeState::Wanted),
+        Spot::Front(front) => front_type(front),
         _ => None,
     }
 }
@@ -454,7 +428,7 @@ fn rule_ends(item: Item, rule: Rule) -> bool
 {
     match rule {
         Rule::Alone | Rule::Fields | Rule::TupleFields => true,
-        Rule::Predicate => is_alone(item),
+        Rule::Predicate | Rule::Header => is_alone(item),
         Rule::Angle | Rule::CastAngle | Rule::ClosureAngle => true,
         _ => false,
     }
@@ -489,7 +463,7 @@ fn spot_ends(item: Item, rule: Rule, spot: Spot) -> bool
         Spot::Before(part) => part_ends(item, rule, part),
         Spot::Attributed(part) | Spot::Public(part) | Spot::Visible(part) => is_front(part),
         Spot::Generics | Spot::AfterGenerics | Spot::Where | Spot::Predicate => is_alone(item),
-        Spot::VariantName | Spot::VariantEnd | Spot::ItemEnd => true,
+        Spot::VariantName | Spot::VariantEnd | Spot::ItemEnd | Spot::Inner => true,
         Spot::ExpressionOpen | Spot::ExpressionWhole | Spot::CastWhole => true,
         _ => false,
     }

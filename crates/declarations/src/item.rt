@@ -25,8 +25,8 @@ use pm_token::{Delimiter, Ident};
 /// A struct, an enum or a union: its parts in reading order, but that the fields in parentheses of a struct stand
 /// before its where clause.
 ///
-/// A macro by example passes a fragment as a group without delimiters. Such a group that holds a visibility, or
-/// nothing, is the visibility, and one that holds braces alone is the body: the part is that group.
+/// A macro by example passes a fragment as a group without delimiters. One that holds a visibility, or nothing, is the
+/// visibility.
 #[derive(Clone, Copy, Debug)]
 pub struct TypeItem<'a> {
     /// The outer attributes, which may be none.

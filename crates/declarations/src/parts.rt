@@ -3,7 +3,7 @@ ghost use Rattle.std.specs.Prelude.{◌≡◌, IfErr, IfOk};
 ghost use Rattle.declarations.specs.Fault.{extent_at};
 ghost use Rattle.declarations.specs.Forms.{AreAttributes, AreBounds, AreFields, AreGenerics, AreTupleFields, IsField};
 ghost use Rattle.declarations.specs.Forms.{IsItem, IsTupleField, IsType, IsVisibility, IsWhere};
-ghost use Rattle.declarations.specs.Forms.{AreVariants, IsExpression, IsFrom, IsVariant, start};
+ghost use Rattle.declarations.specs.Forms.{AreInnerAttributes, AreVariants, IsExpression, IsFrom, IsVariant, start};
 ghost use Rattle.declarations.specs.Reading.{FaultAt, IsOnly, Reads};
 
 use crate::fault::Fault;
@@ -29,7 +29,21 @@ fn split_alone<'a>(
         state,
         depth: 0,
     };
-    split_from(trees, start)
+    split_pair(trees, start)
+}
+
+fn split_pair<'a>(
+    trees: &'a [TokenTree],
+    start: Place,
+) -> Result<(&'a [TokenTree], &'a [TokenTree]), Fault>
+    requires { start.depth ≡ 0 }
+    ensures ok { IfOk result (λ found. Reads (IsFrom start) trees.now found.0.now found.1.now) }
+    ensures only { IfOk result (λ found. IsOnly (IsFrom start) trees.now found.0.now found.1.now) }
+    ensures fault { IfErr result (λ fault. FaultAt (IsFrom start) trees.now fault.at) }
+    ensures span { IfErr result (λ fault. fault.span ≡ extent_at trees.now fault.at) }
+{
+    let split = split_from(trees, start)?;
+    Ok((split.part, split.rest))
 }
 
 /// The type at the front of the trees, and the trees after it.
@@ -174,7 +188,7 @@ pub fn split_variants(trees: &[TokenTree]) -> Result<(&[TokenTree], &[TokenTree]
         state: State::At(Spot::Before(Part::Variant)),
         depth: 0,
     };
-    split_from(trees, start)
+    split_pair(trees, start)
 }
 
 /// The expression of a discriminant at the front of the trees, and the trees after it.
@@ -225,4 +239,16 @@ pub fn split_item(trees: &[TokenTree]) -> Result<(&[TokenTree], &[TokenTree]), F
     ensures span { IfErr result (λ fault. fault.span ≡ extent_at trees.now fault.at) }
 {
     split_alone(trees, Rule::Alone, State::At(Spot::Before(Part::TypeItem)))
+}
+
+/// The inner attributes at the front of the trees, as of a file, which may be none, and the trees after them.
+///
+/// Of `#![a] #[b] fn f() {}` they are `#![a]`.
+pub fn split_inner_attributes(trees: &[TokenTree]) -> Result<(&[TokenTree], &[TokenTree]), Fault>
+    ensures ok { IfOk result (λ found. Reads AreInnerAttributes trees.now found.0.now found.1.now) }
+    ensures only { IfOk result (λ found. IsOnly AreInnerAttributes trees.now found.0.now found.1.now) }
+    ensures fault { IfErr result (λ fault. FaultAt AreInnerAttributes trees.now fault.at) }
+    ensures span { IfErr result (λ fault. fault.span ≡ extent_at trees.now fault.at) }
+{
+    split_alone(trees, Rule::Alone, State::At(Spot::Inner))
 }

@@ -1,9 +1,10 @@
 //! The signs of trees: each is one tree, or two that are read as one.
 ghost use Rattle.std.specs.Prelude.{◌≡◌, [], MatchOption};
 ghost use Rattle.pm_stream.specs.Trees.{forest};
-ghost use Rattle.declarations.specs.Signs.{BeginsWith, group_class, is_block, is_braced, is_early_keyword};
+ghost use Rattle.declarations.specs.Signs.{BeginsWith, group_class, is_early_keyword};
 ghost use Rattle.declarations.specs.Signs.{is_late_keyword, is_pub, is_restriction, is_truth, is_visibility};
-ghost use Rattle.declarations.specs.Signs.{item_keyword, keyword_of, mark_class, marks_class, may_restrict};
+ghost use Rattle.declarations.specs.Signs.{item_keyword, joint_class, keyword_of, loose_class, mark_class};
+ghost use Rattle.declarations.specs.Signs.{marks_class, may_restrict};
 ghost use Rattle.declarations.specs.Signs.{name_class, operand_class, operator_class, pair_class, path_class};
 ghost use Rattle.declarations.specs.Signs.{restricts, restricts_in, tree_class, type_keyword, unseen_class, word_of};
 
@@ -39,9 +40,9 @@ fn pair_class(first: &TokenTree, second: &TokenTree) -> Option<Class>
     match second {
         TokenTree::Punct(next) => {
             if mark.spacing() == Spacing::Joint {
-                marks_class(mark.as_char(), next.as_char())
+                joint_class(mark.as_char(), next.as_char())
             } else {
-                None
+                loose_class(mark.as_char(), next.as_char())
             }
         }
         TokenTree::Ident(_) => {
@@ -55,7 +56,27 @@ fn pair_class(first: &TokenTree, second: &TokenTree) -> Option<Class>
     }
 }
 
-// The class of two marks that are read as one sign, if they are where the first is Joint.
+// The class of two marks that are read as one sign, Joint or not.
+fn loose_class(first: char, second: char) -> Option<Class>
+    ensures { result ≡ loose_class first second }
+{
+    if first == '#' && second == '!' {
+        return Some(Class::HashBang);
+    }
+    None
+}
+
+// The same, where the first is Joint.
+fn joint_class(first: char, second: char) -> Option<Class>
+    ensures { result ≡ joint_class first second }
+{
+    if let Some(class) = marks_class(first, second) {
+        return Some(class);
+    }
+    loose_class(first, second)
+}
+
+// The class of two marks that are read as one sign only where the first is Joint.
 fn marks_class(first: char, second: char) -> Option<Class>
     ensures { result ≡ marks_class first second }
 {
@@ -109,9 +130,6 @@ fn unseen_class(inside: &TokenStream) -> Class
     if is_visibility(inside) {
         return Class::Visibility;
     }
-    if is_block(inside) {
-        return Class::Braces;
-    }
     Class::Invisible
 }
 
@@ -155,29 +173,6 @@ fn restricts_in(group: &Group, last: bool) -> bool
     match group.delimiter() {
         Delimiter::Parenthesis => last && is_restriction(group.stream_ref()),
         Delimiter::Bracket | Delimiter::Brace | Delimiter::None => false,
-    }
-}
-
-// Whether trees are one group in braces.
-fn is_block(inside: &TokenStream) -> bool
-    ensures { result ≡ is_block inside.now }
-{
-    let Some((first, rest)) = inside.trees().split_first() else {
-        return false;
-    };
-    match first {
-        TokenTree::Group(group) => is_braced(group.delimiter(), rest.is_empty()),
-        TokenTree::Ident(_) | TokenTree::Punct(_) | TokenTree::Literal(_) => false,
-    }
-}
-
-// Whether a group is in braces, and the last tree.
-fn is_braced(delimiter: Delimiter, last: bool) -> bool
-    ensures { result ≡ is_braced delimiter last }
-{
-    match delimiter {
-        Delimiter::Brace => last,
-        Delimiter::Parenthesis | Delimiter::Bracket | Delimiter::None => false,
     }
 }
 

@@ -4,4 +4,6 @@
 #[cfg(test)]
 mod items;
 #[cfg(test)]
+mod any_items;
+#[cfg(test)]
 mod parts;

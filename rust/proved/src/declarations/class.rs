@@ -94,6 +94,8 @@ pub enum Class {
     PathSeparator,
     /// `->`
     Arrow,
+    /// `#` and `!`, Joint or not.
+    HashBang,
     /// `<=`
     LessEquals,
     /// `||`
@@ -104,7 +106,7 @@ pub enum Class {
     Parentheses,
     /// `[ .. ]`
     Brackets,
-    /// `{ .. }`, or a group without delimiters that holds one such group alone.
+    /// `{ .. }`
     Braces,
     /// A group without delimiters that holds a visibility, or nothing.
     Visibility,

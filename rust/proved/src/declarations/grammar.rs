@@ -1,13 +1,16 @@
 // Made from crates/declarations/src/grammar.rt by rust/erase: change that file, not this one.
 //! The grammar of declarations: what may follow each place.
 
-use crate::declarations::class::{Class, Keyword, Word};
+use crate::declarations::class::{Class, Keyword};
 use crate::declarations::expression::{
     cast, cast_whole, closure, expression, expression_dot, expression_less, expression_open,
     expression_whole, variant_end,
 };
+use crate::declarations::front::{declaration, front_names, front_step, front_type, type_item, unmarked_item};
+use crate::declarations::header::{body, closing, generics, header, is_alone};
 use crate::declarations::place::{
-    Item, Part, Place, Rule, Shift, Spot, State, at_spot, to_bounds, to_spot, to_type,
+    Item, Part, Place, Rule, Shift, Spot, State, TypeStart, at_spot, to_bounds, to_spot, to_type,
+    type_from,
 };
 use crate::declarations::types::{Turn, TypeState, may_end, type_step};
 
@@ -30,14 +33,14 @@ impl Place {
                 if let Some(shift) = spot_step(self.item, self.rule, spot, class) {
                     return shifted(self.depth, Some(shift));
                 }
-                let rule = spot_type(self.rule, spot)?;
+                let start = spot_type(self.item, self.rule, spot)?;
                 let place = Place {
                     item: self.item,
-                    rule,
+                    rule: start.rule,
                     state: self.state,
                     depth: self.depth,
                 };
-                range_step(place, TypeState::Wanted, class)
+                range_step(place, start.state, class)
             }
         }
     }
@@ -51,6 +54,31 @@ impl Place {
                 && rule_ends(self.item, self.rule),
             State::At(spot) => spot_ends(self.item, self.rule, spot),
         }
+    }
+
+    /// Whether a sign of this class is an item's name.
+    pub fn names(self, class: Class) -> bool
+    {
+        wants_name(self.state) && is_name(class)
+    }
+}
+
+// Whether an item's name is wanted.
+fn wants_name(state: State) -> bool
+{
+    match state {
+        State::At(Spot::Name) => true,
+        State::At(Spot::Front(front)) => front_names(front),
+        _ => false,
+    }
+}
+
+// What it may be.
+fn is_name(class: Class) -> bool
+{
+    match class {
+        Class::Word(_) | Class::SelfValue | Class::Underscore => true,
+        _ => false,
     }
 }
 
@@ -118,82 +146,6 @@ fn range_state(rule: Rule, state: TypeState, turn: Turn, depth: usize) -> State
     }
 }
 
-// Whether a body in braces may end the item.
-fn in_braces(item: Item) -> bool
-{
-    match item {
-        Item::Struct | Item::Enum | Item::Union => true,
-        _ => false,
-    }
-}
-
-// Whether `;` may end it.
-fn in_semicolon(item: Item) -> bool
-{
-    match item {
-        Item::Struct | Item::Tuple => true,
-        _ => false,
-    }
-}
-
-// After the generic parameters of an item, its fields in parentheses, or its where clause.
-fn body(item: Item, class: Class) -> Option<Shift>
-{
-    match class {
-        Class::Braces if in_braces(item) => to_spot(item, Spot::ItemEnd),
-        Class::Semicolon if in_semicolon(item) => to_spot(item, Spot::ItemEnd),
-        _ => None,
-    }
-}
-
-// Whether no item is declared around a part, whose body would have to follow.
-fn is_alone(item: Item) -> bool
-{
-    match item {
-        Item::Alone | Item::Variants => true,
-        _ => false,
-    }
-}
-
-// A where clause of an item.
-fn where_clause(item: Item) -> Option<Shift>
-{
-    match item {
-        Item::Alone | Item::Variants => None,
-        _ => to_spot(item, Spot::Predicate),
-    }
-}
-
-// The fields in parentheses of a struct.
-fn tuple_fields(item: Item) -> Option<Shift>
-{
-    match item {
-        Item::Struct => to_spot(Item::Tuple, Spot::AfterGenerics),
-        _ => None,
-    }
-}
-
-// What may stand before the body.
-fn closing(item: Item, class: Class) -> Option<Shift>
-{
-    match class {
-        Class::Keyword(Keyword::Where) => where_clause(item),
-        Class::Parentheses | Class::Restriction => tuple_fields(item),
-        _ => body(item, class),
-    }
-}
-
-// Before the keyword of a struct, an enum or a union.
-fn type_item(class: Class) -> Option<Shift>
-{
-    match class {
-        Class::Keyword(Keyword::Struct) => to_spot(Item::Struct, Spot::Name),
-        Class::Keyword(Keyword::Enum) => to_spot(Item::Enum, Spot::Name),
-        Class::Word(Word::Union) => to_spot(Item::Union, Spot::Name),
-        _ => None,
-    }
-}
-
 // After a generic parameter that is whole.
 fn parameter_end(item: Item, class: Class) -> Option<Shift>
 {
@@ -252,7 +204,17 @@ fn begin(part: Part, item: Item, rule: Rule, class: Class) -> Option<Shift>
         (Part::Variant, Class::Word(_)) => at_spot(item, rule, Spot::VariantName),
         (Part::Parameter, _) => parameter(item, class),
         (Part::TypeItem, _) => type_item(class),
+        (Part::AnyItem, _) => declaration(class),
         _ => None,
+    }
+}
+
+// The same where no visibility stands before it.
+fn unmarked(part: Part, item: Item, rule: Rule, class: Class) -> Option<Shift>
+{
+    match part {
+        Part::AnyItem => unmarked_item(class),
+        _ => begin(part, item, rule, class),
     }
 }
 
@@ -273,7 +235,7 @@ fn attributed(part: Part, item: Item, rule: Rule, class: Class) -> Option<Shift>
         }
         Class::Visibility if has_visibility(part) => at_spot(item, rule, Spot::Visible(part)),
         Class::Keyword(Keyword::Pub) | Class::Visibility => None,
-        _ => begin(part, item, rule, class),
+        _ => unmarked(part, item, rule, class),
     }
 }
 
@@ -347,6 +309,9 @@ fn follow(item: Item, rule: Rule, class: Class) -> Option<Shift>
         (Rule::Bounded, Class::Colon) => to_bounds(item, Rule::Predicate),
         (Rule::Predicate, Class::Comma) => to_spot(item, Spot::Predicate),
         (Rule::Predicate, _) => body(item, class),
+        (Rule::Target, Class::Keyword(Keyword::For)) => to_type(item, Rule::Header),
+        (Rule::Target, _) => header(item, class),
+        (Rule::Header, _) => header(item, class),
         _ => None,
     }
 }
@@ -373,10 +338,8 @@ fn spot_step(item: Item, rule: Rule, spot: Spot, class: Class) -> Option<Shift>
         (Spot::Closure, _) => closure(item, class),
         (Spot::Cast, _) => cast(item, class),
         (Spot::CastWhole, _) => cast_whole(item, class),
-        (Spot::Generics, Class::Less | Class::LessJoint) => {
-            to_spot(item, Spot::Before(Part::Parameter))
-        }
-        (Spot::Generics | Spot::AfterGenerics, _) => closing(item, class),
+        (Spot::Generics, _) => generics(item, class),
+        (Spot::AfterGenerics, _) => closing(item, class),
         (Spot::LifetimeName, _) => lifetime_name(item, class),
         (Spot::TypeName, _) => type_name(item, class),
         (Spot::ConstName, Class::Word(_)) => to_spot(item, Spot::ConstColon),
@@ -387,20 +350,34 @@ fn spot_step(item: Item, rule: Rule, spot: Spot, class: Class) -> Option<Shift>
         (Spot::Where, Class::Keyword(Keyword::Where)) => to_spot(item, Spot::Predicate),
         (Spot::Predicate, _) => body(item, class),
         (Spot::Name, Class::Word(_)) => to_spot(item, Spot::Generics),
+        (Spot::Front(front), _) => front_step(item, front, class),
+        (Spot::Inner, Class::HashBang) => to_spot(item, Spot::InnerHash),
+        (Spot::InnerHash, Class::Brackets) => to_spot(item, Spot::Inner),
         _ => None,
     }
 }
 
-// The rule of a type that may begin at a spot.
-fn spot_type(rule: Rule, spot: Spot) -> Option<Rule>
+// After the generic parameters of an `impl` a type begins.
+fn closing_type(item: Item) -> Option<TypeStart>
+{
+    match item {
+        Item::Impl => type_from(Rule::Target, TypeState::Wanted),
+        _ => None,
+    }
+}
+
+// The type that may begin at a spot.
+fn spot_type(item: Item, rule: Rule, spot: Spot) -> Option<TypeStart>
 {
     match spot {
         Spot::Before(Part::TupleField)
         | Spot::Attributed(Part::TupleField)
         | Spot::Public(Part::TupleField)
-        | Spot::Visible(Part::TupleField) => Some(rule),
-        Spot::ConstDefault => Some(Rule::Parameter),
-        Spot::Predicate => Some(Rule::Bounded),
+        | Spot::Visible(Part::TupleField) => type_from(rule, TypeState::Wanted),
+        Spot::AfterGenerics => closing_type(item),
+        Spot::ConstDefault => type_from(Rule::Parameter, TypeState::Wanted),
+        Spot::Predicate => type_from(Rule::Bounded, TypeState::Wanted),
+        Spot::Front(front) => front_type(front),
         _ => None,
     }
 }
@@ -410,7 +387,7 @@ fn rule_ends(item: Item, rule: Rule) -> bool
 {
     match rule {
         Rule::Alone | Rule::Fields | Rule::TupleFields => true,
-        Rule::Predicate => is_alone(item),
+        Rule::Predicate | Rule::Header => is_alone(item),
         Rule::Angle | Rule::CastAngle | Rule::ClosureAngle => true,
         _ => false,
     }
@@ -442,7 +419,7 @@ fn spot_ends(item: Item, rule: Rule, spot: Spot) -> bool
         Spot::Before(part) => part_ends(item, rule, part),
         Spot::Attributed(part) | Spot::Public(part) | Spot::Visible(part) => is_front(part),
         Spot::Generics | Spot::AfterGenerics | Spot::Where | Spot::Predicate => is_alone(item),
-        Spot::VariantName | Spot::VariantEnd | Spot::ItemEnd => true,
+        Spot::VariantName | Spot::VariantEnd | Spot::ItemEnd | Spot::Inner => true,
         Spot::ExpressionOpen | Spot::ExpressionWhole | Spot::CastWhole => true,
         _ => false,
     }

@@ -20,7 +20,16 @@ fn split_alone<'a>(
         state,
         depth: 0,
     };
-    split_from(trees, start)
+    split_pair(trees, start)
+}
+
+fn split_pair<'a>(
+    trees: &'a [TokenTree],
+    start: Place,
+) -> Result<(&'a [TokenTree], &'a [TokenTree]), Fault>
+{
+    let split = split_from(trees, start)?;
+    Ok((split.part, split.rest))
 }
 
 /// The type at the front of the trees, and the trees after it.
@@ -125,7 +134,7 @@ pub fn split_variants(trees: &[TokenTree]) -> Result<(&[TokenTree], &[TokenTree]
         state: State::At(Spot::Before(Part::Variant)),
         depth: 0,
     };
-    split_from(trees, start)
+    split_pair(trees, start)
 }
 
 /// The expression of a discriminant at the front of the trees, and the trees after it.
@@ -160,4 +169,12 @@ pub fn split_where(trees: &[TokenTree]) -> Result<(&[TokenTree], &[TokenTree]), 
 pub fn split_item(trees: &[TokenTree]) -> Result<(&[TokenTree], &[TokenTree]), Fault>
 {
     split_alone(trees, Rule::Alone, State::At(Spot::Before(Part::TypeItem)))
+}
+
+/// The inner attributes at the front of the trees, as of a file, which may be none, and the trees after them.
+///
+/// Of `#![a] #[b] fn f() {}` they are `#![a]`.
+pub fn split_inner_attributes(trees: &[TokenTree]) -> Result<(&[TokenTree], &[TokenTree]), Fault>
+{
+    split_alone(trees, Rule::Alone, State::At(Spot::Inner))
 }

@@ -30,9 +30,9 @@ fn pair_class(first: &TokenTree, second: &TokenTree) -> Option<Class>
     match second {
         TokenTree::Punct(next) => {
             if mark.spacing() == Spacing::Joint {
-                marks_class(mark.as_char(), next.as_char())
+                joint_class(mark.as_char(), next.as_char())
             } else {
-                None
+                loose_class(mark.as_char(), next.as_char())
             }
         }
         TokenTree::Ident(_) => {
@@ -46,7 +46,25 @@ fn pair_class(first: &TokenTree, second: &TokenTree) -> Option<Class>
     }
 }
 
-// The class of two marks that are read as one sign, if they are where the first is Joint.
+// The class of two marks that are read as one sign, Joint or not.
+fn loose_class(first: char, second: char) -> Option<Class>
+{
+    if first == '#' && second == '!' {
+        return Some(Class::HashBang);
+    }
+    None
+}
+
+// The same, where the first is Joint.
+fn joint_class(first: char, second: char) -> Option<Class>
+{
+    if let Some(class) = marks_class(first, second) {
+        return Some(class);
+    }
+    loose_class(first, second)
+}
+
+// The class of two marks that are read as one sign only where the first is Joint.
 fn marks_class(first: char, second: char) -> Option<Class>
 {
     if first == ':' && second == ':' {
@@ -96,9 +114,6 @@ fn unseen_class(inside: &TokenStream) -> Class
     if is_visibility(inside) {
         return Class::Visibility;
     }
-    if is_block(inside) {
-        return Class::Braces;
-    }
     Class::Invisible
 }
 
@@ -138,27 +153,6 @@ fn restricts_in(group: &Group, last: bool) -> bool
     match group.delimiter() {
         Delimiter::Parenthesis => last && is_restriction(group.stream_ref()),
         Delimiter::Bracket | Delimiter::Brace | Delimiter::None => false,
-    }
-}
-
-// Whether trees are one group in braces.
-fn is_block(inside: &TokenStream) -> bool
-{
-    let Some((first, rest)) = inside.trees().split_first() else {
-        return false;
-    };
-    match first {
-        TokenTree::Group(group) => is_braced(group.delimiter(), rest.is_empty()),
-        TokenTree::Ident(_) | TokenTree::Punct(_) | TokenTree::Literal(_) => false,
-    }
-}
-
-// Whether a group is in braces, and the last tree.
-fn is_braced(delimiter: Delimiter, last: bool) -> bool
-{
-    match delimiter {
-        Delimiter::Brace => last,
-        Delimiter::Parenthesis | Delimiter::Bracket | Delimiter::None => false,
     }
 }
 
@@ -214,7 +208,7 @@ fn operator_class(mark: char) -> Class
     }
 }
 
-fn name_class(ident: &Ident) -> Class
+pub(crate) fn name_class(ident: &Ident) -> Class
 {
     if let Some(class) = path_class(ident) {
         return class;

@@ -1,5 +1,4 @@
 use Rattle.std.proofs.Common.{◌∙◌, ap}
-use Rattle.pm_stream.specs.Trees.{forest}
 use Rattle.declarations.specs.Signs.{is_pub}
 use Rattle.declarations.proofs.SignLemmas.{visibility_first}
 use Rattle.declarations.proofs.signs.is_visibility.Goals as goal

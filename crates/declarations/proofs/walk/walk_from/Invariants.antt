@@ -3,7 +3,7 @@ use Rattle.declarations.proofs.ReadingLemmas.{Walking}
 use Rattle.declarations.proofs.walk.walk_from.Given as goal
 
 abbrev pub invariant-loop-next : goal.invariant-loop-next
-invariant-loop-next l = Walking l.fn.start l.trees l.left l.place
+invariant-loop-next l = Walking l.fn.start l.trees l.left l.named l.place
 
 abbrev pub decreases-loop-next : goal.decreases-loop-next
 decreases-loop-next l = length l.left
