@@ -1,6 +1,6 @@
 -- The parts of an item that is read whole, one after another.
 use Rattle.std.proofs.Common.{◌≡◌, refl, sym, ◌∙◌, ap, subst, ℕ, Bool, true, false, List, [], ◌∷◌, ◌++◌, Some}
-use Rattle.std.proofs.Common.{append-nil, inl, inr, ◌⊎◌}
+use Rattle.std.proofs.Common.{append-nil, inl, inr}
 use Rattle.pm_token.specs.Leaf.{Name}
 use Rattle.pm_token.specs.declared.delimiters.Delimiter.{Delimiter}
 use Rattle.pm_token.specs.declared.delimiters.Delimiter.TheVariants as delimiters
@@ -27,7 +27,7 @@ use Rattle.declarations.specs.Item.{AreBracesLeft, IsNameClass, IsLeft, IsTypeIt
 use Rattle.declarations.specs.declared.item.TypeItem.{TypeItem}
 use Rattle.declarations.specs.Reading.{Reads, FaultAt, IsOnly}
 use Rattle.declarations.specs.Signs.{Sign, signs, classes_of, group_class, is_restriction, name_class}
-use Rattle.declarations.specs.Signs.{parentheses_class, unseen_class}
+use Rattle.declarations.specs.Signs.{parentheses_class}
 use Rattle.declarations.specs.Walk.{walk}
 use Rattle.declarations.specs.Whole.{ReadsAll}
 use Rattle.declarations.specs.declared.class.Class.{Class}
@@ -37,7 +37,6 @@ use Rattle.declarations.specs.declared.class.Word.TheVariants as words
 use Rattle.declarations.specs.declared.place.Item.TheVariants as items
 use Rattle.declarations.specs.declared.place.Part.TheVariants as parts
 use Rattle.declarations.specs.declared.place.Place.{Place}
-use Rattle.declarations.specs.declared.place.Spot.{Spot}
 use Rattle.declarations.specs.declared.place.Spot.TheVariants as spots
 
 -- ---- all trees

@@ -20,7 +20,6 @@ use Rattle.declarations.specs.declared.place.Spot.TheVariants as spots
 use Rattle.declarations.specs.declared.place.State.TheVariants as states
 use Rattle.declarations.specs.declared.place.TypeStart.{TypeStart}
 use Rattle.declarations.specs.declared.types.TypeState.{TypeState}
-use Rattle.declarations.specs.declared.types.TypeState.TheVariants as types
 use Rattle.declarations.specs.declared.types.TypeStep.{TypeStep}
 
 abbrev pub at : Item → Spot → Place
