@@ -5,9 +5,8 @@ For each part, and each list of signs over an alphabet, it looks for all reading
 must be one at most. The walk by the tables in `specs/` must end exactly where there is one, and go on exactly where
 the list is a front of one. The tables are read from the definitions, so a wrong row of these shows here.
 
-Usage: readings.py [LENGTH]
+Usage: readings.py [LENGTH [PART]]
 """
-import itertools
 import os
 import re
 import sys
@@ -50,210 +49,275 @@ def alternatives(words):
 
 
 class Reader:
-    """The readings of a list, and whether more signs could follow it in one."""
+    """The readings of lists, and whether more signs could follow them in one."""
 
-    def __init__(self, rules, signs):
-        self.rules, self.signs, self.known, self.goes_on = rules, signs, {}, False
+    def __init__(self, rules):
+        self.rules, self.known = rules, {}
 
-    def read(self, form, at):
-        """How many readings end at each index."""
+    def read(self, form, signs):
+        """How many readings take each count of signs at the front, and whether some reading wants more than all."""
         kind = form[0]
         if kind == "name" and form[1] in self.rules:
-            key = (form[1], at)
+            key = (form[1], signs)
             if key not in self.known:
-                self.known[key] = self.read(self.rules[form[1]], at)
+                self.known[key] = self.read(self.rules[form[1]], signs)
             return self.known[key]
         if kind == "name":
-            if at == len(self.signs):
-                self.goes_on = True
-                return {}
-            return {at + 1: 1} if self.signs[at] == form[1] else {}
+            if not signs:
+                return {}, True
+            return ({1: 1} if signs[0] == form[1] else {}), False
         if kind == "not":
-            return {} if at < len(self.signs) and self.signs[at] == form[1] else {at: 1}
+            return ({} if signs and signs[0] == form[1] else {0: 1}), False
         if kind == "or":
-            return total((end, n) for branch in form[1] for end, n in self.read(branch, at).items())
+            found = [self.read(branch, signs) for branch in form[1]]
+            return total(pair for counts, _ in found for pair in counts.items()), any(more for _, more in found)
         if kind == "seq":
-            ends = {at: 1}
+            counts, goes_on = {0: 1}, False
             for part in form[1]:
-                ends = total((end, n * m) for start, n in ends.items() for end, m in self.read(part, start).items())
-            return ends
-        once = self.read(form[1], at)
+                counts, more = self.then(counts, part, signs)
+                goes_on |= more
+            return counts, goes_on
+        once, goes_on = self.read(form[1], signs)
         if kind == "*":
-            once = total((end, n * m) for start, n in once.items() if start > at
-                         for end, m in self.read(form, start).items())
-        return total([(at, 1)] + list(once.items()))
+            once, more = self.then({taken: n for taken, n in once.items() if taken}, form, signs)
+            goes_on |= more
+        return total([(0, 1)] + list(once.items())), goes_on
+
+    def then(self, counts, part, signs):
+        pairs, goes_on = [], False
+        for taken, n in counts.items():
+            found, more = self.read(part, signs[taken:])
+            goes_on |= more
+            pairs += [(taken + count, n * m) for count, m in found.items()]
+        return total(pairs), goes_on
 
 
 def total(pairs):
     counts = {}
-    for end, n in pairs:
-        counts[end] = counts.get(end, 0) + n
+    for taken, n in pairs:
+        counts[taken] = counts.get(taken, 0) + n
     return counts
 
 
 # ---- the walk by the tables
 
-def plain(word):
-    """A constructor without its modules."""
-    if word.startswith("("):
-        return word.strip("()").replace("states.Range types.", "Range ").replace("states.At spots.", "At ")
-    return word.split(".")[-1]
+def tokens(text):
+    return re.findall(r"[()]|[^\s()]+", text)
 
 
-def rows(name, text):
-    """The equations of a definition: the words of the left side, and the right side."""
-    return [(left.split(), right) for left, right in re.findall(r"^%s ([^:=]+?) =\s+(.*)$" % name, text, re.M)]
+def parse(words):
+    """An application, as a list of the words and applications in it."""
+    parts = []
+    while words and words[0] != ")":
+        if words[0] == "(":
+            part, words = parse(words[1:])
+            words = words[1:]
+        else:
+            part, words = words[0].split(".")[-1], words[1:]
+        parts.append(part)
+    return parts, words
+
+
+def equations(text):
+    """The equations of each definition, as patterns and a value. Those that are no table are left out."""
+    known = {}
+    for line in re.sub(r"\n +", " ", text).splitlines():
+        found = re.match(r"([a-z_]+)((?: [^:=]+)?) = (.*)$", line)
+        if found and not re.search(r"\b(if|record|elim|λ)\b", found[3]):
+            patterns, _ = parse(tokens(found[2]))
+            known.setdefault(found[1], []).append((patterns, parse(tokens(found[3]))[0]))
+    return known
+
+
+def is_constructor(word):
+    return word[0].isupper() or word in ("true", "false")
+
+
+def match(pattern, value, bound):
+    if isinstance(pattern, str):
+        if is_constructor(pattern):
+            return value == pattern
+        bound[pattern] = value
+        return True
+    return isinstance(value, tuple) and len(value) == len(pattern) and value[0] == pattern[0] and all(
+        match(part, inside, bound) for part, inside in zip(pattern[1:], value[1:]))
 
 
 TURNS = {"Stay": 0, "Open": 1, "Close": -1}
+WORDS = "Auto Default Safe Union".split()
+KEYWORDS = ("Async Const Dyn Enum Extern Fn For Impl Macro Mod Mut Pub Static Struct Trait Type Unsafe Use "
+            "Where").split()
+
+
+def class_of(sign):
+    """A sign of the grammar as the tables have it."""
+    if sign in WORDS:
+        return ("Word", sign)
+    if sign in KEYWORDS:
+        return ("Keyword", sign)
+    return {"Word": ("Word", "Plain"), "Keyword": ("Keyword", "Other")}.get(sign, sign)
 
 
 def shifted(depth, shift):
     """The place that a shift leads to."""
-    return shift[:3] + (depth + TURNS[shift[3]],)
+    return shift[:3] + (max(0, depth + TURNS[shift[3]]),)
 
 
 class Tables:
     def __init__(self):
-        self.types = open(os.path.join(SPECS, "TypeStep.antt")).read()
-        self.text = open(os.path.join(SPECS, "Grammar.antt")).read()
+        files = ("TypeStep", "Moves", "Expression", "Header", "Front", "Grammar")
+        self.equations = {}
+        for name in files:
+            with open(os.path.join(SPECS, name + ".antt")) as file:
+                self.equations.update(equations(file.read()))
         self.known = {}
 
-    def call(self, name, arguments, text):
+    def call(self, name, *arguments):
         key = (name, arguments)
         if key not in self.known:
-            if (name, text) not in self.known:
-                self.known[name, text] = rows(name, text)
-            self.known[key] = self.first(self.known[name, text], arguments, text)
+            self.known[key] = self.first(name, arguments)
         return self.known[key]
 
-    def first(self, equations, arguments, text):
-        for patterns, right in equations:
+    def first(self, name, arguments):
+        if name in ("turn_to", "go", "type_from"):
+            return arguments
+        for patterns, value in self.equations[name]:
             bound = {}
-            for pattern, value in zip(patterns, arguments):
-                word = pattern.split(".")[-1]
-                if word[0].isupper():
-                    if word != value:
-                        break
-                else:
-                    bound[word] = value
-            else:
-                return self.value(right, bound, text)
-        raise ValueError("no row: %s" % (arguments,))
+            if all(match(pattern, argument, bound) for pattern, argument in zip(patterns, arguments)):
+                return self.value(value, bound)
+        raise ValueError("no row: %s %s" % (name, arguments))
 
-    def value(self, right, bound, text):
-        words = re.findall(r"\([^()]*\)|\S+", right)
-        if words[0] == "within":
-            return None if bound["outside"] else self.value(right.split("(", 1)[1].rstrip(")"), bound, text)
-        if words[0] == "None":
+    def value(self, form, bound):
+        if isinstance(form, str):
+            form = [form]
+        head, values = form[0], tuple(self.value(part, bound) for part in form[1:])
+        if head in ("true", "false"):
+            return head
+        if head == "None":
             return None
-        if words[0] in ("true", "false"):
-            return words[0] == "true"
-        if words[0] == "Some":
-            return bound.get(words[1], words[1].split(".")[-1])
-        values = tuple(bound.get(word, plain(word)) for word in words[1:])
-        if words[0] == "stay":
-            return values[0], "Stay"
-        if words[0] == "go":
-            return values
-        if words[0] == "move_to":
-            return values + ("Stay",)
-        if words[0] == "to_spot":
-            return values[0], "Alone", "At " + values[1], "Stay"
-        if words[0] == "open_angle":
-            return values + ("Range Open", "Open")
-        if words[0] in ("states.At", "states.Range"):
-            return plain(words[0]) + " " + values[0]
-        return self.call(words[0], values, text)
+        if head == "Some":
+            return values[0]
+        if is_constructor(head):
+            return (head,) + values if values else head
+        return bound[head] if head in bound else self.call(head, *values)
+
+    def holds(self, name, *arguments):
+        return self.call(name, *arguments) == "true"
 
     def range(self, item, rule, state, depth, sign):
-        taken = self.call("step_of", (state, sign, depth == 0), self.types)
+        taken = self.call("step_of", state, sign, "true" if depth == 0 else "false")
         if taken is None:
             return None
         depth += TURNS[taken[1]]
         if taken[1] == "Close" and depth == 0:
-            return item, rule, self.call("after_angle", (rule, taken[0]), self.text), depth
-        return item, rule, "Range " + taken[0], depth
+            return item, rule, self.call("after_angle", rule, taken[0]), depth
+        return item, rule, ("Range", taken[0]), depth
 
     def step(self, place, sign):
-        item, rule, state, depth = place
-        kind, name = state.split()
+        item, rule, (kind, name), depth = place
         if kind == "Range":
             next_place = self.range(item, rule, name, depth, sign)
-            if next_place is None and depth == 0 and self.call("may_end", (name,), self.types):
-                shift = self.call("follow", (item, rule, sign), self.text)
+            if next_place is None and depth == 0 and self.holds("may_end", name):
+                shift = self.call("follow", item, rule, sign)
                 next_place = shift and shifted(depth, shift)
             return next_place
-        shift = self.call("spot_step", (item, rule, name, sign), self.text)
+        shift = self.call("spot_step", item, rule, name, sign)
         if shift is not None:
             return shifted(depth, shift)
-        rule = self.call("spot_type", (rule, name), self.text)
-        return rule and self.range(item, rule, "Wanted", depth, sign)
+        start = self.call("spot_type", item, rule, name)
+        return start and self.range(item, start[0], start[1], depth, sign)
 
     def ends(self, place):
-        item, rule, state, depth = place
-        kind, name = state.split()
+        item, rule, (kind, name), depth = place
         if kind == "Range":
-            whole = depth == 0 and self.call("may_end", (name,), self.types)
-            return whole and self.call("rule_ends", (item, rule), self.text)
-        return self.call("spot_ends", (item, rule, name), self.text)
+            return depth == 0 and self.holds("may_end", name) and self.holds("rule_ends", item, rule)
+        return self.holds("spot_ends", item, rule, name)
 
 
 # ---- the comparison
 
 PARTS = [
-    ("type", "Alone", "Alone", "Range Wanted", [
+    ("type", "Alone", "Alone", ("Range", "Wanted"), [
         "Word Less Greater Comma Parentheses PathSeparator Plus",
-        "Word And Lifetime Mut Exclamation TypeFront For",
+        "Word And Lifetime Mut Exclamation Dyn For",
         "Word Less Greater Minus Literal Braces As Equals",
         "Word Star Const Tilde Extern Literal Arrow",
         "For Less Greater Lifetime Comma Word Restriction",
-        "Less Greater Colon Truth Brackets Invisible Question SelfType"]),
-    ("bounds", "Alone", "Alone", "Range Open", [
+        "Less Greater Colon Truth Brackets Invisible Visibility Question SelfType",
+        "Word Less Greater Comma Plus Lifetime"]),
+    ("bounds", "Alone", "Alone", ("Range", "Bound"), [
         "Word Plus Lifetime Question For Less Greater",
         "Word Arrow Parentheses Comma Exclamation Braces As"]),
-    ("attributes", "Alone", "Alone", "At Attributes", ["Hash Brackets Word"]),
-    ("visibility", "Alone", "Alone", "At Visibility", ["Pub Restriction Parentheses Word"]),
-    ("field", "Alone", "Alone", "At Field", ["Hash Brackets Pub Restriction Word Union Colon"]),
-    ("fields", "Alone", "Fields", "At Field", ["Word Colon Comma Less Greater Pub", "Hash Brackets Word Colon Comma"]),
-    ("tuple_field", "Alone", "Alone", "At TupleField", ["Hash Brackets Pub Restriction Parentheses Word"]),
-    ("tuple_fields", "Alone", "TupleFields", "At TupleField", [
+    ("attributes", "Alone", "Alone", ("At", ("Before", "Attributes")), ["Hash Brackets Word"]),
+    ("visibility", "Alone", "Alone", ("At", ("Before", "Visibility")), ["Pub Restriction Parentheses Word Visibility"]),
+    ("field", "Alone", "Alone", ("At", ("Before", "Field")), [
+        "Hash Brackets Pub Restriction Word Union Colon Visibility"]),
+    ("fields", "Alone", "Fields", ("At", ("Before", "Field")), [
+        "Word Colon Comma Less Greater Pub", "Hash Brackets Word Colon Comma"]),
+    ("tuple_field", "Alone", "Alone", ("At", ("Before", "TupleField")), [
+        "Hash Brackets Pub Restriction Parentheses Word Visibility Invisible"]),
+    ("tuple_fields", "Alone", "TupleFields", ("At", ("Before", "TupleField")), [
         "Word Comma Pub Restriction Less Greater", "Hash Brackets Pub Word Comma"]),
-    ("variant", "Alone", "Alone", "At Variant", ["Hash Brackets Pub Restriction Word Union Parentheses Braces Equals"]),
-    ("variants", "Variants", "Alone", "At Variant", [
+    ("variant", "Alone", "Alone", ("At", ("Before", "Variant")), [
+        "Hash Brackets Pub Restriction Word Union Parentheses Braces Equals Visibility"]),
+    ("variants", "Variants", "Alone", ("At", ("Before", "Variant")), [
         "Hash Brackets Word Comma Equals Less", "Word Equals Comma Less Greater As",
         "Pub Word Comma Equals Braces", "Word Equals Comma Jump Dot Bar"]),
-    ("expression", "Alone", "Alone", "At Expression", [
+    ("expression", "Alone", "Alone", ("At", "Expression"), [
         "Word Comma Equals Less LessJoint PathSeparator Literal As",
         "Word As Comma Less Greater PathSeparator Star And Arrow",
         "Bar Bars Word Comma Colon Less Greater Arrow Braces",
         "Word Dot And Exclamation Question Lifetime Jump Hash Brackets",
         "Word Less LessJoint LessEquals Greater Comma Parentheses",
         "Await Keyword For Truth Minus Plus Infix Union Invisible"]),
-    ("generics", "Alone", "Alone", "At Generics", [
+    ("generics", "Alone", "Alone", ("At", "Generics"), [
         "Less Greater Lifetime Word Comma Colon", "Less Greater Const Word Colon Equals",
         "Less Greater Hash Brackets Word", "Less Greater Const Word Colon Equals Minus Literal Braces"]),
-    ("where", "Alone", "Alone", "At Where", [
+    ("where", "Alone", "Alone", ("At", "Where"), [
         "Where Word Colon Comma Plus Less Greater", "Where Lifetime Colon Brackets Comma For"]),
-    ("item", "Alone", "Alone", "At Item", [
+    ("item", "Alone", "Alone", ("At", ("Before", "TypeItem")), [
         "Struct Word Parentheses Braces Semicolon Where Colon", "Enum Union Word Braces Semicolon Where Colon",
-        "Struct Word Less Greater Semicolon Lifetime", "Hash Brackets Pub Restriction Struct Word Semicolon"]),
+        "Struct Word Less Greater Semicolon Lifetime",
+        "Hash Brackets Pub Restriction Visibility Struct Word Semicolon"]),
+    ("inner_attributes", "Alone", "Alone", ("At", "Inner"), ["HashBang Hash Brackets"]),
+    ("any_item", "Alone", "Alone", ("At", ("Before", "AnyItem")), [
+        "Hash Brackets Pub Restriction Visibility Invisible Struct Word Semicolon",
+        "Const Async Unsafe Safe Extern Literal Fn Word Parentheses Semicolon",
+        "Default Const Safe Fn Word Colon Equals Semicolon",
+        "Fn Word Less Greater Parentheses Arrow Where Braces Semicolon",
+        "Const Static Mut Word Underscore Colon Equals Semicolon Less Greater",
+        "Type Word Colon Equals Semicolon Where Plus Comma",
+        "Trait Unsafe Auto Word Colon Equals Braces Where",
+        "Impl Less Greater Word Colon Comma For Braces",
+        "Impl Const Exclamation Word For Where Braces Colon",
+        "Impl Less Greater Lifetime Hash Brackets As PathSeparator Word Braces",
+        "Impl Less Word Equals Greater And Plus For Braces",
+        "Mod Unsafe Word Semicolon Braces Extern Crate As SelfValue",
+        "Use Word PathSeparator As Star Braces Semicolon Underscore",
+        "Word PathSeparator Exclamation Parentheses Braces Semicolon Crate",
+        "Union Auto Default Safe Trait Exclamation Word Braces Fn",
+        "Macro Word Parentheses Braces Brackets Exclamation Semicolon"]),
 ]
 
 
 def main():
     longest = int(sys.argv[1]) if len(sys.argv) > 1 else 6
-    rules, tables, wrong, count = grammar(open(os.path.join(HERE, "grammar.txt")).read()), Tables(), 0, 0
+    with open(os.path.join(HERE, "grammar.txt")) as file:
+        reader = Reader(grammar(file.read()))
+    tables, wrong, count = Tables(), 0, 0
+    wanted = sys.argv[2:] or [part[0] for part in PARTS]
     for part, item, rule, state, alphabets in PARTS:
+        if part not in wanted:
+            continue
         fronts = whole = 0
         for alphabet in alphabets:
             open_fronts = [((), (item, rule, state, 0))]
             while open_fronts:
                 signs, place = open_fronts.pop()
-                reader = Reader(rules, signs)
-                readings = reader.read(("name", part), 0).get(len(signs), 0)
-                goes_on = reader.goes_on or readings > 0
-                ends = place is not None and bool(tables.ends(place))
+                counts, goes_on = reader.read(("name", part), signs)
+                readings = counts.get(len(signs), 0)
+                goes_on |= readings > 0
+                ends = place is not None and tables.ends(place)
                 if readings != int(ends) or goes_on != (place is not None):
                     wrong += 1
                     print("wrong: %s of %s: %d readings, goes on: %s; the walk is at %s" %
@@ -264,7 +328,7 @@ def main():
                 whole += readings
                 count += 1
                 if place is not None and len(signs) < longest:
-                    open_fronts += [(signs + (sign,), tables.step(place, sign)) for sign in alphabet.split()]
+                    open_fronts += [(signs + (sign,), tables.step(place, class_of(sign))) for sign in alphabet.split()]
         print("%s: %d fronts, %d readings" % (part, fronts, whole))
     print("%d lists, %d wrong" % (count, wrong))
     return int(wrong > 0)

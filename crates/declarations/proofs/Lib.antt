@@ -2,3 +2,11 @@ pub mod SignLemmas
 pub mod WalkLemmas
 pub mod PlaceLemmas
 pub mod ReadingLemmas
+pub mod WholeLemmas
+pub mod CutLemmas
+pub mod PartLemmas
+pub mod RegionLemmas
+pub mod SortLemmas
+pub mod ItemLemmas
+pub mod FieldLemmas
+pub mod VariantLemmas

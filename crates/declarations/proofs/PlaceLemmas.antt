@@ -7,18 +7,24 @@ use Rattle.declarations.specs.Walk.{walk}
 use Rattle.declarations.specs.Grammar.{step, ends, range_state}
 use Rattle.declarations.specs.declared.types.Turn.TheVariants as turns
 use Rattle.declarations.specs.declared.class.Class.{Class}
-use Rattle.declarations.specs.declared.class.Class.TheVariants.{Word, Const, Literal, Less, Greater, Parentheses}
-use Rattle.declarations.specs.declared.class.Class.TheVariants.{Colon, Semicolon, Braces, Brackets, Struct, Lifetime}
-use Rattle.declarations.specs.declared.class.Class.TheVariants.{Where, Bar, Dot}
-use Rattle.declarations.specs.declared.grammar.Item.{Item}
-use Rattle.declarations.specs.declared.grammar.Item.TheVariants as items
-use Rattle.declarations.specs.declared.grammar.Place.{Place}
-use Rattle.declarations.specs.declared.grammar.Rule.{Rule}
-use Rattle.declarations.specs.declared.grammar.Rule.TheVariants as places
-use Rattle.declarations.specs.declared.grammar.Spot.{Spot}
-use Rattle.declarations.specs.declared.grammar.Spot.TheVariants as spots
-use Rattle.declarations.specs.declared.grammar.State.{State}
-use Rattle.declarations.specs.declared.grammar.State.TheVariants as states
+use Rattle.declarations.specs.declared.class.Class.TheVariants.{Literal, Less, Greater, Parentheses, Colon, Semicolon}
+use Rattle.declarations.specs.declared.class.Class.TheVariants.{Braces, Brackets, Lifetime, Bar, Comma, Dot, Word}
+use Rattle.declarations.specs.declared.class.Class.TheVariants.{Exclamation, Hash, Keyword, Restriction}
+use Rattle.declarations.specs.declared.class.Keyword.TheVariants as keywords
+use Rattle.declarations.specs.declared.class.Word.TheVariants as words
+use Rattle.declarations.specs.declared.place.Front.{Front}
+use Rattle.declarations.specs.declared.place.Front.TheVariants as fronts
+use Rattle.declarations.specs.declared.place.Item.{Item}
+use Rattle.declarations.specs.declared.place.Item.TheVariants as items
+use Rattle.declarations.specs.declared.place.Part.{Part}
+use Rattle.declarations.specs.declared.place.Part.TheVariants as parts
+use Rattle.declarations.specs.declared.place.Place.{Place}
+use Rattle.declarations.specs.declared.place.Rule.{Rule}
+use Rattle.declarations.specs.declared.place.Rule.TheVariants as places
+use Rattle.declarations.specs.declared.place.Spot.{Spot}
+use Rattle.declarations.specs.declared.place.Spot.TheVariants as spots
+use Rattle.declarations.specs.declared.place.State.{State}
+use Rattle.declarations.specs.declared.place.State.TheVariants as states
 use Rattle.declarations.specs.declared.types.TypeState.{TypeState}
 use Rattle.declarations.specs.declared.types.TypeState.TheVariants as types
 
@@ -49,69 +55,81 @@ led place next front leads goes = record {
 here : (place : Place) → ends place ≡ true → GoesOn place
 here place ended = record { more = []; final = place; walks = refl; ended = ended }
 
-after_generics : (item : Item) (rule : Rule) (depth : ℕ) → GoesOn (at item rule spots.AfterGenerics depth)
-after_generics items.Alone rule depth = here (at items.Alone rule spots.AfterGenerics depth) refl
-after_generics items.Struct rule depth =
-    led (at items.Struct rule spots.AfterGenerics depth) (at items.Alone places.Alone spots.ItemEnd depth)
-    (Semicolon ∷ []) (λ more. refl) (here (at items.Alone places.Alone spots.ItemEnd depth) refl)
-after_generics items.Tuple rule depth =
-    led (at items.Tuple rule spots.AfterGenerics depth) (at items.Alone places.Alone spots.ItemEnd depth)
-    (Semicolon ∷ []) (λ more. refl) (here (at items.Alone places.Alone spots.ItemEnd depth) refl)
-after_generics items.Variants rule depth = here (at items.Variants rule spots.AfterGenerics depth) refl
-after_generics items.Braced rule depth =
-    led (at items.Braced rule spots.AfterGenerics depth) (at items.Alone places.Alone spots.ItemEnd depth)
-    (Braces ∷ []) (λ more. refl) (here (at items.Alone places.Alone spots.ItemEnd depth) refl)
+abbrev a_word : Class
+a_word = Word words.Plain
+
+abbrev a_function : List Class
+a_function = Keyword keywords.Fn ∷ a_word ∷ Parentheses ∷ Braces ∷ []
+
+item_end : (item : Item) (depth : ℕ) → GoesOn (at item places.Alone spots.ItemEnd depth)
+item_end item depth = here (at item places.Alone spots.ItemEnd depth) refl
+
+to_end : (item : Item) (depth : ℕ) (place : Place) (front : List Class)
+    → ((more : List Class) → walk step place (front ++ more)
+    ≡ walk step (at item places.Alone spots.ItemEnd depth) more)
+    → GoesOn place
+to_end item depth place front leads =
+    led place (at item places.Alone spots.ItemEnd depth) front leads (item_end item depth)
+
+-- a predicate, or none
+predicate : (item : Item) (rule : Rule) (depth : ℕ) → GoesOn (at item rule spots.Predicate depth)
+predicate items.Alone rule depth = here _ refl
+predicate items.Variants rule depth = here _ refl
+predicate items.Group rule depth = here _ refl
+predicate items.Struct rule depth = to_end items.Struct depth _ (Semicolon ∷ []) (λ more. refl)
+predicate items.Tuple rule depth = to_end items.Tuple depth _ (Semicolon ∷ []) (λ more. refl)
+predicate items.Returning rule depth = to_end items.Returning depth _ (Semicolon ∷ []) (λ more. refl)
+predicate items.Constant rule depth = to_end items.Constant depth _ (Semicolon ∷ []) (λ more. refl)
+predicate items.Static rule depth = to_end items.Static depth _ (Semicolon ∷ []) (λ more. refl)
+predicate items.Alias rule depth = to_end items.Alias depth _ (Semicolon ∷ []) (λ more. refl)
+predicate items.Aliased rule depth = to_end items.Aliased depth _ (Semicolon ∷ []) (λ more. refl)
+predicate items.TraitAlias rule depth = to_end items.TraitAlias depth _ (Semicolon ∷ []) (λ more. refl)
+predicate items.Module rule depth = to_end items.Module depth _ (Semicolon ∷ []) (λ more. refl)
+predicate items.Use rule depth = to_end items.Use depth _ (Semicolon ∷ []) (λ more. refl)
+predicate items.ExternCrate rule depth = to_end items.ExternCrate depth _ (Semicolon ∷ []) (λ more. refl)
+predicate items.Enum rule depth = to_end items.Enum depth _ (Braces ∷ []) (λ more. refl)
+predicate items.Union rule depth = to_end items.Union depth _ (Braces ∷ []) (λ more. refl)
+predicate items.Function rule depth = to_end items.Function depth _ (Braces ∷ []) (λ more. refl)
+predicate items.Trait rule depth = to_end items.Trait depth _ (Braces ∷ []) (λ more. refl)
+predicate items.Impl rule depth = to_end items.Impl depth _ (Braces ∷ []) (λ more. refl)
+predicate items.ExternBlock rule depth = to_end items.ExternBlock depth _ (Braces ∷ []) (λ more. refl)
+predicate items.Macro rule depth = to_end items.Macro depth _ (Braces ∷ []) (λ more. refl)
+predicate items.Call rule depth = to_end items.Call depth _ (Braces ∷ []) (λ more. refl)
 
 -- after a type or bounds, outside of brackets
-item_end : (depth : ℕ) → GoesOn (at items.Alone places.Alone spots.ItemEnd depth)
-item_end depth = here (at items.Alone places.Alone spots.ItemEnd depth) refl
+predicate_end : (item : Item) → GoesOn (in_type item places.Predicate types.Whole 0)
+predicate_end item =
+    led (in_type item places.Predicate types.Whole 0) (at item places.Alone spots.Predicate 0) (Comma ∷ [])
+    (λ more. refl) (predicate item places.Alone 0)
 
-predicate : (item : Item) (rule : Rule) (depth : ℕ) → GoesOn (at item rule spots.Predicate depth)
-predicate items.Alone rule depth = here (at items.Alone rule spots.Predicate depth) refl
-predicate items.Struct rule depth =
-    led (at items.Struct rule spots.Predicate depth) (at items.Alone places.Alone spots.ItemEnd depth)
-    (Semicolon ∷ []) (λ more. refl) (item_end depth)
-predicate items.Tuple rule depth =
-    led (at items.Tuple rule spots.Predicate depth) (at items.Alone places.Alone spots.ItemEnd depth)
-    (Semicolon ∷ []) (λ more. refl) (item_end depth)
-predicate items.Variants rule depth = here (at items.Variants rule spots.Predicate depth) refl
-predicate items.Braced rule depth =
-    led (at items.Braced rule spots.Predicate depth) (at items.Alone places.Alone spots.ItemEnd depth)
-    (Braces ∷ []) (λ more. refl) (item_end depth)
+header_end : (item : Item) → GoesOn (in_type item places.Header types.Whole 0)
+header_end items.Alone = here _ refl
+header_end items.Variants = here _ refl
+header_end items.Group = here _ refl
+header_end items.Struct = to_end items.Struct 0 _ (Semicolon ∷ []) (λ more. refl)
+header_end items.Tuple = to_end items.Tuple 0 _ (Semicolon ∷ []) (λ more. refl)
+header_end items.Returning = to_end items.Returning 0 _ (Semicolon ∷ []) (λ more. refl)
+header_end items.Constant = to_end items.Constant 0 _ (Semicolon ∷ []) (λ more. refl)
+header_end items.Static = to_end items.Static 0 _ (Semicolon ∷ []) (λ more. refl)
+header_end items.Alias = to_end items.Alias 0 _ (Semicolon ∷ []) (λ more. refl)
+header_end items.Aliased = to_end items.Aliased 0 _ (Semicolon ∷ []) (λ more. refl)
+header_end items.TraitAlias = to_end items.TraitAlias 0 _ (Semicolon ∷ []) (λ more. refl)
+header_end items.Module = to_end items.Module 0 _ (Semicolon ∷ []) (λ more. refl)
+header_end items.Use = to_end items.Use 0 _ (Semicolon ∷ []) (λ more. refl)
+header_end items.ExternCrate = to_end items.ExternCrate 0 _ (Semicolon ∷ []) (λ more. refl)
+header_end items.Enum = to_end items.Enum 0 _ (Braces ∷ []) (λ more. refl)
+header_end items.Union = to_end items.Union 0 _ (Braces ∷ []) (λ more. refl)
+header_end items.Function = to_end items.Function 0 _ (Braces ∷ []) (λ more. refl)
+header_end items.Trait = to_end items.Trait 0 _ (Braces ∷ []) (λ more. refl)
+header_end items.Impl = to_end items.Impl 0 _ (Braces ∷ []) (λ more. refl)
+header_end items.ExternBlock = to_end items.ExternBlock 0 _ (Braces ∷ []) (λ more. refl)
+header_end items.Macro = to_end items.Macro 0 _ (Braces ∷ []) (λ more. refl)
+header_end items.Call = to_end items.Call 0 _ (Braces ∷ []) (λ more. refl)
 
-bounds_end : (item : Item) → GoesOn (in_type item places.Predicate types.Whole 0)
-bounds_end items.Alone = here (in_type items.Alone places.Predicate types.Whole 0) refl
-bounds_end items.Struct =
-    led (in_type items.Struct places.Predicate types.Whole 0) (at items.Alone places.Alone spots.ItemEnd 0)
-    (Semicolon ∷ []) (λ more. refl) (item_end 0)
-bounds_end items.Tuple =
-    led (in_type items.Tuple places.Predicate types.Whole 0) (at items.Alone places.Alone spots.ItemEnd 0)
-    (Semicolon ∷ []) (λ more. refl) (item_end 0)
-bounds_end items.Variants = here (in_type items.Variants places.Predicate types.Whole 0) refl
-bounds_end items.Braced =
-    led (in_type items.Braced places.Predicate types.Whole 0) (at items.Alone places.Alone spots.ItemEnd 0)
-    (Braces ∷ []) (λ more. refl) (item_end 0)
-
-outside : (item : Item) (rule : Rule) → GoesOn (in_type item rule types.Whole 0)
-outside item places.Alone = here (in_type item places.Alone types.Whole 0) refl
-outside item places.Fields = here (in_type item places.Fields types.Whole 0) refl
-outside item places.TupleFields = here (in_type item places.TupleFields types.Whole 0) refl
-outside item places.Parameter =
-    led (in_type item places.Parameter types.Whole 0) (at item places.Alone spots.AfterGenerics 0)
-    (Greater ∷ []) (λ more. refl) (after_generics item places.Alone 0)
-outside item places.TypeParameter =
-    led (in_type item places.TypeParameter types.Whole 0) (at item places.Alone spots.AfterGenerics 0)
-    (Greater ∷ []) (λ more. refl) (after_generics item places.Alone 0)
-outside item places.ConstParameter =
-    led (in_type item places.ConstParameter types.Whole 0) (at item places.Alone spots.AfterGenerics 0)
-    (Greater ∷ []) (λ more. refl) (after_generics item places.Alone 0)
-outside item places.Bounded =
-    led (in_type item places.Bounded types.Whole 0) (in_type item places.Predicate types.Whole 0)
-    (Colon ∷ Word ∷ []) (λ more. refl) (bounds_end item)
-outside item places.Predicate = bounds_end item
-outside item places.Angle = here (in_type item places.Angle types.Whole 0) refl
-outside item places.CastAngle = here (in_type item places.CastAngle types.Whole 0) refl
-outside item places.ClosureAngle = here (in_type item places.ClosureAngle types.Whole 0) refl
+target_end : (item : Item) → GoesOn (in_type item places.Target types.Whole 0)
+target_end item =
+    led (in_type item places.Target types.Whole 0) (in_type item places.Header types.Whole 0)
+    (Keyword keywords.For ∷ a_word ∷ []) (λ more. refl) (header_end item)
 
 -- a bracket that is open is closed
 after_close : Item → Rule → ℕ → Place
@@ -130,9 +148,96 @@ closer item rule depth =
     let fewer : suc depth - 1 ≡ depth = omega arith in
     rw (inside, fewer) refl
 
+still_within : (item : Item) (rule : Rule) (depth : ℕ)
+    → after_close item rule (suc depth) ≡ in_type item rule types.Whole (suc depth)
+unfolding after_close
+still_within item rule depth =
+    let inside : (suc depth == 0) ≡ false = grind (arith, nat_tests) in
+    rw inside refl
+
+closes : (item : Item) (rule : Rule) (depth : ℕ) → GoesOn (after_close item rule 0)
+    → GoesOn (after_close item rule depth)
+closes item rule zero last = last
+closes item rule (suc depth) last =
+    subst GoesOn (sym (still_within item rule depth))
+    (led (in_type item rule types.Whole (suc depth)) (after_close item rule depth) (Greater ∷ [])
+    (λ more. walk-cons step (in_type item rule types.Whole (suc depth)) Greater more
+    ∙ ap (λ o. after step o more) (closer item rule depth)) (closes item rule depth last))
+
+-- in brackets, by what follows without them and after the last of them
+within : (item : Item) (rule : Rule) (depth : ℕ) → GoesOn (in_type item rule types.Whole 0)
+    → GoesOn (after_close item rule 0) → GoesOn (in_type item rule types.Whole depth)
+within item rule zero without last = without
+within item rule (suc depth) without last =
+    led (in_type item rule types.Whole (suc depth)) (after_close item rule depth) (Greater ∷ [])
+    (λ more. walk-cons step (in_type item rule types.Whole (suc depth)) Greater more
+    ∙ ap (λ o. after step o more) (closer item rule depth)) (closes item rule depth last)
+
+headed : (item : Item) (depth : ℕ) → GoesOn (in_type item places.Header types.Whole depth)
+unfolding after_close
+headed item depth = within item places.Header depth (header_end item) (header_end item)
+
+targeted : (item : Item) (depth : ℕ) → GoesOn (in_type item places.Target types.Whole depth)
+unfolding after_close
+targeted item depth = within item places.Target depth (target_end item) (target_end item)
+
+after_generics : (item : Item) (rule : Rule) (depth : ℕ) → GoesOn (at item rule spots.AfterGenerics depth)
+after_generics items.Alone rule depth = here _ refl
+after_generics items.Variants rule depth = here _ refl
+after_generics items.Group rule depth = here _ refl
+after_generics items.Struct rule depth = to_end items.Struct depth _ (Semicolon ∷ []) (λ more. refl)
+after_generics items.Tuple rule depth = to_end items.Tuple depth _ (Semicolon ∷ []) (λ more. refl)
+after_generics items.Returning rule depth = to_end items.Returning depth _ (Semicolon ∷ []) (λ more. refl)
+after_generics items.Alias rule depth = to_end items.Alias depth _ (Semicolon ∷ []) (λ more. refl)
+after_generics items.Aliased rule depth = to_end items.Aliased depth _ (Semicolon ∷ []) (λ more. refl)
+after_generics items.TraitAlias rule depth = to_end items.TraitAlias depth _ (Semicolon ∷ []) (λ more. refl)
+after_generics items.Module rule depth = to_end items.Module depth _ (Semicolon ∷ []) (λ more. refl)
+after_generics items.Use rule depth = to_end items.Use depth _ (Semicolon ∷ []) (λ more. refl)
+after_generics items.ExternCrate rule depth = to_end items.ExternCrate depth _ (Semicolon ∷ []) (λ more. refl)
+after_generics items.Enum rule depth = to_end items.Enum depth _ (Braces ∷ []) (λ more. refl)
+after_generics items.Union rule depth = to_end items.Union depth _ (Braces ∷ []) (λ more. refl)
+after_generics items.Trait rule depth = to_end items.Trait depth _ (Braces ∷ []) (λ more. refl)
+after_generics items.ExternBlock rule depth = to_end items.ExternBlock depth _ (Braces ∷ []) (λ more. refl)
+after_generics items.Macro rule depth = to_end items.Macro depth _ (Braces ∷ []) (λ more. refl)
+after_generics items.Call rule depth = to_end items.Call depth _ (Braces ∷ []) (λ more. refl)
+after_generics items.Function rule depth =
+    to_end items.Returning depth _ (Parentheses ∷ Braces ∷ []) (λ more. refl)
+after_generics items.Constant rule depth =
+    led _ (in_type items.Constant places.Header types.Whole depth) (Colon ∷ a_word ∷ []) (λ more. refl)
+    (headed items.Constant depth)
+after_generics items.Static rule depth =
+    led _ (in_type items.Static places.Header types.Whole depth) (Colon ∷ a_word ∷ []) (λ more. refl)
+    (headed items.Static depth)
+after_generics items.Impl rule depth =
+    led _ (in_type items.Impl places.Target types.Whole depth) (a_word ∷ []) (λ more. refl)
+    (targeted items.Impl depth)
+
+outside : (item : Item) (rule : Rule) → GoesOn (in_type item rule types.Whole 0)
+outside item places.Alone = here (in_type item places.Alone types.Whole 0) refl
+outside item places.Fields = here (in_type item places.Fields types.Whole 0) refl
+outside item places.TupleFields = here (in_type item places.TupleFields types.Whole 0) refl
+outside item places.Parameter =
+    led (in_type item places.Parameter types.Whole 0) (at item places.Alone spots.AfterGenerics 0)
+    (Greater ∷ []) (λ more. refl) (after_generics item places.Alone 0)
+outside item places.TypeParameter =
+    led (in_type item places.TypeParameter types.Whole 0) (at item places.Alone spots.AfterGenerics 0)
+    (Greater ∷ []) (λ more. refl) (after_generics item places.Alone 0)
+outside item places.ConstParameter =
+    led (in_type item places.ConstParameter types.Whole 0) (at item places.Alone spots.AfterGenerics 0)
+    (Greater ∷ []) (λ more. refl) (after_generics item places.Alone 0)
+outside item places.Bounded =
+    led (in_type item places.Bounded types.Whole 0) (in_type item places.Predicate types.Whole 0)
+    (Colon ∷ a_word ∷ []) (λ more. refl) (predicate_end item)
+outside item places.Predicate = predicate_end item
+outside item places.Header = header_end item
+outside item places.Target = target_end item
+outside item places.Angle = here (in_type item places.Angle types.Whole 0) refl
+outside item places.CastAngle = here (in_type item places.CastAngle types.Whole 0) refl
+outside item places.ClosureAngle = here (in_type item places.ClosureAngle types.Whole 0) refl
+
 closure : (item : Item) (rule : Rule) (depth : ℕ) → GoesOn (at item rule spots.Closure depth)
 closure item rule depth =
-    led (at item rule spots.Closure depth) (at item places.Alone spots.ExpressionWhole depth) (Bar ∷ Word ∷ [])
+    led (at item rule spots.Closure depth) (at item places.Alone spots.ExpressionWhole depth) (Bar ∷ a_word ∷ [])
     (λ more. refl) (here (at item places.Alone spots.ExpressionWhole depth) refl)
 
 -- after the last of them
@@ -149,28 +254,11 @@ closed item places.TypeParameter = outside item places.TypeParameter
 closed item places.ConstParameter = outside item places.ConstParameter
 closed item places.Bounded = outside item places.Bounded
 closed item places.Predicate = outside item places.Predicate
-
-still_within : (item : Item) (rule : Rule) (depth : ℕ)
-    → after_close item rule (suc depth) ≡ in_type item rule types.Whole (suc depth)
-unfolding after_close
-still_within item rule depth =
-    let inside : (suc depth == 0) ≡ false = grind (arith, nat_tests) in
-    rw inside refl
-
-closes : (item : Item) (rule : Rule) (depth : ℕ) → GoesOn (after_close item rule depth)
-closes item rule zero = closed item rule
-closes item rule (suc depth) =
-    subst GoesOn (sym (still_within item rule depth))
-    (led (in_type item rule types.Whole (suc depth)) (after_close item rule depth) (Greater ∷ [])
-    (λ more. walk-cons step (in_type item rule types.Whole (suc depth)) Greater more
-    ∙ ap (λ o. after step o more) (closer item rule depth)) (closes item rule depth))
+closed item places.Header = outside item places.Header
+closed item places.Target = outside item places.Target
 
 whole : (item : Item) (rule : Rule) (depth : ℕ) → GoesOn (in_type item rule types.Whole depth)
-whole item rule zero = outside item rule
-whole item rule (suc depth) =
-    led (in_type item rule types.Whole (suc depth)) (after_close item rule depth) (Greater ∷ [])
-    (λ more. walk-cons step (in_type item rule types.Whole (suc depth)) Greater more
-    ∙ ap (λ o. after step o more) (closer item rule depth)) (closes item rule depth)
+whole item rule depth = within item rule depth (outside item rule) (closed item rule)
 
 to_whole : (item : Item) (rule : Rule) (depth : ℕ) (place : Place) (front : List Class)
     → ((more : List Class) → walk step place (front ++ more) ≡ walk step (in_type item rule types.Whole depth) more)
@@ -185,76 +273,184 @@ to_close : (item : Item) (depth : ℕ) (place : Place) (front : List Class)
 to_close item depth place front leads =
     led place (at item places.Alone spots.AfterGenerics depth) front leads (after_generics item places.Alone depth)
 
-to_end : (depth : ℕ) (place : Place) (front : List Class)
-    → ((more : List Class) → walk step place (front ++ more)
-    ≡ walk step (at items.Alone places.Alone spots.ItemEnd depth) more)
-    → GoesOn place
-to_end depth place front leads =
-    led place (at items.Alone places.Alone spots.ItemEnd depth) front leads (item_end depth)
-
 from_type : (item : Item) (rule : Rule) (state : TypeState) (depth : ℕ) → GoesOn (in_type item rule state depth)
 from_type item rule types.Wanted depth =
-    to_whole item rule depth (in_type item rule types.Wanted depth) (Word ∷ []) (λ more. refl)
-from_type item rule types.Open depth =
-    to_whole item rule depth (in_type item rule types.Open depth) (Word ∷ []) (λ more. refl)
+    to_whole item rule depth (in_type item rule types.Wanted depth) (a_word ∷ []) (λ more. refl)
+from_type item rule types.Bound depth =
+    to_whole item rule depth (in_type item rule types.Bound depth) (a_word ∷ []) (λ more. refl)
+from_type item rule types.Lifetime depth =
+    to_whole item rule depth (in_type item rule types.Lifetime depth) (a_word ∷ []) (λ more. refl)
+from_type item rule types.Argument depth =
+    to_whole item rule depth (in_type item rule types.Argument depth) (a_word ∷ []) (λ more. refl)
 from_type item rule types.MacroGroup depth =
     to_whole item rule depth (in_type item rule types.MacroGroup depth) (Parentheses ∷ []) (λ more. refl)
 from_type item rule types.Pointer depth =
-    to_whole item rule depth (in_type item rule types.Pointer depth) (Const ∷ Word ∷ []) (λ more. refl)
+    to_whole item rule depth (in_type item rule types.Pointer depth) (Keyword keywords.Const ∷ a_word ∷ [])
+    (λ more. refl)
 from_type item rule types.Tilde depth =
-    to_whole item rule depth (in_type item rule types.Tilde depth) (Const ∷ Word ∷ []) (λ more. refl)
+    to_whole item rule depth (in_type item rule types.Tilde depth) (Keyword keywords.Const ∷ a_word ∷ []) (λ more. refl)
 from_type item rule types.Abi depth =
-    to_whole item rule depth (in_type item rule types.Abi depth) (Word ∷ []) (λ more. refl)
+    to_whole item rule depth (in_type item rule types.Abi depth) (a_word ∷ []) (λ more. refl)
 from_type item rule types.Minus depth =
     to_whole item rule depth (in_type item rule types.Minus depth) (Literal ∷ []) (λ more. refl)
 from_type item rule types.For depth =
-    to_whole item rule depth (in_type item rule types.For depth) (Less ∷ Greater ∷ Word ∷ []) (λ more. refl)
+    to_whole item rule depth (in_type item rule types.For depth) (Less ∷ Greater ∷ a_word ∷ []) (λ more. refl)
 from_type item rule types.Binder depth =
-    to_whole item rule depth (in_type item rule types.Binder depth) (Greater ∷ Word ∷ []) (λ more. refl)
+    to_whole item rule depth (in_type item rule types.Binder depth) (Greater ∷ a_word ∷ []) (λ more. refl)
 from_type item rule types.Whole depth = whole item rule depth
 
+-- in the front of an item
+from_front : (item : Item) (rule : Rule) (front : Front) (depth : ℕ)
+    → GoesOn (at item rule (spots.Front front) depth)
+from_front item rule fronts.Auto depth =
+    to_end items.Trait depth _ (Keyword keywords.Trait ∷ a_word ∷ Braces ∷ []) (λ more. refl)
+from_front item rule fronts.Default depth = to_end items.Returning depth _ a_function (λ more. refl)
+from_front item rule fronts.DefaultUnsafe depth = to_end items.Returning depth _ a_function (λ more. refl)
+from_front item rule fronts.Safe depth = to_end items.Returning depth _ a_function (λ more. refl)
+from_front item rule fronts.Async depth = to_end items.Returning depth _ a_function (λ more. refl)
+from_front item rule fronts.Qualified depth = to_end items.Returning depth _ a_function (λ more. refl)
+from_front item rule fronts.Const depth = to_end items.Returning depth _ a_function (λ more. refl)
+from_front item rule fronts.ConstSafe depth = to_end items.Returning depth _ a_function (λ more. refl)
+from_front item rule fronts.Extern depth = to_end items.Returning depth _ a_function (λ more. refl)
+from_front item rule fronts.UnsafeExtern depth = to_end items.Returning depth _ a_function (λ more. refl)
+from_front item rule fronts.ExternAbi depth = to_end items.Returning depth _ a_function (λ more. refl)
+from_front item rule fronts.FunctionExtern depth = to_end items.Returning depth _ a_function (λ more. refl)
+from_front item rule fronts.FunctionAbi depth = to_end items.Returning depth _ a_function (λ more. refl)
+from_front item rule fronts.Unsafe depth = to_end items.Returning depth _ a_function (λ more. refl)
+from_front item rule fronts.Static depth =
+    led _ (at items.Static places.Alone spots.AfterGenerics depth) (a_word ∷ []) (λ more. refl)
+    (after_generics items.Static places.Alone depth)
+from_front item rule fronts.PlainName depth =
+    led _ (at item places.Alone spots.AfterGenerics depth) (a_word ∷ []) (λ more. refl)
+    (after_generics item places.Alone depth)
+from_front item rule (fronts.CallWord word) depth =
+    to_end items.Call depth _ (Exclamation ∷ Braces ∷ []) (λ more. refl)
+from_front item rule fronts.CallPath depth =
+    to_end items.Call depth _ (a_word ∷ Exclamation ∷ Braces ∷ []) (λ more. refl)
+from_front item rule fronts.CallName depth = to_end items.Call depth _ (Braces ∷ []) (λ more. refl)
+from_front item rule fronts.CallGroup depth = to_end items.Call depth _ (Braces ∷ []) (λ more. refl)
+from_front item rule fronts.MacroName depth = to_end items.Macro depth _ (a_word ∷ Braces ∷ []) (λ more. refl)
+from_front item rule fronts.MacroParameters depth = to_end items.Macro depth _ (Braces ∷ []) (λ more. refl)
+from_front item rule fronts.MacroBody depth = to_end items.Macro depth _ (Braces ∷ []) (λ more. refl)
+from_front item rule fronts.Impl depth =
+    led _ (in_type item places.Target types.Whole depth) (a_word ∷ []) (λ more. refl) (targeted item depth)
+from_front item rule fronts.ImplConst depth =
+    led _ (in_type item places.Target types.Whole depth) (a_word ∷ []) (λ more. refl) (targeted item depth)
+from_front item rule fronts.ImplNot depth =
+    led _ (in_type item places.Target types.Whole depth) (a_word ∷ []) (λ more. refl) (targeted item depth)
+from_front item rule fronts.ImplAngle depth =
+    led _ (at items.Impl places.Alone spots.AfterGenerics (depth - 1)) (Greater ∷ []) (λ more. refl)
+    (after_generics items.Impl places.Alone (depth - 1))
+from_front item rule fronts.ImplWord depth =
+    led _ (at items.Impl places.Alone spots.AfterGenerics (depth - 1)) (Greater ∷ []) (λ more. refl)
+    (after_generics items.Impl places.Alone (depth - 1))
+from_front item rule fronts.Use depth = to_end items.Use depth _ (a_word ∷ Semicolon ∷ []) (λ more. refl)
+from_front item rule fronts.UsePath depth = to_end items.Use depth _ (a_word ∷ Semicolon ∷ []) (λ more. refl)
+from_front item rule fronts.UseSegment depth = to_end items.Use depth _ (Semicolon ∷ []) (λ more. refl)
+from_front item rule fronts.CrateName depth =
+    to_end items.ExternCrate depth _ (a_word ∷ Semicolon ∷ []) (λ more. refl)
+from_front item rule fronts.CrateNamed depth = to_end item depth _ (Semicolon ∷ []) (λ more. refl)
+from_front item rule fronts.Rename depth = to_end item depth _ (a_word ∷ Semicolon ∷ []) (λ more. refl)
+from_front item rule fronts.UntilFirst depth = to_end item depth _ (a_word ∷ Semicolon ∷ []) (λ more. refl)
+from_front item rule fronts.Until depth = to_end item depth _ (Semicolon ∷ []) (λ more. refl)
+from_front item rule fronts.Semicolon depth = to_end item depth _ (Semicolon ∷ []) (λ more. refl)
+
+-- before what stands after attributes and a visibility
+visible : (part : Part) (item : Item) (rule : Rule) (depth : ℕ) → GoesOn (at item rule (spots.Visible part) depth)
+visible parts.Attributes item rule depth = here (at item rule (spots.Visible parts.Attributes) depth) refl
+visible parts.Visibility item rule depth = here (at item rule (spots.Visible parts.Visibility) depth) refl
+visible parts.Field item rule depth =
+    to_whole item rule depth (at item rule (spots.Visible parts.Field) depth) (a_word ∷ Colon ∷ a_word ∷ [])
+    (λ more. refl)
+visible parts.TupleField item rule depth =
+    to_whole item rule depth (at item rule (spots.Visible parts.TupleField) depth) (a_word ∷ []) (λ more. refl)
+visible parts.Variant item rule depth =
+    led (at item rule (spots.Visible parts.Variant) depth) (at item rule spots.VariantName depth) (a_word ∷ [])
+    (λ more. refl) (here (at item rule spots.VariantName depth) refl)
+visible parts.Parameter item rule depth =
+    to_close item depth (at item rule (spots.Visible parts.Parameter) depth) (Lifetime ∷ Greater ∷ []) (λ more. refl)
+visible parts.TypeItem item rule depth =
+    to_end items.Struct depth (at item rule (spots.Visible parts.TypeItem) depth)
+    (Keyword keywords.Struct ∷ a_word ∷ Semicolon ∷ []) (λ more. refl)
+visible parts.AnyItem item rule depth =
+    to_end items.Returning depth (at item rule (spots.Visible parts.AnyItem) depth) a_function (λ more. refl)
+
+public : (part : Part) (item : Item) (rule : Rule) (depth : ℕ) → GoesOn (at item rule (spots.Public part) depth)
+public part item rule depth =
+    led (at item rule (spots.Public part) depth) (at item rule (spots.Visible part) depth) (Restriction ∷ [])
+    (λ more. refl) (visible part item rule depth)
+
+to_public : (part : Part) (item : Item) (rule : Rule) (depth : ℕ) (place : Place)
+    → ((more : List Class) → walk step place (Keyword keywords.Pub ∷ more)
+    ≡ walk step (at item rule (spots.Public part) depth) more)
+    → GoesOn place
+to_public part item rule depth place leads =
+    led place (at item rule (spots.Public part) depth) (Keyword keywords.Pub ∷ []) leads (public part item rule depth)
+
+attributed : (part : Part) (item : Item) (rule : Rule) (depth : ℕ)
+    → GoesOn (at item rule (spots.Attributed part) depth)
+attributed parts.Attributes item rule depth = here (at item rule (spots.Attributed parts.Attributes) depth) refl
+attributed parts.Parameter item rule depth =
+    to_close item depth (at item rule (spots.Attributed parts.Parameter) depth) (Lifetime ∷ Greater ∷ [])
+    (λ more. refl)
+attributed parts.Visibility item rule depth =
+    to_public parts.Visibility item rule depth (at item rule (spots.Attributed parts.Visibility) depth) (λ more. refl)
+attributed parts.Field item rule depth =
+    to_public parts.Field item rule depth (at item rule (spots.Attributed parts.Field) depth) (λ more. refl)
+attributed parts.TupleField item rule depth =
+    to_public parts.TupleField item rule depth (at item rule (spots.Attributed parts.TupleField) depth) (λ more. refl)
+attributed parts.Variant item rule depth =
+    to_public parts.Variant item rule depth (at item rule (spots.Attributed parts.Variant) depth) (λ more. refl)
+attributed parts.TypeItem item rule depth =
+    to_public parts.TypeItem item rule depth (at item rule (spots.Attributed parts.TypeItem) depth) (λ more. refl)
+attributed parts.AnyItem item rule depth =
+    to_public parts.AnyItem item rule depth (at item rule (spots.Attributed parts.AnyItem) depth) (λ more. refl)
+
+hash : (part : Part) (item : Item) (rule : Rule) (depth : ℕ) → GoesOn (at item rule (spots.Hash part) depth)
+hash part item rule depth =
+    led (at item rule (spots.Hash part) depth) (at item rule (spots.Attributed part) depth) (Brackets ∷ [])
+    (λ more. refl) (attributed part item rule depth)
+
+to_hash : (part : Part) (item : Item) (rule : Rule) (depth : ℕ)
+    → ((more : List Class) → walk step (at item rule (spots.Before part) depth) (Hash ∷ more)
+    ≡ walk step (at item rule (spots.Hash part) depth) more)
+    → GoesOn (at item rule (spots.Before part) depth)
+to_hash part item rule depth leads =
+    led (at item rule (spots.Before part) depth) (at item rule (spots.Hash part) depth) (Hash ∷ []) leads
+    (hash part item rule depth)
+
+before : (part : Part) (item : Item) (rule : Rule) (depth : ℕ) → GoesOn (at item rule (spots.Before part) depth)
+before parts.Attributes item rule depth = to_hash parts.Attributes item rule depth (λ more. refl)
+before parts.Visibility item rule depth =
+    to_public parts.Visibility item rule depth (at item rule (spots.Before parts.Visibility) depth) (λ more. refl)
+before parts.Field item rule depth = to_hash parts.Field item rule depth (λ more. refl)
+before parts.TupleField item rule depth = to_hash parts.TupleField item rule depth (λ more. refl)
+before parts.Variant item rule depth = to_hash parts.Variant item rule depth (λ more. refl)
+before parts.Parameter item rule depth = to_hash parts.Parameter item rule depth (λ more. refl)
+before parts.TypeItem item rule depth = to_hash parts.TypeItem item rule depth (λ more. refl)
+before parts.AnyItem item rule depth = to_hash parts.AnyItem item rule depth (λ more. refl)
+
 from_spot : (item : Item) (rule : Rule) (spot : Spot) (depth : ℕ) → GoesOn (at item rule spot depth)
-from_spot item rule spots.Attributes depth = here (at item rule spots.Attributes depth) refl
-from_spot item rule spots.Visibility depth = here (at item rule spots.Visibility depth) refl
-from_spot item rule spots.Public depth = here (at item rule spots.Public depth) refl
-from_spot item rule spots.Restricted depth = here (at item rule spots.Restricted depth) refl
+from_spot item rule (spots.Before part) depth = before part item rule depth
+from_spot item rule (spots.Hash part) depth = hash part item rule depth
+from_spot item rule (spots.Attributed part) depth = attributed part item rule depth
+from_spot item rule (spots.Public part) depth = public part item rule depth
+from_spot item rule (spots.Visible part) depth = visible part item rule depth
+from_spot item rule (spots.Front front) depth = from_front item rule front depth
+from_spot item rule spots.Inner depth = here (at item rule spots.Inner depth) refl
+from_spot item rule spots.InnerHash depth =
+    led (at item rule spots.InnerHash depth) (at item places.Alone spots.Inner depth) (Brackets ∷ []) (λ more. refl)
+    (here (at item places.Alone spots.Inner depth) refl)
 from_spot item rule spots.ItemEnd depth = here (at item rule spots.ItemEnd depth) refl
-from_spot item rule spots.AttributeHash depth =
-    led (at item rule spots.AttributeHash depth) (at item rule spots.Attributes depth) (Brackets ∷ []) (λ more. refl)
-    (here (at item rule spots.Attributes depth) refl)
-from_spot item rule spots.Field depth =
-    to_whole item rule depth (at item rule spots.Field depth) (Word ∷ Colon ∷ Word ∷ []) (λ more. refl)
-from_spot item rule spots.FieldHash depth =
-    to_whole item rule depth (at item rule spots.FieldHash depth) (Brackets ∷ Word ∷ Colon ∷ Word ∷ []) (λ more. refl)
-from_spot item rule spots.FieldAttributed depth =
-    to_whole item rule depth (at item rule spots.FieldAttributed depth) (Word ∷ Colon ∷ Word ∷ []) (λ more. refl)
-from_spot item rule spots.FieldPublic depth =
-    to_whole item rule depth (at item rule spots.FieldPublic depth) (Word ∷ Colon ∷ Word ∷ []) (λ more. refl)
-from_spot item rule spots.FieldVisible depth =
-    to_whole item rule depth (at item rule spots.FieldVisible depth) (Word ∷ Colon ∷ Word ∷ []) (λ more. refl)
 from_spot item rule spots.FieldName depth =
-    to_whole item rule depth (at item rule spots.FieldName depth) (Colon ∷ Word ∷ []) (λ more. refl)
-from_spot item rule spots.TupleField depth =
-    to_whole item rule depth (at item rule spots.TupleField depth) (Word ∷ []) (λ more. refl)
-from_spot item rule spots.TupleHash depth =
-    to_whole item rule depth (at item rule spots.TupleHash depth) (Brackets ∷ Word ∷ []) (λ more. refl)
-from_spot item rule spots.TupleAttributed depth =
-    to_whole item rule depth (at item rule spots.TupleAttributed depth) (Word ∷ []) (λ more. refl)
-from_spot item rule spots.TuplePublic depth =
-    to_whole item rule depth (at item rule spots.TuplePublic depth) (Word ∷ []) (λ more. refl)
+    to_whole item rule depth (at item rule spots.FieldName depth) (Colon ∷ a_word ∷ []) (λ more. refl)
 from_spot item rule spots.ConstName depth =
-    to_whole item places.ConstParameter depth (at item rule spots.ConstName depth) (Word ∷ Colon ∷ Word ∷ [])
+    to_whole item places.ConstParameter depth (at item rule spots.ConstName depth) (a_word ∷ Colon ∷ a_word ∷ [])
     (λ more. refl)
 from_spot item rule spots.ConstColon depth =
-    to_whole item places.ConstParameter depth (at item rule spots.ConstColon depth) (Colon ∷ Word ∷ []) (λ more. refl)
+    to_whole item places.ConstParameter depth (at item rule spots.ConstColon depth) (Colon ∷ a_word ∷ []) (λ more. refl)
 from_spot item rule spots.Generics depth =
     to_close item depth (at item rule spots.Generics depth) (Less ∷ Greater ∷ []) (λ more. refl)
-from_spot item rule spots.Parameter depth =
-    to_close item depth (at item rule spots.Parameter depth) (Greater ∷ []) (λ more. refl)
-from_spot item rule spots.ParameterHash depth =
-    to_close item depth (at item rule spots.ParameterHash depth) (Brackets ∷ Lifetime ∷ Greater ∷ []) (λ more. refl)
-from_spot item rule spots.ParameterAttributed depth =
-    to_close item depth (at item rule spots.ParameterAttributed depth) (Lifetime ∷ Greater ∷ []) (λ more. refl)
 from_spot item rule spots.LifetimeName depth =
     to_close item depth (at item rule spots.LifetimeName depth) (Greater ∷ []) (λ more. refl)
 from_spot item rule spots.TypeName depth =
@@ -267,66 +463,40 @@ from_spot item rule spots.ConstEnd depth =
     to_close item depth (at item rule spots.ConstEnd depth) (Greater ∷ []) (λ more. refl)
 from_spot item rule spots.AfterGenerics depth = after_generics item rule depth
 from_spot item rule spots.Where depth =
-    led (at item rule spots.Where depth) (at item places.Alone spots.Predicate depth) (Where ∷ []) (λ more. refl)
-    (predicate item places.Alone depth)
+    led (at item rule spots.Where depth) (at item places.Alone spots.Predicate depth) (Keyword keywords.Where ∷ [])
+    (λ more. refl) (predicate item places.Alone depth)
 from_spot item rule spots.Predicate depth = predicate item rule depth
-from_spot item rule spots.Item depth =
-    to_end depth (at item rule spots.Item depth) (Struct ∷ Word ∷ Semicolon ∷ []) (λ more. refl)
-from_spot item rule spots.ItemHash depth =
-    to_end depth (at item rule spots.ItemHash depth) (Brackets ∷ Struct ∷ Word ∷ Semicolon ∷ []) (λ more. refl)
-from_spot item rule spots.ItemPublic depth =
-    to_end depth (at item rule spots.ItemPublic depth) (Struct ∷ Word ∷ Semicolon ∷ []) (λ more. refl)
-from_spot item rule spots.ItemVisible depth =
-    to_end depth (at item rule spots.ItemVisible depth) (Struct ∷ Word ∷ Semicolon ∷ []) (λ more. refl)
-from_spot item rule spots.StructName depth =
-    to_end depth (at item rule spots.StructName depth) (Word ∷ Semicolon ∷ []) (λ more. refl)
-from_spot item rule spots.BracedName depth =
-    to_end depth (at item rule spots.BracedName depth) (Word ∷ Braces ∷ []) (λ more. refl)
+from_spot item rule spots.Name depth =
+    to_close item depth (at item rule spots.Name depth) (a_word ∷ Less ∷ Greater ∷ []) (λ more. refl)
 from_spot item rule spots.ExpressionOpen depth = here (at item rule spots.ExpressionOpen depth) refl
 from_spot item rule spots.ExpressionWhole depth = here (at item rule spots.ExpressionWhole depth) refl
 from_spot item rule spots.CastWhole depth = here (at item rule spots.CastWhole depth) refl
 from_spot item rule spots.Expression depth =
-    led (at item rule spots.Expression depth) (at item places.Alone spots.ExpressionWhole depth) (Word ∷ [])
+    led (at item rule spots.Expression depth) (at item places.Alone spots.ExpressionWhole depth) (a_word ∷ [])
     (λ more. refl)
     (here (at item places.Alone spots.ExpressionWhole depth) refl)
 from_spot item rule spots.ExpressionLess depth =
-    led (at item rule spots.ExpressionLess depth) (at item places.Alone spots.ExpressionWhole depth) (Word ∷ [])
+    led (at item rule spots.ExpressionLess depth) (at item places.Alone spots.ExpressionWhole depth) (a_word ∷ [])
     (λ more. refl)
     (here (at item places.Alone spots.ExpressionWhole depth) refl)
 from_spot item rule spots.ExpressionDot depth =
-    led (at item rule spots.ExpressionDot depth) (at item places.Alone spots.ExpressionWhole depth) (Word ∷ [])
+    led (at item rule spots.ExpressionDot depth) (at item places.Alone spots.ExpressionWhole depth) (a_word ∷ [])
     (λ more. refl)
     (here (at item places.Alone spots.ExpressionWhole depth) refl)
 from_spot item rule spots.ExpressionHash depth =
     led (at item rule spots.ExpressionHash depth) (at item places.Alone spots.ExpressionWhole depth)
-    (Brackets ∷ Word ∷ []) (λ more. refl)
+    (Brackets ∷ a_word ∷ []) (λ more. refl)
     (here (at item places.Alone spots.ExpressionWhole depth) refl)
 from_spot item rule spots.ExpressionRange depth =
     led (at item rule spots.ExpressionRange depth) (at item places.Alone spots.ExpressionOpen depth)
     (Dot ∷ []) (λ more. refl)
     (here (at item places.Alone spots.ExpressionOpen depth) refl)
 from_spot item rule spots.Cast depth =
-    led (at item rule spots.Cast depth) (at item places.Alone spots.CastWhole depth) (Word ∷ []) (λ more. refl)
+    led (at item rule spots.Cast depth) (at item places.Alone spots.CastWhole depth) (a_word ∷ []) (λ more. refl)
     (here (at item places.Alone spots.CastWhole depth) refl)
 from_spot item rule spots.Closure depth = closure item rule depth
-from_spot item rule spots.VariantAttributed depth =
-    led (at item rule spots.VariantAttributed depth) (at item rule spots.VariantName depth) (Word ∷ []) (λ more. refl)
-    (here (at item rule spots.VariantName depth) refl)
 from_spot item rule spots.VariantName depth = here (at item rule spots.VariantName depth) refl
 from_spot item rule spots.VariantEnd depth = here (at item rule spots.VariantEnd depth) refl
-from_spot item rule spots.Variant depth =
-    led (at item rule spots.Variant depth) (at item rule spots.VariantName depth) (Word ∷ []) (λ more. refl)
-    (here (at item rule spots.VariantName depth) refl)
-from_spot item rule spots.VariantHash depth =
-    led (at item rule spots.VariantHash depth) (at item rule spots.VariantName depth) (Brackets ∷ Word ∷ [])
-    (λ more. refl)
-    (here (at item rule spots.VariantName depth) refl)
-from_spot item rule spots.VariantPublic depth =
-    led (at item rule spots.VariantPublic depth) (at item rule spots.VariantName depth) (Word ∷ []) (λ more. refl)
-    (here (at item rule spots.VariantName depth) refl)
-from_spot item rule spots.VariantVisible depth =
-    led (at item rule spots.VariantVisible depth) (at item rule spots.VariantName depth) (Word ∷ []) (λ more. refl)
-    (here (at item rule spots.VariantName depth) refl)
 
 from_state : (item : Item) (rule : Rule) (state : State) (depth : ℕ)
     → GoesOn (record { item = item; rule = rule; state = state; depth = depth })

@@ -1,19 +1,22 @@
 -- From walks over signs to what is read of trees.
-use Rattle.std.proofs.Common.{◌≡◌, refl, sym, ◌∙◌, ap, subst, ℕ, ◌+◌, ◌≤◌, true, false, List, [], ◌∷◌, ◌++◌, Some}
+use Rattle.std.proofs.Common.{◌≡◌, refl, sym, ◌∙◌, ap, subst, ℕ, ◌+◌, ◌≤◌, ◌<◌, Bool, true, false, List, [], ◌∷◌, ◌++◌}
+use Rattle.std.proofs.Common.{Option, Some, None, cond}
 use Rattle.std.proofs.Common.{drop, length, arith, append_assoc, append-nil}
 use Rattle.std.proofs.lemmas.List.{append_cancel_left, append_cancel_right, length-append}
 use Rattle.std.proofs.Math.Seq.{drop-append_seam}
+use Rattle.pm_token.specs.Leaf.{Name}
 use Rattle.pm_stream.specs.declared.stream.TokenTree.{TokenTree}
+use Rattle.pm_stream.specs.declared.stream.TokenTree.TheVariants.{Group, Ident, Punct, Literal}
 use Rattle.declarations.proofs.WalkLemmas.{after, walk-append, walk-cons, one_walk, not_found, not_found-end}
 use Rattle.declarations.proofs.WalkLemmas.{none_stands, is_front, no_front}
 use Rattle.declarations.proofs.PlaceLemmas.{goes_on}
-use Rattle.declarations.specs.Reading.{Reads, FaultAt, IsOnly, StopsBefore}
+use Rattle.declarations.specs.Reading.{Reads, FaultAt, IsOnly, StopsBefore, Walked, first_name, name_of, named}
 use Rattle.declarations.specs.Signs.{Sign, signs, classes_of, trees_of, BeginsWith}
 use Rattle.declarations.specs.Forms.{IsFrom}
-use Rattle.declarations.specs.Grammar.{step, ends}
+use Rattle.declarations.specs.Grammar.{step, ends, names}
 use Rattle.declarations.specs.Walk.{walk, Stops}
 use Rattle.declarations.specs.declared.class.Class.{Class}
-use Rattle.declarations.specs.declared.grammar.Place.{Place}
+use Rattle.declarations.specs.declared.place.Place.{Place}
 
 pub classes-append : (front back : List Sign) → classes_of (front ++ back) ≡ classes_of front ++ classes_of back
 classes-append [] back = refl
@@ -37,26 +40,61 @@ same_front (a ∷ p) (b ∷ q) r s whole same =
     let more = same_front p q r s rest classes in
     cc
 
--- where the signs were walked over up to a place
-pub record Walked (start : Place) (trees left : List TokenTree) (place : Place) : Type 0 where
-  pub front : List Sign
-  pub read : signs trees ≡ front ++ signs left
-  pub whole : trees ≡ trees_of front ++ left
-  pub walks : walk step start (classes_of front) ≡ Some place
+-- the first of the trees of a sign
+front_name : (trees front rest : List TokenTree) → trees ≡ front ++ rest → length rest < length trees
+    → first_name front ≡ first_name trees
+front_name trees [] rest whole fewer =
+    let same : length trees ≡ length rest = ap length whole in
+    absurd (omega arith)
+front_name trees (Group g ∷ front) rest whole fewer = rw whole refl
+front_name trees (Ident i ∷ front) rest whole fewer = rw whole refl
+front_name trees (Punct p ∷ front) rest whole fewer = rw whole refl
+front_name trees (Literal l ∷ front) rest whole fewer = rw whole refl
+
+pub first_of : (begins : Bool) (trees before : List TokenTree)
+    → first_name (cond begins trees before) ≡ cond begins (first_name trees) (first_name before)
+first_of true trees before = refl
+first_of false trees before = refl
+
+-- the name after one sign more
+name-snoc : (start place next : Place) (name : Option Name) (front : List Sign) (sign : Sign)
+    → walk step start (classes_of front) ≡ Some place → step place sign.class ≡ Some next
+    → name_of start name (front ++ sign ∷ [])
+    ≡ named place sign.class sign.trees (name_of start name front)
+name-snoc start place next name [] sign walks steps =
+    let same : start ≡ place = cc in
+    let here : step start sign.class ≡ Some next = subst (λ p. step p sign.class ≡ Some next) (sym same) steps in
+    subst (λ o. (elim o as (λ x. Option Name) [
+      | None ↦ name
+      | Some n ↦ named start sign.class sign.trees name
+    ]) ≡ named place sign.class sign.trees name) (sym here) (ap (λ p. named p sign.class sign.trees name) same)
+name-snoc start place next name (first ∷ front) sign walks steps =
+    elim (step start first.class) as (λ o.
+    (elim o as (λ x. Option Place) [ None ↦ None | Some n ↦ walk step n (classes_of front) ]) ≡ Some place
+    → (elim o as (λ x. Option Name) [
+      | None ↦ name
+      | Some n ↦ name_of n (named start first.class first.trees name) (front ++ sign ∷ [])
+    ]) ≡ named place sign.class sign.trees (elim o as (λ x. Option Name) [
+      | None ↦ name
+      | Some n ↦ name_of n (named start first.class first.trees name) front
+    ])) [
+      | None ↦ λ h. cc
+      | Some n ↦ λ h. name-snoc n place next (named start first.class first.trees name) front sign h steps
+    ] walks
 
 -- with room for the depth to grow
-pub record Walking (start : Place) (trees left : List TokenTree) (place : Place) : Type 0 where
-  pub walked : Walked start trees left place
+pub record Walking (start : Place) (trees left named : List TokenTree) (place : Place) : Type 0 where
+  pub walked : Walked start trees left place (first_name named)
   pub room : place.depth + length left ≤ length trees
 
-pub walked-none : (start : Place) (trees : List TokenTree) → Walked start trees trees start
-walked-none start trees = record { front = []; read = refl; whole = refl; walks = refl }
+pub walked-none : (start : Place) (trees : List TokenTree) → Walked start trees trees start None
+walked-none start trees = record { front = []; read = refl; whole = refl; walks = refl; takes = refl }
 
 -- and one sign further
-pub walked-more : (start : Place) (trees left : List TokenTree) (place next : Place) (class : Class)
-    (rest : List TokenTree) → Walked start trees left place → BeginsWith left class rest → step place class ≡ Some next
-    → Walked start trees rest next
-walked-more start trees left place next class rest walked begins steps =
+pub walked-more : (start : Place) (trees left : List TokenTree) (place next : Place) (name : Option Name)
+    (class : Class) (rest : List TokenTree) → Walked start trees left place name → BeginsWith left class rest
+    → step place class ≡ Some next → Walked start trees rest next (named place class left name)
+walked-more start trees left place next name class rest walked begins steps =
     let sign : Sign = record { class = class; trees = begins.front } in
     let front : List Sign = walked.front ++ sign ∷ [] in
     let read : signs trees ≡ front ++ signs rest =
@@ -73,7 +111,12 @@ walked-more start trees left place next class rest walked begins steps =
     ∙ walk-append step start (classes_of walked.front) (class ∷ [])
     ∙ ap (λ o. after step o (class ∷ [])) walked.walks
     ∙ walk-cons step place class [] ∙ ap (λ o. after step o []) steps in
-    record { front = front; read = read; whole = whole; walks = walks }
+    let takes : named place class left name ≡ name_of start None front =
+    ap (named place class left) walked.takes
+    ∙ ap (λ n. cond (names place class) n (name_of start None walked.front))
+    (sym (front_name left begins.front rest begins.whole begins.fewer))
+    ∙ sym (name-snoc start place next None walked.front sign walked.walks steps) in
+    record { front = front; read = read; whole = whole; walks = walks; takes = takes }
 
 -- what follows fronts of one length is the same
 same_back : {A : Type 0} → (a b x y : List A) → a ++ x ≡ b ++ y → length x ≡ length y → x ≡ y
@@ -84,11 +127,10 @@ same_back a b x y whole same =
     sym (drop-append_seam a x) ∙ ap (λ n. drop n (a ++ x)) count ∙ ap (drop (length b)) whole ∙ drop-append_seam b y
 
 -- something is read where the walk may end
-pub split_read : (start : Place) (trees left part rest : List TokenTree) (place : Place)
-    → Walking start trees left place → ends place ≡ true → Stops step place (classes_of (signs left))
+pub split_read : {name : Option Name} → (start : Place) (trees left part rest : List TokenTree) (place : Place)
+    → Walked start trees left place name → ends place ≡ true → Stops step place (classes_of (signs left))
     → trees ≡ part ++ rest → length rest ≡ length left → Reads (IsFrom start) trees part rest
-split_read start trees left part rest place walking ended stops whole counted =
-    let walked = walking.walked in
+split_read start trees left part rest place walked ended stops whole counted =
     let same : left ≡ rest =
     same_back (trees_of walked.front) part left rest (sym walked.whole ∙ whole) (sym counted) in
     record {
@@ -104,6 +146,15 @@ split_read start trees left part rest place walking ended stops whole counted =
         stops = subst (λ ts. Stops step place (classes_of (signs ts))) same stops;
       };
     }
+
+-- what the walk ended at is told of what follows
+pub split_told : (start : Place) (trees left part rest : List TokenTree) (place : Place) (name : Option Name)
+    → Walked start trees left place name → trees ≡ part ++ rest → length rest ≡ length left
+    → Walked start trees rest place name
+split_told start trees left part rest place name walked whole counted =
+    let same : left ≡ rest =
+    same_back (trees_of walked.front) part left rest (sym walked.whole ∙ whole) (sym counted) in
+    subst (λ ts. Walked start trees ts place name) same walked
 
 pub split_only : (start : Place) (trees part rest : List TokenTree) → Reads (IsFrom start) trees part rest
     → IsOnly (IsFrom start) trees part rest
@@ -121,17 +172,17 @@ split_only start trees part rest here part2 rest2 there =
     (parts, rests)
 
 -- a fault is where the walk can't go on, and may not end
-nothing_read : (start : Place) (trees left : List TokenTree) (place : Place) (after : List Class)
-    → (walked : Walked start trees left place) → ends place ≡ false → Stops step place after
+nothing_read : (start : Place) (trees left : List TokenTree) (place : Place) (name : Option Name) (after : List Class)
+    → (walked : Walked start trees left place name) → ends place ≡ false → Stops step place after
     → classes_of (signs left) ≡ after
     → (part rest : List TokenTree) → Reads (IsFrom start) trees part rest → ⊥
-nothing_read start trees left place [] walked wrong stops is part rest reads =
+nothing_read start trees left place name [] walked wrong stops is part rest reads =
     none_stands step ends start (classes_of walked.front) (classes_of reads.piece) (classes_of (signs rest))
     (not_found-end step ends start place (classes_of walked.front) walked.walks wrong)
     (sym (ap (λ cs. classes_of walked.front ++ cs) is ∙ append-nil (classes_of walked.front))
     ∙ sym (classes-append walked.front (signs left)) ∙ ap classes_of (sym walked.read ∙ reads.read)
     ∙ classes-append reads.piece (signs rest)) reads.stands
-nothing_read start trees left place (class ∷ more) walked wrong stops is part rest reads =
+nothing_read start trees left place name (class ∷ more) walked wrong stops is part rest reads =
     none_stands step ends start (classes_of walked.front ++ class ∷ more) (classes_of reads.piece)
     (classes_of (signs rest))
     (not_found step ends start place (classes_of walked.front) class more walked.walks wrong stops)
@@ -146,11 +197,10 @@ no_longer start place front [] walks wrong stops = tt
 no_longer start place front (class ∷ after) walks wrong stops =
     no_front step ends start place front class walks wrong stops
 
-pub split_fault : (start : Place) (trees left : List TokenTree) (place : Place) (at : ℕ)
-    → Walking start trees left place → ends place ≡ false → Stops step place (classes_of (signs left))
+pub split_fault : {name : Option Name} → (start : Place) (trees left : List TokenTree) (place : Place) (at : ℕ)
+    → Walked start trees left place name → ends place ≡ false → Stops step place (classes_of (signs left))
     → at + length left ≡ length trees → FaultAt (IsFrom start) trees at
-split_fault start trees left place at walking wrong stops counted =
-    let walked = walking.walked in
+split_fault start trees left place at walked wrong stops counted =
     let sum = ap length walked.whole ∙ length-append (trees_of walked.front) left in
     record {
       front = walked.front;
@@ -162,5 +212,5 @@ split_fault start trees left place at walking wrong stops counted =
           is_front step ends start place goes.final (classes_of walked.front) goes.more
           walked.walks goes.walks goes.ended;
       longest = no_longer start place (classes_of walked.front) (classes_of (signs left)) walked.walks wrong stops;
-      nothing = nothing_read start trees left place (classes_of (signs left)) walked wrong stops refl;
+      nothing = nothing_read start trees left place _ (classes_of (signs left)) walked wrong stops refl;
     }

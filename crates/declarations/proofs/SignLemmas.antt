@@ -1,23 +1,25 @@
 -- How trees begin with a sign.
 use Rattle.std.proofs.Common.{◌≡◌, refl, sym, ◌∙◌, ap, suc, ◌==◌, Bool, false, List, [], ◌∷◌, Option, Some, None}
-use Rattle.std.proofs.Common.{length, arith}
+use Rattle.std.proofs.Common.{◌++◌, length, arith}
 use Rattle.std.proofs.lemmas.Bool.Decides.{nat_tests}
 use Rattle.pm_token.specs.Leaf.{Name}
 use Rattle.pm_stream.specs.Forest.{Forest}
 use Rattle.pm_stream.specs.Size.{is_nil}
 use Rattle.pm_stream.specs.Trees.{forest}
+use Rattle.pm_stream.specs.declared.stream.Group.{Group as Grouped}
 use Rattle.pm_stream.specs.declared.stream.TokenTree.{TokenTree}
 use Rattle.pm_stream.specs.declared.stream.TokenTree.TheVariants.{Group, Ident, Punct, Literal}
 use Rattle.declarations.specs.Signs.{Sign, signs, signs_after, pair_class, tree_class, BeginsWith, is_restriction}
-use Rattle.declarations.specs.Signs.{restricts}
+use Rattle.declarations.specs.Signs.{classes_of, trees_of}
+use Rattle.declarations.specs.Signs.{is_pub, is_visibility, may_restrict, restricts, restricts_in}
 use Rattle.declarations.specs.declared.class.Class.{Class}
 
 -- the signs of trees, by whether the first two are read as one
-abbrev paired : Option Class → TokenTree → TokenTree → List TokenTree → List Sign
+abbrev pub paired : Option Class → TokenTree → TokenTree → List TokenTree → List Sign
 paired None first second after = record { class = tree_class first; trees = first ∷ [] } ∷ signs (second ∷ after)
 paired (Some class) first second after = record { class = class; trees = first ∷ second ∷ [] } ∷ signs after
 
-signs-cons : (first second : TokenTree) (after : List TokenTree)
+pub signs-cons : (first second : TokenTree) (after : List TokenTree)
     → signs (first ∷ second ∷ after) ≡ paired (pair_class first second) first second after
 signs-cons first second after =
     elim (pair_class first second) as (λ o. (elim o as (λ x. List Sign) [
@@ -83,3 +85,81 @@ restriction_first stream trees first rest ident alone held whole is none =
     let all : stream ≡ forest (Ident ident ∷ rest) = sym held ∙ ap forest whole ∙ ap (λ f. forest (f ∷ rest)) is in
     let nil_rest : is_nil (forest rest) ≡ alone = nil_forest rest ∙ sym none in
     ap (λ a. restricts ident a) (sym nil_rest) ∙ ap is_restriction (sym all)
+
+-- ---- trees of signs
+
+abbrev with_first : Option TokenTree → List TokenTree → List TokenTree
+with_first None trees = trees
+with_first (Some first) trees = first ∷ trees
+
+trees_after : (first : Option TokenTree) (trees : List TokenTree)
+    → trees_of (signs_after first trees) ≡ with_first first trees
+trees_after None [] = refl
+trees_after None (tree ∷ rest) = trees_after (Some tree) rest
+trees_after (Some first) [] = refl
+trees_after (Some first) (tree ∷ rest) =
+    elim (pair_class first tree) as (λ o. trees_of (elim o as (λ x. List Sign) [
+      | None ↦ record { class = tree_class first; trees = first ∷ [] } ∷ signs_after (Some tree) rest
+      | Some class ↦ record { class = class; trees = first ∷ tree ∷ [] } ∷ signs_after None rest
+    ]) ≡ first ∷ tree ∷ rest) [
+      | None ↦ ap (λ ts. first ∷ ts) (trees_after (Some tree) rest)
+      | Some class ↦ ap (λ ts. first ∷ tree ∷ ts) (trees_after None rest)
+    ]
+
+-- each tree is in one of the signs
+pub trees_of-signs : (trees : List TokenTree) → trees_of (signs trees) ≡ trees
+trees_of-signs trees = trees_after None trees
+
+none_of : (all : List Sign) → classes_of all ≡ [] → all ≡ []
+none_of [] none = refl
+none_of (sign ∷ all) none = cc
+
+pub no_signs : (trees : List TokenTree) → classes_of (signs trees) ≡ [] → trees ≡ []
+no_signs trees none =
+    sym (trees_of-signs trees) ∙ ap trees_of (none_of (signs trees) none)
+
+-- the trees after the first sign
+pub record Behind (trees : List TokenTree) (sign : Sign) (after : List Sign) : Type 0 where
+  pub rest : List TokenTree
+  pub whole : trees ≡ sign.trees ++ rest
+  pub read : signs rest ≡ after
+
+pub behind_first : (trees : List TokenTree) (sign : Sign) (after : List Sign) → signs trees ≡ sign ∷ after
+    → Behind trees sign after
+behind_first [] sign after read = cc
+behind_first (first ∷ []) sign after read =
+    let one : Sign = record { class = tree_class first; trees = first ∷ [] } in
+    let is : one ≡ sign = cc in
+    let none : [] ≡ after = cc in
+    record { rest = []; whole = ap (λ s. s.trees ++ []) is; read = none }
+behind_first (first ∷ second ∷ rest) sign after read =
+    elim (pair_class first second) as (λ o. paired o first second rest ≡ sign ∷ after
+    → Behind (first ∷ second ∷ rest) sign after) [
+      | None ↦ λ h.
+          let one : Sign = record { class = tree_class first; trees = first ∷ [] } in
+          let is : one ≡ sign = cc in
+          let more : signs (second ∷ rest) ≡ after = cc in
+          record { rest = second ∷ rest; whole = ap (λ s. s.trees ++ second ∷ rest) is; read = more }
+      | Some class ↦ λ h.
+          let two : Sign = record { class = class; trees = first ∷ second ∷ [] } in
+          let is : two ≡ sign = cc in
+          let more : signs rest ≡ after = cc in
+          record { rest = rest; whole = ap (λ s. s.trees ++ rest) is; read = more }
+    ] (sym (signs-cons first second rest) ∙ read)
+
+-- ---- groups without delimiters
+
+pub visibility_first : (stream : Forest) (trees : List TokenTree) (first : TokenTree) (rest : List TokenTree)
+    (ident : Name) → forest trees ≡ stream → trees ≡ first ∷ rest → first ≡ Ident ident
+    → is_pub ident (may_restrict (forest rest)) ≡ is_visibility stream
+visibility_first stream trees first rest ident held whole is =
+    let all : stream ≡ forest (Ident ident ∷ rest) = sym held ∙ ap forest whole ∙ ap (λ f. forest (f ∷ rest)) is in
+    ap is_visibility (sym all)
+
+pub restricting_first : (trees : List TokenTree) (first : TokenTree) (rest : List TokenTree) (g : Grouped)
+    (last : Bool) → trees ≡ first ∷ rest → first ≡ Group g → last ≡ (length rest == 0)
+    → restricts_in g.delimiter g.stream last ≡ may_restrict (forest trees)
+restricting_first trees first rest g last whole is none =
+    let all : forest trees ≡ forest (Group g ∷ rest) = ap forest whole ∙ ap (λ f. forest (f ∷ rest)) is in
+    let nil_rest : is_nil (forest rest) ≡ last = nil_forest rest ∙ sym none in
+    ap (λ l. restricts_in g.delimiter g.stream l) (sym nil_rest) ∙ ap may_restrict (sym all)

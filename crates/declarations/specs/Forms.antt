@@ -3,13 +3,14 @@ use Rattle.std.specs.Prelude.{List}
 use Rattle.declarations.specs.Grammar.{step, ends}
 use Rattle.declarations.specs.Walk.{IsWalk}
 use Rattle.declarations.specs.declared.class.Class.{Class}
-use Rattle.declarations.specs.declared.grammar.Item.TheVariants as items
-use Rattle.declarations.specs.declared.grammar.Place.{Place}
-use Rattle.declarations.specs.declared.grammar.Rule.TheVariants as rules
-use Rattle.declarations.specs.declared.grammar.Rule.{Rule}
-use Rattle.declarations.specs.declared.grammar.State.{State}
-use Rattle.declarations.specs.declared.grammar.State.TheVariants as states
-use Rattle.declarations.specs.declared.grammar.Spot.TheVariants as spots
+use Rattle.declarations.specs.declared.place.Item.TheVariants as items
+use Rattle.declarations.specs.declared.place.Part.TheVariants as parts
+use Rattle.declarations.specs.declared.place.Place.{Place}
+use Rattle.declarations.specs.declared.place.Rule.TheVariants as rules
+use Rattle.declarations.specs.declared.place.Rule.{Rule}
+use Rattle.declarations.specs.declared.place.State.{State}
+use Rattle.declarations.specs.declared.place.State.TheVariants as states
+use Rattle.declarations.specs.declared.place.Spot.TheVariants as spots
 use Rattle.declarations.specs.declared.types.TypeState.TheVariants as types
 
 -- what is read from a place on
@@ -25,39 +26,45 @@ IsType = IsFrom (start rules.Alone (states.Range types.Wanted))
 
 -- bounds, which may be none
 abbrev pub AreBounds : List Class → List Class → Type 0
-AreBounds = IsFrom (start rules.Alone (states.Range types.Open))
+AreBounds = IsFrom (start rules.Alone (states.Range types.Bound))
 
 -- attributes, any number of `#` and brackets
 abbrev pub AreAttributes : List Class → List Class → Type 0
-AreAttributes = IsFrom (start rules.Alone (states.At spots.Attributes))
+AreAttributes = IsFrom (start rules.Alone (states.At (spots.Before parts.Attributes)))
 
 -- `pub`, perhaps with a restriction, or nothing
 abbrev pub IsVisibility : List Class → List Class → Type 0
-IsVisibility = IsFrom (start rules.Alone (states.At spots.Visibility))
+IsVisibility = IsFrom (start rules.Alone (states.At (spots.Before parts.Visibility)))
 
 -- a field: attributes, a visibility, a name, `:` and a type
 abbrev pub IsField : List Class → List Class → Type 0
-IsField = IsFrom (start rules.Alone (states.At spots.Field))
+IsField = IsFrom (start rules.Alone (states.At (spots.Before parts.Field)))
 
 -- a field without a name: attributes, a visibility and a type
 abbrev pub IsTupleField : List Class → List Class → Type 0
-IsTupleField = IsFrom (start rules.Alone (states.At spots.TupleField))
+IsTupleField = IsFrom (start rules.Alone (states.At (spots.Before parts.TupleField)))
 
 -- fields, with `,` between two and perhaps after the last
 abbrev pub AreFields : List Class → List Class → Type 0
-AreFields = IsFrom (start rules.Fields (states.At spots.Field))
+AreFields = IsFrom (start rules.Fields (states.At (spots.Before parts.Field)))
 
 -- fields without names, with `,` between two and perhaps after the last
 abbrev pub AreTupleFields : List Class → List Class → Type 0
-AreTupleFields = IsFrom (start rules.TupleFields (states.At spots.TupleField))
+AreTupleFields = IsFrom (start rules.TupleFields (states.At (spots.Before parts.TupleField)))
 
 -- a variant: attributes, a visibility, a name, and perhaps its fields, and its discriminant
 abbrev pub IsVariant : List Class → List Class → Type 0
-IsVariant = IsFrom (start rules.Alone (states.At spots.Variant))
+IsVariant = IsFrom (start rules.Alone (states.At (spots.Before parts.Variant)))
 
 -- variants, with `,` between two and perhaps after the last
 abbrev pub AreVariants : List Class → List Class → Type 0
-AreVariants = IsFrom (record { item = items.Variants; rule = rules.Alone; state = states.At spots.Variant; depth = 0 })
+AreVariants =
+    IsFrom (record {
+      item = items.Variants;
+      rule = rules.Alone;
+      state = states.At (spots.Before parts.Variant);
+      depth = 0;
+    })
 
 -- the expression of a discriminant, whose end alone is read
 abbrev pub IsExpression : List Class → List Class → Type 0
@@ -73,4 +80,15 @@ IsWhere = IsFrom (start rules.Alone (states.At spots.Where))
 
 -- a struct, an enum or a union: attributes, a visibility, its keyword and name, generics, where clause and body
 abbrev pub IsItem : List Class → List Class → Type 0
-IsItem = IsFrom (start rules.Alone (states.At spots.Item))
+IsItem = IsFrom (start rules.Alone (states.At (spots.Before parts.TypeItem)))
+
+-- inner attributes, any number of `#!` and brackets
+abbrev pub AreInnerAttributes : List Class → List Class → Type 0
+AreInnerAttributes = IsFrom (start rules.Alone (states.At spots.Inner))
+
+-- any item: what it begins with, its name, header and body, or a group without delimiters
+abbrev pub any_item : Place
+any_item = start rules.Alone (states.At (spots.Before parts.AnyItem))
+
+abbrev pub IsAnyItem : List Class → List Class → Type 0
+IsAnyItem = IsFrom any_item

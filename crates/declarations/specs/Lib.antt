@@ -1,6 +1,16 @@
 pub mod TypeStep
 pub mod Walk
+pub mod Moves
+pub mod Expression
+pub mod Header
+pub mod Front
 pub mod Grammar
 pub mod Forms
 pub mod Signs
 pub mod Reading
+pub mod Whole
+pub mod Item
+pub mod Field
+pub mod Fault
+pub mod Variant
+pub mod Kind

@@ -15,6 +15,10 @@ use Rattle.pm_stream.specs.declared.stream.TokenTree.{TokenTree}
 use Rattle.pm_stream.specs.declared.stream.TokenTree.TheVariants.{Group, Ident, Punct, Literal}
 use Rattle.declarations.specs.declared.class.Class.{Class}
 use Rattle.declarations.specs.declared.class.Class.TheVariants as classes
+use Rattle.declarations.specs.declared.class.Keyword.{Keyword}
+use Rattle.declarations.specs.declared.class.Keyword.TheVariants as keywords
+use Rattle.declarations.specs.declared.class.Word.{Word}
+use Rattle.declarations.specs.declared.class.Word.TheVariants as words
 
 -- whether the identifier is written so
 abbrev pub is_written : Name → List ℕ → Bool
@@ -29,40 +33,48 @@ path_class ident =
     else (if is_written ident (codes "crate") then Some classes.Crate
     else (if is_written ident (codes "_") then Some classes.Underscore else None))))
 
--- those before a type's operand
-abbrev pub is_type_front : Name → Bool
-is_type_front ident =
-    is_written ident (codes "dyn")
-    || is_written ident (codes "impl")
-    || is_written ident (codes "unsafe")
-    || is_written ident (codes "async")
-    || is_written ident (codes "fn")
-    || is_written ident (codes "use")
-
 abbrev pub is_truth : Name → Bool
 is_truth ident = is_written ident (codes "true") || is_written ident (codes "false")
 
--- the keywords that stand in a type
-abbrev pub type_class : Name → Option Class
-type_class ident =
-    if is_written ident (codes "mut") then Some classes.Mut
-    else (if is_written ident (codes "const") then Some classes.Const
-    else (if is_written ident (codes "extern") then Some classes.Extern
-    else (if is_written ident (codes "for") then Some classes.For
+-- those that are operands, or stand before or after one that may be left out
+abbrev pub operand_class : Name → Option Class
+operand_class ident =
+    if is_truth ident then Some classes.Truth
     else (if is_written ident (codes "as") then Some classes.As
-    else (if is_truth ident then Some classes.Truth
-    else (if is_type_front ident then Some classes.TypeFront else None))))))
-
--- the keywords that are operands of an expression, or stand before one that may be left out
-abbrev pub expression_class : Name → Option Class
-expression_class ident =
-    if is_written ident (codes "await") then Some classes.Await
+    else (if is_written ident (codes "await") then Some classes.Await
     else (if is_written ident (codes "continue") then Some classes.Await
     else (if is_written ident (codes "return") then Some classes.Jump
     else (if is_written ident (codes "break") then Some classes.Jump
-    else (if is_written ident (codes "yield") then Some classes.Jump else None))))
+    else (if is_written ident (codes "yield") then Some classes.Jump else None))))))
 
--- the keywords that no rule names
+-- those that begin items alone
+abbrev pub item_keyword : Name → Option Keyword
+item_keyword ident =
+    if is_written ident (codes "struct") then Some keywords.Struct
+    else (if is_written ident (codes "enum") then Some keywords.Enum
+    else (if is_written ident (codes "static") then Some keywords.Static
+    else (if is_written ident (codes "trait") then Some keywords.Trait
+    else (if is_written ident (codes "type") then Some keywords.Type
+    else (if is_written ident (codes "mod") then Some keywords.Mod
+    else (if is_written ident (codes "macro") then Some keywords.Macro
+    else (if is_written ident (codes "pub") then Some keywords.Pub
+    else (if is_written ident (codes "where") then Some keywords.Where else None))))))))
+
+-- those before a type's operand
+abbrev pub type_keyword : Name → Option Keyword
+type_keyword ident =
+    if is_written ident (codes "mut") then Some keywords.Mut
+    else (if is_written ident (codes "const") then Some keywords.Const
+    else (if is_written ident (codes "extern") then Some keywords.Extern
+    else (if is_written ident (codes "for") then Some keywords.For
+    else (if is_written ident (codes "dyn") then Some keywords.Dyn
+    else (if is_written ident (codes "impl") then Some keywords.Impl
+    else (if is_written ident (codes "unsafe") then Some keywords.Unsafe
+    else (if is_written ident (codes "async") then Some keywords.Async
+    else (if is_written ident (codes "fn") then Some keywords.Fn
+    else (if is_written ident (codes "use") then Some keywords.Use else None)))))))))
+
+-- those that no rule names
 abbrev pub is_early_keyword : Name → Bool
 is_early_keyword ident =
     is_written ident (codes "abstract")
@@ -72,49 +84,52 @@ is_early_keyword ident =
     || is_written ident (codes "else")
     || is_written ident (codes "final")
     || is_written ident (codes "if")
+    || is_written ident (codes "in")
+    || is_written ident (codes "let")
 
-abbrev pub is_middle_keyword : Name → Bool
-is_middle_keyword ident =
-    is_written ident (codes "let")
-    || is_written ident (codes "loop")
-    || is_written ident (codes "macro")
+abbrev pub is_late_keyword : Name → Bool
+is_late_keyword ident =
+    is_written ident (codes "loop")
     || is_written ident (codes "match")
-    || is_written ident (codes "mod")
     || is_written ident (codes "move")
     || is_written ident (codes "override")
     || is_written ident (codes "priv")
     || is_written ident (codes "ref")
-
-abbrev pub is_late_keyword : Name → Bool
-is_late_keyword ident =
-    is_written ident (codes "static")
-    || is_written ident (codes "trait")
-    || is_written ident (codes "type")
     || is_written ident (codes "typeof")
     || is_written ident (codes "unsized")
     || is_written ident (codes "virtual")
     || is_written ident (codes "while")
 
--- the keywords that stand elsewhere, and words
-abbrev pub item_class : Name → Class
-item_class ident =
-    if is_written ident (codes "in") then classes.In
-    else (if is_written ident (codes "pub") then classes.Pub
-    else (if is_written ident (codes "where") then classes.Where
-    else (if is_written ident (codes "struct") then classes.Struct
-    else (if is_written ident (codes "enum") then classes.Enum
-    else (if is_written ident (codes "union") then classes.Union
-    else (if is_early_keyword ident then classes.Keyword
-    else (if is_middle_keyword ident then classes.Keyword
-    else (if is_late_keyword ident then classes.Keyword else classes.Word))))))))
+abbrev pub other_keyword : Name → Option Keyword
+other_keyword ident =
+    if is_early_keyword ident then Some keywords.Other
+    else (if is_late_keyword ident then Some keywords.Other else None)
 
-abbrev pub or_else : Option Class → Class → Class
-or_else None class = class
-or_else (Some class) other = class
+-- words
+abbrev pub word_of : Name → Word
+word_of ident =
+    if is_written ident (codes "auto") then words.Auto
+    else (if is_written ident (codes "default") then words.Default
+    else (if is_written ident (codes "safe") then words.Safe
+    else (if is_written ident (codes "union") then words.Union else words.Plain)))
+
+abbrev pub or_else : {A : Type 0} → Option A → Option A → Option A
+or_else None other = other
+or_else (Some found) other = Some found
+
+abbrev pub keyword_of : Name → Option Keyword
+keyword_of ident = or_else (item_keyword ident) (or_else (type_keyword ident) (other_keyword ident))
+
+abbrev pub keyword_or_word : Option Keyword → Name → Class
+keyword_or_word None ident = classes.Word (word_of ident)
+keyword_or_word (Some keyword) ident = classes.Keyword keyword
+
+abbrev pub class_or_name : Option Class → Name → Class
+class_or_name None ident = keyword_or_word (keyword_of ident) ident
+class_or_name (Some class) ident = class
 
 abbrev pub name_class : Name → Class
-name_class ident =
-    or_else (path_class ident) (or_else (type_class ident) (or_else (expression_class ident) (item_class ident)))
+name_class ident = class_or_name (or_else (path_class ident) (operand_class ident)) ident
 
 -- a mark that stands in expressions alone
 abbrev pub operator_class : ℕ → Class
@@ -168,11 +183,42 @@ abbrev pub parentheses_class : Bool → Class
 parentheses_class true = classes.Restriction
 parentheses_class false = classes.Parentheses
 
+-- whether an identifier is `pub`, and what follows it belongs to it
+abbrev pub is_pub : Name → Bool → Bool
+is_pub ident belongs = is_written ident (codes "pub") && belongs
+
+abbrev pub is_pub_by : Token → Bool → Bool
+is_pub_by (tokens.Name raw name) belongs =
+    is_pub (record { name = name; raw = raw; span = record { lo = 0; hi = 0 } }) belongs
+is_pub_by (tokens.Mark c joint) belongs = false
+is_pub_by (tokens.Literal text) belongs = false
+
+-- whether a group restricts `pub`, being the last tree
+abbrev pub restricts_in : Delimiter → Forest → Bool → Bool
+restricts_in delimiters.Parenthesis inside last = last && is_restriction inside
+restricts_in _ inside last = false
+
+-- whether the trees after `pub` are a restriction, or none
+abbrev pub may_restrict : Forest → Bool
+may_restrict nil = true
+may_restrict (leaf token lo hi rest) = false
+may_restrict (group d lo hi inside rest) = restricts_in d inside (is_nil rest)
+
+-- whether trees are a visibility: none, or `pub`, perhaps with a restriction
+abbrev pub is_visibility : Forest → Bool
+is_visibility nil = true
+is_visibility (leaf token lo hi rest) = is_pub_by token (may_restrict rest)
+is_visibility (group d lo hi inside rest) = false
+
+-- a group without delimiters
+abbrev pub unseen_class : Forest → Class
+unseen_class inside = if is_visibility inside then classes.Visibility else classes.Invisible
+
 abbrev pub group_class : Delimiter → Forest → Class
 group_class delimiters.Parenthesis inside = parentheses_class (is_restriction inside)
 group_class delimiters.Bracket inside = classes.Brackets
 group_class delimiters.Brace inside = classes.Braces
-group_class delimiters.None inside = classes.Invisible
+group_class delimiters.None inside = unseen_class inside
 
 -- the class of a tree that is read alone
 abbrev pub tree_class : TokenTree → Class
@@ -181,8 +227,11 @@ tree_class (Ident i) = name_class i
 tree_class (Punct p) = mark_class p.mark (is_joint p.spacing)
 tree_class (Literal l) = classes.Literal
 
--- two marks that are read as one where the first is Joint: `::` (58, 58), `->` (45, 62), `<=` (60, 61) and `||`
--- (124, 124)
+-- two marks that are read as one, Joint or not: `#` (35) and `!` (33)
+abbrev pub loose_class : ℕ → ℕ → Option Class
+loose_class first second = if (first == 35) && (second == 33) then Some classes.HashBang else None
+
+-- two that are where the first is Joint: `::` (58, 58), `->` (45, 62), `<=` (60, 61) and `||` (124, 124)
 abbrev pub marks_class : ℕ → ℕ → Option Class
 marks_class first second =
     if (first == 58) && (second == 58) then Some classes.PathSeparator
@@ -190,9 +239,13 @@ marks_class first second =
     else (if (first == 60) && (second == 61) then Some classes.LessEquals
     else (if (first == 124) && (second == 124) then Some classes.Bars else None)))
 
+abbrev pub joint_class : ℕ → ℕ → Option Class
+joint_class first second = or_else (marks_class first second) (loose_class first second)
+
 -- the class of two trees that are read as one sign, if they are: those marks, or `'` (39) and an identifier
 abbrev pub pair_class : TokenTree → TokenTree → Option Class
-pair_class (Punct p) (Punct q) = if is_joint p.spacing then marks_class p.mark q.mark else None
+pair_class (Punct p) (Punct q) =
+    if is_joint p.spacing then joint_class p.mark q.mark else loose_class p.mark q.mark
 pair_class (Punct p) (Ident i) = if p.mark == 39 then Some classes.Lifetime else None
 pair_class _ _ = None
 

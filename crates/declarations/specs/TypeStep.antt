@@ -1,12 +1,14 @@
 -- The steps of the walk over a type.
 use Rattle.std.specs.Prelude.{Bool, true, false, Option, Some, None}
 use Rattle.declarations.specs.declared.class.Class.{Class}
-use Rattle.declarations.specs.declared.class.Class.TheVariants.{Word, Union, SelfValue, SelfType, Super, Crate}
-use Rattle.declarations.specs.declared.class.Class.TheVariants.{Underscore, Mut, Const, Extern, For, As, Truth}
-use Rattle.declarations.specs.declared.class.Class.TheVariants.{TypeFront, Literal, Lifetime, PathSeparator, Arrow}
+use Rattle.declarations.specs.declared.class.Class.TheVariants.{Word, SelfValue, SelfType, Super, Crate, Underscore}
+use Rattle.declarations.specs.declared.class.Class.TheVariants.{As, Truth, Literal, Lifetime, PathSeparator, Arrow}
 use Rattle.declarations.specs.declared.class.Class.TheVariants.{Restriction, Parentheses, Brackets, Braces, Invisible}
 use Rattle.declarations.specs.declared.class.Class.TheVariants.{Less, LessJoint, Greater, Comma, Colon, Equals}
 use Rattle.declarations.specs.declared.class.Class.TheVariants.{Plus, Minus, Star, And, Question, Exclamation, Tilde}
+use Rattle.declarations.specs.declared.class.Class.TheVariants as signs
+use Rattle.declarations.specs.declared.class.Keyword.{Keyword}
+use Rattle.declarations.specs.declared.class.Keyword.TheVariants as keywords
 use Rattle.declarations.specs.declared.types.Turn.{Turn}
 use Rattle.declarations.specs.declared.types.Turn.TheVariants as turns
 use Rattle.declarations.specs.declared.types.TypeState.{TypeState}
@@ -24,10 +26,28 @@ abbrev pub within : Bool → Option TypeStep → Option TypeStep
 within true step = None
 within false step = step
 
+abbrev pub open_bracket : Option TypeStep
+open_bracket = go states.Argument turns.Open
+
+abbrev pub close_bracket : Bool → Option TypeStep
+close_bracket outside = within outside (go states.Whole turns.Close)
+
+-- the step at a keyword that stands before an operand
+abbrev pub front : Keyword → Option TypeStep
+front keywords.Async = stay states.Wanted
+front keywords.Dyn = stay states.Wanted
+front keywords.Fn = stay states.Wanted
+front keywords.Impl = stay states.Wanted
+front keywords.Mut = stay states.Wanted
+front keywords.Unsafe = stay states.Wanted
+front keywords.Use = stay states.Wanted
+front keywords.Extern = stay states.Abi
+front keywords.For = stay states.For
+front _ = None
+
 -- the step where an operand may stand, outside of angle brackets or not
 abbrev pub operand : Class → Bool → Option TypeStep
-operand Word outside = stay states.Whole
-operand Union outside = stay states.Whole
+operand (Word _) outside = stay states.Whole
 operand SelfValue outside = stay states.Whole
 operand SelfType outside = stay states.Whole
 operand Super outside = stay states.Whole
@@ -41,19 +61,16 @@ operand Exclamation outside = stay states.Whole
 operand Truth outside = within outside (stay states.Whole)
 operand Literal outside = within outside (stay states.Whole)
 operand Braces outside = within outside (stay states.Whole)
-operand Mut outside = stay states.Wanted
-operand TypeFront outside = stay states.Wanted
 operand PathSeparator outside = stay states.Wanted
 operand And outside = stay states.Wanted
 operand Question outside = stay states.Wanted
-operand Extern outside = stay states.Abi
-operand For outside = stay states.For
-operand Lifetime outside = stay states.Open
+operand (signs.Keyword keyword) outside = front keyword
+operand Lifetime outside = stay states.Lifetime
 operand Star outside = stay states.Pointer
 operand Tilde outside = stay states.Tilde
 operand Minus outside = within outside (stay states.Minus)
-operand Less outside = go states.Open turns.Open
-operand LessJoint outside = go states.Open turns.Open
+operand Less outside = open_bracket
+operand LessJoint outside = open_bracket
 operand _ outside = None
 
 -- the step after an operand
@@ -62,26 +79,31 @@ continuation Restriction outside = stay states.Whole
 continuation Parentheses outside = stay states.Whole
 continuation PathSeparator outside = stay states.Wanted
 continuation Arrow outside = stay states.Wanted
-continuation Plus outside = stay states.Open
+continuation Plus outside = stay states.Bound
 continuation Exclamation outside = stay states.MacroGroup
 continuation As outside = within outside (stay states.Wanted)
 continuation Equals outside = within outside (stay states.Wanted)
-continuation Comma outside = within outside (stay states.Open)
-continuation Colon outside = within outside (stay states.Open)
-continuation Less outside = go states.Open turns.Open
-continuation LessJoint outside = go states.Open turns.Open
-continuation Greater outside = within outside (go states.Whole turns.Close)
+continuation Comma outside = within outside (stay states.Argument)
+continuation Colon outside = within outside (stay states.Bound)
+continuation Less outside = open_bracket
+continuation LessJoint outside = open_bracket
+continuation Greater outside = close_bracket outside
 continuation _ outside = None
 
--- where an operand may stand, or what follows a whole type
-abbrev pub operand_or_end : Class → Bool → Option TypeStep
-operand_or_end Arrow outside = stay states.Wanted
-operand_or_end Plus outside = stay states.Open
-operand_or_end As outside = within outside (stay states.Wanted)
-operand_or_end Comma outside = within outside (stay states.Open)
-operand_or_end Colon outside = within outside (stay states.Open)
-operand_or_end Greater outside = within outside (go states.Whole turns.Close)
-operand_or_end class outside = operand class outside
+-- before a bound, or at the end of bounds
+abbrev pub bound : Class → Bool → Option TypeStep
+bound Comma outside = within outside (stay states.Argument)
+bound Greater outside = close_bracket outside
+bound class outside = operand class outside
+
+abbrev pub after_lifetime : Class → Bool → Option TypeStep
+after_lifetime Plus outside = stay states.Bound
+after_lifetime class outside = bound class outside
+
+-- before an argument, or at the end of arguments
+abbrev pub argument : Class → Bool → Option TypeStep
+argument Greater outside = close_bracket outside
+argument class outside = operand class outside
 
 abbrev pub macro_group : Class → Option TypeStep
 macro_group Restriction = stay states.Whole
@@ -91,12 +113,12 @@ macro_group Braces = stay states.Whole
 macro_group _ = None
 
 abbrev pub pointer : Class → Option TypeStep
-pointer Const = stay states.Wanted
-pointer Mut = stay states.Wanted
+pointer (signs.Keyword keywords.Const) = stay states.Wanted
+pointer (signs.Keyword keywords.Mut) = stay states.Wanted
 pointer _ = None
 
 abbrev pub tilde : Class → Option TypeStep
-tilde Const = stay states.Wanted
+tilde (signs.Keyword keywords.Const) = stay states.Wanted
 tilde _ = None
 
 abbrev pub abi : Class → Bool → Option TypeStep
@@ -123,7 +145,9 @@ binder _ = None
 -- the step from a state, outside of angle brackets or not
 abbrev pub step_of : TypeState → Class → Bool → Option TypeStep
 step_of states.Wanted class outside = operand class outside
-step_of states.Open class outside = operand_or_end class outside
+step_of states.Bound class outside = bound class outside
+step_of states.Lifetime class outside = after_lifetime class outside
+step_of states.Argument class outside = argument class outside
 step_of states.Whole class outside = continuation class outside
 step_of states.MacroGroup class outside = macro_group class
 step_of states.Pointer class outside = pointer class
@@ -136,5 +160,6 @@ step_of states.Binder class outside = binder class
 -- whether a type may end there, outside of angle brackets
 abbrev pub may_end : TypeState → Bool
 may_end states.Whole = true
-may_end states.Open = true
+may_end states.Lifetime = true
+may_end states.Bound = true
 may_end _ = false

@@ -1,12 +1,70 @@
 //! What a sign is to the grammar.
 
-/// What a sign is to the grammar: a keyword that some rule names, a word, a literal, a group or a mark.
+/// An identifier that is no keyword, or a raw one.
+#[derive(Clone, Copy, Debug, PartialEq, Eq)]
+pub enum Word {
+    /// `auto`
+    Auto,
+    /// `default`
+    Default,
+    /// `safe`
+    Safe,
+    /// `union`
+    Union,
+    /// Any other.
+    Plain,
+}
+
+/// A keyword that is no class of its own.
+#[derive(Clone, Copy, Debug, PartialEq, Eq)]
+pub enum Keyword {
+    /// `async`
+    Async,
+    /// `const`
+    Const,
+    /// `dyn`
+    Dyn,
+    /// `enum`
+    Enum,
+    /// `extern`
+    Extern,
+    /// `fn`
+    Fn,
+    /// `for`
+    For,
+    /// `impl`
+    Impl,
+    /// `macro`
+    Macro,
+    /// `mod`
+    Mod,
+    /// `mut`
+    Mut,
+    /// `pub`
+    Pub,
+    /// `static`
+    Static,
+    /// `struct`
+    Struct,
+    /// `trait`
+    Trait,
+    /// `type`
+    Type,
+    /// `unsafe`
+    Unsafe,
+    /// `use`
+    Use,
+    /// `where`
+    Where,
+    /// One that no rule names.
+    Other,
+}
+
+/// What a sign is to the grammar: a word, a keyword, a literal, a group or a mark.
 #[derive(Clone, Copy, Debug, PartialEq, Eq)]
 pub enum Class {
-    /// An identifier that is no keyword, or a raw one.
-    Word,
-    /// `union`, which is a word too.
-    Union,
+    /// A word.
+    Word(Word),
     /// `self`
     SelfValue,
     /// `Self`
@@ -17,36 +75,16 @@ pub enum Class {
     Crate,
     /// `_`
     Underscore,
-    /// `mut`
-    Mut,
-    /// `const`
-    Const,
-    /// `extern`
-    Extern,
-    /// `for`
-    For,
     /// `as`
     As,
-    /// `in`
-    In,
-    /// `pub`
-    Pub,
-    /// `where`
-    Where,
-    /// `struct`
-    Struct,
-    /// `enum`
-    Enum,
     /// `true` or `false`
     Truth,
-    /// `dyn`, `impl`, `unsafe`, `async`, `fn` or `use`: it stands before a type's operand.
-    TypeFront,
     /// `await` or `continue`.
     Await,
     /// `return`, `break` or `yield`.
     Jump,
     /// Any other keyword.
-    Keyword,
+    Keyword(Keyword),
     /// A literal.
     Literal,
     /// `'` and an identifier.
@@ -55,6 +93,8 @@ pub enum Class {
     PathSeparator,
     /// `->`
     Arrow,
+    /// `#` and `!`, Joint or not.
+    HashBang,
     /// `<=`
     LessEquals,
     /// `||`
@@ -67,7 +107,9 @@ pub enum Class {
     Brackets,
     /// `{ .. }`
     Braces,
-    /// A group without delimiters.
+    /// A group without delimiters that holds a visibility, or nothing.
+    Visibility,
+    /// Any other group without delimiters.
     Invisible,
     /// `<` that is Alone.
     Less,

@@ -1,173 +1,24 @@
 //! The grammar of declarations: what may follow each place.
 ghost use Rattle.std.specs.Prelude.{◌≡◌, ◌+◌, ◌≤◌, ◌<◌, ◌^◌, IfSome};
-ghost use Rattle.declarations.specs.Grammar.{after_angle, body, cast, cast_whole, closing, closure, ends, expression};
-ghost use Rattle.declarations.specs.Grammar.{expression_dot, expression_less, expression_open, expression_whole};
-ghost use Rattle.declarations.specs.Grammar.{field_step, follow, is_alone, item_step, move_to, open_angle, operator};
-ghost use Rattle.declarations.specs.Grammar.{parameter_end, parameter_step, range_state, range_step, rule_ends};
-ghost use Rattle.declarations.specs.Grammar.{shifted, spot_ends, spot_step, spot_type, step, to_spot, tuple_fields};
-ghost use Rattle.declarations.specs.Grammar.{tuple_step, turn_to, variant_body, variant_end, variant_step};
-ghost use Rattle.declarations.specs.Grammar.{variant_value, visible_step, where_clause};
-ghost use Rattle.declarations.specs.TypeStep.{may_end};
+ghost use Rattle.declarations.specs.Grammar.{after_angle, attributed, before, before_first, begin, closing_type};
+ghost use Rattle.declarations.specs.Grammar.{const_default, ends, follow, has_attributes, has_visibility, is_front};
+ghost use Rattle.declarations.specs.Grammar.{is_name, names, wants_name};
+ghost use Rattle.declarations.specs.Grammar.{lifetime_name, parameter, parameter_end, part_ends, public, range_state};
+ghost use Rattle.declarations.specs.Grammar.{range_step, rule_ends, shifted, spot_ends, spot_step, spot_type, step};
+ghost use Rattle.declarations.specs.Grammar.{type_name, unmarked, variant_body, variant_value};
 
-use crate::class::Class;
+use crate::class::{Class, Keyword};
+use crate::expression::{
+    cast, cast_whole, closure, expression, expression_dot, expression_less, expression_open,
+    expression_whole, variant_end,
+};
+use crate::front::{declaration, front_names, front_step, front_type, type_item, unmarked_item};
+use crate::header::{body, closing, generics, header, is_alone};
+use crate::place::{
+    Item, Part, Place, Rule, Shift, Spot, State, TypeStart, at_spot, to_bounds, to_spot, to_type,
+    type_from,
+};
 use crate::types::{Turn, TypeState, may_end, type_step};
-
-/// What is declared around a place.
-#[derive(Clone, Copy, Debug, PartialEq, Eq)]
-pub enum Item {
-    /// Nothing: a part is read alone.
-    Alone,
-    /// A struct, before its fields.
-    Struct,
-    /// A struct, after its fields in parentheses.
-    Tuple,
-    /// An enum or a union.
-    Braced,
-    /// The list of an enum's variants.
-    Variants,
-}
-
-/// What may follow a type or bounds.
-#[derive(Clone, Copy, Debug, PartialEq, Eq)]
-pub enum Rule {
-    /// Nothing more.
-    Alone,
-    /// `,` and a named field.
-    Fields,
-    /// `,` and a field without a name.
-    TupleFields,
-    /// `,` and a generic parameter, or `>`.
-    Parameter,
-    /// The same, or `=` and a type.
-    TypeParameter,
-    /// The same, or `=` and a constant.
-    ConstParameter,
-    /// `:` and bounds.
-    Bounded,
-    /// `,` and a predicate, or what follows a where clause.
-    Predicate,
-    /// Within angle brackets of an expression, which goes on after them.
-    Angle,
-    /// The same, in the type of a cast.
-    CastAngle,
-    /// The same, in the parameters of a closure.
-    ClosureAngle,
-}
-
-/// A place outside of types and bounds.
-#[derive(Clone, Copy, Debug, PartialEq, Eq)]
-pub enum Spot {
-    /// Before an attribute, or at the end of attributes.
-    Attributes,
-    /// After its `#`.
-    AttributeHash,
-    /// Before a visibility, which may be left out.
-    Visibility,
-    /// After `pub`.
-    Public,
-    /// After a visibility with a restriction.
-    Restricted,
-    /// Before a named field.
-    Field,
-    FieldHash,
-    /// After an attribute of it.
-    FieldAttributed,
-    FieldPublic,
-    FieldVisible,
-    FieldName,
-    /// Before a field without a name.
-    TupleField,
-    TupleHash,
-    TupleAttributed,
-    TuplePublic,
-    /// Before a variant.
-    Variant,
-    VariantHash,
-    /// After an attribute of it.
-    VariantAttributed,
-    VariantPublic,
-    VariantVisible,
-    /// After its name, where it may end.
-    VariantName,
-    /// After its fields.
-    VariantEnd,
-    /// Where an expression wants an operand.
-    Expression,
-    /// Where one may stand, or the expression may end.
-    ExpressionOpen,
-    /// After an operand.
-    ExpressionWhole,
-    /// After `<` that is an operator and Joint.
-    ExpressionLess,
-    /// After an operand and `.`.
-    ExpressionDot,
-    /// After the `.` that begins a range.
-    ExpressionRange,
-    /// After the `#` of an attribute.
-    ExpressionHash,
-    /// Within the bars of a closure.
-    Closure,
-    /// Where the type of a cast is wanted.
-    Cast,
-    /// After the type of a cast.
-    CastWhole,
-    /// Before `<` and generic parameters, which may be left out.
-    Generics,
-    /// Before a generic parameter.
-    Parameter,
-    ParameterHash,
-    ParameterAttributed,
-    LifetimeName,
-    TypeName,
-    ConstName,
-    ConstColon,
-    ConstDefault,
-    ConstMinus,
-    ConstEnd,
-    /// After generic parameters, or after the fields of a tuple struct.
-    AfterGenerics,
-    /// Before `where`, which may be left out.
-    Where,
-    /// Before a predicate, or at the end of a where clause.
-    Predicate,
-    /// Before an item.
-    Item,
-    ItemHash,
-    ItemPublic,
-    ItemVisible,
-    StructName,
-    BracedName,
-    /// After an item.
-    ItemEnd,
-}
-
-/// What may follow.
-#[derive(Clone, Copy, Debug, PartialEq, Eq)]
-pub enum State {
-    /// What continues a type or bounds.
-    Range(TypeState),
-    /// What stands at another place.
-    At(Spot),
-}
-
-/// A place within a declaration.
-#[derive(Clone, Copy, Debug, PartialEq, Eq)]
-pub struct Place {
-    pub item: Item,
-    pub rule: Rule,
-    pub state: State,
-    /// How many angle brackets of a type are open.
-    pub depth: usize,
-}
-
-/// What a sign leads to, outside of types and bounds.
-#[derive(Clone, Copy, Debug, PartialEq, Eq)]
-pub struct Shift {
-    pub item: Item,
-    pub rule: Rule,
-    pub state: State,
-    pub turn: Turn,
-}
 
 impl Place {
     /// What the sign leads to, if it may stand there.
@@ -191,14 +42,14 @@ impl Place {
                 if let Some(shift) = spot_step(self.item, self.rule, spot, class) {
                     return shifted(self.depth, Some(shift));
                 }
-                let rule = spot_type(self.rule, spot)?;
+                let start = spot_type(self.item, self.rule, spot)?;
                 let place = Place {
                     item: self.item,
-                    rule,
+                    rule: start.rule,
                     state: self.state,
                     depth: self.depth,
                 };
-                range_step(place, TypeState::Wanted, class)
+                range_step(place, start.state, class)
             }
         }
     }
@@ -213,6 +64,34 @@ impl Place {
                 && rule_ends(self.item, self.rule),
             State::At(spot) => spot_ends(self.item, self.rule, spot),
         }
+    }
+
+    /// Whether a sign of this class is an item's name.
+    pub fn names(self, class: Class) -> bool
+        ensures { result ≡ names self class }
+    {
+        wants_name(self.state) && is_name(class)
+    }
+}
+
+// Whether an item's name is wanted.
+fn wants_name(state: State) -> bool
+    ensures { result ≡ wants_name state }
+{
+    match state {
+        State::At(Spot::Name) => true,
+        State::At(Spot::Front(front)) => front_names(front),
+        _ => false,
+    }
+}
+
+// What it may be.
+fn is_name(class: Class) -> bool
+    ensures { result ≡ is_name class }
+{
+    match class {
+        Class::Word(_) | Class::SelfValue | Class::Underscore => true,
+        _ => false,
     }
 }
 
@@ -260,36 +139,6 @@ fn shifted(depth: usize, shift: Option<Shift>) -> Option<Place>
     })
 }
 
-fn turn_to(item: Item, rule: Rule, state: State, turn: Turn) -> Option<Shift>
-    ensures { result ≡ turn_to item rule state turn }
-{
-    Some(Shift {
-        item,
-        rule,
-        state,
-        turn,
-    })
-}
-
-fn move_to(item: Item, rule: Rule, state: State) -> Option<Shift>
-    ensures { result ≡ move_to item rule state }
-{
-    turn_to(item, rule, state, Turn::Stay)
-}
-
-fn to_spot(item: Item, spot: Spot) -> Option<Shift>
-    ensures { result ≡ to_spot item spot }
-{
-    move_to(item, Rule::Alone, State::At(spot))
-}
-
-// Into angle brackets.
-fn open_angle(item: Item, rule: Rule) -> Option<Shift>
-    ensures { result ≡ open_angle item rule }
-{
-    turn_to(item, rule, State::Range(TypeState::Open), Turn::Open)
-}
-
 // Where an expression goes on after its angle brackets.
 fn after_angle(rule: Rule, state: TypeState) -> State
     ensures { result ≡ after_angle rule state }
@@ -318,64 +167,167 @@ fn range_state(rule: Rule, state: TypeState, turn: Turn, depth: usize) -> State
     }
 }
 
-// After the generic parameters of an item, or after its fields in parentheses, its body.
-fn body(item: Item, class: Class) -> Option<Shift>
-    ensures { result ≡ body item class }
-{
-    match (item, class) {
-        (Item::Struct, Class::Braces)
-        | (Item::Struct, Class::Semicolon)
-        | (Item::Tuple, Class::Semicolon)
-        | (Item::Braced, Class::Braces) => move_to(
-            Item::Alone,
-            Rule::Alone,
-            State::At(Spot::ItemEnd),
-        ),
-        _ => None,
-    }
-}
-
-// A where clause of an item.
-fn where_clause(item: Item) -> Option<Shift>
-    ensures { result ≡ where_clause item }
-{
-    match item {
-        Item::Struct | Item::Tuple | Item::Braced => {
-            move_to(item, Rule::Alone, State::At(Spot::Predicate))
-        }
-        Item::Alone | Item::Variants => None,
-    }
-}
-
-// The fields in parentheses of a struct.
-fn tuple_fields(item: Item) -> Option<Shift>
-    ensures { result ≡ tuple_fields item }
-{
-    match item {
-        Item::Struct => move_to(Item::Tuple, Rule::Alone, State::At(Spot::AfterGenerics)),
-        _ => None,
-    }
-}
-
-// These may stand before its body.
-fn closing(item: Item, class: Class) -> Option<Shift>
-    ensures { result ≡ closing item class }
-{
-    match class {
-        Class::Where => where_clause(item),
-        Class::Parentheses | Class::Restriction => tuple_fields(item),
-        _ => body(item, class),
-    }
-}
-
-// After a parameter that is whole.
+// After a generic parameter that is whole.
 fn parameter_end(item: Item, class: Class) -> Option<Shift>
     ensures { result ≡ parameter_end item class }
 {
     match class {
-        Class::Comma => move_to(item, Rule::Alone, State::At(Spot::Parameter)),
-        Class::Greater => move_to(item, Rule::Alone, State::At(Spot::AfterGenerics)),
+        Class::Comma => to_spot(item, Spot::Before(Part::Parameter)),
+        Class::Greater => to_spot(item, Spot::AfterGenerics),
         _ => None,
+    }
+}
+
+// A generic parameter.
+fn parameter(item: Item, class: Class) -> Option<Shift>
+    ensures { result ≡ parameter item class }
+{
+    match class {
+        Class::Lifetime => to_spot(item, Spot::LifetimeName),
+        Class::Word(_) => to_spot(item, Spot::TypeName),
+        Class::Keyword(Keyword::Const) => to_spot(item, Spot::ConstName),
+        _ => None,
+    }
+}
+
+// After a lifetime that is a parameter.
+fn lifetime_name(item: Item, class: Class) -> Option<Shift>
+    ensures { result ≡ lifetime_name item class }
+{
+    match class {
+        Class::Colon => to_bounds(item, Rule::Parameter),
+        _ => parameter_end(item, class),
+    }
+}
+
+// After the name of a parameter that is a type.
+fn type_name(item: Item, class: Class) -> Option<Shift>
+    ensures { result ≡ type_name item class }
+{
+    match class {
+        Class::Colon => to_bounds(item, Rule::TypeParameter),
+        Class::Equals => to_type(item, Rule::Parameter),
+        _ => parameter_end(item, class),
+    }
+}
+
+// The default of a constant, but for types.
+fn const_default(item: Item, class: Class) -> Option<Shift>
+    ensures { result ≡ const_default item class }
+{
+    match class {
+        Class::Literal | Class::Braces | Class::Truth => to_spot(item, Spot::ConstEnd),
+        Class::Minus => to_spot(item, Spot::ConstMinus),
+        _ => None,
+    }
+}
+
+// What a part begins with, after its attributes and visibility.
+fn begin(part: Part, item: Item, rule: Rule, class: Class) -> Option<Shift>
+    ensures { result ≡ begin part item rule class }
+{
+    match (part, class) {
+        (Part::Field, Class::Word(_)) => at_spot(item, rule, Spot::FieldName),
+        (Part::Variant, Class::Word(_)) => at_spot(item, rule, Spot::VariantName),
+        (Part::Parameter, _) => parameter(item, class),
+        (Part::TypeItem, _) => type_item(class),
+        (Part::AnyItem, _) => declaration(class),
+        _ => None,
+    }
+}
+
+// The same where no visibility stands before it.
+fn unmarked(part: Part, item: Item, rule: Rule, class: Class) -> Option<Shift>
+    ensures { result ≡ unmarked part item rule class }
+{
+    match part {
+        Part::AnyItem => unmarked_item(class),
+        _ => begin(part, item, rule, class),
+    }
+}
+
+fn has_visibility(part: Part) -> bool
+    ensures { result ≡ has_visibility part }
+{
+    match part {
+        Part::Attributes | Part::Parameter => false,
+        _ => true,
+    }
+}
+
+// After the attributes of a part.
+fn attributed(part: Part, item: Item, rule: Rule, class: Class) -> Option<Shift>
+    ensures { result ≡ attributed part item rule class }
+{
+    match class {
+        Class::Keyword(Keyword::Pub) if has_visibility(part) => {
+            at_spot(item, rule, Spot::Public(part))
+        }
+        Class::Visibility if has_visibility(part) => at_spot(item, rule, Spot::Visible(part)),
+        Class::Keyword(Keyword::Pub) | Class::Visibility => None,
+        _ => unmarked(part, item, rule, class),
+    }
+}
+
+fn has_attributes(part: Part) -> bool
+    ensures { result ≡ has_attributes part }
+{
+    match part {
+        Part::Visibility => false,
+        _ => true,
+    }
+}
+
+// Before another attribute of a part, or what follows them.
+fn before(part: Part, item: Item, rule: Rule, class: Class) -> Option<Shift>
+    ensures { result ≡ before part item rule class }
+{
+    match class {
+        Class::Hash if has_attributes(part) => at_spot(item, rule, Spot::Hash(part)),
+        Class::Hash => None,
+        _ => attributed(part, item, rule, class),
+    }
+}
+
+// Before a part. Generic parameters may end there.
+fn before_first(part: Part, item: Item, rule: Rule, class: Class) -> Option<Shift>
+    ensures { result ≡ before_first part item rule class }
+{
+    match (part, class) {
+        (Part::Parameter, Class::Greater) => to_spot(item, Spot::AfterGenerics),
+        _ => before(part, item, rule, class),
+    }
+}
+
+// After the `pub` of a part.
+fn public(part: Part, item: Item, rule: Rule, class: Class) -> Option<Shift>
+    ensures { result ≡ public part item rule class }
+{
+    match class {
+        Class::Restriction => at_spot(item, rule, Spot::Visible(part)),
+        _ => begin(part, item, rule, class),
+    }
+}
+
+// Before the discriminant of a variant.
+fn variant_value(item: Item, class: Class) -> Option<Shift>
+    ensures { result ≡ variant_value item class }
+{
+    match class {
+        Class::Equals => to_spot(item, Spot::Expression),
+        _ => variant_end(item, class),
+    }
+}
+
+// After the name of a variant.
+fn variant_body(item: Item, rule: Rule, class: Class) -> Option<Shift>
+    ensures { result ≡ variant_body item rule class }
+{
+    match class {
+        Class::Restriction | Class::Parentheses | Class::Braces => {
+            at_spot(item, rule, Spot::VariantEnd)
+        }
+        _ => variant_value(item, class),
     }
 }
 
@@ -384,119 +336,20 @@ fn follow(item: Item, rule: Rule, class: Class) -> Option<Shift>
     ensures { result ≡ follow item rule class }
 {
     match (rule, class) {
-        (Rule::Fields, Class::Comma) => move_to(item, Rule::Fields, State::At(Spot::Field)),
-        (Rule::TupleFields, Class::Comma) => move_to(
-            item,
-            Rule::TupleFields,
-            State::At(Spot::TupleField),
-        ),
+        (Rule::Fields, Class::Comma) => at_spot(item, rule, Spot::Before(Part::Field)),
+        (Rule::TupleFields, Class::Comma) => at_spot(item, rule, Spot::Before(Part::TupleField)),
         (Rule::Parameter, _) => parameter_end(item, class),
-        (Rule::TypeParameter, Class::Equals) => move_to(
-            item,
-            Rule::Parameter,
-            State::Range(TypeState::Wanted),
-        ),
+        (Rule::TypeParameter, Class::Equals) => to_type(item, Rule::Parameter),
         (Rule::TypeParameter, _) => parameter_end(item, class),
-        (Rule::ConstParameter, Class::Equals) => move_to(
-            item,
-            Rule::Alone,
-            State::At(Spot::ConstDefault),
-        ),
+        (Rule::ConstParameter, Class::Equals) => to_spot(item, Spot::ConstDefault),
         (Rule::ConstParameter, _) => parameter_end(item, class),
-        (Rule::Bounded, Class::Colon) => move_to(
-            item,
-            Rule::Predicate,
-            State::Range(TypeState::Open),
-        ),
-        (Rule::Predicate, Class::Comma) => move_to(item, Rule::Alone, State::At(Spot::Predicate)),
+        (Rule::Bounded, Class::Colon) => to_bounds(item, Rule::Predicate),
+        (Rule::Predicate, Class::Comma) => to_spot(item, Spot::Predicate),
         (Rule::Predicate, _) => body(item, class),
+        (Rule::Target, Class::Keyword(Keyword::For)) => to_type(item, Rule::Header),
+        (Rule::Target, _) => header(item, class),
+        (Rule::Header, _) => header(item, class),
         _ => None,
-    }
-}
-
-// Before a named field, after its attributes or not.
-fn field_step(item: Item, rule: Rule, class: Class) -> Option<Shift>
-    ensures { result ≡ field_step item rule class }
-{
-    match class {
-        Class::Hash => move_to(item, rule, State::At(Spot::FieldHash)),
-        Class::Pub => move_to(item, rule, State::At(Spot::FieldPublic)),
-        Class::Word | Class::Union => move_to(item, rule, State::At(Spot::FieldName)),
-        _ => None,
-    }
-}
-
-// Before a field without a name.
-fn tuple_step(item: Item, rule: Rule, class: Class) -> Option<Shift>
-    ensures { result ≡ tuple_step item rule class }
-{
-    match class {
-        Class::Hash => move_to(item, rule, State::At(Spot::TupleHash)),
-        Class::Pub => move_to(item, rule, State::At(Spot::TuplePublic)),
-        _ => None,
-    }
-}
-
-// Before a variant.
-fn variant_step(item: Item, rule: Rule, class: Class) -> Option<Shift>
-    ensures { result ≡ variant_step item rule class }
-{
-    match class {
-        Class::Hash => move_to(item, rule, State::At(Spot::VariantHash)),
-        Class::Pub => move_to(item, rule, State::At(Spot::VariantPublic)),
-        Class::Word | Class::Union => move_to(item, rule, State::At(Spot::VariantName)),
-        _ => None,
-    }
-}
-
-// After its name.
-fn variant_body(item: Item, rule: Rule, class: Class) -> Option<Shift>
-    ensures { result ≡ variant_body item rule class }
-{
-    match class {
-        Class::Restriction | Class::Parentheses | Class::Braces => {
-            move_to(item, rule, State::At(Spot::VariantEnd))
-        }
-        _ => variant_value(item, class),
-    }
-}
-
-// Before a generic parameter.
-fn parameter_step(item: Item, class: Class) -> Option<Shift>
-    ensures { result ≡ parameter_step item class }
-{
-    match class {
-        Class::Hash => move_to(item, Rule::Alone, State::At(Spot::ParameterHash)),
-        Class::Lifetime => move_to(item, Rule::Alone, State::At(Spot::LifetimeName)),
-        Class::Word | Class::Union => move_to(item, Rule::Alone, State::At(Spot::TypeName)),
-        Class::Const => move_to(item, Rule::Alone, State::At(Spot::ConstName)),
-        _ => None,
-    }
-}
-
-// Before an item's keyword.
-fn visible_step(class: Class) -> Option<Shift>
-    ensures { result ≡ visible_step class }
-{
-    match class {
-        Class::Struct => move_to(Item::Struct, Rule::Alone, State::At(Spot::StructName)),
-        Class::Enum | Class::Union => move_to(
-            Item::Braced,
-            Rule::Alone,
-            State::At(Spot::BracedName),
-        ),
-        _ => None,
-    }
-}
-
-// Before an item.
-fn item_step(class: Class) -> Option<Shift>
-    ensures { result ≡ item_step class }
-{
-    match class {
-        Class::Hash => move_to(Item::Alone, Rule::Alone, State::At(Spot::ItemHash)),
-        Class::Pub => move_to(Item::Alone, Rule::Alone, State::At(Spot::ItemPublic)),
-        _ => visible_step(class),
     }
 }
 
@@ -505,45 +358,12 @@ fn spot_step(item: Item, rule: Rule, spot: Spot, class: Class) -> Option<Shift>
     ensures { result ≡ spot_step item rule spot class }
 {
     match (spot, class) {
-        (Spot::Attributes, Class::Hash) => move_to(item, rule, State::At(Spot::AttributeHash)),
-        (Spot::AttributeHash, Class::Brackets) => move_to(item, rule, State::At(Spot::Attributes)),
-        (Spot::Visibility, Class::Pub) => move_to(item, rule, State::At(Spot::Public)),
-        (Spot::Public, Class::Restriction) => move_to(item, rule, State::At(Spot::Restricted)),
-        (Spot::Field, _) => field_step(item, rule, class),
-        (Spot::FieldHash, Class::Brackets) => move_to(item, rule, State::At(Spot::FieldAttributed)),
-        (Spot::FieldAttributed, _) => field_step(item, rule, class),
-        (Spot::FieldPublic, Class::Restriction) => move_to(
-            item,
-            rule,
-            State::At(Spot::FieldVisible),
-        ),
-        (Spot::FieldPublic | Spot::FieldVisible, Class::Word | Class::Union) => {
-            move_to(item, rule, State::At(Spot::FieldName))
-        }
-        (Spot::FieldName, Class::Colon) => move_to(item, rule, State::Range(TypeState::Wanted)),
-        (Spot::TupleField, _) => tuple_step(item, rule, class),
-        (Spot::TupleHash, Class::Brackets) => move_to(item, rule, State::At(Spot::TupleAttributed)),
-        (Spot::TupleAttributed, _) => tuple_step(item, rule, class),
-        (Spot::TuplePublic, Class::Restriction) => move_to(
-            item,
-            rule,
-            State::Range(TypeState::Wanted),
-        ),
-        (Spot::Variant, _) => variant_step(item, rule, class),
-        (Spot::VariantHash, Class::Brackets) => move_to(
-            item,
-            rule,
-            State::At(Spot::VariantAttributed),
-        ),
-        (Spot::VariantAttributed, _) => variant_step(item, rule, class),
-        (Spot::VariantPublic, Class::Restriction) => move_to(
-            item,
-            rule,
-            State::At(Spot::VariantVisible),
-        ),
-        (Spot::VariantPublic | Spot::VariantVisible, Class::Word | Class::Union) => {
-            move_to(item, rule, State::At(Spot::VariantName))
-        }
+        (Spot::Before(part), _) => before_first(part, item, rule, class),
+        (Spot::Hash(part), Class::Brackets) => at_spot(item, rule, Spot::Attributed(part)),
+        (Spot::Attributed(part), _) => before(part, item, rule, class),
+        (Spot::Public(part), _) => public(part, item, rule, class),
+        (Spot::Visible(part), _) => begin(part, item, rule, class),
+        (Spot::FieldName, Class::Colon) => to_type(item, rule),
         (Spot::VariantName, _) => variant_body(item, rule, class),
         (Spot::VariantEnd, _) => variant_value(item, class),
         (Spot::Expression, _) => expression(item, class),
@@ -556,113 +376,49 @@ fn spot_step(item: Item, rule: Rule, spot: Spot, class: Class) -> Option<Shift>
         (Spot::Closure, _) => closure(item, class),
         (Spot::Cast, _) => cast(item, class),
         (Spot::CastWhole, _) => cast_whole(item, class),
-        (Spot::Generics, Class::Less | Class::LessJoint) => move_to(
-            item,
-            Rule::Alone,
-            State::At(Spot::Parameter),
-        ),
-        (Spot::Generics, _) => closing(item, class),
-        (Spot::Parameter, Class::Greater) => move_to(
-            item,
-            Rule::Alone,
-            State::At(Spot::AfterGenerics),
-        ),
-        (Spot::Parameter, _) => parameter_step(item, class),
-        (Spot::ParameterHash, Class::Brackets) => move_to(
-            item,
-            Rule::Alone,
-            State::At(Spot::ParameterAttributed),
-        ),
-        (Spot::ParameterAttributed, _) => parameter_step(item, class),
-        (Spot::LifetimeName, Class::Colon) => move_to(
-            item,
-            Rule::Parameter,
-            State::Range(TypeState::Open),
-        ),
-        (Spot::LifetimeName, _) => parameter_end(item, class),
-        (Spot::TypeName, Class::Colon) => move_to(
-            item,
-            Rule::TypeParameter,
-            State::Range(TypeState::Open),
-        ),
-        (Spot::TypeName, Class::Equals) => move_to(
-            item,
-            Rule::Parameter,
-            State::Range(TypeState::Wanted),
-        ),
-        (Spot::TypeName, _) => parameter_end(item, class),
-        (Spot::ConstName, Class::Word | Class::Union) => move_to(
-            item,
-            Rule::Alone,
-            State::At(Spot::ConstColon),
-        ),
-        (Spot::ConstColon, Class::Colon) => move_to(
-            item,
-            Rule::ConstParameter,
-            State::Range(TypeState::Wanted),
-        ),
-        (Spot::ConstDefault, Class::Literal)
-        | (Spot::ConstDefault, Class::Braces)
-        | (Spot::ConstDefault, Class::Truth) => move_to(
-            item,
-            Rule::Alone,
-            State::At(Spot::ConstEnd),
-        ),
-        (Spot::ConstDefault, Class::Minus) => move_to(
-            item,
-            Rule::Alone,
-            State::At(Spot::ConstMinus),
-        ),
-        (Spot::ConstMinus, Class::Literal) => move_to(item, Rule::Alone, State::At(Spot::ConstEnd)),
-        (Spot::ConstEnd, _) => parameter_end(item, class),
+        (Spot::Generics, _) => generics(item, class),
         (Spot::AfterGenerics, _) => closing(item, class),
-        (Spot::Where, Class::Where) => move_to(item, Rule::Alone, State::At(Spot::Predicate)),
+        (Spot::LifetimeName, _) => lifetime_name(item, class),
+        (Spot::TypeName, _) => type_name(item, class),
+        (Spot::ConstName, Class::Word(_)) => to_spot(item, Spot::ConstColon),
+        (Spot::ConstColon, Class::Colon) => to_type(item, Rule::ConstParameter),
+        (Spot::ConstDefault, _) => const_default(item, class),
+        (Spot::ConstMinus, Class::Literal) => to_spot(item, Spot::ConstEnd),
+        (Spot::ConstEnd, _) => parameter_end(item, class),
+        (Spot::Where, Class::Keyword(Keyword::Where)) => to_spot(item, Spot::Predicate),
         (Spot::Predicate, _) => body(item, class),
-        (Spot::Item, _) => item_step(class),
-        (Spot::ItemHash, Class::Brackets) => move_to(
-            Item::Alone,
-            Rule::Alone,
-            State::At(Spot::Item),
-        ),
-        (Spot::ItemPublic, Class::Restriction) => move_to(
-            Item::Alone,
-            Rule::Alone,
-            State::At(Spot::ItemVisible),
-        ),
-        (Spot::ItemPublic, _) => visible_step(class),
-        (Spot::ItemVisible, _) => visible_step(class),
-        (Spot::StructName, Class::Word | Class::Union) => move_to(
-            Item::Struct,
-            Rule::Alone,
-            State::At(Spot::Generics),
-        ),
-        (Spot::BracedName, Class::Word | Class::Union) => move_to(
-            Item::Braced,
-            Rule::Alone,
-            State::At(Spot::Generics),
-        ),
+        (Spot::Name, Class::Word(_)) => to_spot(item, Spot::Generics),
+        (Spot::Front(front), _) => front_step(item, front, class),
+        (Spot::Inner, Class::HashBang) => to_spot(item, Spot::InnerHash),
+        (Spot::InnerHash, Class::Brackets) => to_spot(item, Spot::Inner),
         _ => None,
     }
 }
 
-// The rule of a type that may begin at a spot.
-fn spot_type(rule: Rule, spot: Spot) -> Option<Rule>
-    ensures { result ≡ spot_type rule spot }
-{
-    match spot {
-        Spot::TupleField | Spot::TupleAttributed | Spot::TuplePublic => Some(rule),
-        Spot::ConstDefault => Some(Rule::Parameter),
-        Spot::Predicate => Some(Rule::Bounded),
-        _ => None,
-    }
-}
-
-fn is_alone(item: Item) -> bool
-    ensures { result ≡ is_alone item }
+// After the generic parameters of an `impl` a type begins.
+fn closing_type(item: Item) -> Option<TypeStart>
+    ensures { result ≡ closing_type item }
 {
     match item {
-        Item::Alone | Item::Variants => true,
-        Item::Struct | Item::Tuple | Item::Braced => false,
+        Item::Impl => type_from(Rule::Target, TypeState::Wanted),
+        _ => None,
+    }
+}
+
+// The type that may begin at a spot.
+fn spot_type(item: Item, rule: Rule, spot: Spot) -> Option<TypeStart>
+    ensures { result ≡ spot_type item rule spot }
+{
+    match spot {
+        Spot::Before(Part::TupleField)
+        | Spot::Attributed(Part::TupleField)
+        | Spot::Public(Part::TupleField)
+        | Spot::Visible(Part::TupleField) => type_from(rule, TypeState::Wanted),
+        Spot::AfterGenerics => closing_type(item),
+        Spot::ConstDefault => type_from(Rule::Parameter, TypeState::Wanted),
+        Spot::Predicate => type_from(Rule::Bounded, TypeState::Wanted),
+        Spot::Front(front) => front_type(front),
+        _ => None,
     }
 }
 
@@ -672,9 +428,31 @@ fn rule_ends(item: Item, rule: Rule) -> bool
 {
     match rule {
         Rule::Alone | Rule::Fields | Rule::TupleFields => true,
-        Rule::Predicate => is_alone(item),
+        Rule::Predicate | Rule::Header => is_alone(item),
         Rule::Angle | Rule::CastAngle | Rule::ClosureAngle => true,
         _ => false,
+    }
+}
+
+// Whether attributes and a visibility are all of it.
+fn is_front(part: Part) -> bool
+    ensures { result ≡ is_front part }
+{
+    match part {
+        Part::Attributes | Part::Visibility => true,
+        _ => false,
+    }
+}
+
+// Whether what is read may end before a part: a list may.
+fn part_ends(item: Item, rule: Rule, part: Part) -> bool
+    ensures { result ≡ part_ends item rule part }
+{
+    match (item, rule, part) {
+        (_, Rule::Fields, Part::Field)
+        | (_, Rule::TupleFields, Part::TupleField)
+        | (Item::Variants, _, Part::Variant) => true,
+        _ => is_front(part),
     }
 }
 
@@ -682,245 +460,11 @@ fn spot_ends(item: Item, rule: Rule, spot: Spot) -> bool
     ensures { result ≡ spot_ends item rule spot }
 {
     match spot {
-        Spot::Attributes | Spot::Visibility | Spot::Public | Spot::Restricted | Spot::ItemEnd =>
-            true,
-        Spot::VariantName | Spot::VariantEnd => true,
-        Spot::ExpressionOpen | Spot::ExpressionWhole | Spot::CastWhole => true,
-        Spot::Field => match rule {
-            Rule::Fields => true,
-            _ => false,
-        },
-        Spot::TupleField => match rule {
-            Rule::TupleFields => true,
-            _ => false,
-        },
-        Spot::Variant => match item {
-            Item::Variants => true,
-            _ => false,
-        },
+        Spot::Before(part) => part_ends(item, rule, part),
+        Spot::Attributed(part) | Spot::Public(part) | Spot::Visible(part) => is_front(part),
         Spot::Generics | Spot::AfterGenerics | Spot::Where | Spot::Predicate => is_alone(item),
+        Spot::VariantName | Spot::VariantEnd | Spot::ItemEnd | Spot::Inner => true,
+        Spot::ExpressionOpen | Spot::ExpressionWhole | Spot::CastWhole => true,
         _ => false,
-    }
-}
-
-// Where an operand is wanted.
-fn expression(item: Item, class: Class) -> Option<Shift>
-    ensures { result ≡ expression item class }
-{
-    match class {
-        Class::Restriction
-        | Class::Parentheses
-        | Class::Brackets
-        | Class::Braces
-        | Class::Invisible
-        | Class::Word
-        | Class::Union
-        | Class::SelfValue
-        | Class::SelfType
-        | Class::Super
-        | Class::Crate
-        | Class::Underscore
-        | Class::Truth
-        | Class::Literal
-        | Class::Await => to_spot(item, Spot::ExpressionWhole),
-        Class::Less | Class::LessJoint => open_angle(item, Rule::Angle),
-        Class::Lifetime | Class::Jump => to_spot(item, Spot::ExpressionOpen),
-        Class::Dot => to_spot(item, Spot::ExpressionRange),
-        Class::Minus
-        | Class::Star
-        | Class::And
-        | Class::Exclamation
-        | Class::Equals
-        | Class::Greater
-        | Class::PathSeparator
-        | Class::Bars
-        | Class::Keyword
-        | Class::Mut
-        | Class::Const
-        | Class::Extern
-        | Class::For
-        | Class::In
-        | Class::Pub
-        | Class::Where
-        | Class::Struct
-        | Class::Enum
-        | Class::TypeFront => to_spot(item, Spot::Expression),
-        Class::Hash => to_spot(item, Spot::ExpressionHash),
-        Class::Bar => to_spot(item, Spot::Closure),
-        Class::Arrow => to_spot(item, Spot::Cast),
-        _ => None,
-    }
-}
-
-// Where an operand may stand, or what follows one.
-fn expression_open(item: Item, class: Class) -> Option<Shift>
-    ensures { result ≡ expression_open item class }
-{
-    match class {
-        Class::Dot => to_spot(item, Spot::ExpressionOpen),
-        Class::Question => to_spot(item, Spot::ExpressionWhole),
-        Class::Plus | Class::Infix | Class::Colon => to_spot(item, Spot::Expression),
-        Class::Comma => variant_end(item, Class::Comma),
-        _ => expression(item, class),
-    }
-}
-
-// After an operand, of an expression or of a cast.
-fn operator(item: Item, class: Class) -> Option<Shift>
-    ensures { result ≡ operator item class }
-{
-    match class {
-        Class::Restriction
-        | Class::Parentheses
-        | Class::Brackets
-        | Class::Braces
-        | Class::Invisible
-        | Class::Question
-        | Class::Await => to_spot(item, Spot::ExpressionWhole),
-        Class::Jump => to_spot(item, Spot::ExpressionOpen),
-        Class::Dot => to_spot(item, Spot::ExpressionDot),
-        Class::As | Class::Arrow => to_spot(item, Spot::Cast),
-        Class::Minus
-        | Class::Star
-        | Class::And
-        | Class::Exclamation
-        | Class::Equals
-        | Class::Greater
-        | Class::Plus
-        | Class::Infix
-        | Class::Colon
-        | Class::Bar
-        | Class::Bars
-        | Class::LessEquals
-        | Class::Keyword
-        | Class::Mut
-        | Class::Const
-        | Class::Extern
-        | Class::For
-        | Class::In
-        | Class::Pub
-        | Class::Where
-        | Class::Struct
-        | Class::Enum
-        | Class::TypeFront => to_spot(item, Spot::Expression),
-        Class::Comma => variant_end(item, Class::Comma),
-        _ => None,
-    }
-}
-
-// After an operand.
-fn expression_whole(item: Item, class: Class) -> Option<Shift>
-    ensures { result ≡ expression_whole item class }
-{
-    match class {
-        Class::PathSeparator | Class::Less => to_spot(item, Spot::Expression),
-        Class::LessJoint => to_spot(item, Spot::ExpressionLess),
-        _ => operator(item, class),
-    }
-}
-
-// After `<` that is an operator and Joint: another belongs to it.
-fn expression_less(item: Item, class: Class) -> Option<Shift>
-    ensures { result ≡ expression_less item class }
-{
-    match class {
-        Class::Less | Class::LessJoint | Class::LessEquals => to_spot(item, Spot::Expression),
-        _ => expression(item, class),
-    }
-}
-
-// After an operand and `.`.
-fn expression_dot(item: Item, class: Class) -> Option<Shift>
-    ensures { result ≡ expression_dot item class }
-{
-    match class {
-        Class::Dot => to_spot(item, Spot::ExpressionOpen),
-        _ => expression(item, class),
-    }
-}
-
-// Within the bars of a closure.
-fn closure(item: Item, class: Class) -> Option<Shift>
-    ensures { result ≡ closure item class }
-{
-    match class {
-        Class::Bar => to_spot(item, Spot::Expression),
-        Class::Less | Class::LessJoint => open_angle(item, Rule::ClosureAngle),
-        Class::Semicolon => None,
-        _ => to_spot(item, Spot::Closure),
-    }
-}
-
-// Where the type of a cast is wanted.
-fn cast(item: Item, class: Class) -> Option<Shift>
-    ensures { result ≡ cast item class }
-{
-    match class {
-        Class::Restriction
-        | Class::Parentheses
-        | Class::Brackets
-        | Class::Braces
-        | Class::Invisible
-        | Class::Word
-        | Class::Union
-        | Class::SelfValue
-        | Class::SelfType
-        | Class::Super
-        | Class::Crate
-        | Class::Underscore
-        | Class::Truth => to_spot(item, Spot::CastWhole),
-        Class::Less | Class::LessJoint => open_angle(item, Rule::CastAngle),
-        Class::Lifetime
-        | Class::PathSeparator
-        | Class::Arrow
-        | Class::Star
-        | Class::And
-        | Class::Exclamation
-        | Class::As
-        | Class::Jump
-        | Class::Await
-        | Class::Keyword
-        | Class::Mut
-        | Class::Const
-        | Class::Extern
-        | Class::For
-        | Class::In
-        | Class::Pub
-        | Class::Where
-        | Class::Struct
-        | Class::Enum
-        | Class::TypeFront => to_spot(item, Spot::Cast),
-        _ => None,
-    }
-}
-
-// After the type of a cast, or a part of it.
-fn cast_whole(item: Item, class: Class) -> Option<Shift>
-    ensures { result ≡ cast_whole item class }
-{
-    match class {
-        Class::PathSeparator => to_spot(item, Spot::Cast),
-        Class::Less | Class::LessJoint => open_angle(item, Rule::CastAngle),
-        _ => operator(item, class),
-    }
-}
-
-// After a variant that is whole, in a list.
-fn variant_end(item: Item, class: Class) -> Option<Shift>
-    ensures { result ≡ variant_end item class }
-{
-    match (item, class) {
-        (Item::Variants, Class::Comma) => to_spot(Item::Variants, Spot::Variant),
-        _ => None,
-    }
-}
-
-// Before its discriminant.
-fn variant_value(item: Item, class: Class) -> Option<Shift>
-    ensures { result ≡ variant_value item class }
-{
-    match class {
-        Class::Equals => to_spot(item, Spot::Expression),
-        _ => variant_end(item, class),
     }
 }

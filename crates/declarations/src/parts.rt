@@ -1,15 +1,50 @@
 //! The parts of declarations, each at the front of trees.
-ghost use Rattle.std.specs.Prelude.{IfErr, IfOk};
+ghost use Rattle.std.specs.Prelude.{◌≡◌, IfErr, IfOk};
+ghost use Rattle.declarations.specs.Fault.{extent_at};
 ghost use Rattle.declarations.specs.Forms.{AreAttributes, AreBounds, AreFields, AreGenerics, AreTupleFields, IsField};
 ghost use Rattle.declarations.specs.Forms.{IsItem, IsTupleField, IsType, IsVisibility, IsWhere};
-ghost use Rattle.declarations.specs.Forms.{AreVariants, IsExpression, IsVariant};
+ghost use Rattle.declarations.specs.Forms.{AreInnerAttributes, AreVariants, IsExpression, IsFrom, IsVariant, start};
 ghost use Rattle.declarations.specs.Reading.{FaultAt, IsOnly, Reads};
 
 use crate::fault::Fault;
-use crate::grammar::{Item, Place, Rule, Spot, State};
+use crate::place::{Item, Part, Place, Rule, Spot, State};
 use crate::types::TypeState;
 use crate::walk::split_from;
 use pm_stream::TokenTree;
+
+// What is read where no item is declared around it.
+fn split_alone<'a>(
+    trees: &'a [TokenTree],
+    rule: Rule,
+    state: State,
+) -> Result<(&'a [TokenTree], &'a [TokenTree]), Fault>
+    ensures ok { IfOk result (λ found. Reads (IsFrom (start rule state)) trees.now found.0.now found.1.now) }
+    ensures only { IfOk result (λ found. IsOnly (IsFrom (start rule state)) trees.now found.0.now found.1.now) }
+    ensures fault { IfErr result (λ fault. FaultAt (IsFrom (start rule state)) trees.now fault.at) }
+    ensures span { IfErr result (λ fault. fault.span ≡ extent_at trees.now fault.at) }
+{
+    let start = Place {
+        item: Item::Alone,
+        rule,
+        state,
+        depth: 0,
+    };
+    split_pair(trees, start)
+}
+
+fn split_pair<'a>(
+    trees: &'a [TokenTree],
+    start: Place,
+) -> Result<(&'a [TokenTree], &'a [TokenTree]), Fault>
+    requires { start.depth ≡ 0 }
+    ensures ok { IfOk result (λ found. Reads (IsFrom start) trees.now found.0.now found.1.now) }
+    ensures only { IfOk result (λ found. IsOnly (IsFrom start) trees.now found.0.now found.1.now) }
+    ensures fault { IfErr result (λ fault. FaultAt (IsFrom start) trees.now fault.at) }
+    ensures span { IfErr result (λ fault. fault.span ≡ extent_at trees.now fault.at) }
+{
+    let split = split_from(trees, start)?;
+    Ok((split.part, split.rest))
+}
 
 /// The type at the front of the trees, and the trees after it.
 ///
@@ -19,14 +54,9 @@ pub fn split_type(trees: &[TokenTree]) -> Result<(&[TokenTree], &[TokenTree]), F
     ensures ok { IfOk result (λ found. Reads IsType trees.now found.0.now found.1.now) }
     ensures only { IfOk result (λ found. IsOnly IsType trees.now found.0.now found.1.now) }
     ensures fault { IfErr result (λ fault. FaultAt IsType trees.now fault.at) }
+    ensures span { IfErr result (λ fault. fault.span ≡ extent_at trees.now fault.at) }
 {
-    let start = Place {
-        item: Item::Alone,
-        rule: Rule::Alone,
-        state: State::Range(TypeState::Wanted),
-        depth: 0,
-    };
-    split_from(trees, start)
+    split_alone(trees, Rule::Alone, State::Range(TypeState::Wanted))
 }
 
 /// The bounds at the front of the trees, which may be none, and the trees after them.
@@ -36,14 +66,9 @@ pub fn split_bounds(trees: &[TokenTree]) -> Result<(&[TokenTree], &[TokenTree]),
     ensures ok { IfOk result (λ found. Reads AreBounds trees.now found.0.now found.1.now) }
     ensures only { IfOk result (λ found. IsOnly AreBounds trees.now found.0.now found.1.now) }
     ensures fault { IfErr result (λ fault. FaultAt AreBounds trees.now fault.at) }
+    ensures span { IfErr result (λ fault. fault.span ≡ extent_at trees.now fault.at) }
 {
-    let start = Place {
-        item: Item::Alone,
-        rule: Rule::Alone,
-        state: State::Range(TypeState::Open),
-        depth: 0,
-    };
-    split_from(trees, start)
+    split_alone(trees, Rule::Alone, State::Range(TypeState::Bound))
 }
 
 /// The outer attributes at the front of the trees, which may be none, and the trees after them.
@@ -53,14 +78,13 @@ pub fn split_attributes(trees: &[TokenTree]) -> Result<(&[TokenTree], &[TokenTre
     ensures ok { IfOk result (λ found. Reads AreAttributes trees.now found.0.now found.1.now) }
     ensures only { IfOk result (λ found. IsOnly AreAttributes trees.now found.0.now found.1.now) }
     ensures fault { IfErr result (λ fault. FaultAt AreAttributes trees.now fault.at) }
+    ensures span { IfErr result (λ fault. fault.span ≡ extent_at trees.now fault.at) }
 {
-    let start = Place {
-        item: Item::Alone,
-        rule: Rule::Alone,
-        state: State::At(Spot::Attributes),
-        depth: 0,
-    };
-    split_from(trees, start)
+    split_alone(
+        trees,
+        Rule::Alone,
+        State::At(Spot::Before(Part::Attributes)),
+    )
 }
 
 /// The visibility at the front of the trees, which may be left out, and the trees after it.
@@ -71,14 +95,13 @@ pub fn split_visibility(trees: &[TokenTree]) -> Result<(&[TokenTree], &[TokenTre
     ensures ok { IfOk result (λ found. Reads IsVisibility trees.now found.0.now found.1.now) }
     ensures only { IfOk result (λ found. IsOnly IsVisibility trees.now found.0.now found.1.now) }
     ensures fault { IfErr result (λ fault. FaultAt IsVisibility trees.now fault.at) }
+    ensures span { IfErr result (λ fault. fault.span ≡ extent_at trees.now fault.at) }
 {
-    let start = Place {
-        item: Item::Alone,
-        rule: Rule::Alone,
-        state: State::At(Spot::Visibility),
-        depth: 0,
-    };
-    split_from(trees, start)
+    split_alone(
+        trees,
+        Rule::Alone,
+        State::At(Spot::Before(Part::Visibility)),
+    )
 }
 
 /// The named field at the front of the trees, with its attributes and visibility, and the trees after it.
@@ -88,14 +111,9 @@ pub fn split_field(trees: &[TokenTree]) -> Result<(&[TokenTree], &[TokenTree]), 
     ensures ok { IfOk result (λ found. Reads IsField trees.now found.0.now found.1.now) }
     ensures only { IfOk result (λ found. IsOnly IsField trees.now found.0.now found.1.now) }
     ensures fault { IfErr result (λ fault. FaultAt IsField trees.now fault.at) }
+    ensures span { IfErr result (λ fault. fault.span ≡ extent_at trees.now fault.at) }
 {
-    let start = Place {
-        item: Item::Alone,
-        rule: Rule::Alone,
-        state: State::At(Spot::Field),
-        depth: 0,
-    };
-    split_from(trees, start)
+    split_alone(trees, Rule::Alone, State::At(Spot::Before(Part::Field)))
 }
 
 /// The field without a name at the front of the trees, with its attributes and visibility, and the trees after it.
@@ -105,14 +123,13 @@ pub fn split_tuple_field(trees: &[TokenTree]) -> Result<(&[TokenTree], &[TokenTr
     ensures ok { IfOk result (λ found. Reads IsTupleField trees.now found.0.now found.1.now) }
     ensures only { IfOk result (λ found. IsOnly IsTupleField trees.now found.0.now found.1.now) }
     ensures fault { IfErr result (λ fault. FaultAt IsTupleField trees.now fault.at) }
+    ensures span { IfErr result (λ fault. fault.span ≡ extent_at trees.now fault.at) }
 {
-    let start = Place {
-        item: Item::Alone,
-        rule: Rule::Alone,
-        state: State::At(Spot::TupleField),
-        depth: 0,
-    };
-    split_from(trees, start)
+    split_alone(
+        trees,
+        Rule::Alone,
+        State::At(Spot::Before(Part::TupleField)),
+    )
 }
 
 /// The named fields at the front of the trees, with `,` between two and perhaps after the last, and the trees after
@@ -123,14 +140,9 @@ pub fn split_fields(trees: &[TokenTree]) -> Result<(&[TokenTree], &[TokenTree]),
     ensures ok { IfOk result (λ found. Reads AreFields trees.now found.0.now found.1.now) }
     ensures only { IfOk result (λ found. IsOnly AreFields trees.now found.0.now found.1.now) }
     ensures fault { IfErr result (λ fault. FaultAt AreFields trees.now fault.at) }
+    ensures span { IfErr result (λ fault. fault.span ≡ extent_at trees.now fault.at) }
 {
-    let start = Place {
-        item: Item::Alone,
-        rule: Rule::Fields,
-        state: State::At(Spot::Field),
-        depth: 0,
-    };
-    split_from(trees, start)
+    split_alone(trees, Rule::Fields, State::At(Spot::Before(Part::Field)))
 }
 
 /// The fields without names at the front of the trees, with `,` between two and perhaps after the last, and the trees
@@ -139,14 +151,13 @@ pub fn split_tuple_fields(trees: &[TokenTree]) -> Result<(&[TokenTree], &[TokenT
     ensures ok { IfOk result (λ found. Reads AreTupleFields trees.now found.0.now found.1.now) }
     ensures only { IfOk result (λ found. IsOnly AreTupleFields trees.now found.0.now found.1.now) }
     ensures fault { IfErr result (λ fault. FaultAt AreTupleFields trees.now fault.at) }
+    ensures span { IfErr result (λ fault. fault.span ≡ extent_at trees.now fault.at) }
 {
-    let start = Place {
-        item: Item::Alone,
-        rule: Rule::TupleFields,
-        state: State::At(Spot::TupleField),
-        depth: 0,
-    };
-    split_from(trees, start)
+    split_alone(
+        trees,
+        Rule::TupleFields,
+        State::At(Spot::Before(Part::TupleField)),
+    )
 }
 
 /// The variant at the front of the trees, with its attributes, visibility and discriminant, and the trees after it.
@@ -157,14 +168,9 @@ pub fn split_variant(trees: &[TokenTree]) -> Result<(&[TokenTree], &[TokenTree])
     ensures ok { IfOk result (λ found. Reads IsVariant trees.now found.0.now found.1.now) }
     ensures only { IfOk result (λ found. IsOnly IsVariant trees.now found.0.now found.1.now) }
     ensures fault { IfErr result (λ fault. FaultAt IsVariant trees.now fault.at) }
+    ensures span { IfErr result (λ fault. fault.span ≡ extent_at trees.now fault.at) }
 {
-    let start = Place {
-        item: Item::Alone,
-        rule: Rule::Alone,
-        state: State::At(Spot::Variant),
-        depth: 0,
-    };
-    split_from(trees, start)
+    split_alone(trees, Rule::Alone, State::At(Spot::Before(Part::Variant)))
 }
 
 /// The variants at the front of the trees, with `,` between two and perhaps after the last, and the trees after them.
@@ -174,14 +180,15 @@ pub fn split_variants(trees: &[TokenTree]) -> Result<(&[TokenTree], &[TokenTree]
     ensures ok { IfOk result (λ found. Reads AreVariants trees.now found.0.now found.1.now) }
     ensures only { IfOk result (λ found. IsOnly AreVariants trees.now found.0.now found.1.now) }
     ensures fault { IfErr result (λ fault. FaultAt AreVariants trees.now fault.at) }
+    ensures span { IfErr result (λ fault. fault.span ≡ extent_at trees.now fault.at) }
 {
     let start = Place {
         item: Item::Variants,
         rule: Rule::Alone,
-        state: State::At(Spot::Variant),
+        state: State::At(Spot::Before(Part::Variant)),
         depth: 0,
     };
-    split_from(trees, start)
+    split_pair(trees, start)
 }
 
 /// The expression of a discriminant at the front of the trees, and the trees after it.
@@ -191,14 +198,9 @@ pub fn split_expression(trees: &[TokenTree]) -> Result<(&[TokenTree], &[TokenTre
     ensures ok { IfOk result (λ found. Reads IsExpression trees.now found.0.now found.1.now) }
     ensures only { IfOk result (λ found. IsOnly IsExpression trees.now found.0.now found.1.now) }
     ensures fault { IfErr result (λ fault. FaultAt IsExpression trees.now fault.at) }
+    ensures span { IfErr result (λ fault. fault.span ≡ extent_at trees.now fault.at) }
 {
-    let start = Place {
-        item: Item::Alone,
-        rule: Rule::Alone,
-        state: State::At(Spot::Expression),
-        depth: 0,
-    };
-    split_from(trees, start)
+    split_alone(trees, Rule::Alone, State::At(Spot::Expression))
 }
 
 /// The generic parameters at the front of the trees in their angle brackets, which may be left out, and the trees after
@@ -209,14 +211,9 @@ pub fn split_generics(trees: &[TokenTree]) -> Result<(&[TokenTree], &[TokenTree]
     ensures ok { IfOk result (λ found. Reads AreGenerics trees.now found.0.now found.1.now) }
     ensures only { IfOk result (λ found. IsOnly AreGenerics trees.now found.0.now found.1.now) }
     ensures fault { IfErr result (λ fault. FaultAt AreGenerics trees.now fault.at) }
+    ensures span { IfErr result (λ fault. fault.span ≡ extent_at trees.now fault.at) }
 {
-    let start = Place {
-        item: Item::Alone,
-        rule: Rule::Alone,
-        state: State::At(Spot::Generics),
-        depth: 0,
-    };
-    split_from(trees, start)
+    split_alone(trees, Rule::Alone, State::At(Spot::Generics))
 }
 
 /// The where clause at the front of the trees, which may be left out, and the trees after it.
@@ -226,14 +223,9 @@ pub fn split_where(trees: &[TokenTree]) -> Result<(&[TokenTree], &[TokenTree]), 
     ensures ok { IfOk result (λ found. Reads IsWhere trees.now found.0.now found.1.now) }
     ensures only { IfOk result (λ found. IsOnly IsWhere trees.now found.0.now found.1.now) }
     ensures fault { IfErr result (λ fault. FaultAt IsWhere trees.now fault.at) }
+    ensures span { IfErr result (λ fault. fault.span ≡ extent_at trees.now fault.at) }
 {
-    let start = Place {
-        item: Item::Alone,
-        rule: Rule::Alone,
-        state: State::At(Spot::Where),
-        depth: 0,
-    };
-    split_from(trees, start)
+    split_alone(trees, Rule::Alone, State::At(Spot::Where))
 }
 
 /// The struct, enum or union at the front of the trees, with its attributes and visibility, and the trees after it.
@@ -244,12 +236,19 @@ pub fn split_item(trees: &[TokenTree]) -> Result<(&[TokenTree], &[TokenTree]), F
     ensures ok { IfOk result (λ found. Reads IsItem trees.now found.0.now found.1.now) }
     ensures only { IfOk result (λ found. IsOnly IsItem trees.now found.0.now found.1.now) }
     ensures fault { IfErr result (λ fault. FaultAt IsItem trees.now fault.at) }
+    ensures span { IfErr result (λ fault. fault.span ≡ extent_at trees.now fault.at) }
 {
-    let start = Place {
-        item: Item::Alone,
-        rule: Rule::Alone,
-        state: State::At(Spot::Item),
-        depth: 0,
-    };
-    split_from(trees, start)
+    split_alone(trees, Rule::Alone, State::At(Spot::Before(Part::TypeItem)))
+}
+
+/// The inner attributes at the front of the trees, as of a file, which may be none, and the trees after them.
+///
+/// Of `#![a] #[b] fn f() {}` they are `#![a]`.
+pub fn split_inner_attributes(trees: &[TokenTree]) -> Result<(&[TokenTree], &[TokenTree]), Fault>
+    ensures ok { IfOk result (λ found. Reads AreInnerAttributes trees.now found.0.now found.1.now) }
+    ensures only { IfOk result (λ found. IsOnly AreInnerAttributes trees.now found.0.now found.1.now) }
+    ensures fault { IfErr result (λ fault. FaultAt AreInnerAttributes trees.now fault.at) }
+    ensures span { IfErr result (λ fault. fault.span ≡ extent_at trees.now fault.at) }
+{
+    split_alone(trees, Rule::Alone, State::At(Spot::Inner))
 }

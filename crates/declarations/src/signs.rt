@@ -1,11 +1,14 @@
 //! The signs of trees: each is one tree, or two that are read as one.
 ghost use Rattle.std.specs.Prelude.{◌≡◌, [], MatchOption};
-ghost use Rattle.declarations.specs.Signs.{BeginsWith, group_class, item_class, mark_class, name_class};
-ghost use Rattle.declarations.specs.Signs.{pair_class, path_class, tree_class, type_class, is_early_keyword};
-ghost use Rattle.declarations.specs.Signs.{is_late_keyword, is_middle_keyword, is_restriction, is_truth, restricts};
-ghost use Rattle.declarations.specs.Signs.{expression_class, is_type_front, marks_class, operator_class};
+ghost use Rattle.pm_stream.specs.Trees.{forest};
+ghost use Rattle.declarations.specs.Signs.{BeginsWith, group_class, is_early_keyword};
+ghost use Rattle.declarations.specs.Signs.{is_late_keyword, is_pub, is_restriction, is_truth, is_visibility};
+ghost use Rattle.declarations.specs.Signs.{item_keyword, joint_class, keyword_of, loose_class, mark_class};
+ghost use Rattle.declarations.specs.Signs.{marks_class, may_restrict};
+ghost use Rattle.declarations.specs.Signs.{name_class, operand_class, operator_class, pair_class, path_class};
+ghost use Rattle.declarations.specs.Signs.{restricts, restricts_in, tree_class, type_keyword, unseen_class, word_of};
 
-use crate::class::Class;
+use crate::class::{Class, Keyword, Word};
 use pm_stream::{Group, TokenStream, TokenTree};
 use pm_token::{Delimiter, Ident, Spacing};
 
@@ -37,9 +40,9 @@ fn pair_class(first: &TokenTree, second: &TokenTree) -> Option<Class>
     match second {
         TokenTree::Punct(next) => {
             if mark.spacing() == Spacing::Joint {
-                marks_class(mark.as_char(), next.as_char())
+                joint_class(mark.as_char(), next.as_char())
             } else {
-                None
+                loose_class(mark.as_char(), next.as_char())
             }
         }
         TokenTree::Ident(_) => {
@@ -53,7 +56,27 @@ fn pair_class(first: &TokenTree, second: &TokenTree) -> Option<Class>
     }
 }
 
-// The class of two marks that are read as one sign, if they are where the first is Joint.
+// The class of two marks that are read as one sign, Joint or not.
+fn loose_class(first: char, second: char) -> Option<Class>
+    ensures { result ≡ loose_class first second }
+{
+    if first == '#' && second == '!' {
+        return Some(Class::HashBang);
+    }
+    None
+}
+
+// The same, where the first is Joint.
+fn joint_class(first: char, second: char) -> Option<Class>
+    ensures { result ≡ joint_class first second }
+{
+    if let Some(class) = marks_class(first, second) {
+        return Some(class);
+    }
+    loose_class(first, second)
+}
+
+// The class of two marks that are read as one sign only where the first is Joint.
 fn marks_class(first: char, second: char) -> Option<Class>
     ensures { result ≡ marks_class first second }
 {
@@ -96,7 +119,60 @@ fn group_class(group: &Group) -> Class
         }
         Delimiter::Bracket => Class::Brackets,
         Delimiter::Brace => Class::Braces,
-        Delimiter::None => Class::Invisible,
+        Delimiter::None => unseen_class(group.stream_ref()),
+    }
+}
+
+// A group without delimiters, as macros by example pass a fragment.
+fn unseen_class(inside: &TokenStream) -> Class
+    ensures { result ≡ unseen_class inside.now }
+{
+    if is_visibility(inside) {
+        return Class::Visibility;
+    }
+    Class::Invisible
+}
+
+// Whether trees are a visibility: none, or `pub`, perhaps with a restriction.
+fn is_visibility(inside: &TokenStream) -> bool
+    ensures { result ≡ is_visibility inside.now }
+{
+    let Some((first, rest)) = inside.trees().split_first() else {
+        return true;
+    };
+    match first {
+        TokenTree::Ident(ident) => is_pub(ident, may_restrict(rest)),
+        TokenTree::Group(_) | TokenTree::Punct(_) | TokenTree::Literal(_) => false,
+    }
+}
+
+// Whether an identifier is `pub`, and what follows it belongs to it.
+fn is_pub(ident: &Ident, belongs: bool) -> bool
+    ensures { result ≡ is_pub ident.now belongs }
+{
+    ident.eq_str("pub") && belongs
+}
+
+// Whether the trees after `pub` are a restriction, or none.
+fn may_restrict(trees: &[TokenTree]) -> bool
+    ensures { result ≡ may_restrict (forest trees.now) }
+{
+    let Some((first, rest)) = trees.split_first() else {
+        return true;
+    };
+    match first {
+        TokenTree::Group(group) => restricts_in(group, rest.is_empty()),
+        TokenTree::Ident(_) | TokenTree::Punct(_) | TokenTree::Literal(_) => false,
+    }
+}
+
+// Whether a group restricts `pub`, being the last tree.
+fn restricts_in(group: &Group, last: bool) -> bool
+    ensures { result ≡ restricts_in group.now.delimiter group.now.stream last }
+{
+    match group.delimiter() {
+        Delimiter::Parenthesis => last && is_restriction(group.stream_ref()),
+        Delimiter::Bracket | Delimiter::Brace | Delimiter::None => false,
     }
 }
 
@@ -156,19 +232,19 @@ fn operator_class(mark: char) -> Class
     }
 }
 
-fn name_class(ident: &Ident) -> Class
+pub(crate) fn name_class(ident: &Ident) -> Class
     ensures { result ≡ name_class ident.now }
 {
     if let Some(class) = path_class(ident) {
         return class;
     }
-    if let Some(class) = type_class(ident) {
+    if let Some(class) = operand_class(ident) {
         return class;
     }
-    if let Some(class) = expression_class(ident) {
-        return class;
+    match keyword_of(ident) {
+        Some(keyword) => Class::Keyword(keyword),
+        None => Class::Word(word_of(ident)),
     }
-    item_class(ident)
 }
 
 // The keywords that stand in a path.
@@ -193,38 +269,16 @@ fn path_class(ident: &Ident) -> Option<Class>
     None
 }
 
-// The keywords that stand in a type.
-fn type_class(ident: &Ident) -> Option<Class>
-    ensures { result ≡ type_class ident.now }
+// The keywords that are operands, or stand before or after one that may be left out.
+fn operand_class(ident: &Ident) -> Option<Class>
+    ensures { result ≡ operand_class ident.now }
 {
-    if ident.eq_str("mut") {
-        return Some(Class::Mut);
-    }
-    if ident.eq_str("const") {
-        return Some(Class::Const);
-    }
-    if ident.eq_str("extern") {
-        return Some(Class::Extern);
-    }
-    if ident.eq_str("for") {
-        return Some(Class::For);
+    if is_truth(ident) {
+        return Some(Class::Truth);
     }
     if ident.eq_str("as") {
         return Some(Class::As);
     }
-    if is_truth(ident) {
-        return Some(Class::Truth);
-    }
-    if is_type_front(ident) {
-        return Some(Class::TypeFront);
-    }
-    None
-}
-
-// The keywords that are operands of an expression, or stand before one that may be left out.
-fn expression_class(ident: &Ident) -> Option<Class>
-    ensures { result ≡ expression_class ident.now }
-{
     if ident.eq_str("await") || ident.eq_str("continue") {
         return Some(Class::Await);
     }
@@ -240,44 +294,91 @@ fn is_truth(ident: &Ident) -> bool
     ident.eq_str("true") || ident.eq_str("false")
 }
 
-// Whether it stands before a type's operand.
-fn is_type_front(ident: &Ident) -> bool
-    ensures { result ≡ is_type_front ident.now }
+fn keyword_of(ident: &Ident) -> Option<Keyword>
+    ensures { result ≡ keyword_of ident.now }
 {
-    ident.eq_str("dyn")
-        || ident.eq_str("impl")
-        || ident.eq_str("unsafe")
-        || ident.eq_str("async")
-        || ident.eq_str("fn")
-        || ident.eq_str("use")
+    if let Some(keyword) = item_keyword(ident) {
+        return Some(keyword);
+    }
+    if let Some(keyword) = type_keyword(ident) {
+        return Some(keyword);
+    }
+    if is_early_keyword(ident) || is_late_keyword(ident) {
+        Some(Keyword::Other)
+    } else {
+        None
+    }
 }
 
-// The keywords that stand elsewhere, and words.
-fn item_class(ident: &Ident) -> Class
-    ensures { result ≡ item_class ident.now }
+// The keywords that begin items alone.
+fn item_keyword(ident: &Ident) -> Option<Keyword>
+    ensures { result ≡ item_keyword ident.now }
 {
-    if ident.eq_str("in") {
-        return Class::In;
-    }
-    if ident.eq_str("pub") {
-        return Class::Pub;
-    }
-    if ident.eq_str("where") {
-        return Class::Where;
-    }
     if ident.eq_str("struct") {
-        return Class::Struct;
+        return Some(Keyword::Struct);
     }
     if ident.eq_str("enum") {
-        return Class::Enum;
+        return Some(Keyword::Enum);
     }
-    if ident.eq_str("union") {
-        return Class::Union;
+    if ident.eq_str("static") {
+        return Some(Keyword::Static);
     }
-    if is_early_keyword(ident) || is_middle_keyword(ident) || is_late_keyword(ident) {
-        return Class::Keyword;
+    if ident.eq_str("trait") {
+        return Some(Keyword::Trait);
     }
-    Class::Word
+    if ident.eq_str("type") {
+        return Some(Keyword::Type);
+    }
+    if ident.eq_str("mod") {
+        return Some(Keyword::Mod);
+    }
+    if ident.eq_str("macro") {
+        return Some(Keyword::Macro);
+    }
+    if ident.eq_str("pub") {
+        return Some(Keyword::Pub);
+    }
+    if ident.eq_str("where") {
+        return Some(Keyword::Where);
+    }
+    None
+}
+
+// The keywords before a type's operand.
+fn type_keyword(ident: &Ident) -> Option<Keyword>
+    ensures { result ≡ type_keyword ident.now }
+{
+    if ident.eq_str("mut") {
+        return Some(Keyword::Mut);
+    }
+    if ident.eq_str("const") {
+        return Some(Keyword::Const);
+    }
+    if ident.eq_str("extern") {
+        return Some(Keyword::Extern);
+    }
+    if ident.eq_str("for") {
+        return Some(Keyword::For);
+    }
+    if ident.eq_str("dyn") {
+        return Some(Keyword::Dyn);
+    }
+    if ident.eq_str("impl") {
+        return Some(Keyword::Impl);
+    }
+    if ident.eq_str("unsafe") {
+        return Some(Keyword::Unsafe);
+    }
+    if ident.eq_str("async") {
+        return Some(Keyword::Async);
+    }
+    if ident.eq_str("fn") {
+        return Some(Keyword::Fn);
+    }
+    if ident.eq_str("use") {
+        return Some(Keyword::Use);
+    }
+    None
 }
 
 // The keywords that no rule names, in the order of the alphabet.
@@ -291,30 +392,39 @@ fn is_early_keyword(ident: &Ident) -> bool
         || ident.eq_str("else")
         || ident.eq_str("final")
         || ident.eq_str("if")
-}
-
-fn is_middle_keyword(ident: &Ident) -> bool
-    ensures { result ≡ is_middle_keyword ident.now }
-{
-    ident.eq_str("let")
-        || ident.eq_str("loop")
-        || ident.eq_str("macro")
-        || ident.eq_str("match")
-        || ident.eq_str("mod")
-        || ident.eq_str("move")
-        || ident.eq_str("override")
-        || ident.eq_str("priv")
-        || ident.eq_str("ref")
+        || ident.eq_str("in")
+        || ident.eq_str("let")
 }
 
 fn is_late_keyword(ident: &Ident) -> bool
     ensures { result ≡ is_late_keyword ident.now }
 {
-    ident.eq_str("static")
-        || ident.eq_str("trait")
-        || ident.eq_str("type")
+    ident.eq_str("loop")
+        || ident.eq_str("match")
+        || ident.eq_str("move")
+        || ident.eq_str("override")
+        || ident.eq_str("priv")
+        || ident.eq_str("ref")
         || ident.eq_str("typeof")
         || ident.eq_str("unsized")
         || ident.eq_str("virtual")
         || ident.eq_str("while")
+}
+
+fn word_of(ident: &Ident) -> Word
+    ensures { result ≡ word_of ident.now }
+{
+    if ident.eq_str("auto") {
+        return Word::Auto;
+    }
+    if ident.eq_str("default") {
+        return Word::Default;
+    }
+    if ident.eq_str("safe") {
+        return Word::Safe;
+    }
+    if ident.eq_str("union") {
+        return Word::Union;
+    }
+    Word::Plain
 }

@@ -1,49 +1,114 @@
 //! Walks over the signs of trees, by the grammar.
-ghost use Rattle.std.specs.Prelude.{◌≡◌, ◌≢◌, ◌+◌, ◌≤◌, ◌<◌, ◌^◌, IfErr, IfNone, IfOk, IfSome, length};
+ghost use Rattle.std.specs.Prelude.{◌≡◌, ◌≢◌, ◌+◌, ◌≤◌, ◌<◌, ◌^◌, IfErr, IfNone, IfOk, IfSome, OnOk, cond, length};
+ghost use Rattle.declarations.specs.Fault.{extent_at};
 ghost use Rattle.declarations.specs.Forms.{IsFrom};
-ghost use Rattle.declarations.specs.Grammar.{step};
-ghost use Rattle.declarations.specs.Reading.{FaultAt, IsOnly, Reads};
+ghost use Rattle.declarations.specs.Grammar.{names, step};
+ghost use Rattle.declarations.specs.Reading.{FaultAt, IsOnly, Reads, Walked, first_name};
 ghost use Rattle.declarations.specs.Signs.{BeginsWith, classes_of, signs};
 ghost use Rattle.declarations.specs.Walk.{Stops};
+ghost use Rattle.declarations.specs.Whole.{IsWhole, ReadsAll};
 ghost use Rattle.declarations.specs.declared.class.Class.{Class as ClassValue};
+ghost use Rattle.declarations.specs.declared.place.Place.{Place as PlaceValue};
 
 use crate::fault::Fault;
-use crate::grammar::Place;
+use crate::place::{Item, Place};
 use crate::signs::first_sign;
 use pm_stream::TokenTree;
 
+/// What is read, and what follows it.
+#[derive(Clone, Copy)]
+pub(crate) struct Split<'a> {
+    pub part: &'a [TokenTree],
+    pub rest: &'a [TokenTree],
+    /// What is declared around the place where the walk ended.
+    pub last: Item,
+    /// The trees from an item's name on; none where it has no name.
+    pub named: &'a [TokenTree],
+}
+
 // What is read from this place on, and the trees after it.
-pub(crate) fn split_from<'a>(
-    trees: &'a [TokenTree],
-    start: Place,
-) -> Result<(&'a [TokenTree], &'a [TokenTree]), Fault>
+pub(crate) fn split_from<'a>(trees: &'a [TokenTree], start: Place) -> Result<Split<'a>, Fault>
     requires { start.depth ≡ 0 }
-    ensures ok { IfOk result (λ found. Reads (IsFrom start) trees.now found.0.now found.1.now) }
-    ensures only { IfOk result (λ found. IsOnly (IsFrom start) trees.now found.0.now found.1.now) }
+    ensures ok { IfOk result (λ found. Reads (IsFrom start) trees.now found.part.now found.rest.now) }
+    ensures only { IfOk result (λ found. IsOnly (IsFrom start) trees.now found.part.now found.rest.now) }
+    ensures told { IfOk result (λ found. (last : PlaceValue)
+        × Walked start trees.now found.rest.now last (first_name found.named.now) × (found.last ≡ last.item)) }
     ensures fault { IfErr result (λ fault. FaultAt (IsFrom start) trees.now fault.at) }
+    ensures span { IfErr result (λ fault. fault.span ≡ extent_at trees.now fault.at) }
 {
-    let mut place = start;
-    let mut left = trees;
-    while let Some((next, after)) = next_place(place, left) {
-        place = next;
-        left = after;
-    }
-    let at = trees.len() - left.len();
-    if place.may_end() {
-        Ok(trees.split_at(at))
+    let stop = walk_from(trees, start);
+    let at = trees.len() - stop.left.len();
+    if stop.place.may_end() {
+        let (part, rest) = trees.split_at(at);
+        Ok(Split {
+            part,
+            rest,
+            last: stop.place.item,
+            named: stop.named,
+        })
     } else {
-        Err(Fault { at })
+        Err(Fault::ahead_of(at, stop.left))
     }
 }
 
-// What the first sign of the trees leads to, if it may stand there, and the trees after it.
-fn next_place<'a>(place: Place, trees: &'a [TokenTree]) -> Option<(Place, &'a [TokenTree])>
+// Reads all trees from this place on.
+pub(crate) fn read_whole(trees: &[TokenTree], start: Place) -> Result<(), Fault>
+    requires { start.depth ≡ 0 }
+    ensures ok { OnOk result (ReadsAll (IsFrom start) trees.now) }
+    ensures fault { IfErr result (λ fault. FaultAt (IsWhole (IsFrom start)) trees.now fault.at) }
+    ensures span { IfErr result (λ fault. fault.span ≡ extent_at trees.now fault.at) }
+{
+    let stop = walk_from(trees, start);
+    if stop.left.is_empty() && stop.place.may_end() {
+        Ok(())
+    } else {
+        Err(Fault::ahead_of(trees.len() - stop.left.len(), stop.left))
+    }
+}
+
+// Where a walk over signs stops.
+#[derive(Clone, Copy)]
+struct Stop<'a> {
+    place: Place,
+    // The trees that are left.
+    left: &'a [TokenTree],
+    // The trees from an item's name on; none where it has no name.
+    named: &'a [TokenTree],
+}
+
+// How far the signs are steps from this place on.
+fn walk_from<'a>(trees: &'a [TokenTree], start: Place) -> Stop<'a>
+    requires { start.depth ≡ 0 }
+    ensures walked { Walked start trees.now result.left.now result.place (first_name result.named.now) }
+    ensures stops { Stops step result.place (classes_of (signs result.left.now)) }
+    ensures fewer { length result.left.now ≤ length trees.now }
+{
+    let mut place = start;
+    let mut left = trees;
+    let mut named = trees.split_at(0).0;
+    while let Some((next, after, begins)) = next_place(place, left) {
+        named = later(begins, left, named);
+        place = next;
+        left = after;
+    }
+    Stop { place, left, named }
+}
+
+fn later<'a>(begins: bool, trees: &'a [TokenTree], named: &'a [TokenTree]) -> &'a [TokenTree]
+    ensures { result.now ≡ cond begins trees.now named.now }
+{
+    if begins { trees } else { named }
+}
+
+// What the first sign of the trees leads to, if it may stand there, the trees after it, and whether it is a name.
+fn next_place<'a>(place: Place, trees: &'a [TokenTree]) -> Option<(Place, &'a [TokenTree], bool)>
     requires { place.depth + length trees.now + 1 < 2 ^ 64 }
     ensures found { IfSome result (λ next. (class : ClassValue) × BeginsWith trees.now class next.1.now
-        × (step place class ≡ Some next.0) × (next.0.depth + length next.1.now ≤ place.depth + length trees.now)) }
+        × (step place class ≡ Some next.0) × (next.2 ≡ names place class)
+        × (next.0.depth + length next.1.now ≤ place.depth + length trees.now)) }
     ensures none { IfNone result (Stops step place (classes_of (signs trees.now))) }
 {
     let (class, after) = first_sign(trees)?;
     let next = place.step(class)?;
-    Some((next, after))
+    Some((next, after, place.names(class)))
 }

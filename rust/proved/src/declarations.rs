@@ -9,19 +9,33 @@
 //!
 //! The grammar stands on signs: a tree, or two that are read as one. README.md has it whole.
 
+mod any_item;
 mod class;
+mod expression;
 mod fault;
+mod field;
+mod front;
 mod grammar;
+mod header;
+mod item;
+mod keyword;
 mod parts;
+mod place;
 mod signs;
 mod types;
+mod variant;
 mod walk;
 
-pub use class::Class;
+pub use any_item::{AnyItem, ItemKind, split_any_item};
+pub use class::{Class, Keyword, Word};
 pub use fault::Fault;
+pub use field::{Field, parse_field, parse_tuple_field};
+pub use item::{Body, Fields, TypeItem, parse_type_item};
+pub use keyword::is_keyword;
 pub use parts::{
     split_attributes, split_bounds, split_expression, split_field, split_fields, split_generics,
-    split_item, split_tuple_field, split_tuple_fields, split_type, split_variant, split_variants,
-    split_visibility, split_where,
+    split_inner_attributes, split_item, split_tuple_field, split_tuple_fields, split_type,
+    split_variant, split_variants, split_visibility, split_where,
 };
 pub use signs::first_sign;
+pub use variant::{Variant, parse_variant};

@@ -2,10 +2,35 @@
 //! The parts of declarations, each at the front of trees.
 
 use crate::declarations::fault::Fault;
-use crate::declarations::grammar::{Item, Place, Rule, Spot, State};
+use crate::declarations::place::{Item, Part, Place, Rule, Spot, State};
 use crate::declarations::types::TypeState;
 use crate::declarations::walk::split_from;
 use crate::pm_stream::TokenTree;
+
+// What is read where no item is declared around it.
+fn split_alone<'a>(
+    trees: &'a [TokenTree],
+    rule: Rule,
+    state: State,
+) -> Result<(&'a [TokenTree], &'a [TokenTree]), Fault>
+{
+    let start = Place {
+        item: Item::Alone,
+        rule,
+        state,
+        depth: 0,
+    };
+    split_pair(trees, start)
+}
+
+fn split_pair<'a>(
+    trees: &'a [TokenTree],
+    start: Place,
+) -> Result<(&'a [TokenTree], &'a [TokenTree]), Fault>
+{
+    let split = split_from(trees, start)?;
+    Ok((split.part, split.rest))
+}
 
 /// The type at the front of the trees, and the trees after it.
 ///
@@ -13,13 +38,7 @@ use crate::pm_stream::TokenTree;
 /// the next sign doesn't continue it. Of `Vec<A>, B` it is `Vec<A>`.
 pub fn split_type(trees: &[TokenTree]) -> Result<(&[TokenTree], &[TokenTree]), Fault>
 {
-    let start = Place {
-        item: Item::Alone,
-        rule: Rule::Alone,
-        state: State::Range(TypeState::Wanted),
-        depth: 0,
-    };
-    split_from(trees, start)
+    split_alone(trees, Rule::Alone, State::Range(TypeState::Wanted))
 }
 
 /// The bounds at the front of the trees, which may be none, and the trees after them.
@@ -27,13 +46,7 @@ pub fn split_type(trees: &[TokenTree]) -> Result<(&[TokenTree], &[TokenTree]), F
 /// Their end is found as that of a type: of `A + 'b = C` they are `A + 'b`.
 pub fn split_bounds(trees: &[TokenTree]) -> Result<(&[TokenTree], &[TokenTree]), Fault>
 {
-    let start = Place {
-        item: Item::Alone,
-        rule: Rule::Alone,
-        state: State::Range(TypeState::Open),
-        depth: 0,
-    };
-    split_from(trees, start)
+    split_alone(trees, Rule::Alone, State::Range(TypeState::Bound))
 }
 
 /// The outer attributes at the front of the trees, which may be none, and the trees after them.
@@ -41,13 +54,11 @@ pub fn split_bounds(trees: &[TokenTree]) -> Result<(&[TokenTree], &[TokenTree]),
 /// Of `#[a] #[b] pub x` they are `#[a] #[b]`. What stands in the brackets isn't read.
 pub fn split_attributes(trees: &[TokenTree]) -> Result<(&[TokenTree], &[TokenTree]), Fault>
 {
-    let start = Place {
-        item: Item::Alone,
-        rule: Rule::Alone,
-        state: State::At(Spot::Attributes),
-        depth: 0,
-    };
-    split_from(trees, start)
+    split_alone(
+        trees,
+        Rule::Alone,
+        State::At(Spot::Before(Part::Attributes)),
+    )
 }
 
 /// The visibility at the front of the trees, which may be left out, and the trees after it.
@@ -56,13 +67,11 @@ pub fn split_attributes(trees: &[TokenTree]) -> Result<(&[TokenTree], &[TokenTre
 /// is `pub`. The path after `in` isn't read.
 pub fn split_visibility(trees: &[TokenTree]) -> Result<(&[TokenTree], &[TokenTree]), Fault>
 {
-    let start = Place {
-        item: Item::Alone,
-        rule: Rule::Alone,
-        state: State::At(Spot::Visibility),
-        depth: 0,
-    };
-    split_from(trees, start)
+    split_alone(
+        trees,
+        Rule::Alone,
+        State::At(Spot::Before(Part::Visibility)),
+    )
 }
 
 /// The named field at the front of the trees, with its attributes and visibility, and the trees after it.
@@ -70,13 +79,7 @@ pub fn split_visibility(trees: &[TokenTree]) -> Result<(&[TokenTree], &[TokenTre
 /// Of `#[a] pub x: Vec<A, B>, y: C` it is `#[a] pub x: Vec<A, B>`.
 pub fn split_field(trees: &[TokenTree]) -> Result<(&[TokenTree], &[TokenTree]), Fault>
 {
-    let start = Place {
-        item: Item::Alone,
-        rule: Rule::Alone,
-        state: State::At(Spot::Field),
-        depth: 0,
-    };
-    split_from(trees, start)
+    split_alone(trees, Rule::Alone, State::At(Spot::Before(Part::Field)))
 }
 
 /// The field without a name at the front of the trees, with its attributes and visibility, and the trees after it.
@@ -84,13 +87,11 @@ pub fn split_field(trees: &[TokenTree]) -> Result<(&[TokenTree], &[TokenTree]), 
 /// Of `pub (A, B), C` it is `pub (A, B)`, whose type is the parentheses.
 pub fn split_tuple_field(trees: &[TokenTree]) -> Result<(&[TokenTree], &[TokenTree]), Fault>
 {
-    let start = Place {
-        item: Item::Alone,
-        rule: Rule::Alone,
-        state: State::At(Spot::TupleField),
-        depth: 0,
-    };
-    split_from(trees, start)
+    split_alone(
+        trees,
+        Rule::Alone,
+        State::At(Spot::Before(Part::TupleField)),
+    )
 }
 
 /// The named fields at the front of the trees, with `,` between two and perhaps after the last, and the trees after
@@ -99,26 +100,18 @@ pub fn split_tuple_field(trees: &[TokenTree]) -> Result<(&[TokenTree], &[TokenTr
 /// Of the trees within the braces of a struct they are all, or else the struct has a fault.
 pub fn split_fields(trees: &[TokenTree]) -> Result<(&[TokenTree], &[TokenTree]), Fault>
 {
-    let start = Place {
-        item: Item::Alone,
-        rule: Rule::Fields,
-        state: State::At(Spot::Field),
-        depth: 0,
-    };
-    split_from(trees, start)
+    split_alone(trees, Rule::Fields, State::At(Spot::Before(Part::Field)))
 }
 
 /// The fields without names at the front of the trees, with `,` between two and perhaps after the last, and the trees
 /// after them.
 pub fn split_tuple_fields(trees: &[TokenTree]) -> Result<(&[TokenTree], &[TokenTree]), Fault>
 {
-    let start = Place {
-        item: Item::Alone,
-        rule: Rule::TupleFields,
-        state: State::At(Spot::TupleField),
-        depth: 0,
-    };
-    split_from(trees, start)
+    split_alone(
+        trees,
+        Rule::TupleFields,
+        State::At(Spot::Before(Part::TupleField)),
+    )
 }
 
 /// The variant at the front of the trees, with its attributes, visibility and discriminant, and the trees after it.
@@ -127,13 +120,7 @@ pub fn split_tuple_fields(trees: &[TokenTree]) -> Result<(&[TokenTree], &[TokenT
 /// isn't read.
 pub fn split_variant(trees: &[TokenTree]) -> Result<(&[TokenTree], &[TokenTree]), Fault>
 {
-    let start = Place {
-        item: Item::Alone,
-        rule: Rule::Alone,
-        state: State::At(Spot::Variant),
-        depth: 0,
-    };
-    split_from(trees, start)
+    split_alone(trees, Rule::Alone, State::At(Spot::Before(Part::Variant)))
 }
 
 /// The variants at the front of the trees, with `,` between two and perhaps after the last, and the trees after them.
@@ -144,10 +131,10 @@ pub fn split_variants(trees: &[TokenTree]) -> Result<(&[TokenTree], &[TokenTree]
     let start = Place {
         item: Item::Variants,
         rule: Rule::Alone,
-        state: State::At(Spot::Variant),
+        state: State::At(Spot::Before(Part::Variant)),
         depth: 0,
     };
-    split_from(trees, start)
+    split_pair(trees, start)
 }
 
 /// The expression of a discriminant at the front of the trees, and the trees after it.
@@ -155,13 +142,7 @@ pub fn split_variants(trees: &[TokenTree]) -> Result<(&[TokenTree], &[TokenTree]
 /// It isn't parsed: its end is found. Of `f::<X, Y>() as A<B, C>, D` it is all before the last `,`.
 pub fn split_expression(trees: &[TokenTree]) -> Result<(&[TokenTree], &[TokenTree]), Fault>
 {
-    let start = Place {
-        item: Item::Alone,
-        rule: Rule::Alone,
-        state: State::At(Spot::Expression),
-        depth: 0,
-    };
-    split_from(trees, start)
+    split_alone(trees, Rule::Alone, State::At(Spot::Expression))
 }
 
 /// The generic parameters at the front of the trees in their angle brackets, which may be left out, and the trees after
@@ -170,13 +151,7 @@ pub fn split_expression(trees: &[TokenTree]) -> Result<(&[TokenTree], &[TokenTre
 /// Of `<'a, T: A<B> = C, const N: usize = 3> where T: D` they are all before `where`.
 pub fn split_generics(trees: &[TokenTree]) -> Result<(&[TokenTree], &[TokenTree]), Fault>
 {
-    let start = Place {
-        item: Item::Alone,
-        rule: Rule::Alone,
-        state: State::At(Spot::Generics),
-        depth: 0,
-    };
-    split_from(trees, start)
+    split_alone(trees, Rule::Alone, State::At(Spot::Generics))
 }
 
 /// The where clause at the front of the trees, which may be left out, and the trees after it.
@@ -184,13 +159,7 @@ pub fn split_generics(trees: &[TokenTree]) -> Result<(&[TokenTree], &[TokenTree]
 /// Of `where T: A, [U; 2]: B { .. }` it is all before the braces.
 pub fn split_where(trees: &[TokenTree]) -> Result<(&[TokenTree], &[TokenTree]), Fault>
 {
-    let start = Place {
-        item: Item::Alone,
-        rule: Rule::Alone,
-        state: State::At(Spot::Where),
-        depth: 0,
-    };
-    split_from(trees, start)
+    split_alone(trees, Rule::Alone, State::At(Spot::Where))
 }
 
 /// The struct, enum or union at the front of the trees, with its attributes and visibility, and the trees after it.
@@ -199,11 +168,13 @@ pub fn split_where(trees: &[TokenTree]) -> Result<(&[TokenTree], &[TokenTree]), 
 /// [`split_variants`] read that.
 pub fn split_item(trees: &[TokenTree]) -> Result<(&[TokenTree], &[TokenTree]), Fault>
 {
-    let start = Place {
-        item: Item::Alone,
-        rule: Rule::Alone,
-        state: State::At(Spot::Item),
-        depth: 0,
-    };
-    split_from(trees, start)
+    split_alone(trees, Rule::Alone, State::At(Spot::Before(Part::TypeItem)))
+}
+
+/// The inner attributes at the front of the trees, as of a file, which may be none, and the trees after them.
+///
+/// Of `#![a] #[b] fn f() {}` they are `#![a]`.
+pub fn split_inner_attributes(trees: &[TokenTree]) -> Result<(&[TokenTree], &[TokenTree]), Fault>
+{
+    split_alone(trees, Rule::Alone, State::At(Spot::Inner))
 }

@@ -1,15 +1,19 @@
 // Made from crates/declarations/src/types.rt by rust/erase: change that file, not this one.
 //! Where types end.
 
-use crate::declarations::class::Class;
+use crate::declarations::class::{Class, Keyword};
 
 /// What may follow at a place within a type.
-#[derive(Clone, Copy, Debug, PartialEq, Eq)]
+#[derive(Clone, Copy)]
 pub enum TypeState {
     /// An operand.
     Wanted,
-    /// An operand, or what may follow a whole type.
-    Open,
+    /// An operand, or the end of bounds: before the first bound, or after `+`.
+    Bound,
+    /// An operand, or what may follow a lifetime.
+    Lifetime,
+    /// An argument, or the end of arguments: after `<`, or after `,` within.
+    Argument,
     /// What continues an operand.
     Whole,
     /// The group of a macro, after a path and `!`.
@@ -29,7 +33,7 @@ pub enum TypeState {
 }
 
 /// What a sign does to the depth of angle brackets.
-#[derive(Clone, Copy, Debug, PartialEq, Eq)]
+#[derive(Clone, Copy)]
 pub enum Turn {
     /// Nothing.
     Stay,
@@ -40,7 +44,7 @@ pub enum Turn {
 }
 
 /// A step of the walk over a type.
-#[derive(Clone, Copy, Debug, PartialEq, Eq)]
+#[derive(Clone, Copy)]
 pub struct TypeStep {
     pub state: TypeState,
     pub turn: Turn,
@@ -50,7 +54,7 @@ pub struct TypeStep {
 pub(crate) fn may_end(state: TypeState) -> bool
 {
     match state {
-        TypeState::Whole | TypeState::Open => true,
+        TypeState::Whole | TypeState::Lifetime | TypeState::Bound => true,
         _ => false,
     }
 }
@@ -63,12 +67,49 @@ fn stay(state: TypeState) -> Option<TypeStep>
     })
 }
 
+fn open_bracket() -> Option<TypeStep>
+{
+    Some(TypeStep {
+        state: TypeState::Argument,
+        turn: Turn::Open,
+    })
+}
+
+// Only within angle brackets.
+fn close_bracket(outside: bool) -> Option<TypeStep>
+{
+    if outside {
+        None
+    } else {
+        Some(TypeStep {
+            state: TypeState::Whole,
+            turn: Turn::Close,
+        })
+    }
+}
+
+// The step at a keyword that stands before an operand.
+fn front(keyword: Keyword) -> Option<TypeStep>
+{
+    match keyword {
+        Keyword::Async
+        | Keyword::Dyn
+        | Keyword::Fn
+        | Keyword::Impl
+        | Keyword::Mut
+        | Keyword::Unsafe
+        | Keyword::Use => stay(TypeState::Wanted),
+        Keyword::Extern => stay(TypeState::Abi),
+        Keyword::For => stay(TypeState::For),
+        _ => None,
+    }
+}
+
 // The step where an operand may stand.
 fn operand(class: Class, outside: bool) -> Option<TypeStep>
 {
     match class {
-        Class::Word
-        | Class::Union
+        Class::Word(_)
         | Class::SelfValue
         | Class::SelfType
         | Class::Super
@@ -80,19 +121,13 @@ fn operand(class: Class, outside: bool) -> Option<TypeStep>
         | Class::Invisible
         | Class::Exclamation => stay(TypeState::Whole),
         Class::Truth | Class::Literal | Class::Braces if !outside => stay(TypeState::Whole),
-        Class::Mut | Class::TypeFront | Class::PathSeparator | Class::And | Class::Question => {
-            stay(TypeState::Wanted)
-        }
-        Class::Extern => stay(TypeState::Abi),
-        Class::For => stay(TypeState::For),
-        Class::Lifetime => stay(TypeState::Open),
+        Class::PathSeparator | Class::And | Class::Question => stay(TypeState::Wanted),
+        Class::Keyword(keyword) => front(keyword),
+        Class::Lifetime => stay(TypeState::Lifetime),
         Class::Star => stay(TypeState::Pointer),
         Class::Tilde => stay(TypeState::Tilde),
         Class::Minus if !outside => stay(TypeState::Minus),
-        Class::Less | Class::LessJoint => Some(TypeStep {
-            state: TypeState::Open,
-            turn: Turn::Open,
-        }),
+        Class::Less | Class::LessJoint => open_bracket(),
         _ => None,
     }
 }
@@ -103,34 +138,41 @@ fn continuation(class: Class, outside: bool) -> Option<TypeStep>
     match class {
         Class::Restriction | Class::Parentheses => stay(TypeState::Whole),
         Class::PathSeparator | Class::Arrow => stay(TypeState::Wanted),
-        Class::Plus => stay(TypeState::Open),
+        Class::Plus => stay(TypeState::Bound),
         Class::Exclamation => stay(TypeState::MacroGroup),
         Class::As | Class::Equals if !outside => stay(TypeState::Wanted),
-        Class::Comma | Class::Colon if !outside => stay(TypeState::Open),
-        Class::Less | Class::LessJoint => Some(TypeStep {
-            state: TypeState::Open,
-            turn: Turn::Open,
-        }),
-        Class::Greater if !outside => Some(TypeStep {
-            state: TypeState::Whole,
-            turn: Turn::Close,
-        }),
+        Class::Comma if !outside => stay(TypeState::Argument),
+        Class::Colon if !outside => stay(TypeState::Bound),
+        Class::Less | Class::LessJoint => open_bracket(),
+        Class::Greater => close_bracket(outside),
         _ => None,
     }
 }
 
-// The step where an operand may stand, or what follows a whole type.
-fn operand_or_end(class: Class, outside: bool) -> Option<TypeStep>
+// The step before a bound, or at the end of bounds.
+fn bound(class: Class, outside: bool) -> Option<TypeStep>
 {
     match class {
-        Class::Arrow => stay(TypeState::Wanted),
-        Class::Plus => stay(TypeState::Open),
-        Class::As if !outside => stay(TypeState::Wanted),
-        Class::Comma | Class::Colon if !outside => stay(TypeState::Open),
-        Class::Greater if !outside => Some(TypeStep {
-            state: TypeState::Whole,
-            turn: Turn::Close,
-        }),
+        Class::Comma if !outside => stay(TypeState::Argument),
+        Class::Greater => close_bracket(outside),
+        _ => operand(class, outside),
+    }
+}
+
+// The step after a lifetime.
+fn after_lifetime(class: Class, outside: bool) -> Option<TypeStep>
+{
+    match class {
+        Class::Plus => stay(TypeState::Bound),
+        _ => bound(class, outside),
+    }
+}
+
+// The step before an argument, or at the end of arguments.
+fn argument(class: Class, outside: bool) -> Option<TypeStep>
+{
+    match class {
+        Class::Greater => close_bracket(outside),
         _ => operand(class, outside),
     }
 }
@@ -150,7 +192,7 @@ fn macro_group(class: Class) -> Option<TypeStep>
 fn pointer(class: Class) -> Option<TypeStep>
 {
     match class {
-        Class::Const | Class::Mut => stay(TypeState::Wanted),
+        Class::Keyword(Keyword::Const | Keyword::Mut) => stay(TypeState::Wanted),
         _ => None,
     }
 }
@@ -159,7 +201,7 @@ fn pointer(class: Class) -> Option<TypeStep>
 fn tilde(class: Class) -> Option<TypeStep>
 {
     match class {
-        Class::Const => stay(TypeState::Wanted),
+        Class::Keyword(Keyword::Const) => stay(TypeState::Wanted),
         _ => None,
     }
 }
@@ -206,7 +248,9 @@ pub(crate) fn type_step(state: TypeState, class: Class, outside: bool) -> Option
 {
     match state {
         TypeState::Wanted => operand(class, outside),
-        TypeState::Open => operand_or_end(class, outside),
+        TypeState::Bound => bound(class, outside),
+        TypeState::Lifetime => after_lifetime(class, outside),
+        TypeState::Argument => argument(class, outside),
         TypeState::Whole => continuation(class, outside),
         TypeState::MacroGroup => macro_group(class),
         TypeState::Pointer => pointer(class),

@@ -4,11 +4,11 @@ use crate::shim::prelude::{AllocGlobal, HostRuntime};
 
 // Texts, and the trees of the part at their front.
 use proved::declarations::{
-    Fault, split_attributes, split_bounds, split_expression, split_field, split_fields,
-    split_generics, split_item, split_tuple_field, split_tuple_fields, split_type, split_variant,
-    split_variants, split_visibility, split_where,
+    Fault, split_any_item, split_attributes, split_bounds, split_expression, split_field,
+    split_fields, split_generics, split_inner_attributes, split_item, split_tuple_field,
+    split_tuple_fields, split_type, split_variant, split_variants, split_visibility, split_where,
 };
-use proved::proc_macro2::{SourceMap, TokenStream, TokenTree};
+use proved::proc_macro2::{Delimiter, Group, SourceMap, TokenStream, TokenTree};
 use crate::shim::process::Abort;
 use crate::shim::test::Fail;
 
@@ -28,6 +28,8 @@ enum Part {
     Generics,
     Where,
     Item,
+    InnerAttributes,
+    AnyItem,
 }
 
 /// How many trees the part has, or how many stand before the fault.
@@ -62,6 +64,11 @@ fn read(part: Part, trees: &[TokenTree]) -> Answer {
         Part::Generics => answer_of(split_generics(trees)),
         Part::Where => answer_of(split_where(trees)),
         Part::Item => answer_of(split_item(trees)),
+        Part::InnerAttributes => answer_of(split_inner_attributes(trees)),
+        Part::AnyItem => match split_any_item(trees) {
+            Ok((item, _)) => Reads(item.trees.len()),
+            Err(fault) => FaultAt(fault.at),
+        },
     }
 }
 
@@ -70,6 +77,25 @@ fn check(rt: &(impl Abort + AllocGlobal), part: Part, rows: &[(&str, Answer)]) -
         let stream = TokenStream::from_str(text, &mut SourceMap::new(rt.alloc()))?;
         let found = read(part, stream.trees());
         assert!(found == *wanted, "{part:?} of {text:?}: {found:?}");
+    }
+    Ok(())
+}
+
+// The same where the first text is in a group without delimiters, before the second.
+fn check_unseen(
+    rt: &(impl Abort + AllocGlobal),
+    part: Part,
+    rows: &[(&str, &str, Answer)],
+) -> Result<(), Fail> {
+    for (inside, after, wanted) in rows {
+        let mut map = SourceMap::new(rt.alloc());
+        let group = Group::new(Delimiter::None, TokenStream::from_str(inside, &mut map)?);
+        let mut stream = TokenStream::from_tree(rt.alloc(), TokenTree::Group(group))?;
+        stream.extend_streams([TokenStream::from_str(after, &mut map)?])?;
+        let found = read(part, stream.trees());
+        assert!(found == *wanted,
+            "{part:?} of {inside:?} before {after:?}: {found:?}"
+        );
     }
     Ok(())
 }
@@ -94,6 +120,10 @@ fn a_type_ends_where_an_operand_stands_and_no_step_follows() -> Result<(), Fail>
             ("*const extern \"C\" fn(A) = x", Reads(6)),
             ("Vec<u8, b: u8", FaultAt(7)),
             ("A::", FaultAt(3)),
+            ("Foo<,>", FaultAt(2)),
+            ("Foo<A,,>", FaultAt(4)),
+            ("A + + B", Reads(2)),
+            ("Foo<'a, T: 'b + U,>,", Reads(13)),
             ("* A", FaultAt(1)),
             ("r#struct", Reads(1)),
             ("struct", FaultAt(0)),
@@ -138,6 +168,44 @@ fn parentheses_restrict_a_visibility_or_are_a_type() -> Result<(), Fail> {
         )],
     )?;
     check(&rt, Part::TupleField, &[("pub (crate)", FaultAt(2))])
+}
+
+#[test]
+fn groups_without_delimiters_are_what_they_hold() -> Result<(), Fail> {
+    let rt = HostRuntime;
+    check_unseen(
+        &rt,
+        Part::Visibility,
+        &[
+            ("", "x", Reads(1)),
+            ("pub", "x", Reads(1)),
+            ("pub(in a)", "x", Reads(1)),
+            ("pub (A)", "x", Reads(0)),
+            ("pub x", "x", Reads(0)),
+        ],
+    )?;
+    check_unseen(
+        &rt,
+        Part::TupleField,
+        &[
+            ("pub", "(crate), B", Reads(2)),
+            ("A", ", B", Reads(1)),
+            ("", "", FaultAt(1)),
+        ],
+    )?;
+    check_unseen(&rt, Part::Field, &[("", "a: u8, b", Reads(4))])?;
+    check_unseen(&rt, Part::Item, &[("pub", "struct S;", Reads(4))])?;
+    check_unseen(
+        &rt,
+        Part::AnyItem,
+        &[("struct S;", "fn", Reads(1)), ("", "fn f() {}", Reads(5))],
+    )?;
+    check_unseen(
+        &rt,
+        Part::Expression,
+        &[("1 + 2", "* 3, B", Reads(3)), ("{ 1 }", "+ 1", Reads(3))],
+    )?;
+    check_unseen(&rt, Part::Type, &[("", "", FaultAt(0))])
 }
 
 #[test]
@@ -285,6 +353,43 @@ fn items_are_structs_enums_and_unions() -> Result<(), Fail> {
             ("struct S(u8)", FaultAt(3)),
             ("enum E;", FaultAt(2)),
             ("pub fn f() {}", FaultAt(1)),
+            ("", FaultAt(0)),
+        ],
+    )
+}
+
+#[test]
+fn a_file_begins_with_inner_attributes() -> Result<(), Fail> {
+    let rt = HostRuntime;
+    check(
+        &rt,
+        Part::InnerAttributes,
+        &[
+            ("#![a] # ![b] #[c] fn", Reads(6)),
+            ("fn", Reads(0)),
+            ("#!a", FaultAt(2)),
+        ],
+    )
+}
+
+#[test]
+fn what_is_no_item_has_a_fault() -> Result<(), Fail> {
+    let rt = HostRuntime;
+    check(
+        &rt,
+        Part::AnyItem,
+        &[
+            ("pub m! {}", FaultAt(1)),
+            ("unsafe const fn f() {}", FaultAt(1)),
+            ("m!(a) m! {}", FaultAt(3)),
+            ("const N = 1;", FaultAt(2)),
+            ("const N: u8 = ;", FaultAt(5)),
+            ("impl A + for B {}", FaultAt(4)),
+            ("trait A: B = C;", FaultAt(4)),
+            ("fn f() -> ;", FaultAt(5)),
+            ("fn f {}", FaultAt(2)),
+            ("use a::;", FaultAt(4)),
+            ("#![a]", FaultAt(0)),
             ("", FaultAt(0)),
         ],
     )

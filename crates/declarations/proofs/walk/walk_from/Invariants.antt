@@ -1,9 +1,9 @@
 use Rattle.std.proofs.Common.{length}
 use Rattle.declarations.proofs.ReadingLemmas.{Walking}
-use Rattle.declarations.proofs.walk.split_from.Given as goal
+use Rattle.declarations.proofs.walk.walk_from.Given as goal
 
 abbrev pub invariant-loop-next : goal.invariant-loop-next
-invariant-loop-next l = Walking l.fn.start l.trees l.left l.place
+invariant-loop-next l = Walking l.fn.start l.trees l.left l.named l.place
 
 abbrev pub decreases-loop-next : goal.decreases-loop-next
 decreases-loop-next l = length l.left

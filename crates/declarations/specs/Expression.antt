@@ -1,0 +1,152 @@
+-- Where the expressions of discriminants end.
+use Rattle.std.specs.Prelude.{Option, None}
+use Rattle.declarations.specs.Moves.{open_angle, to_spot}
+use Rattle.declarations.specs.declared.class.Class.{Class}
+use Rattle.declarations.specs.declared.class.Class.TheVariants as signs
+use Rattle.declarations.specs.declared.place.Item.{Item}
+use Rattle.declarations.specs.declared.place.Item.TheVariants as items
+use Rattle.declarations.specs.declared.place.Part.TheVariants as parts
+use Rattle.declarations.specs.declared.place.Rule.TheVariants as rules
+use Rattle.declarations.specs.declared.place.Shift.{Shift}
+use Rattle.declarations.specs.declared.place.Spot.TheVariants as spots
+
+-- after a variant that is whole, in a list
+abbrev pub variant_end : Item → Class → Option Shift
+variant_end items.Variants signs.Comma = to_spot items.Variants (spots.Before parts.Variant)
+variant_end _ _ = None
+
+-- where an operand is wanted
+abbrev pub expression : Item → Class → Option Shift
+expression item signs.Restriction = to_spot item spots.ExpressionWhole
+expression item signs.Parentheses = to_spot item spots.ExpressionWhole
+expression item signs.Brackets = to_spot item spots.ExpressionWhole
+expression item signs.Braces = to_spot item spots.ExpressionWhole
+expression item signs.Invisible = to_spot item spots.ExpressionWhole
+expression item (signs.Word _) = to_spot item spots.ExpressionWhole
+expression item signs.SelfValue = to_spot item spots.ExpressionWhole
+expression item signs.SelfType = to_spot item spots.ExpressionWhole
+expression item signs.Super = to_spot item spots.ExpressionWhole
+expression item signs.Crate = to_spot item spots.ExpressionWhole
+expression item signs.Underscore = to_spot item spots.ExpressionWhole
+expression item signs.Truth = to_spot item spots.ExpressionWhole
+expression item signs.Literal = to_spot item spots.ExpressionWhole
+expression item signs.Await = to_spot item spots.ExpressionWhole
+expression item signs.Less = open_angle item rules.Angle
+expression item signs.LessJoint = open_angle item rules.Angle
+expression item signs.Lifetime = to_spot item spots.ExpressionOpen
+expression item signs.Jump = to_spot item spots.ExpressionOpen
+expression item signs.Dot = to_spot item spots.ExpressionRange
+expression item signs.Minus = to_spot item spots.Expression
+expression item signs.Star = to_spot item spots.Expression
+expression item signs.And = to_spot item spots.Expression
+expression item signs.Exclamation = to_spot item spots.Expression
+expression item signs.Equals = to_spot item spots.Expression
+expression item signs.Greater = to_spot item spots.Expression
+expression item signs.PathSeparator = to_spot item spots.Expression
+expression item signs.Bars = to_spot item spots.Expression
+expression item (signs.Keyword _) = to_spot item spots.Expression
+expression item signs.Hash = to_spot item spots.ExpressionHash
+expression item signs.Bar = to_spot item spots.Closure
+expression item signs.Arrow = to_spot item spots.Cast
+expression item _ = None
+
+-- where an operand may stand, or what follows one
+abbrev pub expression_open : Item → Class → Option Shift
+expression_open item signs.Dot = to_spot item spots.ExpressionOpen
+expression_open item signs.Question = to_spot item spots.ExpressionWhole
+expression_open item signs.Plus = to_spot item spots.Expression
+expression_open item signs.Infix = to_spot item spots.Expression
+expression_open item signs.Colon = to_spot item spots.Expression
+expression_open item signs.Comma = variant_end item signs.Comma
+expression_open item class = expression item class
+
+-- after an operand, of an expression or of a cast
+abbrev pub operator : Item → Class → Option Shift
+operator item signs.Restriction = to_spot item spots.ExpressionWhole
+operator item signs.Parentheses = to_spot item spots.ExpressionWhole
+operator item signs.Brackets = to_spot item spots.ExpressionWhole
+operator item signs.Braces = to_spot item spots.ExpressionWhole
+operator item signs.Invisible = to_spot item spots.ExpressionWhole
+operator item signs.Question = to_spot item spots.ExpressionWhole
+operator item signs.Await = to_spot item spots.ExpressionWhole
+operator item signs.Jump = to_spot item spots.ExpressionOpen
+operator item signs.Dot = to_spot item spots.ExpressionDot
+operator item signs.As = to_spot item spots.Cast
+operator item signs.Arrow = to_spot item spots.Cast
+operator item signs.Minus = to_spot item spots.Expression
+operator item signs.Star = to_spot item spots.Expression
+operator item signs.And = to_spot item spots.Expression
+operator item signs.Exclamation = to_spot item spots.Expression
+operator item signs.Equals = to_spot item spots.Expression
+operator item signs.Greater = to_spot item spots.Expression
+operator item signs.Plus = to_spot item spots.Expression
+operator item signs.Infix = to_spot item spots.Expression
+operator item signs.Colon = to_spot item spots.Expression
+operator item signs.Bar = to_spot item spots.Expression
+operator item signs.Bars = to_spot item spots.Expression
+operator item signs.LessEquals = to_spot item spots.Expression
+operator item (signs.Keyword _) = to_spot item spots.Expression
+operator item signs.Comma = variant_end item signs.Comma
+operator item _ = None
+
+-- after an operand
+abbrev pub expression_whole : Item → Class → Option Shift
+expression_whole item signs.PathSeparator = to_spot item spots.Expression
+expression_whole item signs.Less = to_spot item spots.Expression
+expression_whole item signs.LessJoint = to_spot item spots.ExpressionLess
+expression_whole item class = operator item class
+
+-- after `<` that is an operator and Joint: another belongs to it
+abbrev pub expression_less : Item → Class → Option Shift
+expression_less item signs.Less = to_spot item spots.Expression
+expression_less item signs.LessJoint = to_spot item spots.Expression
+expression_less item signs.LessEquals = to_spot item spots.Expression
+expression_less item class = expression item class
+
+-- after an operand and `.`
+abbrev pub expression_dot : Item → Class → Option Shift
+expression_dot item signs.Dot = to_spot item spots.ExpressionOpen
+expression_dot item class = expression item class
+
+-- within the bars of a closure
+abbrev pub closure : Item → Class → Option Shift
+closure item signs.Bar = to_spot item spots.Expression
+closure item signs.Less = open_angle item rules.ClosureAngle
+closure item signs.LessJoint = open_angle item rules.ClosureAngle
+closure item signs.Semicolon = None
+closure item _ = to_spot item spots.Closure
+
+-- where the type of a cast is wanted
+abbrev pub cast : Item → Class → Option Shift
+cast item signs.Restriction = to_spot item spots.CastWhole
+cast item signs.Parentheses = to_spot item spots.CastWhole
+cast item signs.Brackets = to_spot item spots.CastWhole
+cast item signs.Braces = to_spot item spots.CastWhole
+cast item signs.Invisible = to_spot item spots.CastWhole
+cast item (signs.Word _) = to_spot item spots.CastWhole
+cast item signs.SelfValue = to_spot item spots.CastWhole
+cast item signs.SelfType = to_spot item spots.CastWhole
+cast item signs.Super = to_spot item spots.CastWhole
+cast item signs.Crate = to_spot item spots.CastWhole
+cast item signs.Underscore = to_spot item spots.CastWhole
+cast item signs.Truth = to_spot item spots.CastWhole
+cast item signs.Less = open_angle item rules.CastAngle
+cast item signs.LessJoint = open_angle item rules.CastAngle
+cast item signs.Lifetime = to_spot item spots.Cast
+cast item signs.PathSeparator = to_spot item spots.Cast
+cast item signs.Arrow = to_spot item spots.Cast
+cast item signs.Star = to_spot item spots.Cast
+cast item signs.And = to_spot item spots.Cast
+cast item signs.Exclamation = to_spot item spots.Cast
+cast item signs.As = to_spot item spots.Cast
+cast item signs.Jump = to_spot item spots.Cast
+cast item signs.Await = to_spot item spots.Cast
+cast item (signs.Keyword _) = to_spot item spots.Cast
+cast item _ = None
+
+-- after the type of a cast, or a part of it
+abbrev pub cast_whole : Item → Class → Option Shift
+cast_whole item signs.PathSeparator = to_spot item spots.Cast
+cast_whole item signs.Less = open_angle item rules.CastAngle
+cast_whole item signs.LessJoint = open_angle item rules.CastAngle
+cast_whole item class = operator item class

@@ -1,0 +1,327 @@
+-- Items: what may follow what they begin with, up to their names.
+use Rattle.declarations.specs.Header.{body, generics, header, impl_header}
+use Rattle.std.specs.Prelude.{Bool, true, false, Option, None}
+use Rattle.declarations.specs.Moves.{close_to, to_front, to_spot, turn_to, type_from}
+use Rattle.declarations.specs.declared.class.Class.{Class}
+use Rattle.declarations.specs.declared.class.Class.TheVariants as signs
+use Rattle.declarations.specs.declared.class.Keyword.{Keyword}
+use Rattle.declarations.specs.declared.class.Keyword.TheVariants as keywords
+use Rattle.declarations.specs.declared.class.Word.{Word}
+use Rattle.declarations.specs.declared.class.Word.TheVariants as words
+use Rattle.declarations.specs.declared.place.Front.{Front}
+use Rattle.declarations.specs.declared.place.Front.TheVariants as fronts
+use Rattle.declarations.specs.declared.place.Item.{Item}
+use Rattle.declarations.specs.declared.place.Item.TheVariants as items
+use Rattle.declarations.specs.declared.place.Part.TheVariants as parts
+use Rattle.declarations.specs.declared.place.Rule.TheVariants as rules
+use Rattle.declarations.specs.declared.place.Shift.{Shift}
+use Rattle.declarations.specs.declared.place.Spot.TheVariants as spots
+use Rattle.declarations.specs.declared.place.State.TheVariants as states
+use Rattle.declarations.specs.declared.place.TypeStart.{TypeStart}
+use Rattle.declarations.specs.declared.types.Turn.TheVariants as turns
+use Rattle.declarations.specs.declared.types.TypeState.TheVariants as types
+
+-- the rest of a function's front
+abbrev pub qualified : Class → Option Shift
+qualified (signs.Keyword keywords.Extern) = to_front items.Function fronts.FunctionExtern
+qualified (signs.Keyword keywords.Fn) = to_spot items.Function spots.Name
+qualified _ = None
+
+-- a keyword that begins an item
+abbrev pub item_keyword : Keyword → Option Shift
+item_keyword keywords.Async = to_front items.Function fronts.Async
+item_keyword keywords.Const = to_front items.Constant fronts.Const
+item_keyword keywords.Enum = to_spot items.Enum spots.Name
+item_keyword keywords.Extern = to_front items.ExternBlock fronts.Extern
+item_keyword keywords.Fn = to_spot items.Function spots.Name
+item_keyword keywords.Impl = to_front items.Impl fronts.Impl
+item_keyword keywords.Macro = to_front items.Macro fronts.MacroName
+item_keyword keywords.Mod = to_front items.Module fronts.PlainName
+item_keyword keywords.Static = to_front items.Static fronts.Static
+item_keyword keywords.Struct = to_spot items.Struct spots.Name
+item_keyword keywords.Trait = to_spot items.Trait spots.Name
+item_keyword keywords.Type = to_spot items.Alias spots.Name
+item_keyword keywords.Unsafe = to_front items.Function fronts.Unsafe
+item_keyword keywords.Use = to_front items.Use fronts.Use
+item_keyword _ = None
+
+-- a word that begins one
+abbrev pub item_word : Word → Option Shift
+item_word words.Auto = to_front items.Trait fronts.Auto
+item_word words.Default = to_front items.Function fronts.Default
+item_word words.Safe = to_front items.Function fronts.Safe
+item_word words.Union = to_spot items.Union spots.Name
+item_word words.Plain = None
+
+-- after its visibility
+abbrev pub declaration : Class → Option Shift
+declaration (signs.Keyword keyword) = item_keyword keyword
+declaration (signs.Word word) = item_word word
+declaration _ = None
+
+-- where it has none: a macro call or a group without delimiters too
+abbrev pub unmarked_item : Class → Option Shift
+unmarked_item (signs.Word word) = to_front items.Call (fronts.CallWord word)
+unmarked_item signs.SelfValue = to_front items.Call (fronts.CallWord words.Plain)
+unmarked_item signs.Super = to_front items.Call (fronts.CallWord words.Plain)
+unmarked_item signs.Crate = to_front items.Call (fronts.CallWord words.Plain)
+unmarked_item signs.PathSeparator = to_front items.Call fronts.CallPath
+unmarked_item signs.Invisible = to_spot items.Group spots.ItemEnd
+unmarked_item class = declaration class
+
+-- a struct, an enum or a union
+abbrev pub type_item : Class → Option Shift
+type_item (signs.Keyword keywords.Struct) = to_spot items.Struct spots.Name
+type_item (signs.Keyword keywords.Enum) = to_spot items.Enum spots.Name
+type_item (signs.Word words.Union) = to_spot items.Union spots.Name
+type_item _ = None
+
+abbrev pub auto_front : Class → Option Shift
+auto_front (signs.Keyword keywords.Trait) = to_spot items.Trait spots.Name
+auto_front _ = None
+
+abbrev pub default_front : Class → Option Shift
+default_front (signs.Keyword keywords.Async) = to_front items.Function fronts.Async
+default_front (signs.Keyword keywords.Const) = to_front items.Constant fronts.Const
+default_front (signs.Keyword keywords.Impl) = to_front items.Impl fronts.Impl
+default_front (signs.Keyword keywords.Type) = to_spot items.Alias spots.Name
+default_front (signs.Keyword keywords.Unsafe) = to_front items.Function fronts.DefaultUnsafe
+default_front (signs.Word words.Safe) = to_front items.Function fronts.Qualified
+default_front class = qualified class
+
+abbrev pub default_unsafe : Class → Option Shift
+default_unsafe (signs.Keyword keywords.Impl) = to_front items.Impl fronts.Impl
+default_unsafe class = qualified class
+
+abbrev pub safe_front : Class → Option Shift
+safe_front (signs.Keyword keywords.Static) = to_front items.Static fronts.Static
+safe_front class = qualified class
+
+abbrev pub async_front : Class → Option Shift
+async_front (signs.Keyword keywords.Unsafe) = to_front items.Function fronts.Qualified
+async_front (signs.Word words.Safe) = to_front items.Function fronts.Qualified
+async_front class = qualified class
+
+-- after `const`. `safe` may be a name, or belong to a function
+abbrev pub const_front : Class → Option Shift
+const_front (signs.Keyword keywords.Async) = to_front items.Function fronts.Async
+const_front (signs.Keyword keywords.Unsafe) = to_front items.Function fronts.Qualified
+const_front (signs.Word words.Safe) = to_front items.Constant fronts.ConstSafe
+const_front (signs.Word _) = to_spot items.Constant spots.Generics
+const_front signs.Underscore = to_spot items.Constant spots.Generics
+const_front class = qualified class
+
+abbrev pub const_safe : Class → Option Shift
+const_safe (signs.Keyword keyword) = qualified (signs.Keyword keyword)
+const_safe class = generics items.Constant class
+
+-- after `extern` and what an ABI it may have
+abbrev pub extern_abi : Class → Option Shift
+extern_abi (signs.Keyword keywords.Fn) = to_spot items.Function spots.Name
+extern_abi class = body items.ExternBlock class
+
+abbrev pub unsafe_extern : Class → Option Shift
+unsafe_extern signs.Literal = to_front items.ExternBlock fronts.ExternAbi
+unsafe_extern class = extern_abi class
+
+abbrev pub extern_front : Class → Option Shift
+extern_front signs.Crate = to_front items.ExternCrate fronts.CrateName
+extern_front class = unsafe_extern class
+
+-- after the `extern` of what must be a function
+abbrev pub function_extern : Class → Option Shift
+function_extern signs.Literal = to_front items.Function fronts.FunctionAbi
+function_extern (signs.Keyword keywords.Fn) = to_spot items.Function spots.Name
+function_extern _ = None
+
+abbrev pub unsafe_front : Class → Option Shift
+unsafe_front (signs.Keyword keywords.Extern) = to_front items.ExternBlock fronts.UnsafeExtern
+unsafe_front (signs.Keyword keywords.Fn) = to_spot items.Function spots.Name
+unsafe_front (signs.Keyword keywords.Impl) = to_front items.Impl fronts.Impl
+unsafe_front (signs.Keyword keywords.Mod) = to_front items.Module fronts.PlainName
+unsafe_front (signs.Keyword keywords.Static) = to_front items.Static fronts.Static
+unsafe_front (signs.Keyword keywords.Trait) = to_spot items.Trait spots.Name
+unsafe_front (signs.Word words.Auto) = to_front items.Trait fronts.Auto
+unsafe_front _ = None
+
+abbrev pub static_front : Class → Option Shift
+static_front (signs.Keyword keywords.Mut) = to_front items.Static fronts.PlainName
+static_front (signs.Word _) = to_spot items.Static spots.AfterGenerics
+static_front _ = None
+
+-- ---- macros
+
+-- after a word that begins an item: the path of a macro call, or a front
+abbrev pub call_word : Word → Class → Option Shift
+call_word word signs.Exclamation = to_front items.Call fronts.CallName
+call_word word signs.PathSeparator = to_front items.Call fronts.CallPath
+call_word words.Auto class = auto_front class
+call_word words.Default class = default_front class
+call_word words.Safe class = safe_front class
+call_word words.Union (signs.Word _) = to_spot items.Union spots.Generics
+call_word _ _ = None
+
+abbrev pub call_path : Class → Option Shift
+call_path (signs.Word _) = to_front items.Call (fronts.CallWord words.Plain)
+call_path signs.SelfValue = to_front items.Call (fronts.CallWord words.Plain)
+call_path signs.Super = to_front items.Call (fronts.CallWord words.Plain)
+call_path signs.Crate = to_front items.Call (fronts.CallWord words.Plain)
+call_path _ = None
+
+-- the group of a call
+abbrev pub call_group : Class → Option Shift
+call_group signs.Parentheses = to_front items.Call fronts.Semicolon
+call_group signs.Restriction = to_front items.Call fronts.Semicolon
+call_group signs.Brackets = to_front items.Call fronts.Semicolon
+call_group signs.Braces = to_spot items.Call spots.ItemEnd
+call_group _ = None
+
+-- after the `!` of a call: a name, as of `macro_rules!`, or its group
+abbrev pub call_name : Class → Option Shift
+call_name (signs.Word _) = to_front items.Call fronts.CallGroup
+call_name class = call_group class
+
+abbrev pub macro_parameters : Class → Option Shift
+macro_parameters signs.Parentheses = to_front items.Macro fronts.MacroBody
+macro_parameters signs.Restriction = to_front items.Macro fronts.MacroBody
+macro_parameters class = body items.Macro class
+
+-- ---- implementations
+
+-- in the brackets of parameters and not of a type
+abbrev pub impl_angle : Class → Option Shift
+impl_angle signs.Greater = close_to items.Impl spots.AfterGenerics
+impl_angle signs.Hash = close_to items.Impl (spots.Hash parts.Parameter)
+impl_angle signs.Lifetime = close_to items.Impl spots.LifetimeName
+impl_angle (signs.Keyword keywords.Const) = close_to items.Impl spots.ConstName
+impl_angle (signs.Word _) = to_front items.Impl fronts.ImplWord
+impl_angle _ = None
+
+-- after a word that may be a parameter, or begin a type
+abbrev pub impl_word : Class → Option Shift
+impl_word signs.Greater = close_to items.Impl spots.AfterGenerics
+impl_word signs.Comma = close_to items.Impl (spots.Before parts.Parameter)
+impl_word signs.Colon = turn_to items.Impl rules.TypeParameter (states.Range types.Bound) turns.Close
+impl_word signs.Equals = turn_to items.Impl rules.Parameter (states.Range types.Wanted) turns.Close
+impl_word _ = None
+
+-- after `impl`, but for types
+abbrev pub impl_front : Class → Option Shift
+impl_front signs.Less = turn_to items.Impl rules.Alone (states.At (spots.Front fronts.ImplAngle)) turns.Open
+impl_front signs.LessJoint = turn_to items.Impl rules.Alone (states.At (spots.Front fronts.ImplAngle)) turns.Open
+impl_front class = impl_header class
+
+-- after its `const`, but for types
+abbrev pub impl_const : Class → Option Shift
+impl_const signs.Exclamation = to_front items.Impl fronts.ImplNot
+impl_const _ = None
+
+-- ---- imports
+
+abbrev pub use_path : Class → Option Shift
+use_path (signs.Word _) = to_front items.Use fronts.UseSegment
+use_path signs.SelfValue = to_front items.Use fronts.UseSegment
+use_path signs.Super = to_front items.Use fronts.UseSegment
+use_path signs.Crate = to_front items.Use fronts.UseSegment
+use_path signs.Star = to_front items.Use fronts.Semicolon
+use_path signs.Braces = to_front items.Use fronts.Semicolon
+use_path _ = None
+
+abbrev pub use_front : Class → Option Shift
+use_front signs.PathSeparator = to_front items.Use fronts.UsePath
+use_front class = use_path class
+
+-- after a name that `as` may follow
+abbrev pub renamed : Item → Class → Option Shift
+renamed item signs.As = to_front item fronts.Rename
+renamed item signs.Semicolon = to_spot item spots.ItemEnd
+renamed item _ = None
+
+abbrev pub use_segment : Class → Option Shift
+use_segment signs.PathSeparator = to_front items.Use fronts.UsePath
+use_segment class = renamed items.Use class
+
+abbrev pub rename : Item → Class → Option Shift
+rename item (signs.Word _) = to_front item fronts.Semicolon
+rename item signs.Underscore = to_front item fronts.Semicolon
+rename item _ = None
+
+abbrev pub crate_name : Class → Option Shift
+crate_name (signs.Word _) = to_front items.ExternCrate fronts.CrateNamed
+crate_name signs.SelfValue = to_front items.ExternCrate fronts.CrateNamed
+crate_name _ = None
+
+-- ---- the expressions of constants
+
+abbrev pub until_first : Item → Class → Option Shift
+until_first item signs.Semicolon = None
+until_first item _ = to_front item fronts.Until
+
+abbrev pub until : Item → Class → Option Shift
+until item signs.Semicolon = to_spot item spots.ItemEnd
+until item _ = to_front item fronts.Until
+
+-- ---- all of them
+
+-- what a sign leads to in the front of an item
+abbrev pub front_step : Item → Front → Class → Option Shift
+front_step item fronts.Auto class = auto_front class
+front_step item fronts.Default class = default_front class
+front_step item fronts.DefaultUnsafe class = default_unsafe class
+front_step item fronts.Safe class = safe_front class
+front_step item fronts.Async class = async_front class
+front_step item fronts.Qualified class = qualified class
+front_step item fronts.Const class = const_front class
+front_step item fronts.ConstSafe class = const_safe class
+front_step item fronts.Extern class = extern_front class
+front_step item fronts.UnsafeExtern class = unsafe_extern class
+front_step item fronts.ExternAbi class = extern_abi class
+front_step item fronts.FunctionExtern class = function_extern class
+front_step item fronts.FunctionAbi (signs.Keyword keywords.Fn) = to_spot items.Function spots.Name
+front_step item fronts.Unsafe class = unsafe_front class
+front_step item fronts.Static class = static_front class
+front_step item fronts.PlainName (signs.Word _) = to_spot item spots.AfterGenerics
+front_step item (fronts.CallWord word) class = call_word word class
+front_step item fronts.CallPath class = call_path class
+front_step item fronts.CallName class = call_name class
+front_step item fronts.CallGroup class = call_group class
+front_step item fronts.MacroName (signs.Word _) = to_front items.Macro fronts.MacroParameters
+front_step item fronts.MacroParameters class = macro_parameters class
+front_step item fronts.MacroBody class = body items.Macro class
+front_step item fronts.Impl class = impl_front class
+front_step item fronts.ImplAngle class = impl_angle class
+front_step item fronts.ImplWord class = impl_word class
+front_step item fronts.ImplConst class = impl_const class
+front_step item fronts.ImplNot class = header items.Impl class
+front_step item fronts.Use class = use_front class
+front_step item fronts.UsePath class = use_path class
+front_step item fronts.UseSegment class = use_segment class
+front_step item fronts.CrateName class = crate_name class
+front_step item fronts.CrateNamed class = renamed item class
+front_step item fronts.Rename class = rename item class
+front_step item fronts.UntilFirst class = until_first item class
+front_step item fronts.Until class = until item class
+front_step item fronts.Semicolon signs.Semicolon = to_spot item spots.ItemEnd
+front_step item _ _ = None
+
+-- the type that may begin in a front: that of an `impl`
+abbrev pub front_type : Front → Option TypeStart
+front_type fronts.Impl = type_from rules.Target types.Wanted
+front_type fronts.ImplAngle = type_from rules.Target types.Wanted
+front_type fronts.ImplWord = type_from rules.Target types.Whole
+front_type fronts.ImplConst = type_from rules.Target types.Wanted
+front_type fronts.ImplNot = type_from rules.Target types.Wanted
+front_type _ = None
+
+-- ---- names
+
+-- whether an item's name is wanted
+abbrev pub front_names : Front → Bool
+front_names fronts.PlainName = true
+front_names fronts.Static = true
+front_names fronts.Const = true
+front_names (fronts.CallWord words.Union) = true
+front_names fronts.CrateName = true
+front_names fronts.CallName = true
+front_names fronts.MacroName = true
+front_names _ = false

@@ -1,0 +1,135 @@
+-- The parts of a struct, an enum or a union, in reading order.
+use Rattle.std.specs.Prelude.{◌≡◌, ◌⊎◌, List, [], ◌∷◌, ◌++◌, Bool, true, false, not}
+use Rattle.pm_token.specs.Leaf.{Name}
+use Rattle.pm_token.specs.declared.delimiters.Delimiter.TheVariants as delimiters
+use Rattle.pm_stream.specs.declared.stream.Group.{Group as Grouped}
+use Rattle.pm_stream.specs.declared.stream.TokenTree.{TokenTree}
+use Rattle.pm_stream.specs.declared.stream.TokenTree.TheVariants.{Group, Ident}
+use Rattle.declarations.specs.Forms.{IsFrom, IsItem, AreAttributes, IsVisibility, AreGenerics, IsWhere}
+use Rattle.declarations.specs.Reading.{Reads}
+use Rattle.declarations.specs.Signs.{signs, classes_of, name_class}
+use Rattle.declarations.specs.Whole.{ReadsAll}
+use Rattle.declarations.specs.declared.class.Class.{Class}
+use Rattle.declarations.specs.declared.class.Class.TheVariants as classes
+use Rattle.declarations.specs.declared.class.Keyword.TheVariants as keywords
+use Rattle.declarations.specs.declared.class.Word.TheVariants as words
+use Rattle.declarations.specs.declared.place.Item.{Item}
+use Rattle.declarations.specs.declared.place.Item.TheVariants as items
+use Rattle.declarations.specs.declared.place.Place.{Place}
+use Rattle.declarations.specs.declared.place.Rule.TheVariants as rules
+use Rattle.declarations.specs.declared.place.Spot.TheVariants as spots
+use Rattle.declarations.specs.declared.place.State.TheVariants as states
+use Rattle.declarations.specs.declared.item.Body.{Body}
+use Rattle.declarations.specs.declared.item.Body.TheVariants as bodies
+use Rattle.declarations.specs.declared.item.Fields.TheVariants as fields
+use Rattle.declarations.specs.declared.item.TypeItem.{TypeItem}
+
+-- ---- the trees after each part
+
+-- what follows a where clause: the fields in braces or a `;`
+abbrev pub after_clause : Body → List TokenTree → List TokenTree
+after_clause (bodies.Struct (fields.Named g)) semicolon = Group g.now ∷ semicolon
+after_clause (bodies.Struct (fields.Tuple g)) semicolon = semicolon
+after_clause (bodies.Struct fields.Unit) semicolon = semicolon
+after_clause (bodies.Enum g) semicolon = Group g.now ∷ semicolon
+after_clause (bodies.Union g) semicolon = Group g.now ∷ semicolon
+
+-- the fields in parentheses stand before it
+abbrev pub with_tuple : Body → List TokenTree → List TokenTree
+with_tuple (bodies.Struct (fields.Named g)) rest = rest
+with_tuple (bodies.Struct (fields.Tuple g)) rest = Group g.now ∷ rest
+with_tuple (bodies.Struct fields.Unit) rest = rest
+with_tuple (bodies.Enum g) rest = rest
+with_tuple (bodies.Union g) rest = rest
+
+abbrev pub ending : Body → List TokenTree → List TokenTree → List TokenTree
+ending body clause semicolon = with_tuple body (clause ++ after_clause body semicolon)
+
+abbrev pub after_generics : TypeItem → List TokenTree
+after_generics item = ending item.body item.where_clause.now item.semicolon.now
+
+abbrev pub after_name : TypeItem → List TokenTree
+after_name item = item.generics.now ++ after_generics item
+
+abbrev pub after_visibility : TypeItem → List TokenTree
+after_visibility item = Ident item.keyword.now ∷ Ident item.name.now ∷ after_name item
+
+abbrev pub after_attributes : TypeItem → List TokenTree
+after_attributes item = item.visibility.now ++ after_visibility item
+
+-- all its parts, in reading order
+abbrev pub parts_of : TypeItem → List TokenTree
+parts_of item = item.attributes.now ++ after_attributes item
+
+-- ---- what each part is
+
+-- a word may be a name
+abbrev pub IsNameClass : Class → Type 0
+IsNameClass (classes.Word word) = Unit {0}
+IsNameClass class = ⊥
+
+-- the same, as a test
+abbrev pub is_name_class : Class → Bool
+is_name_class (classes.Word word) = true
+is_name_class class = false
+
+-- an identifier that can't be a name
+abbrev pub is_keyword : Name → Bool
+is_keyword ident = not (is_name_class (name_class ident))
+
+-- the body that the keyword calls for, and a `;` after a struct without braces alone
+abbrev pub HasBody : Class → Body → List TokenTree → Type 0
+HasBody (classes.Keyword keywords.Struct) (bodies.Struct (fields.Named g)) semicolon =
+    (g.now.delimiter ≡ delimiters.Brace) × (semicolon ≡ [])
+HasBody (classes.Keyword keywords.Struct) (bodies.Struct (fields.Tuple g)) semicolon =
+    (g.now.delimiter ≡ delimiters.Parenthesis) × (classes_of (signs semicolon) ≡ classes.Semicolon ∷ [])
+HasBody (classes.Keyword keywords.Struct) (bodies.Struct fields.Unit) semicolon =
+    classes_of (signs semicolon) ≡ classes.Semicolon ∷ []
+HasBody (classes.Keyword keywords.Enum) (bodies.Enum g) semicolon =
+    (g.now.delimiter ≡ delimiters.Brace) × (semicolon ≡ [])
+HasBody (classes.Word words.Union) (bodies.Union g) semicolon =
+    (g.now.delimiter ≡ delimiters.Brace) × (semicolon ≡ [])
+HasBody class body semicolon = ⊥
+
+-- the trees after the generic parameters are this where clause and body
+pub record HasEnding (keyword : Class) (trees : List TokenTree) (body : Body) (clause semicolon : List TokenTree)
+    : Type 0 where
+  pub whole : trees ≡ ending body clause semicolon
+  pub clause_reads : Reads IsWhere (clause ++ after_clause body semicolon) clause (after_clause body semicolon)
+  pub shape : HasBody keyword body semicolon
+
+-- a where clause and braces are all that is left
+pub record HasBraces (trees clause : List TokenTree) (group : Grouped) (after : List TokenTree) : Type 0 where
+  pub whole : trees ≡ clause ++ Group group ∷ after
+  pub clause_reads : Reads IsWhere (clause ++ Group group ∷ after) clause (Group group ∷ after)
+  pub braces : group.delimiter ≡ delimiters.Brace
+  pub none : after ≡ []
+
+-- the trees are an item, and these are its parts: in order they are the trees, and each is what its rule reads of the
+-- trees from it on
+pub record IsTypeItem (trees : List TokenTree) (item : TypeItem) : Type 0 where
+  pub all : ReadsAll IsItem trees
+  pub whole : trees ≡ parts_of item
+  pub attributes : Reads AreAttributes trees item.attributes.now (after_attributes item)
+  pub visibility : Reads IsVisibility (after_attributes item) item.visibility.now (after_visibility item)
+  pub name : IsNameClass (name_class item.name.now)
+  pub generics : Reads AreGenerics (after_name item) item.generics.now (after_generics item)
+  pub end : HasEnding (name_class item.keyword.now) (after_generics item) item.body item.where_clause.now
+      item.semicolon.now
+
+-- ---- what is left of an item
+
+abbrev pub behind_generics : Item → Place
+behind_generics item = record { item = item; rule = rules.Alone; state = states.At spots.AfterGenerics; depth = 0 }
+
+-- of an enum or a union
+abbrev pub AreBracesLeft : List TokenTree → Type 0
+AreBracesLeft trees =
+    ReadsAll (IsFrom (behind_generics items.Enum)) trees ⊎ ReadsAll (IsFrom (behind_generics items.Union)) trees
+
+-- after the generic parameters of an item of this keyword
+abbrev pub IsLeft : Class → List TokenTree → Type 0
+IsLeft (classes.Keyword keywords.Struct) trees = ReadsAll (IsFrom (behind_generics items.Struct)) trees
+IsLeft (classes.Keyword keywords.Enum) trees = AreBracesLeft trees
+IsLeft (classes.Word words.Union) trees = AreBracesLeft trees
+IsLeft class trees = ⊥

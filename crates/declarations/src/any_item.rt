@@ -1,0 +1,124 @@
+//! Any item at the front of trees, with its kind and name.
+ghost use Rattle.std.specs.Prelude.{◌≡◌, IfErr, IfOk, MatchOption, None, Option, Some};
+ghost use Rattle.pm_token.specs.Leaf.{Name};
+ghost use Rattle.declarations.specs.Fault.{extent_at};
+ghost use Rattle.declarations.specs.Forms.{IsAnyItem};
+ghost use Rattle.declarations.specs.Kind.{Tells, kind_of};
+ghost use Rattle.declarations.specs.Reading.{FaultAt, IsOnly, Reads, first_name};
+
+use crate::fault::Fault;
+use crate::place::{Item, Part, Place, Rule, Spot, State};
+use crate::walk::split_from;
+use pm_stream::TokenTree;
+use pm_token::Ident;
+
+/// What an item declares.
+#[derive(Clone, Copy, Debug, PartialEq, Eq)]
+pub enum ItemKind {
+    /// `const`
+    Constant,
+    /// `enum`
+    Enum,
+    /// `extern { .. }`
+    ExternBlock,
+    /// `extern crate`
+    ExternCrate,
+    /// `fn`
+    Function,
+    /// A group without delimiters, as a macro by example passes an item.
+    Group,
+    /// `impl`
+    Impl,
+    /// `macro`
+    Macro,
+    /// A macro call. That of `macro_rules!` has a name.
+    MacroCall,
+    /// `mod`
+    Module,
+    /// `static`
+    Static,
+    /// `struct`
+    Struct,
+    /// `trait`
+    Trait,
+    /// `trait Name = ..;`
+    TraitAlias,
+    /// `type`
+    TypeAlias,
+    /// `union`
+    Union,
+    /// `use`
+    Use,
+}
+
+/// An item: its trees, with attributes and visibility, and what it declares.
+#[derive(Clone, Copy)]
+pub struct AnyItem<'a> {
+    pub kind: ItemKind,
+    /// The name; `_` of a constant without one, and of an external crate not that of its `as`. An `impl`, a `use`, a
+    /// block of foreign items, a group and most macro calls have none.
+    pub name: Option<&'a Ident>,
+    pub trees: &'a [TokenTree],
+}
+
+/// The item at the front of the trees, and the trees after it.
+///
+/// It is any item that may stand in a file, a module, a trait, an `impl` or a block of foreign items. What stands
+/// within its groups isn't read. Of `pub fn f() {} struct S;` it is `pub fn f() {}`, a function with the name `f`.
+pub fn split_any_item<'a>(trees: &'a [TokenTree]) -> Result<(AnyItem<'a>, &'a [TokenTree]), Fault>
+    ensures ok { IfOk result (λ found. Reads IsAnyItem trees.now found.0.trees.now found.1.now) }
+    ensures only { IfOk result (λ found. IsOnly IsAnyItem trees.now found.0.trees.now found.1.now) }
+    // The kind and the name are those of the one walk over the item's signs.
+    ensures told { IfOk result (λ found. (name : Option Name) × Tells trees.now found.1.now found.0.kind name
+        × MatchOption found.0.name (name ≡ None) (λ ident. name ≡ Some ident.now)) }
+    ensures fault { IfErr result (λ fault. FaultAt IsAnyItem trees.now fault.at) }
+    ensures span { IfErr result (λ fault. fault.span ≡ extent_at trees.now fault.at) }
+{
+    let start = Place {
+        item: Item::Alone,
+        rule: Rule::Alone,
+        state: State::At(Spot::Before(Part::AnyItem)),
+        depth: 0,
+    };
+    let split = split_from(trees, start)?;
+    let item = AnyItem {
+        kind: kind_of(split.last),
+        name: first_name(split.named),
+        trees: split.part,
+    };
+    Ok((item, split.rest))
+}
+
+// The identifier that is the first of the trees.
+fn first_name<'a>(trees: &'a [TokenTree]) -> Option<&'a Ident>
+    ensures { MatchOption result (first_name trees.now ≡ None) (λ ident. first_name trees.now ≡ Some ident.now) }
+{
+    match trees.first()? {
+        TokenTree::Ident(ident) => Some(ident),
+        TokenTree::Group(_) | TokenTree::Punct(_) | TokenTree::Literal(_) => None,
+    }
+}
+
+fn kind_of(item: Item) -> ItemKind
+    ensures { result ≡ kind_of item }
+{
+    match item {
+        Item::Struct | Item::Tuple => ItemKind::Struct,
+        Item::Enum => ItemKind::Enum,
+        Item::Union => ItemKind::Union,
+        Item::Function | Item::Returning => ItemKind::Function,
+        Item::Constant => ItemKind::Constant,
+        Item::Static => ItemKind::Static,
+        Item::Alias | Item::Aliased => ItemKind::TypeAlias,
+        Item::Trait => ItemKind::Trait,
+        Item::TraitAlias => ItemKind::TraitAlias,
+        Item::Impl => ItemKind::Impl,
+        Item::Module => ItemKind::Module,
+        Item::Use => ItemKind::Use,
+        Item::ExternCrate => ItemKind::ExternCrate,
+        Item::ExternBlock => ItemKind::ExternBlock,
+        Item::Macro => ItemKind::Macro,
+        Item::Call => ItemKind::MacroCall,
+        Item::Group | Item::Alone | Item::Variants => ItemKind::Group,
+    }
+}

@@ -1,0 +1,188 @@
+//! Where the expressions of discriminants end.
+ghost use Rattle.std.specs.Prelude.{◌≡◌};
+ghost use Rattle.declarations.specs.Expression.{cast, cast_whole, closure, expression, expression_dot};
+ghost use Rattle.declarations.specs.Expression.{expression_less, expression_open, expression_whole, operator};
+ghost use Rattle.declarations.specs.Expression.{variant_end};
+
+use crate::class::Class;
+use crate::place::{Item, Part, Rule, Shift, Spot, open_angle, to_spot};
+
+// Where an operand is wanted.
+pub(crate) fn expression(item: Item, class: Class) -> Option<Shift>
+    ensures { result ≡ expression item class }
+{
+    match class {
+        Class::Restriction
+        | Class::Parentheses
+        | Class::Brackets
+        | Class::Braces
+        | Class::Invisible
+        | Class::Word(_)
+        | Class::SelfValue
+        | Class::SelfType
+        | Class::Super
+        | Class::Crate
+        | Class::Underscore
+        | Class::Truth
+        | Class::Literal
+        | Class::Await => to_spot(item, Spot::ExpressionWhole),
+        Class::Less | Class::LessJoint => open_angle(item, Rule::Angle),
+        Class::Lifetime | Class::Jump => to_spot(item, Spot::ExpressionOpen),
+        Class::Dot => to_spot(item, Spot::ExpressionRange),
+        Class::Minus
+        | Class::Star
+        | Class::And
+        | Class::Exclamation
+        | Class::Equals
+        | Class::Greater
+        | Class::PathSeparator
+        | Class::Bars
+        | Class::Keyword(_) => to_spot(item, Spot::Expression),
+        Class::Hash => to_spot(item, Spot::ExpressionHash),
+        Class::Bar => to_spot(item, Spot::Closure),
+        Class::Arrow => to_spot(item, Spot::Cast),
+        _ => None,
+    }
+}
+
+// Where an operand may stand, or what follows one.
+pub(crate) fn expression_open(item: Item, class: Class) -> Option<Shift>
+    ensures { result ≡ expression_open item class }
+{
+    match class {
+        Class::Dot => to_spot(item, Spot::ExpressionOpen),
+        Class::Question => to_spot(item, Spot::ExpressionWhole),
+        Class::Plus | Class::Infix | Class::Colon => to_spot(item, Spot::Expression),
+        Class::Comma => variant_end(item, Class::Comma),
+        _ => expression(item, class),
+    }
+}
+
+// After an operand, of an expression or of a cast.
+fn operator(item: Item, class: Class) -> Option<Shift>
+    ensures { result ≡ operator item class }
+{
+    match class {
+        Class::Restriction
+        | Class::Parentheses
+        | Class::Brackets
+        | Class::Braces
+        | Class::Invisible
+        | Class::Question
+        | Class::Await => to_spot(item, Spot::ExpressionWhole),
+        Class::Jump => to_spot(item, Spot::ExpressionOpen),
+        Class::Dot => to_spot(item, Spot::ExpressionDot),
+        Class::As | Class::Arrow => to_spot(item, Spot::Cast),
+        Class::Minus
+        | Class::Star
+        | Class::And
+        | Class::Exclamation
+        | Class::Equals
+        | Class::Greater
+        | Class::Plus
+        | Class::Infix
+        | Class::Colon
+        | Class::Bar
+        | Class::Bars
+        | Class::LessEquals
+        | Class::Keyword(_) => to_spot(item, Spot::Expression),
+        Class::Comma => variant_end(item, Class::Comma),
+        _ => None,
+    }
+}
+
+// After an operand.
+pub(crate) fn expression_whole(item: Item, class: Class) -> Option<Shift>
+    ensures { result ≡ expression_whole item class }
+{
+    match class {
+        Class::PathSeparator | Class::Less => to_spot(item, Spot::Expression),
+        Class::LessJoint => to_spot(item, Spot::ExpressionLess),
+        _ => operator(item, class),
+    }
+}
+
+// After `<` that is an operator and Joint: another belongs to it.
+pub(crate) fn expression_less(item: Item, class: Class) -> Option<Shift>
+    ensures { result ≡ expression_less item class }
+{
+    match class {
+        Class::Less | Class::LessJoint | Class::LessEquals => to_spot(item, Spot::Expression),
+        _ => expression(item, class),
+    }
+}
+
+// After an operand and `.`.
+pub(crate) fn expression_dot(item: Item, class: Class) -> Option<Shift>
+    ensures { result ≡ expression_dot item class }
+{
+    match class {
+        Class::Dot => to_spot(item, Spot::ExpressionOpen),
+        _ => expression(item, class),
+    }
+}
+
+// Within the bars of a closure.
+pub(crate) fn closure(item: Item, class: Class) -> Option<Shift>
+    ensures { result ≡ closure item class }
+{
+    match class {
+        Class::Bar => to_spot(item, Spot::Expression),
+        Class::Less | Class::LessJoint => open_angle(item, Rule::ClosureAngle),
+        Class::Semicolon => None,
+        _ => to_spot(item, Spot::Closure),
+    }
+}
+
+// Where the type of a cast is wanted.
+pub(crate) fn cast(item: Item, class: Class) -> Option<Shift>
+    ensures { result ≡ cast item class }
+{
+    match class {
+        Class::Restriction
+        | Class::Parentheses
+        | Class::Brackets
+        | Class::Braces
+        | Class::Invisible
+        | Class::Word(_)
+        | Class::SelfValue
+        | Class::SelfType
+        | Class::Super
+        | Class::Crate
+        | Class::Underscore
+        | Class::Truth => to_spot(item, Spot::CastWhole),
+        Class::Less | Class::LessJoint => open_angle(item, Rule::CastAngle),
+        Class::Lifetime
+        | Class::PathSeparator
+        | Class::Arrow
+        | Class::Star
+        | Class::And
+        | Class::Exclamation
+        | Class::As
+        | Class::Jump
+        | Class::Await
+        | Class::Keyword(_) => to_spot(item, Spot::Cast),
+        _ => None,
+    }
+}
+
+// After the type of a cast, or a part of it.
+pub(crate) fn cast_whole(item: Item, class: Class) -> Option<Shift>
+    ensures { result ≡ cast_whole item class }
+{
+    match class {
+        Class::PathSeparator => to_spot(item, Spot::Cast),
+        Class::Less | Class::LessJoint => open_angle(item, Rule::CastAngle),
+        _ => operator(item, class),
+    }
+}
+
+// After a variant that is whole, in a list.
+pub(crate) fn variant_end(item: Item, class: Class) -> Option<Shift>
+    ensures { result ≡ variant_end item class }
+{
+    match (item, class) {
+        (Item::Variants, Class::Comma) => to_spot(item, Spot::Before(Part::Variant)),
+        _ => None,
+    }
+}

@@ -1,0 +1,518 @@
+//! Items: what may follow what they begin with, up to their names.
+ghost use Rattle.std.specs.Prelude.{◌≡◌};
+ghost use Rattle.declarations.specs.Front.{async_front, auto_front, call_group, call_name, call_path, call_word};
+ghost use Rattle.declarations.specs.Front.{const_front, const_safe, crate_name, declaration, default_front};
+ghost use Rattle.declarations.specs.Front.{default_unsafe, extern_abi, extern_front, front_names, front_step};
+ghost use Rattle.declarations.specs.Front.{front_type, function_extern, impl_angle, impl_const, impl_front};
+ghost use Rattle.declarations.specs.Front.{impl_word, item_keyword, item_word, macro_parameters, qualified, rename};
+ghost use Rattle.declarations.specs.Front.{renamed, safe_front, static_front, type_item, unmarked_item};
+ghost use Rattle.declarations.specs.Front.{unsafe_extern, unsafe_front, until, until_first, use_front, use_path};
+ghost use Rattle.declarations.specs.Front.{use_segment};
+
+use crate::class::{Class, Keyword, Word};
+use crate::header::{body, generics, header, impl_header};
+use crate::place::{
+    Front, Item, Part, Rule, Shift, Spot, State, TypeStart, close_to, to_front, to_spot, turn_to,
+    type_from,
+};
+use crate::types::{Turn, TypeState};
+
+// The rest of a function's front.
+fn qualified(class: Class) -> Option<Shift>
+    ensures { result ≡ qualified class }
+{
+    match class {
+        Class::Keyword(Keyword::Extern) => to_front(Item::Function, Front::FunctionExtern),
+        Class::Keyword(Keyword::Fn) => to_spot(Item::Function, Spot::Name),
+        _ => None,
+    }
+}
+
+// A keyword that begins an item.
+fn item_keyword(keyword: Keyword) -> Option<Shift>
+    ensures { result ≡ item_keyword keyword }
+{
+    match keyword {
+        Keyword::Async => to_front(Item::Function, Front::Async),
+        Keyword::Const => to_front(Item::Constant, Front::Const),
+        Keyword::Enum => to_spot(Item::Enum, Spot::Name),
+        Keyword::Extern => to_front(Item::ExternBlock, Front::Extern),
+        Keyword::Fn => to_spot(Item::Function, Spot::Name),
+        Keyword::Impl => to_front(Item::Impl, Front::Impl),
+        Keyword::Macro => to_front(Item::Macro, Front::MacroName),
+        Keyword::Mod => to_front(Item::Module, Front::PlainName),
+        Keyword::Static => to_front(Item::Static, Front::Static),
+        Keyword::Struct => to_spot(Item::Struct, Spot::Name),
+        Keyword::Trait => to_spot(Item::Trait, Spot::Name),
+        Keyword::Type => to_spot(Item::Alias, Spot::Name),
+        Keyword::Unsafe => to_front(Item::Function, Front::Unsafe),
+        Keyword::Use => to_front(Item::Use, Front::Use),
+        _ => None,
+    }
+}
+
+// A word that begins one.
+fn item_word(word: Word) -> Option<Shift>
+    ensures { result ≡ item_word word }
+{
+    match word {
+        Word::Auto => to_front(Item::Trait, Front::Auto),
+        Word::Default => to_front(Item::Function, Front::Default),
+        Word::Safe => to_front(Item::Function, Front::Safe),
+        Word::Union => to_spot(Item::Union, Spot::Name),
+        Word::Plain => None,
+    }
+}
+
+// After its visibility.
+pub(crate) fn declaration(class: Class) -> Option<Shift>
+    ensures { result ≡ declaration class }
+{
+    match class {
+        Class::Keyword(keyword) => item_keyword(keyword),
+        Class::Word(word) => item_word(word),
+        _ => None,
+    }
+}
+
+// Where it has none: a macro call or a group without delimiters too.
+pub(crate) fn unmarked_item(class: Class) -> Option<Shift>
+    ensures { result ≡ unmarked_item class }
+{
+    match class {
+        Class::Word(word) => to_front(Item::Call, Front::CallWord(word)),
+        Class::SelfValue | Class::Super | Class::Crate => to_front(
+            Item::Call,
+            Front::CallWord(Word::Plain),
+        ),
+        Class::PathSeparator => to_front(Item::Call, Front::CallPath),
+        Class::Invisible => to_spot(Item::Group, Spot::ItemEnd),
+        _ => declaration(class),
+    }
+}
+
+// A struct, an enum or a union.
+pub(crate) fn type_item(class: Class) -> Option<Shift>
+    ensures { result ≡ type_item class }
+{
+    match class {
+        Class::Keyword(Keyword::Struct) => to_spot(Item::Struct, Spot::Name),
+        Class::Keyword(Keyword::Enum) => to_spot(Item::Enum, Spot::Name),
+        Class::Word(Word::Union) => to_spot(Item::Union, Spot::Name),
+        _ => None,
+    }
+}
+
+fn auto_front(class: Class) -> Option<Shift>
+    ensures { result ≡ auto_front class }
+{
+    match class {
+        Class::Keyword(Keyword::Trait) => to_spot(Item::Trait, Spot::Name),
+        _ => None,
+    }
+}
+
+fn default_front(class: Class) -> Option<Shift>
+    ensures { result ≡ default_front class }
+{
+    match class {
+        Class::Keyword(Keyword::Async) => to_front(Item::Function, Front::Async),
+        Class::Keyword(Keyword::Const) => to_front(Item::Constant, Front::Const),
+        Class::Keyword(Keyword::Impl) => to_front(Item::Impl, Front::Impl),
+        Class::Keyword(Keyword::Type) => to_spot(Item::Alias, Spot::Name),
+        Class::Keyword(Keyword::Unsafe) => to_front(Item::Function, Front::DefaultUnsafe),
+        Class::Word(Word::Safe) => to_front(Item::Function, Front::Qualified),
+        _ => qualified(class),
+    }
+}
+
+fn default_unsafe(class: Class) -> Option<Shift>
+    ensures { result ≡ default_unsafe class }
+{
+    match class {
+        Class::Keyword(Keyword::Impl) => to_front(Item::Impl, Front::Impl),
+        _ => qualified(class),
+    }
+}
+
+fn safe_front(class: Class) -> Option<Shift>
+    ensures { result ≡ safe_front class }
+{
+    match class {
+        Class::Keyword(Keyword::Static) => to_front(Item::Static, Front::Static),
+        _ => qualified(class),
+    }
+}
+
+fn async_front(class: Class) -> Option<Shift>
+    ensures { result ≡ async_front class }
+{
+    match class {
+        Class::Keyword(Keyword::Unsafe) | Class::Word(Word::Safe) => to_front(
+            Item::Function,
+            Front::Qualified,
+        ),
+        _ => qualified(class),
+    }
+}
+
+// After `const`. `safe` may be a name, or belong to a function.
+fn const_front(class: Class) -> Option<Shift>
+    ensures { result ≡ const_front class }
+{
+    match class {
+        Class::Keyword(Keyword::Async) => to_front(Item::Function, Front::Async),
+        Class::Keyword(Keyword::Unsafe) => to_front(Item::Function, Front::Qualified),
+        Class::Word(Word::Safe) => to_front(Item::Constant, Front::ConstSafe),
+        Class::Word(_) | Class::Underscore => to_spot(Item::Constant, Spot::Generics),
+        _ => qualified(class),
+    }
+}
+
+fn const_safe(class: Class) -> Option<Shift>
+    ensures { result ≡ const_safe class }
+{
+    match class {
+        Class::Keyword(_) => qualified(class),
+        _ => generics(Item::Constant, class),
+    }
+}
+
+// After `extern` and what an ABI it may have.
+fn extern_abi(class: Class) -> Option<Shift>
+    ensures { result ≡ extern_abi class }
+{
+    match class {
+        Class::Keyword(Keyword::Fn) => to_spot(Item::Function, Spot::Name),
+        _ => body(Item::ExternBlock, class),
+    }
+}
+
+fn unsafe_extern(class: Class) -> Option<Shift>
+    ensures { result ≡ unsafe_extern class }
+{
+    match class {
+        Class::Literal => to_front(Item::ExternBlock, Front::ExternAbi),
+        _ => extern_abi(class),
+    }
+}
+
+fn extern_front(class: Class) -> Option<Shift>
+    ensures { result ≡ extern_front class }
+{
+    match class {
+        Class::Crate => to_front(Item::ExternCrate, Front::CrateName),
+        _ => unsafe_extern(class),
+    }
+}
+
+// After the `extern` of what must be a function.
+fn function_extern(class: Class) -> Option<Shift>
+    ensures { result ≡ function_extern class }
+{
+    match class {
+        Class::Literal => to_front(Item::Function, Front::FunctionAbi),
+        Class::Keyword(Keyword::Fn) => to_spot(Item::Function, Spot::Name),
+        _ => None,
+    }
+}
+
+fn unsafe_front(class: Class) -> Option<Shift>
+    ensures { result ≡ unsafe_front class }
+{
+    match class {
+        Class::Keyword(Keyword::Extern) => to_front(Item::ExternBlock, Front::UnsafeExtern),
+        Class::Keyword(Keyword::Fn) => to_spot(Item::Function, Spot::Name),
+        Class::Keyword(Keyword::Impl) => to_front(Item::Impl, Front::Impl),
+        Class::Keyword(Keyword::Mod) => to_front(Item::Module, Front::PlainName),
+        Class::Keyword(Keyword::Static) => to_front(Item::Static, Front::Static),
+        Class::Keyword(Keyword::Trait) => to_spot(Item::Trait, Spot::Name),
+        Class::Word(Word::Auto) => to_front(Item::Trait, Front::Auto),
+        _ => None,
+    }
+}
+
+fn static_front(class: Class) -> Option<Shift>
+    ensures { result ≡ static_front class }
+{
+    match class {
+        Class::Keyword(Keyword::Mut) => to_front(Item::Static, Front::PlainName),
+        Class::Word(_) => to_spot(Item::Static, Spot::AfterGenerics),
+        _ => None,
+    }
+}
+
+// After a word that begins an item: the path of a macro call, or a front.
+fn call_word(word: Word, class: Class) -> Option<Shift>
+    ensures { result ≡ call_word word class }
+{
+    match (word, class) {
+        (_, Class::Exclamation) => to_front(Item::Call, Front::CallName),
+        (_, Class::PathSeparator) => to_front(Item::Call, Front::CallPath),
+        (Word::Auto, _) => auto_front(class),
+        (Word::Default, _) => default_front(class),
+        (Word::Safe, _) => safe_front(class),
+        (Word::Union, Class::Word(_)) => to_spot(Item::Union, Spot::Generics),
+        _ => None,
+    }
+}
+
+fn call_path(class: Class) -> Option<Shift>
+    ensures { result ≡ call_path class }
+{
+    match class {
+        Class::Word(_) | Class::SelfValue | Class::Super | Class::Crate => to_front(
+            Item::Call,
+            Front::CallWord(Word::Plain),
+        ),
+        _ => None,
+    }
+}
+
+// The group of a call.
+fn call_group(class: Class) -> Option<Shift>
+    ensures { result ≡ call_group class }
+{
+    match class {
+        Class::Parentheses | Class::Restriction | Class::Brackets => to_front(
+            Item::Call,
+            Front::Semicolon,
+        ),
+        Class::Braces => to_spot(Item::Call, Spot::ItemEnd),
+        _ => None,
+    }
+}
+
+// After the `!` of a call: a name, as of `macro_rules!`, or its group.
+fn call_name(class: Class) -> Option<Shift>
+    ensures { result ≡ call_name class }
+{
+    match class {
+        Class::Word(_) => to_front(Item::Call, Front::CallGroup),
+        _ => call_group(class),
+    }
+}
+
+fn macro_parameters(class: Class) -> Option<Shift>
+    ensures { result ≡ macro_parameters class }
+{
+    match class {
+        Class::Parentheses | Class::Restriction => to_front(Item::Macro, Front::MacroBody),
+        _ => body(Item::Macro, class),
+    }
+}
+
+// In the brackets of parameters and not of a type.
+fn impl_angle(class: Class) -> Option<Shift>
+    ensures { result ≡ impl_angle class }
+{
+    match class {
+        Class::Greater => close_to(Item::Impl, Spot::AfterGenerics),
+        Class::Hash => close_to(Item::Impl, Spot::Hash(Part::Parameter)),
+        Class::Lifetime => close_to(Item::Impl, Spot::LifetimeName),
+        Class::Keyword(Keyword::Const) => close_to(Item::Impl, Spot::ConstName),
+        Class::Word(_) => to_front(Item::Impl, Front::ImplWord),
+        _ => None,
+    }
+}
+
+// After a word that may be a parameter, or begin a type.
+fn impl_word(class: Class) -> Option<Shift>
+    ensures { result ≡ impl_word class }
+{
+    match class {
+        Class::Greater => close_to(Item::Impl, Spot::AfterGenerics),
+        Class::Comma => close_to(Item::Impl, Spot::Before(Part::Parameter)),
+        Class::Colon => turn_to(
+            Item::Impl,
+            Rule::TypeParameter,
+            State::Range(TypeState::Bound),
+            Turn::Close,
+        ),
+        Class::Equals => turn_to(
+            Item::Impl,
+            Rule::Parameter,
+            State::Range(TypeState::Wanted),
+            Turn::Close,
+        ),
+        _ => None,
+    }
+}
+
+// After `impl`, but for types.
+fn impl_front(class: Class) -> Option<Shift>
+    ensures { result ≡ impl_front class }
+{
+    match class {
+        Class::Less | Class::LessJoint => turn_to(
+            Item::Impl,
+            Rule::Alone,
+            State::At(Spot::Front(Front::ImplAngle)),
+            Turn::Open,
+        ),
+        _ => impl_header(class),
+    }
+}
+
+// After its `const`, but for types.
+fn impl_const(class: Class) -> Option<Shift>
+    ensures { result ≡ impl_const class }
+{
+    match class {
+        Class::Exclamation => to_front(Item::Impl, Front::ImplNot),
+        _ => None,
+    }
+}
+
+fn use_path(class: Class) -> Option<Shift>
+    ensures { result ≡ use_path class }
+{
+    match class {
+        Class::Word(_) | Class::SelfValue | Class::Super | Class::Crate => to_front(
+            Item::Use,
+            Front::UseSegment,
+        ),
+        Class::Star | Class::Braces => to_front(Item::Use, Front::Semicolon),
+        _ => None,
+    }
+}
+
+fn use_front(class: Class) -> Option<Shift>
+    ensures { result ≡ use_front class }
+{
+    match class {
+        Class::PathSeparator => to_front(Item::Use, Front::UsePath),
+        _ => use_path(class),
+    }
+}
+
+// After a name that `as` may follow.
+fn renamed(item: Item, class: Class) -> Option<Shift>
+    ensures { result ≡ renamed item class }
+{
+    match class {
+        Class::As => to_front(item, Front::Rename),
+        Class::Semicolon => to_spot(item, Spot::ItemEnd),
+        _ => None,
+    }
+}
+
+fn use_segment(class: Class) -> Option<Shift>
+    ensures { result ≡ use_segment class }
+{
+    match class {
+        Class::PathSeparator => to_front(Item::Use, Front::UsePath),
+        _ => renamed(Item::Use, class),
+    }
+}
+
+fn rename(item: Item, class: Class) -> Option<Shift>
+    ensures { result ≡ rename item class }
+{
+    match class {
+        Class::Word(_) | Class::Underscore => to_front(item, Front::Semicolon),
+        _ => None,
+    }
+}
+
+fn crate_name(class: Class) -> Option<Shift>
+    ensures { result ≡ crate_name class }
+{
+    match class {
+        Class::Word(_) | Class::SelfValue => to_front(Item::ExternCrate, Front::CrateNamed),
+        _ => None,
+    }
+}
+
+fn until_first(item: Item, class: Class) -> Option<Shift>
+    ensures { result ≡ until_first item class }
+{
+    match class {
+        Class::Semicolon => None,
+        _ => to_front(item, Front::Until),
+    }
+}
+
+fn until(item: Item, class: Class) -> Option<Shift>
+    ensures { result ≡ until item class }
+{
+    match class {
+        Class::Semicolon => to_spot(item, Spot::ItemEnd),
+        _ => to_front(item, Front::Until),
+    }
+}
+
+// What a sign leads to in the front of an item.
+pub(crate) fn front_step(item: Item, front: Front, class: Class) -> Option<Shift>
+    ensures { result ≡ front_step item front class }
+{
+    match (front, class) {
+        (Front::Auto, _) => auto_front(class),
+        (Front::Default, _) => default_front(class),
+        (Front::DefaultUnsafe, _) => default_unsafe(class),
+        (Front::Safe, _) => safe_front(class),
+        (Front::Async, _) => async_front(class),
+        (Front::Qualified, _) => qualified(class),
+        (Front::Const, _) => const_front(class),
+        (Front::ConstSafe, _) => const_safe(class),
+        (Front::Extern, _) => extern_front(class),
+        (Front::UnsafeExtern, _) => unsafe_extern(class),
+        (Front::ExternAbi, _) => extern_abi(class),
+        (Front::FunctionExtern, _) => function_extern(class),
+        (Front::FunctionAbi, Class::Keyword(Keyword::Fn)) => to_spot(Item::Function, Spot::Name),
+        (Front::Unsafe, _) => unsafe_front(class),
+        (Front::Static, _) => static_front(class),
+        (Front::PlainName, Class::Word(_)) => to_spot(item, Spot::AfterGenerics),
+        (Front::CallWord(word), _) => call_word(word, class),
+        (Front::CallPath, _) => call_path(class),
+        (Front::CallName, _) => call_name(class),
+        (Front::CallGroup, _) => call_group(class),
+        (Front::MacroName, Class::Word(_)) => to_front(Item::Macro, Front::MacroParameters),
+        (Front::MacroParameters, _) => macro_parameters(class),
+        (Front::MacroBody, _) => body(Item::Macro, class),
+        (Front::Impl, _) => impl_front(class),
+        (Front::ImplAngle, _) => impl_angle(class),
+        (Front::ImplWord, _) => impl_word(class),
+        (Front::ImplConst, _) => impl_const(class),
+        (Front::ImplNot, _) => header(Item::Impl, class),
+        (Front::Use, _) => use_front(class),
+        (Front::UsePath, _) => use_path(class),
+        (Front::UseSegment, _) => use_segment(class),
+        (Front::CrateName, _) => crate_name(class),
+        (Front::CrateNamed, _) => renamed(item, class),
+        (Front::Rename, _) => rename(item, class),
+        (Front::UntilFirst, _) => until_first(item, class),
+        (Front::Until, _) => until(item, class),
+        (Front::Semicolon, Class::Semicolon) => to_spot(item, Spot::ItemEnd),
+        _ => None,
+    }
+}
+
+// The type that may begin in a front: that of an `impl`.
+pub(crate) fn front_type(front: Front) -> Option<TypeStart>
+    ensures { result ≡ front_type front }
+{
+    match front {
+        Front::Impl | Front::ImplAngle | Front::ImplConst | Front::ImplNot => {
+            type_from(Rule::Target, TypeState::Wanted)
+        }
+        Front::ImplWord => type_from(Rule::Target, TypeState::Whole),
+        _ => None,
+    }
+}
+
+// Whether an item's name is wanted.
+pub(crate) fn front_names(front: Front) -> bool
+    ensures { result ≡ front_names front }
+{
+    match front {
+        Front::PlainName
+        | Front::Static
+        | Front::Const
+        | Front::CallWord(Word::Union)
+        | Front::CrateName
+        | Front::CallName
+        | Front::MacroName => true,
+        _ => false,
+    }
+}

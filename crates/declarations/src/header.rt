@@ -1,0 +1,206 @@
+//! Items: what may follow their names.
+ghost use Rattle.std.specs.Prelude.{◌≡◌};
+ghost use Rattle.declarations.specs.Header.{alias_header, body, closing, function_header, generics, has_where};
+ghost use Rattle.declarations.specs.Header.{header, impl_header, in_braces, in_semicolon, is_alone, return_header};
+ghost use Rattle.declarations.specs.Header.{struct_header, trait_header, typed_header, value};
+
+use crate::class::{Class, Keyword};
+use crate::place::{Front, Item, Part, Rule, Shift, Spot, to_bounds, to_front, to_spot, to_type};
+
+// Whether a body in braces may end the item.
+fn in_braces(item: Item) -> bool
+    ensures { result ≡ in_braces item }
+{
+    match item {
+        Item::Struct
+        | Item::Enum
+        | Item::Union
+        | Item::Function
+        | Item::Returning
+        | Item::Trait
+        | Item::Impl
+        | Item::Module
+        | Item::ExternBlock
+        | Item::Macro
+        | Item::Call => true,
+        _ => false,
+    }
+}
+
+// Whether `;` may end it.
+fn in_semicolon(item: Item) -> bool
+    ensures { result ≡ in_semicolon item }
+{
+    match item {
+        Item::Struct
+        | Item::Tuple
+        | Item::Returning
+        | Item::Constant
+        | Item::Static
+        | Item::Alias
+        | Item::Aliased
+        | Item::TraitAlias
+        | Item::Module
+        | Item::Use
+        | Item::ExternCrate => true,
+        _ => false,
+    }
+}
+
+// After `=`: the type of an alias, or the expression of a constant.
+fn value(item: Item) -> Option<Shift>
+    ensures { result ≡ value item }
+{
+    match item {
+        Item::Alias => to_type(Item::Aliased, Rule::Header),
+        Item::Constant | Item::Static => to_front(item, Front::UntilFirst),
+        _ => None,
+    }
+}
+
+// After the header of an item, or its where clause.
+pub(crate) fn body(item: Item, class: Class) -> Option<Shift>
+    ensures { result ≡ body item class }
+{
+    match class {
+        Class::Braces if in_braces(item) => to_spot(item, Spot::ItemEnd),
+        Class::Semicolon if in_semicolon(item) => to_spot(item, Spot::ItemEnd),
+        Class::Equals => value(item),
+        _ => None,
+    }
+}
+
+// Whether no item is declared around a part, whose body would have to follow.
+pub(crate) fn is_alone(item: Item) -> bool
+    ensures { result ≡ is_alone item }
+{
+    match item {
+        Item::Alone | Item::Variants | Item::Group => true,
+        _ => false,
+    }
+}
+
+// Whether it may have a where clause.
+fn has_where(item: Item) -> bool
+    ensures { result ≡ has_where item }
+{
+    match item {
+        Item::Struct
+        | Item::Tuple
+        | Item::Enum
+        | Item::Union
+        | Item::Returning
+        | Item::Alias
+        | Item::Aliased
+        | Item::Trait
+        | Item::TraitAlias
+        | Item::Impl => true,
+        _ => false,
+    }
+}
+
+// After the header of an item, which a where clause may follow.
+pub(crate) fn header(item: Item, class: Class) -> Option<Shift>
+    ensures { result ≡ header item class }
+{
+    match class {
+        Class::Keyword(Keyword::Where) if has_where(item) => to_spot(item, Spot::Predicate),
+        _ => body(item, class),
+    }
+}
+
+// After the generic parameters of a struct.
+fn struct_header(class: Class) -> Option<Shift>
+    ensures { result ≡ struct_header class }
+{
+    match class {
+        Class::Parentheses | Class::Restriction => to_spot(Item::Tuple, Spot::AfterGenerics),
+        _ => header(Item::Struct, class),
+    }
+}
+
+// After those of a function, which its parameters follow.
+fn function_header(class: Class) -> Option<Shift>
+    ensures { result ≡ function_header class }
+{
+    match class {
+        Class::Parentheses | Class::Restriction => to_spot(Item::Returning, Spot::AfterGenerics),
+        _ => None,
+    }
+}
+
+// After the parameters of a function.
+fn return_header(class: Class) -> Option<Shift>
+    ensures { result ≡ return_header class }
+{
+    match class {
+        Class::Arrow => to_type(Item::Returning, Rule::Header),
+        _ => header(Item::Returning, class),
+    }
+}
+
+// After the name of a constant or static.
+fn typed_header(item: Item, class: Class) -> Option<Shift>
+    ensures { result ≡ typed_header item class }
+{
+    match class {
+        Class::Colon => to_type(item, Rule::Header),
+        _ => None,
+    }
+}
+
+fn alias_header(class: Class) -> Option<Shift>
+    ensures { result ≡ alias_header class }
+{
+    match class {
+        Class::Colon => to_bounds(Item::Alias, Rule::Header),
+        _ => header(Item::Alias, class),
+    }
+}
+
+fn trait_header(class: Class) -> Option<Shift>
+    ensures { result ≡ trait_header class }
+{
+    match class {
+        Class::Colon => to_bounds(Item::Trait, Rule::Header),
+        Class::Equals => to_bounds(Item::TraitAlias, Rule::Header),
+        _ => header(Item::Trait, class),
+    }
+}
+
+// After the generic parameters of an `impl`, but for types.
+pub(crate) fn impl_header(class: Class) -> Option<Shift>
+    ensures { result ≡ impl_header class }
+{
+    match class {
+        Class::Keyword(Keyword::Const) => to_front(Item::Impl, Front::ImplConst),
+        Class::Exclamation => to_front(Item::Impl, Front::ImplNot),
+        _ => None,
+    }
+}
+
+// What may stand after the generic parameters of an item, or after those that may be left out.
+pub(crate) fn closing(item: Item, class: Class) -> Option<Shift>
+    ensures { result ≡ closing item class }
+{
+    match item {
+        Item::Struct => struct_header(class),
+        Item::Function => function_header(class),
+        Item::Returning => return_header(class),
+        Item::Constant | Item::Static => typed_header(item, class),
+        Item::Alias => alias_header(class),
+        Item::Trait => trait_header(class),
+        Item::Impl => impl_header(class),
+        _ => header(item, class),
+    }
+}
+
+// After a name that generic parameters may follow.
+pub(crate) fn generics(item: Item, class: Class) -> Option<Shift>
+    ensures { result ≡ generics item class }
+{
+    match class {
+        Class::Less | Class::LessJoint => to_spot(item, Spot::Before(Part::Parameter)),
+        _ => closing(item, class),
+    }
+}
