@@ -11,17 +11,25 @@
 
 mod class;
 mod fault;
+mod field;
 mod grammar;
+mod item;
+mod keyword;
 mod parts;
 mod signs;
 mod types;
+mod variant;
 mod walk;
 
 pub use class::Class;
 pub use fault::Fault;
+pub use field::{Field, parse_field, parse_tuple_field};
+pub use item::{Body, Fields, TypeItem, parse_type_item};
+pub use keyword::is_keyword;
 pub use parts::{
     split_attributes, split_bounds, split_expression, split_field, split_fields, split_generics,
     split_item, split_tuple_field, split_tuple_fields, split_type, split_variant, split_variants,
     split_visibility, split_where,
 };
 pub use signs::first_sign;
+pub use variant::{Variant, parse_variant};

@@ -142,7 +142,7 @@ fn operator_class(mark: char) -> Class
     }
 }
 
-fn name_class(ident: &Ident) -> Class
+pub(crate) fn name_class(ident: &Ident) -> Class
 {
     if let Some(class) = path_class(ident) {
         return class;

@@ -1,0 +1,76 @@
+// Made from crates/declarations/src/field.rt by rust/erase: change that file, not this one.
+//! The fields of a struct, a variant or a union.
+
+use crate::declarations::fault::Fault;
+use crate::declarations::item::split_name;
+use crate::declarations::parts::{split_attributes, split_field, split_tuple_field, split_visibility};
+use crate::pm_stream::TokenTree;
+use crate::pm_token::Ident;
+
+/// A field: its parts in reading order.
+#[derive(Clone, Copy, Debug)]
+pub struct Field<'a> {
+    /// The outer attributes, which may be none.
+    pub attributes: &'a [TokenTree],
+    /// The visibility, which may be left out.
+    pub visibility: &'a [TokenTree],
+    /// The name, after which a `:` stands; a field in parentheses has none.
+    pub name: Option<&'a Ident>,
+    /// The type.
+    pub field_type: &'a [TokenTree],
+}
+
+/// The parts of the named field at the front of the trees, and the trees after it.
+///
+/// It answers as [`split_field`] does. Of `#[a] pub x: Vec<A, B>, y: C` the name is `x`, the type `Vec<A, B>`, and
+/// `, y: C` is left.
+pub fn parse_field(trees: &[TokenTree]) -> Result<(Field<'_>, &[TokenTree]), Fault>
+{
+    let (part, rest) = split_field(trees)?;
+    match named_field(part) {
+        Ok(field) => Ok((field, rest)),
+        Err(fault) => Err(fault),
+    }
+}
+
+/// The parts of the field without a name at the front of the trees, and the trees after it.
+///
+/// It answers as [`split_tuple_field`] does. Of `pub (A, B), C` the type is `(A, B)`, and `, C` is left.
+pub fn parse_tuple_field(trees: &[TokenTree]) -> Result<(Field<'_>, &[TokenTree]), Fault>
+{
+    let (part, rest) = split_tuple_field(trees)?;
+    match tuple_field(part) {
+        Ok(field) => Ok((field, rest)),
+        Err(fault) => Err(fault),
+    }
+}
+
+// The parts of a named field.
+fn named_field(trees: &[TokenTree]) -> Result<Field<'_>, Fault>
+{
+    let (attributes, rest) = split_attributes(trees)?;
+    let (visibility, rest) = split_visibility(rest)?;
+    let (name, rest) = split_name(rest)?;
+    match rest.split_first() {
+        Some((_, field_type)) => Ok(Field {
+            attributes,
+            visibility,
+            name: Some(name),
+            field_type,
+        }),
+        None => Err(Fault::ahead_of(0, rest)),
+    }
+}
+
+// The parts of a field without a name.
+fn tuple_field(trees: &[TokenTree]) -> Result<Field<'_>, Fault>
+{
+    let (attributes, rest) = split_attributes(trees)?;
+    let (visibility, field_type) = split_visibility(rest)?;
+    Ok(Field {
+        attributes,
+        visibility,
+        name: None,
+        field_type,
+    })
+}

@@ -1,0 +1,18 @@
+// Made from crates/declarations/src/keyword.rt by rust/erase: change that file, not this one.
+//! Keywords.
+
+use crate::declarations::class::Class;
+use crate::declarations::signs::name_class;
+use crate::pm_token::Ident;
+
+/// Whether the identifier is a keyword to the grammar, and so no name: a strict or reserved one of Rust 2021, or `_`,
+/// but for `try`.
+///
+/// `struct` is, and `union`, `r#struct` and `auto` are not.
+pub fn is_keyword(ident: &Ident) -> bool
+{
+    match name_class(ident) {
+        Class::Word | Class::Union => false,
+        _ => true,
+    }
+}

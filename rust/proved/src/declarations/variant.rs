@@ -1,0 +1,76 @@
+// Made from crates/declarations/src/variant.rt by rust/erase: change that file, not this one.
+//! The variants of an enum.
+
+use crate::declarations::fault::Fault;
+use crate::declarations::item::{Fields, split_group, split_name};
+use crate::declarations::parts::{split_attributes, split_variant, split_visibility};
+use crate::pm_stream::TokenTree;
+use crate::pm_token::{Delimiter, Ident};
+
+/// A variant of an enum: its parts in reading order.
+#[derive(Clone, Copy, Debug)]
+pub struct Variant<'a> {
+    /// The outer attributes, which may be none.
+    pub attributes: &'a [TokenTree],
+    /// The visibility, which a macro may have passed.
+    pub visibility: &'a [TokenTree],
+    /// The name.
+    pub name: &'a Ident,
+    /// The fields.
+    pub fields: Fields<'a>,
+    /// The expression after `=`, or nothing.
+    pub discriminant: &'a [TokenTree],
+}
+
+/// The parts of the variant at the front of the trees, and the trees after it.
+///
+/// It answers as [`split_variant`] does. Of `#[a] B { c: D } = 1, C` the name is `B`, the fields are those in braces,
+/// the discriminant is `1`, and `, C` is left.
+pub fn parse_variant(trees: &[TokenTree]) -> Result<(Variant<'_>, &[TokenTree]), Fault>
+{
+    let (part, rest) = split_variant(trees)?;
+    match variant_of(part) {
+        Ok(variant) => Ok((variant, rest)),
+        Err(fault) => Err(fault),
+    }
+}
+
+// The parts of a variant.
+fn variant_of(trees: &[TokenTree]) -> Result<Variant<'_>, Fault>
+{
+    let (attributes, rest) = split_attributes(trees)?;
+    let (visibility, rest) = split_visibility(rest)?;
+    let (name, rest) = split_name(rest)?;
+    let (fields, rest) = fields_first(rest);
+    Ok(Variant {
+        attributes,
+        visibility,
+        name,
+        fields,
+        discriminant: after_first(rest),
+    })
+}
+
+// The fields that the trees begin with, if a group stands there, and the trees after it.
+fn fields_first(trees: &[TokenTree]) -> (Fields<'_>, &[TokenTree])
+{
+    match split_group(trees) {
+        Some((group, rest)) => {
+            if group.delimiter() == Delimiter::Parenthesis {
+                (Fields::Tuple(group), rest)
+            } else {
+                (Fields::Named(group), rest)
+            }
+        }
+        None => (Fields::Unit, trees),
+    }
+}
+
+// The trees after the first, if there are any.
+fn after_first(trees: &[TokenTree]) -> &[TokenTree]
+{
+    match trees.split_first() {
+        Some((_, rest)) => rest,
+        None => trees,
+    }
+}
