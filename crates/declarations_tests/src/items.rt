@@ -35,14 +35,14 @@ enum Parts {
 use crate::items::Parts::{EndsAt, FaultAt, Item};
 use crate::items::Shape::{Enum, Named, Tuple, Union, Unit};
 
-fn fault_place(fault: Fault) -> Parts {
+fn fault_place(fault: &Fault) -> Parts {
     match fault.span {
         Some(_) => FaultAt(fault.at),
         None => EndsAt(fault.at),
     }
 }
 
-fn fields_shape(fields: Fields<'_>) -> Shape {
+fn fields_shape(fields: &Fields<'_>) -> Shape {
     match fields {
         Fields::Named(_) => Named,
         Fields::Tuple(_) => Tuple,
@@ -50,7 +50,7 @@ fn fields_shape(fields: Fields<'_>) -> Shape {
     }
 }
 
-fn shape_of(body: Body<'_>) -> Shape {
+fn shape_of(body: &Body<'_>) -> Shape {
     match body {
         Body::Struct(fields) => fields_shape(fields),
         Body::Enum(_) => Enum,
@@ -58,10 +58,10 @@ fn shape_of(body: Body<'_>) -> Shape {
     }
 }
 
-fn variant_parts(found: Result<(Variant<'_>, &[TokenTree]), Fault>) -> Parts {
+fn variant_parts(found: &Result<(Variant<'_>, &[TokenTree]), Fault>) -> Parts {
     match found {
         Ok((variant, _)) => Parts::Variant(
-            fields_shape(variant.fields),
+            fields_shape(&variant.fields),
             variant.attributes.len(),
             variant.visibility.len(),
             variant.discriminant.len(),
@@ -70,10 +70,10 @@ fn variant_parts(found: Result<(Variant<'_>, &[TokenTree]), Fault>) -> Parts {
     }
 }
 
-fn item_parts(found: Result<TypeItem<'_>, Fault>) -> Parts {
+fn item_parts(found: &Result<TypeItem<'_>, Fault>) -> Parts {
     match found {
         Ok(item) => Item(
-            shape_of(item.body),
+            shape_of(&item.body),
             item.attributes.len(),
             item.visibility.len(),
             item.generics.len(),
@@ -84,7 +84,7 @@ fn item_parts(found: Result<TypeItem<'_>, Fault>) -> Parts {
     }
 }
 
-fn field_parts(found: Result<(Field<'_>, &[TokenTree]), Fault>) -> Parts {
+fn field_parts(found: &Result<(Field<'_>, &[TokenTree]), Fault>) -> Parts {
     match found {
         Ok((field, _)) => Parts::Field(
             field.attributes.len(),
@@ -111,10 +111,10 @@ fn check(rt: &(impl Abort + AllocGlobal), read: Read, rows: &[(&str, Parts)]) ->
     for (text, wanted) in rows {
         let stream = TokenStream::from_str(text, &mut SourceMap::new(rt.alloc()))?;
         let found = match read {
-            Read::TypeItem => item_parts(parse_type_item(stream.trees())),
-            Read::NamedField => field_parts(parse_field(stream.trees())),
-            Read::TupleField => field_parts(parse_tuple_field(stream.trees())),
-            Read::Variant => variant_parts(parse_variant(stream.trees())),
+            Read::TypeItem => item_parts(&parse_type_item(stream.trees())),
+            Read::NamedField => field_parts(&parse_field(stream.trees())),
+            Read::TupleField => field_parts(&parse_tuple_field(stream.trees())),
+            Read::Variant => variant_parts(&parse_variant(stream.trees())),
         };
         assert!(rt; found == *wanted, "{read:?} of {text:?}: {found:?}");
     }

@@ -37,7 +37,7 @@ enum Answer {
 
 use crate::parts::Answer::{FaultAt, Reads};
 
-fn answer_of(found: Result<(&[TokenTree], &[TokenTree]), Fault>) -> Answer {
+fn answer_of(found: &Result<(&[TokenTree], &[TokenTree]), Fault>) -> Answer {
     match found {
         Ok((part, _)) => Reads(part.len()),
         Err(fault) => FaultAt(fault.at),
@@ -46,21 +46,21 @@ fn answer_of(found: Result<(&[TokenTree], &[TokenTree]), Fault>) -> Answer {
 
 fn read(part: Part, trees: &[TokenTree]) -> Answer {
     match part {
-        Part::Type => answer_of(split_type(trees)),
-        Part::Bounds => answer_of(split_bounds(trees)),
-        Part::Attributes => answer_of(split_attributes(trees)),
-        Part::Visibility => answer_of(split_visibility(trees)),
-        Part::Field => answer_of(split_field(trees)),
-        Part::Fields => answer_of(split_fields(trees)),
-        Part::TupleField => answer_of(split_tuple_field(trees)),
-        Part::TupleFields => answer_of(split_tuple_fields(trees)),
-        Part::Variant => answer_of(split_variant(trees)),
-        Part::Variants => answer_of(split_variants(trees)),
-        Part::Expression => answer_of(split_expression(trees)),
-        Part::Generics => answer_of(split_generics(trees)),
-        Part::Where => answer_of(split_where(trees)),
-        Part::Item => answer_of(split_item(trees)),
-        Part::InnerAttributes => answer_of(split_inner_attributes(trees)),
+        Part::Type => answer_of(&split_type(trees)),
+        Part::Bounds => answer_of(&split_bounds(trees)),
+        Part::Attributes => answer_of(&split_attributes(trees)),
+        Part::Visibility => answer_of(&split_visibility(trees)),
+        Part::Field => answer_of(&split_field(trees)),
+        Part::Fields => answer_of(&split_fields(trees)),
+        Part::TupleField => answer_of(&split_tuple_field(trees)),
+        Part::TupleFields => answer_of(&split_tuple_fields(trees)),
+        Part::Variant => answer_of(&split_variant(trees)),
+        Part::Variants => answer_of(&split_variants(trees)),
+        Part::Expression => answer_of(&split_expression(trees)),
+        Part::Generics => answer_of(&split_generics(trees)),
+        Part::Where => answer_of(&split_where(trees)),
+        Part::Item => answer_of(&split_item(trees)),
+        Part::InnerAttributes => answer_of(&split_inner_attributes(trees)),
         Part::AnyItem => match split_any_item(trees) {
             Ok((item, _)) => Reads(item.trees.len()),
             Err(fault) => FaultAt(fault.at),
