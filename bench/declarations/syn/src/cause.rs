@@ -1,0 +1,25 @@
+//! Why syn has a part otherwise.
+use syn::DeriveInput;
+
+/// An item that syn has, but not as a derive would be given it.
+pub const NO_DERIVE: &str = "syn has an item that it doesn't take for a derive";
+
+/// The cause, if one explains the whole difference of the part's tokens.
+pub fn of_part(name: &str, theirs: &str, ours: &str) -> Option<&'static str> {
+    if name == "visibility of a variant" && theirs.is_empty() {
+        return Some("syn drops a variant's visibility");
+    }
+    let [mut theirs, mut ours] = [theirs, ours].map(|tokens| {
+        tokens.split(' ').filter(|token| *token != ",").collect::<Vec<_>>()
+    });
+    let is_order = theirs != ours && theirs.contains(&"'");
+    theirs.sort_unstable();
+    ours.sort_unstable();
+    (is_order && theirs == ours).then_some("syn prints lifetimes before other arguments, with commas")
+}
+
+/// The cause, if one explains that ours refuses the item.
+pub fn of_refusal(item: &DeriveInput) -> Option<&'static str> {
+    let is_nameless = item.generics.type_params().any(|parameter| parameter.ident == "_");
+    is_nameless.then_some("syn reads `_` as the name of a type parameter")
+}

@@ -1,0 +1,148 @@
+//! Compares all parts of structs, enums and unions as the crate `declarations` and syn 2 have them.
+//!
+//! Its words are folders of Rust files. It prints each difference that has no cause in `cause.rs`, with its file and
+//! item, and counts; the status is 1 if there is one.
+mod cause;
+mod items;
+mod ours;
+mod parts;
+mod theirs;
+mod times;
+
+use parts::Part;
+use proved::pm_span::SourceMap;
+use proved::pm_stream::TokenStream as OwnStream;
+use proved::shim::alloc::Global;
+use std::collections::BTreeMap;
+use std::path::{Path, PathBuf};
+use std::{env, fs, io, process, thread};
+use syn::DeriveInput;
+use times::{Lexed, Times};
+
+/// Files of the compiler's tests nest deep.
+const STACK_BYTES: usize = 1 << 30;
+
+#[derive(Default)]
+struct Counts {
+    files: usize,
+    unread_files: usize,
+    items: usize,
+    parts: usize,
+    by_cause: BTreeMap<&'static str, usize>,
+    without_cause: usize,
+    times: Times,
+}
+
+impl Counts {
+    fn file(&mut self, path: &Path) {
+        let Ok(text) = fs::read_to_string(path) else {
+            return;
+        };
+        self.files += 1;
+        match syn::parse_file(&text) {
+            Ok(file) => self.items(path, items::item_texts(&file)),
+            Err(_) => self.unread_files += 1,
+        }
+        proc_macro2::extra::invalidate_current_thread_spans();
+    }
+
+    fn items(&mut self, path: &Path, texts: Vec<String>) {
+        let mut map = SourceMap::new(Global);
+        let mut lexed = Vec::new();
+        for text in texts {
+            self.items += 1;
+            let theirs: proc_macro2::TokenStream = text.parse().expect("syn has read the text");
+            let item = match syn::parse2::<DeriveInput>(theirs.clone()) {
+                Ok(item) => item,
+                Err(_) => {
+                    self.differ(Some(cause::NO_DERIVE), path, &text, "");
+                    continue;
+                }
+            };
+            let ours = match OwnStream::from_str(&text, &mut map) {
+                Ok(ours) => ours,
+                Err(fault) => {
+                    self.differ(None, path, &text, &format!("ours doesn't lex it: {fault}"));
+                    continue;
+                }
+            };
+            self.item(path, &text, &item, &ours);
+            lexed.push(Lexed { theirs, ours });
+        }
+        self.times.add(&lexed);
+    }
+
+    fn item(&mut self, path: &Path, text: &str, item: &DeriveInput, ours: &OwnStream) {
+        let mut found = Vec::new();
+        if let Err(refusal) = ours::each_part(ours.trees(), |name, piece| found.push(Part::of_piece(name, piece))) {
+            self.differ(cause::of_refusal(item), path, text, &format!("ours refuses it: {refusal:?}"));
+            return;
+        }
+        self.parts += found.len();
+        let theirs = theirs::parts(item);
+        let names = |parts: &[Part]| parts.iter().map(|part| part.name).collect::<Vec<_>>();
+        if names(&theirs) != names(&found) {
+            self.differ(None, path, text, "other parts");
+            return;
+        }
+        for (theirs, ours) in theirs.iter().zip(&found).filter(|(theirs, ours)| theirs != ours) {
+            let told = format!("{}\n  syn:  {}\n  ours: {}", ours.name, theirs.tokens, ours.tokens);
+            self.differ(cause::of_part(ours.name, &theirs.tokens, &ours.tokens), path, text, &told);
+        }
+    }
+
+    fn differ(&mut self, cause: Option<&'static str>, path: &Path, text: &str, told: &str) {
+        match cause {
+            Some(cause) => *self.by_cause.entry(cause).or_default() += 1,
+            None => {
+                self.without_cause += 1;
+                println!("{}: {told}\n{text}\n", path.display());
+            }
+        }
+    }
+
+    fn print(&self) {
+        println!("files {}, of which syn doesn't read {}", self.files, self.unread_files);
+        println!("items {}", self.items);
+        println!("parts {}", self.parts);
+        for (cause, count) in &self.by_cause {
+            println!("differences {count}: {cause}");
+        }
+        println!("differences without a cause {}", self.without_cause);
+        let [theirs, ours] = [&self.times.theirs, &self.times.ours].map(|time| time.as_secs_f64() * 1000.0);
+        println!("time in milliseconds: syn {theirs:.1}, ours {ours:.1}, ratio {:.4}", ours / theirs);
+    }
+}
+
+/// All files of Rust in a folder, and in those inside it.
+fn files(folder: &Path, found: &mut Vec<PathBuf>) -> io::Result<()> {
+    for entry in fs::read_dir(folder)? {
+        let entry = entry?;
+        let (kind, path) = (entry.file_type()?, entry.path());
+        if kind.is_dir() {
+            files(&path, found)?;
+        } else if kind.is_file() && path.extension().is_some_and(|extension| extension == "rs") {
+            found.push(path);
+        }
+    }
+    Ok(())
+}
+
+/// Whether there is no difference without a cause.
+fn run() -> io::Result<bool> {
+    let mut found = Vec::new();
+    for folder in env::args_os().skip(1) {
+        files(folder.as_ref(), &mut found)?;
+    }
+    found.sort();
+    let mut counts = Counts::default();
+    found.iter().for_each(|path| counts.file(path));
+    counts.print();
+    Ok(counts.without_cause == 0)
+}
+
+fn main() -> io::Result<()> {
+    let run = thread::Builder::new().stack_size(STACK_BYTES).spawn(run)?;
+    let same = run.join().expect("the comparison doesn't panic")?;
+    process::exit(if same { 0 } else { 1 });
+}

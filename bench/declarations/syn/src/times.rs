@@ -1,0 +1,49 @@
+//! Times of both sides on the same items, lexed before.
+use crate::ours;
+use proved::pm_stream::TokenStream as OwnStream;
+use std::hint::black_box;
+use std::time::{Duration, Instant};
+use syn::DeriveInput;
+
+const RUNS: usize = 5;
+
+/// An item as either side has its tokens.
+pub struct Lexed {
+    pub theirs: proc_macro2::TokenStream,
+    pub ours: OwnStream,
+}
+
+/// How long it takes to find the parts of items.
+#[derive(Default)]
+pub struct Times {
+    pub theirs: Duration,
+    pub ours: Duration,
+}
+
+impl Times {
+    /// Adds the least times of some runs over the items.
+    pub fn add(&mut self, items: &[Lexed]) {
+        self.theirs += least(|| {
+            for item in items {
+                drop(black_box(syn::parse2::<DeriveInput>(item.theirs.clone())));
+            }
+        });
+        self.ours += least(|| {
+            for item in items {
+                let found = ours::each_part(item.ours.trees(), |name, piece| {
+                    black_box((name, piece));
+                });
+                drop(black_box(found));
+            }
+        });
+    }
+}
+
+fn least(run: impl Fn()) -> Duration {
+    let times = (0..RUNS).map(|_| {
+        let start = Instant::now();
+        run();
+        start.elapsed()
+    });
+    times.min().expect("there are runs")
+}
