@@ -72,9 +72,9 @@ pub enum Fields<'a> {
 /// The parts of the struct, the enum or the union that the trees are.
 ///
 /// It answers `Ok` exactly where [`split_item`](crate::split_item) reads all of the trees, and else
-/// the fault, which stands before the first tree that is too many or doesn't fit. What stands within the braces or parentheses of the
-/// body isn't read. A group without delimiters that holds a whole item is a fault: its own trees are to be given. It
-/// takes no memory.
+/// the fault, which stands before the first tree that is too many or doesn't fit. What stands within
+/// the braces or parentheses of the body isn't read. A group without delimiters that holds a whole
+/// item is a fault: its own trees are to be given. It takes no memory.
 ///
 /// Of `pub struct S<T>(T) where T: A;` the visibility is `pub`, the name `S`, the generic parameters are `<T>`, the
 /// fields `(T)`, and the where clause is `where T: A`.
