@@ -2,8 +2,8 @@
 #![tactic(auto)]
 
 #[cfg(test)]
-mod items;
-#[cfg(test)]
 mod any_items;
+#[cfg(test)]
+mod items;
 #[cfg(test)]
 mod parts;

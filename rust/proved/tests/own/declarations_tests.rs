@@ -2,8 +2,8 @@
 //! Tests of the parts of declarations: texts with the trees that each part takes, or where the fault stands.
 
 #[cfg(test)]
-mod items;
-#[cfg(test)]
 mod any_items;
+#[cfg(test)]
+mod items;
 #[cfg(test)]
 mod parts;
