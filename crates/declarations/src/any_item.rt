@@ -54,10 +54,12 @@ pub enum ItemKind {
 /// An item: its trees, with attributes and visibility, and what it declares.
 #[derive(Clone, Copy)]
 pub struct AnyItem<'a> {
+    /// What it declares.
     pub kind: ItemKind,
     /// The name; `_` of a constant without one, and of an external crate not that of its `as`. An `impl`, a `use`, a
     /// block of foreign items, a group and most macro calls have none.
     pub name: Option<&'a Ident>,
+    /// All of its trees.
     pub trees: &'a [TokenTree],
 }
 
