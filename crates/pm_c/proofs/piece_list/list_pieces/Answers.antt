@@ -1,4 +1,4 @@
-use Rattle.std.proofs.Common.{◌≡◌, ◌++◌, ◌∙◌, [], ◌∷◌, ap, refl, sym, arith, length, length-append, append-nil, rules}
+use Rattle.std.proofs.Common.{◌≡◌, ◌∙◌, [], ◌∷◌, ap, refl, sym, arith, length, length-append, append-nil, rules}
 use Rattle.lexical.specs.declared.walk.PieceWalk.{PieceWalk}
 use Rattle.std.specs.Str.{chars, encode_utf8_all}
 use Rattle.std.proofs.lemmas.Str.{encodes-chars}
