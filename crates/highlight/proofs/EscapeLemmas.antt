@@ -4,7 +4,7 @@ use Rattle.std.proofs.Common.{refl, sym, ap, ◌∙◌, arith, append_assoc, app
 use Rattle.std.specs.Prelude.{encode_utf8, if◌then◌else◌}
 use Rattle.std.proofs.lemmas.Bool.{ne_eqb}
 use Rattle.std.proofs.lemmas.Str.{inside_one}
-use Rattle.highlight.specs.Page.{anchor, escape, escaped, in_span, line_after}
+use Rattle.highlight.specs.Page.{anchor, escape, escaped, in_span, line_after, titled}
 
 pub line_after-append : (line : ℕ) (s t : List ℕ) → line_after line (s ++ t) ≡ line_after (line_after line s) t
 line_after-append line [] t = refl
@@ -153,11 +153,8 @@ line_end line rest whole none all = ap (line_after line) (sym none) ∙ all
 
 -- ---- a text in its span
 
-pub span_parts : (before one two after class text : List ℕ) → (length class == 0) ≡ false
-    → one ≡ before ++ (codes "<span class=" ++ (class ++ codes ">")) → two ≡ one ++ text
-    → after ≡ two ++ codes "</span>"
-    → after ≡ before ++ in_span class text
-span_parts before one two after class text some opened shown closed =
-    rw (some, closed, shown, opened, append_assoc, append_assoc)
-    (ap (λ l. before ++ l) (append_assoc (codes "<span class=") (class ++ codes ">") (text ++ codes "</span>")
-    ∙ ap (λ l. codes "<span class=" ++ l) (append_assoc class (codes ">") (text ++ codes "</span>"))))
+pub span_parts : (before one two three four after class title text : List ℕ) → (length class == 0) ≡ false
+    → one ≡ before ++ (codes "<span class=" ++ class) → two ≡ one ++ titled title → three ≡ two ++ codes ">"
+    → four ≡ three ++ text → after ≡ four ++ codes "</span>" → after ≡ before ++ in_span class title text
+span_parts before one two three four after class title text some opened named ended shown closed =
+    rw (some, closed, shown, ended, named, opened) (simp (append_assoc))

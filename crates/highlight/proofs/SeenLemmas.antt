@@ -1,18 +1,27 @@
 -- What is seen of what is written, a part at a time.
 use Rattle.std.proofs.Common.{◌≡◌, ℕ, zero, suc, ◌%◌, ◌/◌, ◌+◌, ◌<◌, ◌⊎◌, inl, inr, Bool, true, false, not, ◌==◌, List}
-use Rattle.std.proofs.Common.{[], ◌∷◌, ◌++◌, codes, length, IsTrue}
+use Rattle.std.proofs.Common.{[], ◌∷◌, ◌++◌, ◌-◌, codes, drop, length, take, IsTrue, Option, Some, None}
 use Rattle.std.proofs.Common.{refl, sym, ap, subst, ◌∙◌, arith, append_assoc, append-nil}
 use Rattle.std.specs.Fmt.{decimal, digit_glyph, digits, digits_onto}
 use Rattle.std.specs.Prelude.{encode_utf8, if◌then◌else◌}
 use Rattle.std.specs.Str.{chars, encode_utf8_all, IsUtf8}
 use Rattle.std.proofs.lemmas.Bool.{and_parts, and_from, cases_eq, lt-ltb, ne_eqb, not-true}
+use Rattle.std.proofs.lemmas.List.{take-append-drop}
 use Rattle.std.proofs.lemmas.List.Folds.{list_all-append}
 use Rattle.std.proofs.lemmas.Str.{encodes-append, encodes-chars}
 use Rattle.lexical.specs.Piece.{Piece}
-use Rattle.highlight.specs.Style.{class, colour, depth_class, depth_colour}
-use Rattle.highlight.specs.Pieces.{AreAllPieces, Shown, all_shown, shown_from, unread}
+use Rattle.explain.specs.Words.{content_of, sentence_of}
+use Rattle.explain.specs.declared.explained.Explained.{Explained}
+use Rattle.explain.specs.declared.reason.Reason.{Reason}
+use Rattle.explain.specs.declared.reason.Reason.TheVariants as reasons
+use Rattle.literal_escaper.specs.declared.errors.EscapeError.{EscapeError}
+use Rattle.literal_escaper.specs.declared.errors.EscapeError.TheVariants as faults
+use Rattle.highlight.specs.Style.{class, colour, depth_class, depth_colour, title}
+use Rattle.highlight.specs.Pieces.{AreAllPieces, Shown, all_shown, faulty, place_of, says_of, shown_from, unread}
+use Rattle.highlight.specs.Pieces.{unread_part}
+use Rattle.highlight.specs.declared.marking.FaultPlace.{FaultPlace}
 use Rattle.highlight.specs.Page.{IsMarked, anchor, escape, escaped, in_span, in_colour, line_past, marked_piece}
-use Rattle.highlight.specs.Page.{marked_pieces}
+use Rattle.highlight.specs.Page.{marked_pieces, titled}
 use Rattle.highlight.specs.Seen.{InTag, can_be_seen, closes_tag, plain, seen, stays_in_tag}
 use Rattle.highlight.specs.declared.style.Style.{Style}
 use Rattle.highlight.specs.declared.style.Style.TheVariants as styles
@@ -177,6 +186,7 @@ class_stays (styles.Delimiter depth) = depth_class_stays depth
 class_stays styles.StrayCloser = refl
 class_stays styles.Unclosed = refl
 class_stays styles.NoPiece = refl
+class_stays styles.Fault = refl
 class_stays styles.Unread = refl
 
 colour_stays : (style : Style) → stays_in_tag Term (colour style) ≡ true
@@ -202,18 +212,30 @@ colour_stays (styles.Delimiter depth) = depth_colour_stays depth
 colour_stays styles.StrayCloser = refl
 colour_stays styles.Unclosed = refl
 colour_stays styles.NoPiece = refl
+colour_stays styles.Fault = refl
 colour_stays styles.Unread = refl
 
-span_shows : (class written text : List ℕ) → stays_in_tag Html class ≡ true → Shows Html written text
-    → Shows Html (in_span class written) text
-span_shows class written text stays shown =
+title_stays : (says : List ℕ) (style : Style) → stays_in_tag Html says ≡ true
+    → stays_in_tag Html (title says style) ≡ true
+title_stays says styles.Fault stays = stays
+title_stays says _ stays = refl
+
+titled_stays : (says : List ℕ) → stays_in_tag Html says ≡ true → stays_in_tag Html (titled says) ≡ true
+titled_stays [] stays = refl
+titled_stays (c ∷ says) stays =
+    list_all-append (λ d. not (closes_tag Html d)) (c ∷ says) (codes "\"") ∙ and_from _ _ stays refl
+
+span_shows : (class says written text : List ℕ) → stays_in_tag Html class ≡ true → stays_in_tag Html says ≡ true
+    → Shows Html written text → Shows Html (in_span class says written) text
+span_shows class says written text stays stay shown =
     let closing : Shows Html (codes "</span>") [] = record { shows = λ can rest. refl } in
     let inside : Shows Html (written ++ codes "</span>") text =
     subst (Shows Html (written ++ codes "</span>")) (append-nil text) (Shows-append Html _ _ text [] shown closing) in
     let end : EndsTag Html (codes ">" ++ (written ++ codes "</span>")) text = record { ends = inside.shows } in
-    let tag = EndsTag-more Html (codes "span class=") refl (EndsTag-more Html class stays end) in
+    let tag = EndsTag-more Html (codes "span class=") refl (EndsTag-more Html class stays
+    (EndsTag-more Html (titled says) (titled_stays says stay) end)) in
     elim (length class == 0) as (λ b. Shows Html (if b then written
-    else codes "<span class=" ++ (class ++ (codes ">" ++ (written ++ codes "</span>")))) text)
+    else codes "<span class=" ++ (class ++ (titled says ++ (codes ">" ++ (written ++ codes "</span>"))))) text)
     [ true ↦ shown | false ↦ record { shows = tag.ends } ]
 
 colour_shows : (colour text : List ℕ) → stays_in_tag Term colour ≡ true → Shows Term (in_colour colour text) text
@@ -228,11 +250,12 @@ colour_shows colour text stays =
     else (27 ∷ codes "[") ++ (colour ++ (codes "m" ++ (text ++ (27 ∷ codes "[0m"))))) text)
     [ true ↦ shown | false ↦ record { shows = tag.ends } ]
 
-piece_shows : (format : Format) (line : ℕ) (piece : Shown) → Shows format (marked_piece format line piece) piece.1
-piece_shows Html line piece =
-    span_shows (class piece.0) (escaped line piece.1) piece.1 (class_stays piece.0)
-    (record { shows = λ can rest. escaped_shows line piece.1 rest })
-piece_shows Term line piece = colour_shows (colour piece.0) piece.1 (colour_stays piece.0)
+module _ (says : List ℕ) (stay : stays_in_tag Html says ≡ true) where
+  piece_shows : (format : Format) (line : ℕ) (piece : Shown) → Shows format (marked_piece format says line piece) piece.1
+  piece_shows Html line piece =
+      span_shows (class piece.0) (title says piece.0) (escaped line piece.1) piece.1 (class_stays piece.0)
+      (title_stays says piece.0 stay) (record { shows = λ can rest. escaped_shows line piece.1 rest })
+  piece_shows Term line piece = colour_shows (colour piece.0) piece.1 (colour_stays piece.0)
 
 -- ---- all pieces
 
@@ -240,34 +263,117 @@ texts : List Shown → List ℕ
 texts [] = []
 texts (piece ∷ more) = piece.1 ++ texts more
 
-pieces_show : (format : Format) (line : ℕ) (shown : List Shown)
-    → Shows format (marked_pieces format line shown) (texts shown)
+pieces_show : (says : List ℕ) → stays_in_tag Html says ≡ true → (format : Format) (line : ℕ) (shown : List Shown)
+    → Shows format (marked_pieces format says line shown) (texts shown)
 unfolding texts
-pieces_show format line [] = record { shows = λ can rest. refl }
-pieces_show format line (piece ∷ more) =
-    Shows-append format _ _ piece.1 (texts more) (piece_shows format line piece)
-    (pieces_show format (line_past format line piece.1) more)
+pieces_show says stay format line [] = record { shows = λ can rest. refl }
+pieces_show says stay format line (piece ∷ more) =
+    Shows-append format _ _ piece.1 (texts more) (piece_shows says stay format line piece)
+    (pieces_show says stay format (line_past format line piece.1) more)
 
-unread_texts : (rest : List ℕ) → texts (unread rest) ≡ encode_utf8_all rest
+texts-append : (s t : List Shown) → texts (s ++ t) ≡ texts s ++ texts t
 unfolding texts
-unread_texts [] = refl
-unread_texts (c ∷ rest) = rw (append-nil (encode_utf8 c), append-nil (encode_utf8_all rest)) refl
+texts-append [] t = refl
+texts-append (piece ∷ s) t =
+    ap (λ l. piece.1 ++ l) (texts-append s t) ∙ sym (append_assoc piece.1 (texts s) (texts t))
 
-all_texts : (first : Bool) (source : List ℕ) (delimiters : List Style) (quote : Bool) (all : List Piece) (rest : List ℕ)
-    → AreAllPieces first source all rest → texts (shown_from delimiters quote all rest) ≡ encode_utf8_all source
+part_texts : (rest : List ℕ) → texts (unread_part rest) ≡ encode_utf8_all rest
 unfolding texts
-all_texts first source delimiters quote [] rest are = unread_texts rest ∙ ap encode_utf8_all (sym are.0)
-all_texts first source delimiters quote (piece ∷ more) rest are =
-    ap (λ l. encode_utf8_all piece.1 ++ l) (all_texts false are.0 _ _ more rest are.3)
+part_texts [] = refl
+part_texts (c ∷ rest) = append-nil (encode_utf8_all (c ∷ rest))
+
+faulty_texts : (before size : ℕ) (text : List ℕ) → texts (faulty before size text) ≡ encode_utf8_all text
+unfolding texts
+faulty_texts before size text =
+    let here = take size (drop before text) in
+    let after = drop size (drop before text) in
+    texts-append (unread_part (take before text)) ((styles.Fault, encode_utf8_all here) ∷ unread_part after)
+    ∙ ap (λ l. l ++ (encode_utf8_all here ++ texts (unread_part after))) (part_texts (take before text))
+    ∙ ap (λ l. encode_utf8_all (take before text) ++ (encode_utf8_all here ++ l)) (part_texts after)
+    ∙ ap (λ l. encode_utf8_all (take before text) ++ l) (sym (encodes-append here after)
+    ∙ ap encode_utf8_all (take-append-drop size (drop before text)))
+    ∙ sym (encodes-append (take before text) (drop before text)) ∙ ap encode_utf8_all (take-append-drop before text)
+
+unread_texts : (place : Option FaultPlace) (rest : List ℕ) → texts (unread place rest) ≡ encode_utf8_all rest
+unfolding texts
+unread_texts place [] = refl
+unread_texts None (c ∷ rest) = rw (append-nil (encode_utf8 c), append-nil (encode_utf8_all rest)) refl
+unread_texts (Some place) (c ∷ rest) = faulty_texts place.before place.size (c ∷ rest)
+
+all_texts : (place : Option FaultPlace) (first : Bool) (source : List ℕ) (delimiters : List Style) (quote : Bool)
+    (all : List Piece) (rest : List ℕ)
+    → AreAllPieces first source all rest → texts (shown_from place delimiters quote all rest) ≡ encode_utf8_all source
+unfolding texts
+all_texts place first source delimiters quote [] rest are =
+    unread_texts place rest ∙ ap encode_utf8_all (sym are.0)
+all_texts place first source delimiters quote (piece ∷ more) rest are =
+    ap (λ l. encode_utf8_all piece.1 ++ l) (all_texts place false are.0 _ _ more rest are.3)
     ∙ sym (encodes-append piece.1 are.0) ∙ ap encode_utf8_all (sym are.1)
+
+-- ---- what reasons say
+
+content_stays : (e : EscapeError) → stays_in_tag Html (content_of e) ≡ true
+unfolding content_of
+content_stays faults.ZeroChars = refl
+content_stays faults.MoreThanOneChar = refl
+content_stays faults.LoneSlash = refl
+content_stays faults.InvalidEscape = refl
+content_stays faults.BareCarriageReturn = refl
+content_stays faults.BareCarriageReturnInRawString = refl
+content_stays faults.EscapeOnlyChar = refl
+content_stays faults.TooShortHexEscape = refl
+content_stays faults.InvalidCharInHexEscape = refl
+content_stays faults.OutOfRangeHexEscape = refl
+content_stays faults.NoBraceInUnicodeEscape = refl
+content_stays faults.InvalidCharInUnicodeEscape = refl
+content_stays faults.EmptyUnicodeEscape = refl
+content_stays faults.UnclosedUnicodeEscape = refl
+content_stays faults.LeadingUnderscoreUnicodeEscape = refl
+content_stays faults.OverlongUnicodeEscape = refl
+content_stays faults.LoneSurrogateUnicodeEscape = refl
+content_stays faults.OutOfRangeUnicodeEscape = refl
+content_stays faults.UnicodeEscapeInByte = refl
+content_stays faults.NonAsciiCharInByte = refl
+content_stays faults.NulInCStr = refl
+content_stays faults.UnskippedWhitespaceWarning = refl
+content_stays faults.MultipleSkippedLinesWarning = refl
+
+message_stays : (reason : Reason) → stays_in_tag Html (sentence_of reason) ≡ true
+unfolding sentence_of
+message_stays reasons.UnclosedComment = refl
+message_stays reasons.BareReturnInDoc = refl
+message_stays reasons.UnclosedString = refl
+message_stays reasons.UnclosedRawString = refl
+message_stays reasons.TooManyHashes = refl
+message_stays reasons.HashesWithoutQuote = refl
+message_stays reasons.ReservedRawName = refl
+message_stays reasons.UnclosedCharacter = refl
+message_stays (reasons.Content e) = content_stays e
+message_stays reasons.DigitLifetime = refl
+message_stays reasons.HashAfterLifetime = refl
+message_stays reasons.NoDigits = refl
+message_stays reasons.BadDigit = refl
+message_stays reasons.BadNumberEnd = refl
+message_stays reasons.MisplacedMark = refl
+message_stays reasons.NoToken = refl
+message_stays reasons.StrayCloser = refl
+message_stays reasons.MismatchedCloser = refl
+message_stays reasons.UnclosedOpener = refl
+
+says_stay : (answer : Option Explained) → stays_in_tag Html (says_of answer) ≡ true
+says_stay None = refl
+says_stay (Some x) = message_stays x.reason
 
 -- of the text marked the text is seen, with the tags taken out and the escapes undone
 pub marked_shows : (format : Format) (text body : List ℕ) → IsUtf8 text → IsMarked format text body
     → IsTrue (can_be_seen format text) → plain format body ≡ text
 marked_shows format text body utf8 marked can =
-    let shown = all_shown marked.all marked.rest in
+    let says = says_of marked.answer in
+    let place = place_of (length (chars text) - length marked.rest) marked.answer in
+    let shown = all_shown place marked.all marked.rest in
     let are : texts shown ≡ text =
-    all_texts true (chars text) _ false marked.all marked.rest marked.are ∙ encodes-chars text utf8 in
+    all_texts place true (chars text) _ false marked.all marked.rest marked.are ∙ encodes-chars text utf8 in
     ap (plain format) (marked.is ∙ sym (append-nil _))
-    ∙ (pieces_show format 1 shown).shows (subst (λ l. IsTrue (can_be_seen format l)) (sym are) can) []
+    ∙ (pieces_show says (says_stay marked.answer) format 1 shown).shows
+    (subst (λ l. IsTrue (can_be_seen format l)) (sym are) can) []
     ∙ append-nil (texts shown) ∙ are

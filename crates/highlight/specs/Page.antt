@@ -1,10 +1,13 @@
 -- What is written: a page for a browser, or a terminal's colours.
-use Rattle.std.specs.Prelude.{ℕ, ◌≡◌, ◌+◌, ◌==◌, List, [], ◌∷◌, ◌++◌, true, codes, length, if◌then◌else◌}
+use Rattle.std.specs.Prelude.{ℕ, ◌≡◌, ◌+◌, ◌-◌, ◌==◌, List, [], ◌∷◌, ◌++◌, true, codes, length, if◌then◌else◌}
+use Rattle.std.specs.Prelude.{MatchOption, Option}
 use Rattle.std.specs.Fmt.{decimal}
 use Rattle.std.specs.Str.{chars}
 use Rattle.lexical.specs.Piece.{Piece}
-use Rattle.highlight.specs.Style.{class, colour}
-use Rattle.highlight.specs.Pieces.{AreAllPieces, Shown, all_shown}
+use Rattle.explain.specs.Explained.{IsExplained, Parses}
+use Rattle.explain.specs.declared.explained.Explained.{Explained}
+use Rattle.highlight.specs.Style.{class, colour, title}
+use Rattle.highlight.specs.Pieces.{AreAllPieces, Shown, all_shown, first, place_of, says_of}
 use Rattle.highlight.specs.declared.format.Format.{Format}
 use Rattle.highlight.specs.declared.format.Format.TheVariants.{Html, Term}
 
@@ -39,10 +42,16 @@ line_past Term line text = line
 
 -- ---- the marks around it
 
+-- what a browser shows where the pointer rests
+abbrev pub titled : List ℕ → List ℕ
+titled [] = []
+titled (c ∷ says) = codes " title=\"" ++ ((c ∷ says) ++ codes "\"")
+
 -- what has no class stands bare
-abbrev pub in_span : List ℕ → List ℕ → List ℕ
-in_span class text =
-    if length class == 0 then text else codes "<span class=" ++ (class ++ (codes ">" ++ (text ++ codes "</span>")))
+abbrev pub in_span : List ℕ → List ℕ → List ℕ → List ℕ
+in_span class title text =
+    if length class == 0 then text
+    else codes "<span class=" ++ (class ++ (titled title ++ (codes ">" ++ (text ++ codes "</span>"))))
 
 -- ESC is 27
 abbrev pub in_colour : List ℕ → List ℕ → List ℕ
@@ -50,22 +59,25 @@ in_colour colour text =
     if length colour == 0 then text
     else (27 ∷ codes "[") ++ (colour ++ (codes "m" ++ (text ++ (27 ∷ codes "[0m"))))
 
-abbrev pub marked_piece : Format → ℕ → Shown → List ℕ
-marked_piece Html line piece = in_span (class piece.0) (escaped line piece.1)
-marked_piece Term line piece = in_colour (colour piece.0) piece.1
+abbrev pub marked_piece : Format → List ℕ → ℕ → Shown → List ℕ
+marked_piece Html says line piece = in_span (class piece.0) (title says piece.0) (escaped line piece.1)
+marked_piece Term says line piece = in_colour (colour piece.0) piece.1
 
--- all of them, from this line on
-abbrev pub marked_pieces : Format → ℕ → List Shown → List ℕ
-marked_pieces format line [] = []
-marked_pieces format line (piece ∷ more) =
-    marked_piece format line piece ++ marked_pieces format (line_past format line piece.1) more
+-- all of them, from this line on; the reason says this
+abbrev pub marked_pieces : Format → List ℕ → ℕ → List Shown → List ℕ
+marked_pieces format says line [] = []
+marked_pieces format says line (piece ∷ more) =
+    marked_piece format says line piece ++ marked_pieces format says (line_past format line piece.1) more
 
--- the text marked: its pieces one after the other, and what follows them
+-- the text marked: its pieces one after the other, and what follows them, with the reason why it doesn't parse
 pub record IsMarked (format : Format) (text body : List ℕ) : Type 0 where
+  pub answer : Option Explained
+  pub explained : MatchOption answer (Parses first (chars text)) (IsExplained first (chars text))
   pub all : List Piece
   pub rest : List ℕ
   pub are : AreAllPieces true (chars text) all rest
-  pub is : body ≡ marked_pieces format 1 (all_shown all rest)
+  pub is : body ≡ marked_pieces format (says_of answer) 1
+      (all_shown (place_of (length (chars text) - length rest) answer) all rest)
 
 -- ---- what stands around them
 

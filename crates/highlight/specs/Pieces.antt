@@ -1,12 +1,17 @@
 -- The pieces of a text, each with its style.
-use Rattle.std.specs.Prelude.{ℕ, ◌≡◌, Bool, true, false, ◌==◌, List, [], ◌∷◌, ◌++◌}
+use Rattle.std.specs.Prelude.{ℕ, ◌≡◌, ◌-◌, Bool, true, false, ◌==◌, List, [], ◌∷◌, ◌++◌, Option, Some, None}
+use Rattle.std.specs.Prelude.{drop, if◌then◌else◌, nat_lt, take}
 use Rattle.std.specs.Str.{encode_utf8_all}
 use Rattle.lexical.specs.Token as tokens
 use Rattle.lexical.specs.Token.{Token}
 use Rattle.lexical.specs.Piece as pieces
 use Rattle.lexical.specs.Piece.{Piece, Kind, IsPiece, HasNoPiece}
+use Rattle.pm_span.specs.Files.{new_map, next_lo}
+use Rattle.explain.specs.Words.{sentence_of}
+use Rattle.explain.specs.declared.explained.Explained.{Explained}
 use Rattle.highlight.specs.Style.{kind_style}
 use Rattle.highlight.specs.Delimiters.{delimiter_styles}
+use Rattle.highlight.specs.declared.marking.FaultPlace.{FaultPlace}
 use Rattle.highlight.specs.declared.style.Style.{Style}
 use Rattle.highlight.specs.declared.style.Style.TheVariants as styles
 
@@ -66,21 +71,51 @@ styles_left delimiters (pieces.Open c) = more_styles delimiters
 styles_left delimiters (pieces.Close c) = more_styles delimiters
 styles_left delimiters (pieces.Leaf token) = delimiters
 
--- where no piece stands its first character is a fault, and what follows is not read
-abbrev pub unread : List ℕ → List Shown
-unread [] = []
-unread (c ∷ rest) = (styles.NoPiece, encode_utf8_all (c ∷ [])) ∷ (styles.Unread, encode_utf8_all rest) ∷ []
+-- what isn't read, if something isn't
+abbrev pub unread_part : List ℕ → List Shown
+unread_part [] = []
+unread_part (c ∷ rest) = (styles.Unread, encode_utf8_all (c ∷ rest)) ∷ []
+
+-- a text of which after so many characters so many are at fault, and no other is read
+abbrev pub faulty : ℕ → ℕ → List ℕ → List Shown
+faulty before size text =
+    unread_part (take before text)
+    ++ ((styles.Fault, encode_utf8_all (take size (drop before text))) ∷ unread_part (drop size (drop before text)))
+
+-- where no piece stands this is at fault, or where that isn't told the first character, and the others are not read
+abbrev pub unread : Option FaultPlace → List ℕ → List Shown
+unread place [] = []
+unread None (c ∷ rest) = (styles.NoPiece, encode_utf8_all (c ∷ [])) ∷ (styles.Unread, encode_utf8_all rest) ∷ []
+unread (Some place) (c ∷ rest) = faulty place.before place.size (c ∷ rest)
 
 -- the pieces and the rest, each with its style
-abbrev pub shown_from : List Style → Bool → List Piece → List ℕ → List Shown
-shown_from delimiters quote [] rest = unread rest
-shown_from delimiters quote (piece ∷ more) rest =
+abbrev pub shown_from : Option FaultPlace → List Style → Bool → List Piece → List ℕ → List Shown
+shown_from place delimiters quote [] rest = unread place rest
+shown_from place delimiters quote (piece ∷ more) rest =
     (piece_style delimiters quote piece.0 (encode_utf8_all piece.1), encode_utf8_all piece.1)
-    ∷ shown_from (styles_left delimiters piece.0) (is_quote piece.0) more rest
+    ∷ shown_from place (styles_left delimiters piece.0) (is_quote piece.0) more rest
 
 abbrev pub is_nil : List ℕ → Bool
 is_nil [] = true
 is_nil (c ∷ rest) = false
 
-abbrev pub all_shown : List Piece → List ℕ → List Shown
-all_shown all rest = shown_from (delimiter_styles (is_nil rest) [] [] all) false all rest
+abbrev pub all_shown : Option FaultPlace → List Piece → List ℕ → List Shown
+all_shown place all rest = shown_from place (delimiter_styles (is_nil rest) [] [] all) false all rest
+
+-- ---- what is at fault
+
+-- what the reason says, if there is one
+abbrev pub says_of : Option Explained → List ℕ
+says_of None = []
+says_of (Some x) = sentence_of x.reason
+
+-- the position of a text's first character
+abbrev pub first : ℕ
+first = next_lo new_map
+
+-- where the reason's place stands from so many characters of the text on, unless it stands before that
+abbrev pub place_of : ℕ → Option Explained → Option FaultPlace
+place_of past None = None
+place_of past (Some x) =
+    if nat_lt (x.at.span.lo - first) past then None
+    else Some (record { before = x.at.span.lo - first - past; size = x.at.span.hi - x.at.span.lo })

@@ -116,7 +116,13 @@ class (styles.Delimiter depth) = depth_class depth
 class styles.StrayCloser = codes "x title=\"this closer matches no opener\""
 class styles.Unclosed = codes "x title=\"this opener is never closed\""
 class styles.NoPiece = codes "x title=\"no token stands here\""
+class styles.Fault = codes "x"
 class styles.Unread = codes "u"
+
+-- and of the reason's place what it says
+abbrev pub title : List ℕ → Style → List ℕ
+title says styles.Fault = says
+title says _ = []
 
 -- the numbers of its colours on a terminal
 abbrev pub colour : Style → List ℕ
@@ -142,4 +148,5 @@ colour (styles.Delimiter depth) = depth_colour depth
 colour styles.StrayCloser = codes "1;97;41"
 colour styles.Unclosed = codes "1;97;41"
 colour styles.NoPiece = codes "1;97;41"
+colour styles.Fault = codes "1;97;41"
 colour styles.Unread = codes "2"

@@ -38,7 +38,9 @@ pub enum Style {
     Unclosed,
     /// The first character of what begins no piece.
     NoPiece,
-    /// What follows it.
+    /// What the reason says is at fault.
+    Fault,
+    /// What isn't read around it.
     Unread,
 }
 
@@ -70,6 +72,7 @@ impl Style {
             Style::StrayCloser => "x title=\"this closer matches no opener\"",
             Style::Unclosed => "x title=\"this opener is never closed\"",
             Style::NoPiece => "x title=\"no token stands here\"",
+            Style::Fault => "x",
             Style::Unread => "u",
         }
     }
@@ -91,7 +94,7 @@ impl Style {
             Style::Doc => "3;90",
             Style::Mark => "39",
             Style::Delimiter(depth) => depth_colour(depth),
-            Style::StrayCloser | Style::Unclosed | Style::NoPiece => "1;97;41",
+            Style::StrayCloser | Style::Unclosed | Style::NoPiece | Style::Fault => "1;97;41",
             Style::Unread => "2",
         }
     }

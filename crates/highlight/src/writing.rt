@@ -1,6 +1,7 @@
 //! Appends pieces to what is written, marked.
 ghost use Rattle.std.specs.Prelude.{◌≡◌, ◌+◌, ◌++◌, [], OnOk, codes, encode_utf8, string_bytes};
-ghost use Rattle.highlight.specs.Page.{anchor, escaped, in_span, in_colour, line_after, line_past, marked_piece};
+ghost use Rattle.highlight.specs.Page.{anchor, escaped, in_span, in_colour, line_after, line_past, marked_piece, titled};
+ghost use Rattle.highlight.specs.Style.{title};
 
 use crate::format::Format;
 use crate::style::Style;
@@ -14,49 +15,70 @@ pub struct Sheet {
     /// The line on which the next piece begins, from 1.
     pub line: usize,
     format: Format,
+    // What is said of what is at fault.
+    says: &'static str,
 }
 
 impl Sheet {
     /// Nothing, at line 1.
-    pub fn new(alloc: Global, format: Format) -> Sheet
+    pub fn new(alloc: Global, format: Format, says: &'static str) -> Sheet
         ensures out { string_bytes result.out ≡ [] }
         ensures line { result.line ≡ 1 }
         ensures format { result.format ≡ format }
+        ensures says { result.says.now ≡ says.now }
     {
         Sheet {
             out: String::new(alloc),
             line: 1,
             format,
+            says,
         }
     }
 
     /// Appends the text of a piece, marked by its style.
     pub fn push_piece(&mut self, style: Style, text: &str) -> Result<(), AllocError>
         ensures shown { OnOk result (string_bytes self.new.out
-            ≡ string_bytes self.old.out ++ marked_piece self.old.format self.old.line (style, text.now)) }
+            ≡ string_bytes self.old.out ++ marked_piece self.old.format self.old.says.now self.old.line (style, text.now)) }
         ensures line { OnOk result (self.new.line ≡ line_past self.old.format self.old.line text.now) }
         ensures kept { self.new.format ≡ self.old.format }
+        ensures says { self.new.says.now ≡ self.old.says.now }
     {
         match self.format {
-            Format::Html => self.push_span(style.class(), text),
+            Format::Html => self.push_span(style.class(), title_of(style, self.says), text),
             Format::Term => self.push_coloured(style.colour(), text),
         }
     }
 
-    // Appends the text in a `<span>` of the class, or bare where the class is empty.
-    fn push_span(&mut self, class: &str, text: &str) -> Result<(), AllocError>
+    // Appends the text in a `<span>` of the class and with the title, or bare where the class is empty.
+    fn push_span(&mut self, class: &str, title: &str, text: &str) -> Result<(), AllocError>
         ensures shown { OnOk result (string_bytes self.new.out
-            ≡ string_bytes self.old.out ++ in_span class.now (escaped self.old.line text.now)) }
+            ≡ string_bytes self.old.out ++ in_span class.now title.now (escaped self.old.line text.now)) }
         ensures line { OnOk result (self.new.line ≡ line_after self.old.line text.now) }
         ensures kept { self.new.format ≡ self.old.format }
+        ensures says { self.new.says.now ≡ self.old.says.now }
     {
         if class.is_empty() {
             return self.push_escaped(text);
         }
-        write!(self.out, "<span class={class}>")?;
+        write!(self.out, "<span class={class}")?;
+        self.push_title(title)?;
+        self.out.push_str(">")?;
         self.push_escaped(text)?;
         self.out.push_str("</span>")?;
         Ok(())
+    }
+
+    // Appends the title, if it isn't empty.
+    fn push_title(&mut self, title: &str) -> Result<(), AllocError>
+        ensures shown { OnOk result (string_bytes self.new.out ≡ string_bytes self.old.out ++ titled title.now) }
+        ensures line { self.new.line ≡ self.old.line }
+        ensures kept { self.new.format ≡ self.old.format }
+        ensures says { self.new.says.now ≡ self.old.says.now }
+    {
+        if title.is_empty() {
+            return Ok(());
+        }
+        write!(self.out, " title=\"{title}\"")
     }
 
     // Appends the text in the colour, or bare where the colour is empty.
@@ -65,6 +87,7 @@ impl Sheet {
             ≡ string_bytes self.old.out ++ in_colour colour.now text.now) }
         ensures line { self.new.line ≡ self.old.line }
         ensures kept { self.new.format ≡ self.old.format }
+        ensures says { self.new.says.now ≡ self.old.says.now }
     {
         if colour.is_empty() {
             return self.out.push_str(text);
@@ -78,6 +101,7 @@ impl Sheet {
             ≡ string_bytes self.old.out ++ escaped self.old.line text.now) }
         ensures line { OnOk result (self.new.line ≡ line_after self.old.line text.now) }
         ensures kept { self.new.format ≡ self.old.format }
+        ensures says { self.new.says.now ≡ self.old.says.now }
     {
         for c in text.chars() {
             self.push_character(c)?;
@@ -92,6 +116,7 @@ impl Sheet {
             ≡ string_bytes self.old.out ++ escaped self.old.line (encode_utf8 c)) }
         ensures line { OnOk result (self.new.line ≡ line_after self.old.line (encode_utf8 c)) }
         ensures kept { self.new.format ≡ self.old.format }
+        ensures says { self.new.says.now ≡ self.old.says.now }
     {
         match c {
             '\n' => self.push_line_feed(),
@@ -109,11 +134,22 @@ impl Sheet {
             ≡ string_bytes self.old.out ++ (codes "\n" ++ anchor (self.old.line + 1))) }
         ensures line { OnOk result (self.new.line ≡ self.old.line + 1) }
         ensures kept { self.new.format ≡ self.old.format }
+        ensures says { self.new.says.now ≡ self.old.says.now }
     {
         let Some(line) = self.line.checked_add(1) else {
             return Err(AllocError);
         };
         self.line = line;
         write!(self.out, "\n<a id=L{line}></a>")
+    }
+}
+
+// The title of what has the style, of which this is said where it is at fault.
+fn title_of(style: Style, says: &'static str) -> &'static str
+    ensures { result.now ≡ title says.now style }
+{
+    match style {
+        Style::Fault => says,
+        _ => "",
     }
 }

@@ -3,33 +3,87 @@
 
 use proved::shim::prelude::{String, Vec};
 
+use proved::explain::{ExplainError, Explained, explain};
 use crate::highlight::format::Format;
 use crate::highlight::nesting::Nesting;
 use crate::highlight::style::{Style, style_of};
 use crate::highlight::writing::Sheet;
+use proved::lexical::parts::before;
+use crate::messages::Failure;
+use proved::pm_span::parts::{bounds, char_count};
 use proved::proc_macro2::{PieceKind, PlacedPiece, pieces};
 use proved::shim::alloc::{AllocError, Global};
+
+/// Where something is at fault in what follows the pieces of a text.
+#[derive(Clone, Copy)]
+pub struct FaultPlace {
+    // How many characters stand there before it.
+    before: usize,
+    // How many it has.
+    size: usize,
+}
 
 /// The text with its pieces marked.
 ///
 /// A closer that matches no opener is marked as a fault, and so is an opener that is never closed, as
-/// far as that is known where the text isn't read whole. So is the first character of what begins no
-/// piece; what follows it is not read.
-pub fn marked(alloc: Global, format: Format, text: &str) -> Result<String, AllocError>
+/// far as that is known where the text isn't read whole. Where no piece stands what is at fault by the
+/// reason is marked, with what the reason says; the rest is not read.
+pub fn marked(alloc: Global, format: Format, text: &str) -> Result<String, Failure>
 {
+    let explained = explained(alloc, text)?;
     let mut styling = Styling {
         delimiters: styles_of_delimiters(alloc, text)?,
         is_after_quote: false,
     };
-    let mut sheet = Sheet::new(alloc, format);
+    let mut sheet = Sheet::new(alloc, format, says_of(&explained));
     let mut walk = pieces(text);
     while let Some(next) = walk.next_piece() {
         let style = styling.style_of(next);
         sheet.push_piece(style, next.text)?;
     }
-    push_rest(&mut sheet, walk.rest())?;
+    let past = char_count(text).saturating_sub(char_count(walk.rest()));
+    push_rest(&mut sheet, place_of(past, &explained), walk.rest())?;
     Ok(sheet.out)
 }
+
+// Why the text doesn't parse, if it doesn't.
+fn explained(alloc: Global, text: &str) -> Result<Option<Explained>, Failure>
+{
+    match explain(alloc, text) {
+        Ok(answer) => Ok(answer),
+        Err(ExplainError::MapFull) => Err(Failure::MapFull),
+        Err(ExplainError::Memory(_)) => Err(Failure::Memory),
+    }
+}
+
+// What the reason says.
+fn says_of(explained: &Option<Explained>) -> &'static str
+{
+    match explained {
+        Some(explained) => explained.reason.message(),
+        None => "",
+    }
+}
+
+// Where the reason's place stands from so many characters of the text on, unless it stands before that.
+fn place_of(past: usize, explained: &Option<Explained>) -> Option<FaultPlace>
+{
+    let Some(explained) = explained else {
+        return None;
+    };
+    let (lo, hi) = bounds(explained.at.span);
+    let start = lo.saturating_sub(FIRST) as usize;
+    if start < past {
+        return None;
+    }
+    Some(FaultPlace {
+        before: start - past,
+        size: (hi - lo) as usize,
+    })
+}
+
+// The position of the text's first character.
+const FIRST: u32 = 1;
 
 // The styles of the delimiters, the first last.
 fn styles_of_delimiters(alloc: Global, text: &str) -> Result<Vec<Style>, AllocError>
@@ -78,7 +132,19 @@ fn is_quote(kind: PieceKind<'_>) -> bool
 }
 
 // Appends what follows the pieces.
-fn push_rest(sheet: &mut Sheet, rest: &str) -> Result<(), AllocError>
+fn push_rest(sheet: &mut Sheet, place: Option<FaultPlace>, rest: &str) -> Result<(), AllocError>
+{
+    if rest.is_empty() {
+        return Ok(());
+    }
+    match place {
+        Some(place) => push_faulty(sheet, place, rest),
+        None => push_stuck(sheet, rest),
+    }
+}
+
+// Appends a text of which the first character is at fault, and the others are not read.
+fn push_stuck(sheet: &mut Sheet, rest: &str) -> Result<(), AllocError>
 {
     let mut after = rest.chars();
     let Some(first) = after.next() else {
@@ -87,4 +153,34 @@ fn push_rest(sheet: &mut Sheet, rest: &str) -> Result<(), AllocError>
     sheet.push_piece(Style::NoPiece, first.encode_utf8(&mut [0; 4]))?;
     sheet.push_piece(Style::Unread, after.as_str())?;
     Ok(())
+}
+
+// Appends a text of which this is at fault, and no other is read.
+fn push_faulty(sheet: &mut Sheet, place: FaultPlace, text: &str) -> Result<(), AllocError>
+{
+    let (front, rest) = split_chars(text, place.before);
+    let (here, after) = split_chars(rest, place.size);
+    push_unread(sheet, front)?;
+    sheet.push_piece(Style::Fault, here)?;
+    push_unread(sheet, after)
+}
+
+// Appends what isn't read, if something isn't.
+fn push_unread(sheet: &mut Sheet, text: &str) -> Result<(), AllocError>
+{
+    if text.is_empty() {
+        return Ok(());
+    }
+    sheet.push_piece(Style::Unread, text)
+}
+
+// The first `count` characters of the text, or all where it has fewer, and what follows them.
+fn split_chars(text: &str, count: usize) -> (&str, &str)
+{
+    let mut rest = text.chars();
+    for _ in 0..count {
+        let _ = rest.next();
+    }
+    let after = rest.as_str();
+    (before(text, after), after)
 }

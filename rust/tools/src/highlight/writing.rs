@@ -14,16 +14,19 @@ pub struct Sheet {
     /// The line on which the next piece begins, from 1.
     pub line: usize,
     format: Format,
+    // What is said of what is at fault.
+    says: &'static str,
 }
 
 impl Sheet {
     /// Nothing, at line 1.
-    pub fn new(alloc: Global, format: Format) -> Sheet
+    pub fn new(alloc: Global, format: Format, says: &'static str) -> Sheet
     {
         Sheet {
             out: String::new(alloc),
             line: 1,
             format,
+            says,
         }
     }
 
@@ -31,21 +34,32 @@ impl Sheet {
     pub fn push_piece(&mut self, style: Style, text: &str) -> Result<(), AllocError>
     {
         match self.format {
-            Format::Html => self.push_span(style.class(), text),
+            Format::Html => self.push_span(style.class(), title_of(style, self.says), text),
             Format::Term => self.push_coloured(style.colour(), text),
         }
     }
 
-    // Appends the text in a `<span>` of the class, or bare where the class is empty.
-    fn push_span(&mut self, class: &str, text: &str) -> Result<(), AllocError>
+    // Appends the text in a `<span>` of the class and with the title, or bare where the class is empty.
+    fn push_span(&mut self, class: &str, title: &str, text: &str) -> Result<(), AllocError>
     {
         if class.is_empty() {
             return self.push_escaped(text);
         }
-        write!(self.out, "<span class={class}>")?;
+        write!(self.out, "<span class={class}")?;
+        self.push_title(title)?;
+        self.out.push_str(">")?;
         self.push_escaped(text)?;
         self.out.push_str("</span>")?;
         Ok(())
+    }
+
+    // Appends the title, if it isn't empty.
+    fn push_title(&mut self, title: &str) -> Result<(), AllocError>
+    {
+        if title.is_empty() {
+            return Ok(());
+        }
+        write!(self.out, " title=\"{title}\"")
     }
 
     // Appends the text in the colour, or bare where the colour is empty.
@@ -87,5 +101,14 @@ impl Sheet {
         };
         self.line = line;
         write!(self.out, "\n<a id=L{line}></a>")
+    }
+}
+
+// The title of what has the style, of which this is said where it is at fault.
+fn title_of(style: Style, says: &'static str) -> &'static str
+{
+    match style {
+        Style::Fault => says,
+        _ => "",
     }
 }

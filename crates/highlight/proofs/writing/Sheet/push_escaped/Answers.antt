@@ -11,4 +11,5 @@ loop-c-preserved c = record {
   line = line_step _ _ _ (encode_utf8 c.in-Some.c) (chars_rest c.next.new.self) _
       c.in-Some.ensures.steps.0 c.in_ok-push_character.ensures.line c.loop-c.invariant.line;
   kept = c.in_ok-push_character.ensures.kept ∙ c.loop-c.invariant.kept;
+  says = c.in_ok-push_character.ensures.says ∙ c.loop-c.invariant.says;
 }

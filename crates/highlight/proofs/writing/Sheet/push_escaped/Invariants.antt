@@ -10,4 +10,5 @@ invariant-loop-c l = record {
       ≡ string_bytes l.initial.self.out ++ escaped l.initial.self.line l.text;
   line : line_after l.self.line (chars_rest l.c-iterator) ≡ line_after l.initial.self.line l.text;
   kept : l.self.format ≡ l.initial.self.format;
+  says : l.self.says.now ≡ l.initial.self.says.now;
 }
