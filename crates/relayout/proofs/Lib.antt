@@ -4,3 +4,6 @@ mod WhiteLemmas
 mod RelaidLemmas
 mod ChoiceLemmas
 mod TokenLemmas
+mod CommentLemmas
+mod PartLemmas
+mod AttributeLemmas

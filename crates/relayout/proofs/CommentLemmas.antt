@@ -1,0 +1,210 @@
+-- Doc comments in the place of attributes: the pieces cover the text, and say the same.
+use Rattle.std.proofs.Common.{◌≡◌, ◌⊎◌, ℕ, Bool, true, false, not, ◌&&◌, ◌||◌, ◌==◌, List, [], ◌∷◌, ◌++◌, codes, refl}
+use Rattle.std.proofs.Common.{sym, ap, ap₂, ◌∙◌, subst, inl, inr, append_assoc, append-nil, eqb-true}
+use Rattle.std.specs.List.{list_all}
+use Rattle.std.proofs.lemmas.Bool.{both_ways, and_left, and_parts, and_right, not-false, not-true, or_parts}
+use Rattle.lexical.specs.Class.{is_white}
+use Rattle.lexical.specs.Comment.{Comment, Doc, LineComment, closing, has_bare_return, is_doc}
+use Rattle.lexical.specs.Cover.{onto, StandBefore, IsCover}
+use Rattle.lexical.specs.Piece.{Kind, Piece, FrontMark, Gap, Open, Close, Leaf, IsPiece}
+use Rattle.lexical.specs.Piece as pieces
+use Rattle.lexical.specs.Text.{begins_with, ends_with, first_passes}
+use Rattle.lexical.specs.Token.{Name, Literal}
+use Rattle.lexical.proofs.CommentKindLemmas.{front_is}
+use Rattle.pm_stream.specs.Events.{doc_onto}
+use Rattle.pm_stream.specs.Forest.{Forest, flattening}
+use Rattle.pm_stream.specs.Parsing.{ParsesTo}
+use Rattle.pm_stream.proofs.LawLemmas.{one_cover}
+use Rattle.proc_macro2.specs.Laws.{Gives}
+use Rattle.proc_macro2.proofs.EventSpans.{bare, said, said_onto, said_parsed, same_from_said}
+use Rattle.relayout.specs.Commented.{Part, White, Kept, Attribute, comment_front, comment_pieces, is_doc_line, is_free}
+use Rattle.relayout.specs.Commented.{may_all, may_be, new_part, new_pieces, old_part, old_pieces}
+use Rattle.relayout.specs.Relayout.{is_line}
+use Rattle.relayout.proofs.StandLemmas.{Calm, Feeds, piece_near}
+
+-- ---- a doc comment of one line
+
+-- a character that a line of a comment may have
+abbrev in_line : ℕ → Bool
+in_line c = not ((c == 10) || (c == 13))
+
+no_feed : (text : List ℕ) → list_all in_line text ≡ true → list_all (λ c. not (c == 10)) text ≡ true
+no_feed [] all = refl
+no_feed (c ∷ text) all =
+    let both = and_parts (in_line c) (list_all in_line text) all in
+    let signs = or_parts (c == 10) (c == 13) (not-true _ both.0) in
+    ap₂ (λ a b. not a && b) signs.0 (no_feed text both.1)
+
+no_return : (text : List ℕ) → list_all in_line text ≡ true → has_bare_return text ≡ false
+no_return [] all = refl
+no_return (c ∷ text) all =
+    let both = and_parts (in_line c) (list_all in_line text) all in
+    let signs = or_parts (c == 10) (c == 13) (not-true _ both.0) in
+    ap₂ (λ a b. (a && not (begins_with (codes "\n") text)) || b) signs.1 (no_return text both.1)
+
+no_end : (c : ℕ) (text : List ℕ) → (c == 13) ≡ false → list_all in_line text ≡ true → ends_with 13 (c ∷ text) ≡ false
+no_end c [] none all = none
+no_end c (d ∷ text) none all =
+    let both = and_parts (in_line d) (list_all in_line text) all in
+    no_end d text (or_parts (d == 10) (d == 13) (not-true _ both.0)).1 both.1
+
+line_stands : (sign : ℕ) (text r : List ℕ) → (sign == 10) ≡ false → list_all in_line text ≡ true
+    → LineComment (47 ∷ 47 ∷ sign ∷ text) (10 ∷ r)
+line_stands sign text r other all = record {
+  front = codes "//";
+  back = sign ∷ text;
+  whole = refl;
+  first = refl;
+  second = record { each = ap₂ (λ a b. not a && b) other (no_feed text all); stops = refl };
+}
+
+-- its last character is part of its text
+no_closing : (sign : ℕ) (text r : List ℕ) → (sign == 13) ≡ false → list_all in_line text ≡ true
+    → closing (47 ∷ 47 ∷ sign ∷ text) (10 ∷ r) ≡ []
+no_closing sign text r other all = rw (no_end sign text other all) refl
+
+doc_stands : (inner : Bool) (text r : List ℕ) → is_doc_line inner text ≡ true
+    → Doc inner text (comment_front inner ++ text) (10 ∷ r)
+doc_stands true text r may =
+    let all = (and_parts (list_all in_line text) true may).0 in
+    record {
+      comment = (inl (line_stands 33 text r refl all), refl);
+      inward = refl;
+      front = codes "//!";
+      three = refl;
+      whole = ap (λ x. codes "//!" ++ x) (sym (ap (λ x. text ++ x) (no_closing 33 text r refl all) ∙ append-nil text));
+      returns = no_return text all;
+    }
+doc_stands false text r may =
+    let both = and_parts (list_all in_line text) (not (begins_with (codes "/") text)) may in
+    record {
+      comment = (inl (line_stands 47 text r refl both.0), documents text (not-true _ both.1));
+      inward = refl;
+      front = codes "///";
+      three = refl;
+      whole =
+          ap (λ x. codes "///" ++ x) (sym (ap (λ x. text ++ x) (no_closing 47 text r refl both.0) ∙ append-nil text));
+      returns = no_return text both.0;
+    }
+  where
+    documents : (text : List ℕ) → begins_with (codes "/") text ≡ false → is_doc (codes "///" ++ text) ≡ true
+    documents [] plain = refl
+    documents (c ∷ text) plain = rw plain refl
+
+-- ---- what follows a piece, with the attributes and with the comments
+
+-- both texts begin with the same, and then with the same white character or end
+record Near (r t : List ℕ) : Type 0 where
+  both : List ℕ
+  old : List ℕ
+  new : List ℕ
+  was : r ≡ both ++ old
+  is : t ≡ both ++ new
+  ends : ((old ≡ []) × (new ≡ []))
+      ⊎ ((c : ℕ) × (s : List ℕ) × (u : List ℕ) × (old ≡ c ∷ s) × (new ≡ c ∷ u) × (is_white c ≡ true))
+
+near_all : (ps : List Part) → may_all false ps ≡ true → Near (onto (old_pieces ps) []) (onto (new_pieces ps) [])
+near_all [] may = record { both = []; old = []; new = []; was = refl; is = refl; ends = inl (refl, refl) }
+near_all (White c ∷ ps) may = record {
+  both = [];
+  old = c ∷ onto (old_pieces ps) [];
+  new = c ∷ onto (new_pieces ps) [];
+  was = refl;
+  is = refl;
+  ends = inr (c, _, _, refl, refl, (and_parts (is_white c) _ may).0);
+}
+near_all (Kept x ∷ ps) may =
+    let near = near_all ps may in
+    record {
+      both = x.1 ++ near.both;
+      old = near.old;
+      new = near.new;
+      was = ap (λ r. x.1 ++ r) near.was ∙ sym (append_assoc x.1 near.both near.old);
+      is = ap (λ r. x.1 ++ r) near.is ∙ sym (append_assoc x.1 near.both near.new);
+      ends = near.ends;
+    }
+near_all (Attribute inner text ∷ ps) may = absurd (both_ways false refl may)
+
+-- what follows a line comment begins with LF
+feed_after : (p s : List ℕ) (c : ℕ) → begins_with (codes "//") p ≡ true → Comment p (c ∷ s) → c ≡ 10
+feed_after p s c line (inl h) = eqb-true c 10 (not-false _ h.second.stops)
+feed_after p s c line (inr h) =
+    absurd (both_ways _ (ap (begins_with (codes "//")) (front_is h)) line)
+
+line_ends : (first : Bool) (k : Kind) (p s : List ℕ) (c : ℕ) → is_line (k, p) ≡ true → IsPiece first k p (c ∷ s)
+    → c ≡ 10
+line_ends first Gap p s c line (inl white) =
+    absurd (both_ways false refl (and_parts (47 == white.0) false
+    (sym (ap (begins_with (codes "//")) white.1) ∙ line)).1)
+line_ends first Gap p s c line (inr plain) = feed_after p s c line plain.0
+line_ends first (pieces.Doc inner text) p s c line h = feed_after p s c line h.comment.0
+line_ends first FrontMark p s c line h = absurd (both_ways false refl line)
+line_ends first (Open d) p s c line h = absurd (both_ways false refl line)
+line_ends first (Close d) p s c line h = absurd (both_ways false refl line)
+line_ends first (Leaf token) p s c line h = absurd (both_ways false refl line)
+
+kept_stands : (first : Bool) (x : Piece) (r t : List ℕ) → Near r t → IsPiece first x.0 x.1 r → IsPiece first x.0 x.1 t
+kept_stands first x r t near h =
+    let there : IsPiece first x.0 x.1 (near.both ++ near.old) = subst (IsPiece first x.0 x.1) near.was h in
+    subst (IsPiece first x.0 x.1) (sym near.is) (by_end near.both near.old near.new near.ends there)
+  where
+    by_end : (b old new : List ℕ)
+        → ((old ≡ []) × (new ≡ []))
+        ⊎ ((c : ℕ) × (s : List ℕ) × (u : List ℕ) × (old ≡ c ∷ s) × (new ≡ c ∷ u) × (is_white c ≡ true))
+        → IsPiece first x.0 x.1 (b ++ old) → IsPiece first x.0 x.1 (b ++ new)
+    by_end b old new (inl none) there = subst (λ w. IsPiece first x.0 x.1 (b ++ w)) (none.0 ∙ sym none.1) there
+    by_end b old new (inr (c, s, u, was, is, white)) there =
+        let calm : (w v : List ℕ) → w ≡ c ∷ v → Calm w = λ w v e. ap (first_passes (λ d. not (is_white d))) e
+        ∙ ap not white in
+        let feeds : Feeds x b old new = λ none line.
+        inr (u, is ∙ ap (λ d. d ∷ u)
+        (line_ends first x.0 x.1 s c line (subst (λ w. IsPiece first x.0 x.1 w) (ap₂ (λ v w. v ++ w) none was) there))) in
+        piece_near first x.0 x.1 b old new (calm old s was) (calm new u is) feeds there
+
+-- ---- all pieces
+
+stand_all : (first free : Bool) (ps : List Part) → may_all free ps ≡ true → StandBefore first (old_pieces ps) []
+    → StandBefore first (new_pieces ps) []
+stand_all first free [] may stand = tt
+stand_all first free (White c ∷ ps) may stand =
+    let both = and_parts (is_white c) (may_all (is_free free (White c)) ps) may in
+    (inl (c, refl, both.0), stand_all false (is_free free (White c)) ps both.1 stand.1)
+stand_all first free (Kept x ∷ ps) may stand =
+    (kept_stands first x _ _ (near_all ps may) stand.0, stand_all false false ps may stand.1)
+stand_all first free (Attribute true text ∷ ps) may stand =
+    let both = and_parts (free && is_doc_line true text) (may_all true ps) may in (
+      doc_stands true text _ (and_parts free (is_doc_line true text) both.0).1,
+      (inl (10, refl, refl), stand_all false true ps both.1 stand.1.1.1.1.1.1.1.1.1.1.1),
+    )
+stand_all first free (Attribute false text ∷ ps) may stand =
+    let both = and_parts (free && is_doc_line false text) (may_all true ps) may in (
+      doc_stands false text _ (and_parts free (is_doc_line false text) both.0).1,
+      (inl (10, refl, refl), stand_all false true ps both.1 stand.1.1.1.1.1.1.1.1.1),
+    )
+
+-- what they say
+said_parts : (ps : List Part) → said (new_pieces ps) ≡ said (old_pieces ps)
+said_parts [] = refl
+said_parts (White c ∷ ps) = said_parts ps
+said_parts (Kept x ∷ ps) = ap (said_onto x.0) (said_parts ps)
+said_parts (Attribute true text ∷ ps) = ap (doc_onto 0 0 true text) (said_parts ps)
+said_parts (Attribute false text ∷ ps) = ap (doc_onto 0 0 false text) (said_parts ps)
+
+-- ---- the law
+
+pub comments_cover : (source : List ℕ) (ps : List Part) → IsCover (old_pieces ps) source → may_all true ps ≡ true
+    → IsCover (new_pieces ps) (onto (new_pieces ps) [])
+comments_cover source ps covers may = record { whole = refl; stand = stand_all true true ps may covers.stand }
+
+pub comments_keep : (source : List ℕ) (ps : List Part) → IsCover (old_pieces ps) source → may_all true ps ≡ true
+    → (base first : ℕ) (stream : Forest) → ParsesTo first source stream → Gives base (onto (new_pieces ps) []) stream
+comments_keep source ps covers may base first stream parses =
+    let says : said (new_pieces ps) ≡ bare (flattening stream) =
+    said_parts ps ∙ (ap said (one_cover source (old_pieces ps) parses.pieces covers parses.covers)
+    ∙ said_parsed first source stream parses) in
+    let x = same_from_said base stream (new_pieces ps) says in
+    record {
+      parsed = x.0;
+      parses = record { pieces = new_pieces ps; covers = comments_cover source ps covers may; expands = x.1 };
+      same = x.2;
+    }
