@@ -158,6 +158,15 @@ pub span_parts : (before one two after class text : List ℕ) → (length class 
     → after ≡ two ++ codes "</span>"
     → after ≡ before ++ in_span class text
 span_parts before one two after class text some opened shown closed =
-    rw (some, closed, shown, opened, append_assoc, append_assoc)
-    (ap (λ l. before ++ l) (append_assoc (codes "<span class=") (class ++ codes ">") (text ++ codes "</span>")
-    ∙ ap (λ l. codes "<span class=" ++ l) (append_assoc class (codes ">") (text ++ codes "</span>"))))
+    let opener = codes "<span class=" ++ (class ++ codes ">") in
+    let closer = codes "</span>" in
+    rw (
+      some,
+      closed,
+      shown,
+      opened,
+      append_assoc (before ++ opener) text closer,
+      append_assoc before opener (text ++ closer),
+    )
+    (ap (λ l. before ++ l) (append_assoc (codes "<span class=") (class ++ codes ">") (text ++ closer)
+    ∙ ap (λ l. codes "<span class=" ++ l) (append_assoc class (codes ">") (text ++ closer))))

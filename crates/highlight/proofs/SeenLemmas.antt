@@ -39,7 +39,7 @@ Shows-append : (format : Format) (v w s t : List ℕ) → Shows format v s → S
 Shows-append format v w s t first second = record {
   shows = λ can rest.
       let parts = seen_parts format s t can in
-      rw (append_assoc, append_assoc)
+      rw (append_assoc v w rest, append_assoc s t (plain format rest))
       (first.shows parts.0 (w ++ rest) ∙ ap (λ l. s ++ l) (second.shows parts.1 rest));
 }
 
