@@ -155,7 +155,7 @@ still_within item rule depth =
     let inside : (suc depth == 0) ≡ false = grind (arith, nat_tests) in
     rw inside refl
 
-closes : (item : Item) (rule : Rule) (depth : ℕ) → GoesOn (after_close item rule 0)
+closes : (item : Item) (rule : Rule) (depth : ℕ) → GoesOn (after_close item rule zero)
     → GoesOn (after_close item rule depth)
 closes item rule zero last = last
 closes item rule (suc depth) last =
@@ -166,7 +166,7 @@ closes item rule (suc depth) last =
 
 -- in brackets, by what follows without them and after the last of them
 within : (item : Item) (rule : Rule) (depth : ℕ) → GoesOn (in_type item rule types.Whole 0)
-    → GoesOn (after_close item rule 0) → GoesOn (in_type item rule types.Whole depth)
+    → GoesOn (after_close item rule zero) → GoesOn (in_type item rule types.Whole depth)
 within item rule zero without last = without
 within item rule (suc depth) without last =
     led (in_type item rule types.Whole (suc depth)) (after_close item rule depth) (Greater ∷ [])

@@ -67,6 +67,7 @@ pub struct AnyItem<'a> {
 ///
 /// It is any item that may stand in a file, a module, a trait, an `impl` or a block of foreign items. What stands
 /// within its groups isn't read. Of `pub fn f() {} struct S;` it is `pub fn f() {}`, a function with the name `f`.
+/// Where no item stands it answers the fault. It takes no memory.
 pub fn split_any_item<'a>(trees: &'a [TokenTree]) -> Result<(AnyItem<'a>, &'a [TokenTree]), Fault>
     ensures ok { IfOk result (λ found. Reads IsAnyItem trees.now found.0.trees.now found.1.now) }
     ensures only { IfOk result (λ found. IsOnly IsAnyItem trees.now found.0.trees.now found.1.now) }

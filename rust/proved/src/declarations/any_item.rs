@@ -62,6 +62,7 @@ pub struct AnyItem<'a> {
 ///
 /// It is any item that may stand in a file, a module, a trait, an `impl` or a block of foreign items. What stands
 /// within its groups isn't read. Of `pub fn f() {} struct S;` it is `pub fn f() {}`, a function with the name `f`.
+/// Where no item stands it answers the fault. It takes no memory.
 pub fn split_any_item<'a>(trees: &'a [TokenTree]) -> Result<(AnyItem<'a>, &'a [TokenTree]), Fault>
     // The kind and the name are those of the one walk over the item's signs.
 {
