@@ -1,4 +1,5 @@
 pub mod EscapeLemmas
+pub mod MarkLemmas
 pub mod NestingLemmas
 pub mod PieceLemmas
 pub mod SeenLemmas

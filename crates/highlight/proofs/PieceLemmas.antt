@@ -1,7 +1,7 @@
 -- All pieces of a text, a piece at a time.
 use Rattle.std.proofs.Common.{◌≡◌, ℕ, Bool, true, false, ◌==◌, List, [], ◌∷◌, ◌++◌, IsTrue}
 use Rattle.std.proofs.Common.{refl, sym, ap, subst, ◌∙◌, ◌+◌, arith, length, length-append, append_assoc, append-nil}
-use Rattle.std.proofs.Common.{encode_utf8}
+use Rattle.std.proofs.Common.{MatchOption, Option, drop, encode_utf8, take}
 use Rattle.std.specs.Str.{chars, encode_utf8_all, IsUtf8}
 use Rattle.std.proofs.lemmas.Bool.{and_parts, eqb-true, ne_eqb}
 use Rattle.std.proofs.lemmas.Str.{chars_past_char, encodes-chars, length-encode, len_utf8_bounds}
@@ -15,7 +15,12 @@ use Rattle.lexical.specs.declared.walk.PlacedPiece.{PlacedPiece}
 use Rattle.lexical.specs.declared.walk.PieceWalk.{PieceWalk}
 use Rattle.lexical.proofs.PieceLemmas.{one_piece}
 use Rattle.highlight.specs.Nesting.{ClosesByCloser}
-use Rattle.highlight.specs.Pieces.{AreAllPieces, is_nil, is_quote, piece_style, shown_from, styles_left, unread}
+use Rattle.explain.specs.Explained.{IsExplained, Parses}
+use Rattle.explain.specs.declared.explained.Explained.{Explained}
+use Rattle.explain.specs.declared.reason.Reason.{Reason}
+use Rattle.highlight.specs.Mark.{Styled, Faulty}
+use Rattle.highlight.specs.Pieces.{AreAllPieces, faulty, first_position, is_nil, is_quote, piece_style, shown_from}
+use Rattle.highlight.specs.Pieces.{stuck, styles_left, unread}
 use Rattle.highlight.specs.Delimiters.{delimiter_styles}
 use Rattle.highlight.specs.declared.style.Style.{Style}
 use Rattle.highlight.specs.Page.{IsMarked, line_past, marked_piece, marked_pieces}
@@ -75,9 +80,9 @@ is_nil_chars text utf8 = ap (λ l. length l == 0) (sym (encodes-chars text utf8)
 
 pub rest_parts : (format given : Format) (line next : ℕ) (rest after : List ℕ) (c : ℕ) (before one two : List ℕ)
     → IsUtf8 rest → rest ≡ encode_utf8 c ++ after → IsUtf8 after
-    → one ≡ before ++ marked_piece format line (NoPiece, encode_utf8 c) → given ≡ format
-    → next ≡ line_past format line (encode_utf8 c) → two ≡ one ++ marked_piece given next (Unread, after)
-    → two ≡ before ++ marked_pieces format line (unread (chars rest))
+    → one ≡ before ++ marked_piece format line (Styled NoPiece, encode_utf8 c) → given ≡ format
+    → next ≡ line_past format line (encode_utf8 c) → two ≡ one ++ marked_piece given next (Styled Unread, after)
+    → two ≡ before ++ marked_pieces format line (stuck (chars rest))
 rest_parts format given line next rest after c before one two utf8 split more first same moved last =
     let front : encode_utf8_all (c ∷ []) ≡ encode_utf8 c = append-nil (encode_utf8 c) in
     let back : encode_utf8_all (chars after) ≡ after = encodes-chars after more in
@@ -90,34 +95,53 @@ rest_parts format given line next rest after c before one two utf8 split more fi
       same,
       moved,
       append_assoc,
-      append-nil (marked_piece format (line_past format line (encode_utf8 c)) (Unread, after)),
+      append-nil (marked_piece format (line_past format line (encode_utf8 c)) (Styled Unread, after)),
     ) refl
+
+-- the characters that are at fault, and those around them
+pub faulty_parts : (format f1 f2 : Format) (line l1 l2 : ℕ) (reason : Reason) (before size : ℕ)
+    (text front here after : List ℕ) (old one two new : List ℕ)
+    → encode_utf8_all (take before text) ≡ front → encode_utf8_all (take size (drop before text)) ≡ here
+    → encode_utf8_all (drop size (drop before text)) ≡ after
+    → one ≡ old ++ marked_piece format line (Styled Unread, front) → f1 ≡ format → l1 ≡ line_past format line front
+    → two ≡ one ++ marked_piece f1 l1 (Faulty reason, here) → f2 ≡ f1 → l2 ≡ line_past f1 l1 here
+    → new ≡ two ++ marked_piece f2 l2 (Styled Unread, after)
+    → new ≡ old ++ marked_pieces format line (faulty reason before size text)
+faulty_parts format f1 f2 line l1 l2 reason before size text front here after old one two new is_front is_here
+    is_after first same1 next1 second same2 next2 third =
+    rw (third, second, first, next2, next1, same2, same1, is_front, is_here, is_after)
+    (simp (append_assoc, append-nil))
 
 -- ---- one more piece
 
-pub marked_step : (format given : Format) (line next : ℕ) (before out whole text words : List ℕ) (style : Style)
-    (delimiters left : List Style) (quote quoted : Bool) (kind : Kind) (more : List Piece) (rest : List ℕ)
+pub marked_step : (format given : Format) (answer : Option Explained) (line next : ℕ)
+    (before out whole text words : List ℕ) (style : Style) (delimiters left : List Style) (quote quoted : Bool)
+    (kind : Kind) (more : List Piece) (rest : List ℕ)
     → encode_utf8_all words ≡ text → style ≡ piece_style delimiters quote kind text
     → left ≡ styles_left delimiters kind → quoted ≡ is_quote kind → given ≡ format
-    → out ≡ before ++ marked_piece given line (style, text) → next ≡ line_past given line text
-    → before ++ marked_pieces format line (shown_from delimiters quote ((kind, words) ∷ more) rest) ≡ whole
-    → out ++ marked_pieces format next (shown_from left quoted more rest) ≡ whole
-marked_step format given line next before out whole text words style delimiters left quote quoted kind more rest
+    → out ≡ before ++ marked_piece given line (Styled style, text) → next ≡ line_past given line text
+    → before ++ marked_pieces format line (shown_from answer delimiters quote ((kind, words) ∷ more) rest) ≡ whole
+    → out ++ marked_pieces format next (shown_from answer left quoted more rest) ≡ whole
+marked_step format given answer line next before out whole text words style delimiters left quote quoted kind more rest
     spelled styled lefts quotes same is moved all =
-    let inner : marked_piece given line (style, text) ++ marked_pieces format next (shown_from left quoted more rest)
-    ≡ marked_pieces format line (shown_from delimiters quote ((kind, words) ∷ more) rest) =
+    let inner : marked_piece given line (Styled style, text)
+    ++ marked_pieces format next (shown_from answer left quoted more rest)
+    ≡ marked_pieces format line (shown_from answer delimiters quote ((kind, words) ∷ more) rest) =
     rw (lefts, quotes, moved, same, styled, spelled) refl in
-    ap (λ l. l ++ marked_pieces format next (shown_from left quoted more rest)) is
-    ∙ append_assoc before (marked_piece given line (style, text)) _ ∙ ap (λ l. before ++ l) inner ∙ all
+    ap (λ l. l ++ marked_pieces format next (shown_from answer left quoted more rest)) is
+    ∙ append_assoc before (marked_piece given line (Styled style, text)) _ ∙ ap (λ l. before ++ l) inner ∙ all
 
-pub marked_end : (format given : Format) (text before out : List ℕ) (line : ℕ) (styles : List Style)
-    (rest other : List ℕ) (all others : List Piece)
+pub marked_end : (format given : Format) (answer : Option Explained) (text before out : List ℕ) (line : ℕ)
+    (styles : List Style) (rest other : List ℕ) (all others : List Piece)
     → AreAllPieces true (chars text) all rest → AreAllPieces true (chars text) others other
+    → MatchOption answer (Parses first_position rest) (IsExplained first_position rest)
     → styles ≡ delimiter_styles (is_nil other) [] [] others → given ≡ format
-    → out ≡ before ++ marked_pieces given line (unread rest)
-    → before ++ marked_pieces format line (unread rest) ≡ marked_pieces format 1 (shown_from styles false all rest)
+    → out ≡ before ++ marked_pieces given line (unread answer rest)
+    → before ++ marked_pieces format line (unread answer rest)
+    ≡ marked_pieces format 1 (shown_from answer styles false all rest)
     → IsMarked format text out
-marked_end format given text before out line styles rest other all others are too styled same last whole =
+marked_end format given answer text before out line styles rest other all others are too explained styled same last
+    whole =
     let one = unique true (chars text) all others rest other are too in
     let known : styles ≡ delimiter_styles (is_nil rest) [] [] all =
     styled ∙ ap (λ r. delimiter_styles (is_nil r) [] [] others) (sym one.1)
@@ -126,6 +150,8 @@ marked_end format given text before out line styles rest other all others are to
       all = all;
       rest = rest;
       are = are;
-      is = last ∙ ap (λ f. before ++ marked_pieces f line (unread rest)) same ∙ whole
-          ∙ ap (λ s. marked_pieces format 1 (shown_from s false all rest)) known;
+      answer = answer;
+      explained = explained;
+      is = last ∙ ap (λ f. before ++ marked_pieces f line (unread answer rest)) same ∙ whole
+          ∙ ap (λ s. marked_pieces format 1 (shown_from answer s false all rest)) known;
     }

@@ -1,18 +1,28 @@
 -- What is seen of what is written, a part at a time.
+use Rattle.std.proofs.Common.{◌-◌}
 use Rattle.std.proofs.Common.{◌≡◌, ℕ, zero, suc, ◌%◌, ◌/◌, ◌+◌, ◌<◌, ◌⊎◌, inl, inr, Bool, true, false, not, ◌==◌, List}
-use Rattle.std.proofs.Common.{[], ◌∷◌, ◌++◌, codes, length, IsTrue}
+use Rattle.std.proofs.Common.{[], ◌∷◌, ◌++◌, Option, Some, None, codes, drop, length, take, IsTrue}
 use Rattle.std.proofs.Common.{refl, sym, ap, subst, ◌∙◌, arith, append_assoc, append-nil}
 use Rattle.std.specs.Fmt.{decimal, digit_glyph, digits, digits_onto}
 use Rattle.std.specs.Prelude.{encode_utf8, if◌then◌else◌}
 use Rattle.std.specs.Str.{chars, encode_utf8_all, IsUtf8}
 use Rattle.std.proofs.lemmas.Bool.{and_parts, and_from, cases_eq, lt-ltb, ne_eqb, not-true}
+use Rattle.std.proofs.lemmas.List.{take-append-drop}
 use Rattle.std.proofs.lemmas.List.Folds.{list_all-append}
 use Rattle.std.proofs.lemmas.Str.{encodes-append, encodes-chars}
 use Rattle.lexical.specs.Piece.{Piece}
+use Rattle.literal_escaper.specs.declared.errors.EscapeError.{EscapeError}
+use Rattle.literal_escaper.specs.declared.errors.EscapeError.TheVariants as faults
+use Rattle.explain.specs.Words.{content_of, sentence_of}
+use Rattle.explain.specs.declared.explained.Explained.{Explained}
+use Rattle.explain.specs.declared.reason.Reason.{Reason}
+use Rattle.explain.specs.declared.reason.Reason.TheVariants as reasons
+use Rattle.highlight.specs.Mark.{Mark, Styled, Faulty, class_of, colour_of}
 use Rattle.highlight.specs.Style.{class, colour, depth_class, depth_colour}
-use Rattle.highlight.specs.Pieces.{AreAllPieces, Shown, all_shown, shown_from, unread}
+use Rattle.highlight.specs.Pieces.{AreAllPieces, Shown, all_shown, fault_of, faulty, first_position, shown_from, stuck}
+use Rattle.highlight.specs.Pieces.{unread}
 use Rattle.highlight.specs.Page.{IsMarked, anchor, escape, escaped, in_span, in_colour, line_past, marked_piece}
-use Rattle.highlight.specs.Page.{marked_pieces}
+use Rattle.highlight.specs.Page.{marked_pieces, marked_text}
 use Rattle.highlight.specs.Seen.{InTag, can_be_seen, closes_tag, plain, seen, stays_in_tag}
 use Rattle.highlight.specs.declared.style.Style.{Style}
 use Rattle.highlight.specs.declared.style.Style.TheVariants as styles
@@ -204,6 +214,65 @@ colour_stays styles.Unclosed = refl
 colour_stays styles.NoPiece = refl
 colour_stays styles.Unread = refl
 
+-- what is said of a fault ends no tag
+content_stays : (e : EscapeError) → stays_in_tag Html (content_of e) ≡ true
+unfolding content_of
+content_stays faults.ZeroChars = refl
+content_stays faults.MoreThanOneChar = refl
+content_stays faults.LoneSlash = refl
+content_stays faults.InvalidEscape = refl
+content_stays faults.BareCarriageReturn = refl
+content_stays faults.BareCarriageReturnInRawString = refl
+content_stays faults.EscapeOnlyChar = refl
+content_stays faults.TooShortHexEscape = refl
+content_stays faults.InvalidCharInHexEscape = refl
+content_stays faults.OutOfRangeHexEscape = refl
+content_stays faults.NoBraceInUnicodeEscape = refl
+content_stays faults.InvalidCharInUnicodeEscape = refl
+content_stays faults.EmptyUnicodeEscape = refl
+content_stays faults.UnclosedUnicodeEscape = refl
+content_stays faults.LeadingUnderscoreUnicodeEscape = refl
+content_stays faults.OverlongUnicodeEscape = refl
+content_stays faults.LoneSurrogateUnicodeEscape = refl
+content_stays faults.OutOfRangeUnicodeEscape = refl
+content_stays faults.UnicodeEscapeInByte = refl
+content_stays faults.NonAsciiCharInByte = refl
+content_stays faults.NulInCStr = refl
+content_stays faults.UnskippedWhitespaceWarning = refl
+content_stays faults.MultipleSkippedLinesWarning = refl
+
+sentence_stays : (reason : Reason) → stays_in_tag Html (sentence_of reason) ≡ true
+unfolding sentence_of
+sentence_stays reasons.UnclosedComment = refl
+sentence_stays reasons.BareReturnInDoc = refl
+sentence_stays reasons.UnclosedString = refl
+sentence_stays reasons.UnclosedRawString = refl
+sentence_stays reasons.TooManyHashes = refl
+sentence_stays reasons.HashesWithoutQuote = refl
+sentence_stays reasons.ReservedRawName = refl
+sentence_stays reasons.UnclosedCharacter = refl
+sentence_stays (reasons.Content e) = content_stays e
+sentence_stays reasons.DigitLifetime = refl
+sentence_stays reasons.HashAfterLifetime = refl
+sentence_stays reasons.NoDigits = refl
+sentence_stays reasons.BadDigit = refl
+sentence_stays reasons.BadNumberEnd = refl
+sentence_stays reasons.MisplacedMark = refl
+sentence_stays reasons.NoToken = refl
+sentence_stays reasons.StrayCloser = refl
+sentence_stays reasons.MismatchedCloser = refl
+sentence_stays reasons.UnclosedOpener = refl
+
+class_of_stays : (mark : Mark) → stays_in_tag Html (class_of mark) ≡ true
+class_of_stays (Styled style) = class_stays style
+class_of_stays (Faulty reason) =
+    list_all-append (λ c. not (closes_tag Html c)) (sentence_of reason) (codes "\"")
+    ∙ and_from _ _ (sentence_stays reason) refl
+
+colour_of_stays : (mark : Mark) → stays_in_tag Term (colour_of mark) ≡ true
+colour_of_stays (Styled style) = colour_stays style
+colour_of_stays (Faulty reason) = refl
+
 span_shows : (class written text : List ℕ) → stays_in_tag Html class ≡ true → Shows Html written text
     → Shows Html (in_span class written) text
 span_shows class written text stays shown =
@@ -228,11 +297,16 @@ colour_shows colour text stays =
     else (27 ∷ codes "[") ++ (colour ++ (codes "m" ++ (text ++ (27 ∷ codes "[0m"))))) text)
     [ true ↦ shown | false ↦ record { shows = tag.ends } ]
 
+text_shows : (format : Format) (line : ℕ) (mark : Mark) (text : List ℕ)
+    → Shows format (marked_text format line (class_of mark) (colour_of mark) text) text
+text_shows format line mark [] = Shows-nil format
+text_shows Html line mark (c ∷ text) =
+    span_shows (class_of mark) (escaped line (c ∷ text)) (c ∷ text) (class_of_stays mark)
+    (record { shows = λ can rest. escaped_shows line (c ∷ text) rest })
+text_shows Term line mark (c ∷ text) = colour_shows (colour_of mark) (c ∷ text) (colour_of_stays mark)
+
 piece_shows : (format : Format) (line : ℕ) (piece : Shown) → Shows format (marked_piece format line piece) piece.1
-piece_shows Html line piece =
-    span_shows (class piece.0) (escaped line piece.1) piece.1 (class_stays piece.0)
-    (record { shows = λ can rest. escaped_shows line piece.1 rest })
-piece_shows Term line piece = colour_shows (colour piece.0) piece.1 (colour_stays piece.0)
+piece_shows format line piece = text_shows format line piece.0 piece.1
 
 -- ---- all pieces
 
@@ -248,26 +322,50 @@ pieces_show format line (piece ∷ more) =
     Shows-append format _ _ piece.1 (texts more) (piece_shows format line piece)
     (pieces_show format (line_past format line piece.1) more)
 
-unread_texts : (rest : List ℕ) → texts (unread rest) ≡ encode_utf8_all rest
+stuck_texts : (rest : List ℕ) → texts (stuck rest) ≡ encode_utf8_all rest
 unfolding texts
-unread_texts [] = refl
-unread_texts (c ∷ rest) = rw (append-nil (encode_utf8 c), append-nil (encode_utf8_all rest)) refl
+stuck_texts [] = refl
+stuck_texts (c ∷ rest) = rw (append-nil (encode_utf8 c), append-nil (encode_utf8_all rest)) refl
 
-all_texts : (first : Bool) (source : List ℕ) (delimiters : List Style) (quote : Bool) (all : List Piece) (rest : List ℕ)
-    → AreAllPieces first source all rest → texts (shown_from delimiters quote all rest) ≡ encode_utf8_all source
+faulty_texts : (reason : Reason) (before size : ℕ) (text : List ℕ)
+    → texts (faulty reason before size text) ≡ encode_utf8_all text
 unfolding texts
-all_texts first source delimiters quote [] rest are = unread_texts rest ∙ ap encode_utf8_all (sym are.0)
-all_texts first source delimiters quote (piece ∷ more) rest are =
-    ap (λ l. encode_utf8_all piece.1 ++ l) (all_texts false are.0 _ _ more rest are.3)
+faulty_texts reason before size text =
+    let front = take before text in
+    let more = drop before text in
+    let here = take size more in
+    let after = drop size more in
+    ap (λ l. encode_utf8_all front ++ (encode_utf8_all here ++ l)) (append-nil (encode_utf8_all after))
+    ∙ ap (λ l. encode_utf8_all front ++ l)
+    (sym (encodes-append here after) ∙ ap encode_utf8_all (take-append-drop size more))
+    ∙ sym (encodes-append front more) ∙ ap encode_utf8_all (take-append-drop before text)
+
+unread_texts : (answer : Option Explained) (rest : List ℕ) → texts (unread answer rest) ≡ encode_utf8_all rest
+unread_texts None rest = stuck_texts rest
+unread_texts (Some x) rest =
+    let before = (fault_of x).span.lo - first_position in
+    let size = (fault_of x).span.hi - (fault_of x).span.lo in
+    elim (x.before.start == 0)
+    as (λ b. texts (if b then faulty x.reason before size rest else stuck rest) ≡ encode_utf8_all rest)
+    [ true ↦ faulty_texts x.reason before size rest | false ↦ stuck_texts rest ]
+
+all_texts : (answer : Option Explained) (first : Bool) (source : List ℕ) (delimiters : List Style) (quote : Bool)
+    (all : List Piece) (rest : List ℕ)
+    → AreAllPieces first source all rest → texts (shown_from answer delimiters quote all rest) ≡ encode_utf8_all source
+unfolding texts
+all_texts answer first source delimiters quote [] rest are =
+    unread_texts answer rest ∙ ap encode_utf8_all (sym are.0)
+all_texts answer first source delimiters quote (piece ∷ more) rest are =
+    ap (λ l. encode_utf8_all piece.1 ++ l) (all_texts answer false are.0 _ _ more rest are.3)
     ∙ sym (encodes-append piece.1 are.0) ∙ ap encode_utf8_all (sym are.1)
 
 -- of the text marked the text is seen, with the tags taken out and the escapes undone
 pub marked_shows : (format : Format) (text body : List ℕ) → IsUtf8 text → IsMarked format text body
     → IsTrue (can_be_seen format text) → plain format body ≡ text
 marked_shows format text body utf8 marked can =
-    let shown = all_shown marked.all marked.rest in
+    let shown = all_shown marked.answer marked.all marked.rest in
     let are : texts shown ≡ text =
-    all_texts true (chars text) _ false marked.all marked.rest marked.are ∙ encodes-chars text utf8 in
+    all_texts marked.answer true (chars text) _ false marked.all marked.rest marked.are ∙ encodes-chars text utf8 in
     ap (plain format) (marked.is ∙ sym (append-nil _))
     ∙ (pieces_show format 1 shown).shows (subst (λ l. IsTrue (can_be_seen format l)) (sym are) can) []
     ∙ append-nil (texts shown) ∙ are

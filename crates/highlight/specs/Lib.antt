@@ -1,4 +1,5 @@
 pub mod Style
+pub mod Mark
 pub mod Delimiters
 pub mod Nesting
 pub mod Pieces

@@ -1,10 +1,13 @@
 -- What is written: a page for a browser, or a terminal's colours.
 use Rattle.std.specs.Prelude.{ℕ, ◌≡◌, ◌+◌, ◌==◌, List, [], ◌∷◌, ◌++◌, true, codes, length, if◌then◌else◌}
+use Rattle.std.specs.Prelude.{MatchOption, Option}
 use Rattle.std.specs.Fmt.{decimal}
 use Rattle.std.specs.Str.{chars}
 use Rattle.lexical.specs.Piece.{Piece}
-use Rattle.highlight.specs.Style.{class, colour}
-use Rattle.highlight.specs.Pieces.{AreAllPieces, Shown, all_shown}
+use Rattle.explain.specs.Explained.{IsExplained, Parses}
+use Rattle.explain.specs.declared.explained.Explained.{Explained}
+use Rattle.highlight.specs.Mark.{class_of, colour_of}
+use Rattle.highlight.specs.Pieces.{AreAllPieces, Shown, all_shown, first_position}
 use Rattle.highlight.specs.declared.format.Format.{Format}
 use Rattle.highlight.specs.declared.format.Format.TheVariants.{Html, Term}
 
@@ -50,9 +53,14 @@ in_colour colour text =
     if length colour == 0 then text
     else (27 ∷ codes "[") ++ (colour ++ (codes "m" ++ (text ++ (27 ∷ codes "[0m"))))
 
+-- of this class or in this colour; no mark has nothing in it
+abbrev pub marked_text : Format → ℕ → List ℕ → List ℕ → List ℕ → List ℕ
+marked_text format line class colour [] = []
+marked_text Html line class colour (c ∷ text) = in_span class (escaped line (c ∷ text))
+marked_text Term line class colour (c ∷ text) = in_colour colour (c ∷ text)
+
 abbrev pub marked_piece : Format → ℕ → Shown → List ℕ
-marked_piece Html line piece = in_span (class piece.0) (escaped line piece.1)
-marked_piece Term line piece = in_colour (colour piece.0) piece.1
+marked_piece format line piece = marked_text format line (class_of piece.0) (colour_of piece.0) piece.1
 
 -- all of them, from this line on
 abbrev pub marked_pieces : Format → ℕ → List Shown → List ℕ
@@ -60,12 +68,14 @@ marked_pieces format line [] = []
 marked_pieces format line (piece ∷ more) =
     marked_piece format line piece ++ marked_pieces format (line_past format line piece.1) more
 
--- the text marked: its pieces one after the other, and what follows them
+-- the text marked: its pieces one after the other, and what follows them, by the reason why that doesn't parse
 pub record IsMarked (format : Format) (text body : List ℕ) : Type 0 where
   pub all : List Piece
   pub rest : List ℕ
   pub are : AreAllPieces true (chars text) all rest
-  pub is : body ≡ marked_pieces format 1 (all_shown all rest)
+  pub answer : Option Explained
+  pub explained : MatchOption answer (Parses first_position rest) (IsExplained first_position rest)
+  pub is : body ≡ marked_pieces format 1 (all_shown answer all rest)
 
 -- ---- what stands around them
 

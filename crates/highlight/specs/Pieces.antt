@@ -1,10 +1,16 @@
 -- The pieces of a text, each with its style.
-use Rattle.std.specs.Prelude.{ℕ, ◌≡◌, Bool, true, false, ◌==◌, List, [], ◌∷◌, ◌++◌}
+use Rattle.std.specs.Prelude.{ℕ, ◌≡◌, ◌-◌, Bool, true, false, ◌==◌, List, [], ◌∷◌, ◌++◌, Option, Some, None}
+use Rattle.std.specs.Prelude.{drop, if◌then◌else◌, take}
 use Rattle.std.specs.Str.{encode_utf8_all}
 use Rattle.lexical.specs.Token as tokens
 use Rattle.lexical.specs.Token.{Token}
 use Rattle.lexical.specs.Piece as pieces
 use Rattle.lexical.specs.Piece.{Piece, Kind, IsPiece, HasNoPiece}
+use Rattle.pm_span.specs.Files.{new_map, next_lo}
+use Rattle.explain.specs.declared.explained.Explained.{Explained}
+use Rattle.explain.specs.declared.explained.Stretch.{Stretch}
+use Rattle.explain.specs.declared.reason.Reason.{Reason}
+use Rattle.highlight.specs.Mark.{Mark, Styled, Faulty}
 use Rattle.highlight.specs.Style.{kind_style}
 use Rattle.highlight.specs.Delimiters.{delimiter_styles}
 use Rattle.highlight.specs.declared.style.Style.{Style}
@@ -17,9 +23,9 @@ AreAllPieces first source (piece ∷ more) rest =
     (after : List ℕ) × (source ≡ piece.1 ++ after) × IsPiece first piece.0 piece.1 after
     × AreAllPieces false after more rest
 
--- a style, and the bytes that are shown in it
+-- a mark, and the bytes that have it
 abbrev pub Shown : Type 0
-Shown = Style × List ℕ
+Shown = Mark × List ℕ
 
 -- the mark `'` (39)
 abbrev pub is_quote : Kind → Bool
@@ -66,21 +72,45 @@ styles_left delimiters (pieces.Open c) = more_styles delimiters
 styles_left delimiters (pieces.Close c) = more_styles delimiters
 styles_left delimiters (pieces.Leaf token) = delimiters
 
--- where no piece stands its first character is a fault, and what follows is not read
-abbrev pub unread : List ℕ → List Shown
-unread [] = []
-unread (c ∷ rest) = (styles.NoPiece, encode_utf8_all (c ∷ [])) ∷ (styles.Unread, encode_utf8_all rest) ∷ []
+-- the position of a text's first character
+abbrev pub first_position : ℕ
+first_position = next_lo new_map
 
--- the pieces and the rest, each with its style
-abbrev pub shown_from : List Style → Bool → List Piece → List ℕ → List Shown
-shown_from delimiters quote [] rest = unread rest
-shown_from delimiters quote (piece ∷ more) rest =
-    (piece_style delimiters quote piece.0 (encode_utf8_all piece.1), encode_utf8_all piece.1)
-    ∷ shown_from (styles_left delimiters piece.0) (is_quote piece.0) more rest
+-- what is marked for a reason: what is at fault, or what stands before it where that is nothing, as at a text's end
+abbrev pub fault_of : Explained → Stretch
+fault_of x = if x.at.start == x.at.end then x.before else x.at
+
+-- for the reason so many characters are at fault after so many others; what stands around them is not read
+abbrev pub faulty : Reason → ℕ → ℕ → List ℕ → List Shown
+faulty reason before size text =
+    (Styled styles.Unread, encode_utf8_all (take before text))
+    ∷ (Faulty reason, encode_utf8_all (take size (drop before text)))
+    ∷ (Styled styles.Unread, encode_utf8_all (drop size (drop before text))) ∷ []
+
+-- for no known reason the first character is
+abbrev pub stuck : List ℕ → List Shown
+stuck [] = []
+stuck (c ∷ rest) =
+    (Styled styles.NoPiece, encode_utf8_all (c ∷ [])) ∷ (Styled styles.Unread, encode_utf8_all rest) ∷ []
+
+-- the rest, where no piece stands, if there is one: for the reason why it doesn't parse, if that holds at its front
+abbrev pub unread : Option Explained → List ℕ → List Shown
+unread None rest = stuck rest
+unread (Some x) rest =
+    if x.before.start == 0
+    then faulty x.reason ((fault_of x).span.lo - first_position) ((fault_of x).span.hi - (fault_of x).span.lo) rest
+    else stuck rest
+
+-- the pieces and the rest, each with its mark
+abbrev pub shown_from : Option Explained → List Style → Bool → List Piece → List ℕ → List Shown
+shown_from answer delimiters quote [] rest = unread answer rest
+shown_from answer delimiters quote (piece ∷ more) rest =
+    (Styled (piece_style delimiters quote piece.0 (encode_utf8_all piece.1)), encode_utf8_all piece.1)
+    ∷ shown_from answer (styles_left delimiters piece.0) (is_quote piece.0) more rest
 
 abbrev pub is_nil : List ℕ → Bool
 is_nil [] = true
 is_nil (c ∷ rest) = false
 
-abbrev pub all_shown : List Piece → List ℕ → List Shown
-all_shown all rest = shown_from (delimiter_styles (is_nil rest) [] [] all) false all rest
+abbrev pub all_shown : Option Explained → List Piece → List ℕ → List Shown
+all_shown answer all rest = shown_from answer (delimiter_styles (is_nil rest) [] [] all) false all rest

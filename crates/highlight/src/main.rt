@@ -2,8 +2,8 @@
 //!
 //! `highlight html FILE` writes the page, `highlight term FILE` the colours; without a file they read
 //! standard input. The status is 0 where all was written, also of a text with faults, which are
-//! marked. It is 2 where the words ask for nothing, a read or a write failed, the input isn't UTF-8,
-//! or memory ran out; a line on standard error says so, but nothing where nobody reads the output any more.
+//! marked. It is 2 where the words ask for nothing, a read or a write failed, the input isn't UTF-8 or too
+//! long, or memory ran out; a line on standard error says so, but nothing where nobody reads the output any more.
 #![tactic(auto)]
 
 mod answer;
@@ -12,6 +12,7 @@ mod marking;
 mod nesting;
 mod page;
 mod style;
+mod unread;
 mod writing;
 
 use answer::write_marked;

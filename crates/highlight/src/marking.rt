@@ -1,25 +1,30 @@
 //! A text with its pieces marked.
-ghost use Rattle.std.specs.Prelude.{◌≡◌, ◌++◌, IfOk, List, OnOk, [], true, ℕ, reverse, string_bytes};
+ghost use Rattle.std.specs.Prelude.{◌≡◌, ◌++◌, IfOk, List, MatchOption, [], true, ℕ, reverse};
+ghost use Rattle.std.specs.Prelude.{string_bytes};
 ghost use Rattle.std.specs.Str.{chars};
 ghost use Rattle.lexical.specs.Found.{kind_of};
 ghost use Rattle.lexical.specs.Piece.{Piece};
+ghost use Rattle.explain.specs.Explained.{IsExplained, Parses};
 ghost use Rattle.highlight.specs.Delimiters.{delimiter_styles};
-ghost use Rattle.highlight.specs.Page.{IsMarked, marked_pieces};
-ghost use Rattle.highlight.specs.Pieces.{AreAllPieces, is_nil, is_quote, piece_style, styles_left, unread};
+ghost use Rattle.highlight.specs.Page.{IsMarked};
+ghost use Rattle.highlight.specs.Pieces.{AreAllPieces, first_position, is_nil, is_quote, piece_style, styles_left};
 
 use crate::format::Format;
 use crate::nesting::Nesting;
 use crate::style::{Style, style_of};
+use crate::unread::push_unread;
 use crate::writing::Sheet;
+use explain::{ExplainError, Explained, explain};
+use messages::Failure;
 use proc_macro2::{PieceKind, PlacedPiece, pieces};
 use std::alloc::{AllocError, Global};
 
 /// The text with its pieces marked.
 ///
 /// A closer that matches no opener is marked as a fault, and so is an opener that is never closed, as
-/// far as that is known where the text isn't read whole. So is the first character of what begins no
-/// piece; what follows it is not read.
-pub fn marked(alloc: Global, format: Format, text: &str) -> Result<String, AllocError>
+/// far as that is known where the text isn't read whole. Where no piece stands what is at fault is
+/// marked, with the reason why; what stands around it is not read.
+pub fn marked(alloc: Global, format: Format, text: &str) -> Result<String, Failure>
     ensures { IfOk result (λ out. IsMarked format text.now (string_bytes out)) }
 {
     let mut styling = Styling {
@@ -32,7 +37,8 @@ pub fn marked(alloc: Global, format: Format, text: &str) -> Result<String, Alloc
         let style = styling.style_of(next);
         sheet.push_piece(style, next.text)?;
     }
-    push_rest(&mut sheet, walk.rest())?;
+    let answer = explained(alloc, walk.rest())?;
+    push_unread(alloc, &mut sheet, &answer, walk.rest())?;
     Ok(sheet.out)
 }
 
@@ -93,16 +99,14 @@ fn is_quote(kind: PieceKind<'_>) -> bool
     }
 }
 
-// Appends what follows the pieces.
-fn push_rest(sheet: &mut Sheet, rest: &str) -> Result<(), AllocError>
-    ensures { OnOk result (string_bytes sheet.new.out ≡ string_bytes sheet.old.out
-        ++ marked_pieces sheet.old.format sheet.old.line (unread (chars rest.now))) }
+// Why the text doesn't parse, if it doesn't.
+fn explained(alloc: Global, text: &str) -> Result<Option<Explained>, Failure>
+    ensures { IfOk result (λ answer. MatchOption answer
+        (Parses first_position (chars text.now)) (IsExplained first_position (chars text.now))) }
 {
-    let mut after = rest.chars();
-    let Some(first) = after.next() else {
-        return Ok(());
-    };
-    sheet.push_piece(Style::NoPiece, first.encode_utf8(&mut [0; 4]))?;
-    sheet.push_piece(Style::Unread, after.as_str())?;
-    Ok(())
+    match explain(alloc, text) {
+        Ok(answer) => Ok(answer),
+        Err(ExplainError::MapFull) => Err(Failure::MapFull),
+        Err(ExplainError::Memory(_)) => Err(Failure::Memory),
+    }
 }

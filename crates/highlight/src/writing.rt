@@ -1,9 +1,12 @@
 //! Appends pieces to what is written, marked.
 ghost use Rattle.std.specs.Prelude.{◌≡◌, ◌+◌, ◌++◌, [], OnOk, codes, encode_utf8, string_bytes};
+ghost use Rattle.highlight.specs.Mark.{Faulty, Styled};
 ghost use Rattle.highlight.specs.Page.{anchor, escaped, in_span, in_colour, line_after, line_past, marked_piece};
+ghost use Rattle.highlight.specs.Page.{marked_text};
 
 use crate::format::Format;
 use crate::style::Style;
+use explain::Reason;
 use std::alloc::{AllocError, Global};
 
 /// What is written so far.
@@ -33,13 +36,46 @@ impl Sheet {
     /// Appends the text of a piece, marked by its style.
     pub fn push_piece(&mut self, style: Style, text: &str) -> Result<(), AllocError>
         ensures shown { OnOk result (string_bytes self.new.out
-            ≡ string_bytes self.old.out ++ marked_piece self.old.format self.old.line (style, text.now)) }
+            ≡ string_bytes self.old.out
+            ++ marked_piece self.old.format self.old.line (Styled style, text.now)) }
         ensures line { OnOk result (self.new.line ≡ line_past self.old.format self.old.line text.now) }
         ensures kept { self.new.format ≡ self.old.format }
     {
+        self.push_marked(style.class(), style.colour(), text)
+    }
+
+    /// Appends what is at fault for the reason, with what that says.
+    pub fn push_faulty(
+        &mut self,
+        alloc: Global,
+        reason: &Reason,
+        text: &str,
+    ) -> Result<(), AllocError>
+        ensures shown { OnOk result (string_bytes self.new.out
+            ≡ string_bytes self.old.out
+            ++ marked_piece self.old.format self.old.line (Faulty reason.now, text.now)) }
+        ensures line { OnOk result (self.new.line ≡ line_past self.old.format self.old.line text.now) }
+        ensures kept { self.new.format ≡ self.old.format }
+    {
+        let class = format!(in alloc; "x title=\"{}\"", reason.message())?;
+        self.push_marked(class.as_str(), Style::NoPiece.colour(), text)
+    }
+
+    // Appends the text in this class or in this colour, but no mark with nothing in it.
+    #[tactic(auto, using(crate::proofs::MarkLemmas::marks))]
+    fn push_marked(&mut self, class: &str, colour: &str, text: &str) -> Result<(), AllocError>
+        ensures shown { OnOk result (string_bytes self.new.out
+            ≡ string_bytes self.old.out
+            ++ marked_text self.old.format self.old.line class.now colour.now text.now) }
+        ensures line { OnOk result (self.new.line ≡ line_past self.old.format self.old.line text.now) }
+        ensures kept { self.new.format ≡ self.old.format }
+    {
+        if text.is_empty() {
+            return Ok(());
+        }
         match self.format {
-            Format::Html => self.push_span(style.class(), text),
-            Format::Term => self.push_coloured(style.colour(), text),
+            Format::Html => self.push_span(class, text),
+            Format::Term => self.push_coloured(colour, text),
         }
     }
 

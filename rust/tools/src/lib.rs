@@ -38,6 +38,7 @@ pub mod highlight {
     mod nesting;
     mod page;
     mod style;
+    mod unread;
     mod writing;
 }
 

@@ -11,9 +11,9 @@ use proved::shim::io::Write;
 /// Writes the text with its pieces marked, a page between its head and its foot. All of it stands in
 /// memory before the first byte is written.
 ///
-/// What is written is exactly the format's function of the pieces of the text. A reader who leaves out
-/// the tags and undoes the escapes sees the text; for a terminal, a text without ESC. After an error
-/// a beginning of what is to be written stands.
+/// What is written is exactly the format's function of the pieces of the text, and of the reason why
+/// what follows them doesn't parse. A reader who leaves out the tags and undoes the escapes sees the
+/// text; for a terminal, a text without ESC. After an error a beginning of what is to be written stands.
 pub fn write_marked<W: Write>(
     alloc: Global,
     format: Format,

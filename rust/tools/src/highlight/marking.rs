@@ -6,16 +6,19 @@ use proved::shim::prelude::{String, Vec};
 use crate::highlight::format::Format;
 use crate::highlight::nesting::Nesting;
 use crate::highlight::style::{Style, style_of};
+use crate::highlight::unread::push_unread;
 use crate::highlight::writing::Sheet;
+use proved::explain::{ExplainError, Explained, explain};
+use crate::messages::Failure;
 use proved::proc_macro2::{PieceKind, PlacedPiece, pieces};
 use proved::shim::alloc::{AllocError, Global};
 
 /// The text with its pieces marked.
 ///
 /// A closer that matches no opener is marked as a fault, and so is an opener that is never closed, as
-/// far as that is known where the text isn't read whole. So is the first character of what begins no
-/// piece; what follows it is not read.
-pub fn marked(alloc: Global, format: Format, text: &str) -> Result<String, AllocError>
+/// far as that is known where the text isn't read whole. Where no piece stands what is at fault is
+/// marked, with the reason why; what stands around it is not read.
+pub fn marked(alloc: Global, format: Format, text: &str) -> Result<String, Failure>
 {
     let mut styling = Styling {
         delimiters: styles_of_delimiters(alloc, text)?,
@@ -27,7 +30,8 @@ pub fn marked(alloc: Global, format: Format, text: &str) -> Result<String, Alloc
         let style = styling.style_of(next);
         sheet.push_piece(style, next.text)?;
     }
-    push_rest(&mut sheet, walk.rest())?;
+    let answer = explained(alloc, walk.rest())?;
+    push_unread(alloc, &mut sheet, &answer, walk.rest())?;
     Ok(sheet.out)
 }
 
@@ -77,14 +81,12 @@ fn is_quote(kind: PieceKind<'_>) -> bool
     }
 }
 
-// Appends what follows the pieces.
-fn push_rest(sheet: &mut Sheet, rest: &str) -> Result<(), AllocError>
+// Why the text doesn't parse, if it doesn't.
+fn explained(alloc: Global, text: &str) -> Result<Option<Explained>, Failure>
 {
-    let mut after = rest.chars();
-    let Some(first) = after.next() else {
-        return Ok(());
-    };
-    sheet.push_piece(Style::NoPiece, first.encode_utf8(&mut [0; 4]))?;
-    sheet.push_piece(Style::Unread, after.as_str())?;
-    Ok(())
+    match explain(alloc, text) {
+        Ok(answer) => Ok(answer),
+        Err(ExplainError::MapFull) => Err(Failure::MapFull),
+        Err(ExplainError::Memory(_)) => Err(Failure::Memory),
+    }
 }

@@ -1,10 +1,11 @@
 // Made from crates/highlight/src/writing.rt by rust/erase: change that file, not this one.
 //! Appends pieces to what is written, marked.
 
-use proved::shim::prelude::String;
+use proved::shim::prelude::{String, format};
 
 use crate::highlight::format::Format;
 use crate::highlight::style::Style;
+use proved::explain::Reason;
 use proved::shim::alloc::{AllocError, Global};
 
 /// What is written so far.
@@ -30,9 +31,30 @@ impl Sheet {
     /// Appends the text of a piece, marked by its style.
     pub fn push_piece(&mut self, style: Style, text: &str) -> Result<(), AllocError>
     {
+        self.push_marked(style.class(), style.colour(), text)
+    }
+
+    /// Appends what is at fault for the reason, with what that says.
+    pub fn push_faulty(
+        &mut self,
+        alloc: Global,
+        reason: &Reason,
+        text: &str,
+    ) -> Result<(), AllocError>
+    {
+        let class = format!(in alloc; "x title=\"{}\"", reason.message())?;
+        self.push_marked(class.as_str(), Style::NoPiece.colour(), text)
+    }
+
+    // Appends the text in this class or in this colour, but no mark with nothing in it.
+    fn push_marked(&mut self, class: &str, colour: &str, text: &str) -> Result<(), AllocError>
+    {
+        if text.is_empty() {
+            return Ok(());
+        }
         match self.format {
-            Format::Html => self.push_span(style.class(), text),
-            Format::Term => self.push_coloured(style.colour(), text),
+            Format::Html => self.push_span(class, text),
+            Format::Term => self.push_coloured(colour, text),
         }
     }
 

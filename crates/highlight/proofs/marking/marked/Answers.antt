@@ -1,24 +1,25 @@
-use Rattle.std.proofs.Common.{◌≡◌, ◌++◌, ◌∙◌, [], ◌∷◌, ap, refl, reverse, string_bytes}
+use Rattle.std.proofs.Common.{◌≡◌, ◌++◌, ◌∙◌, [], ◌∷◌, MatchOption, ap, refl, reverse, string_bytes, subst}
 use Rattle.std.specs.Str.{chars}
 use Rattle.std.proofs.lemmas.Str.{encodes-chars}
 use Rattle.lexical.specs.Found.{kind_of}
 use Rattle.lexical.specs.declared.walk.PieceWalk.{PieceWalk}
+use Rattle.explain.specs.Explained.{IsExplained, Parses}
 use Rattle.highlight.specs.Page.{marked_pieces}
-use Rattle.highlight.specs.Pieces.{unread}
+use Rattle.highlight.specs.Pieces.{first_position, unread}
 use Rattle.highlight.proofs.PieceLemmas.{all_from, marked_end, marked_step}
 use Rattle.highlight.proofs.marking.marked.Goals as goal
 
 pub loop-next-preserved : goal.loop-next-preserved
 loop-next-preserved c = record {
   format = c.in_ok-push_piece.ensures.kept ∙ c.loop-next.invariant.format;
-  shown = λ more rest are.
+  shown = λ answer more rest are.
       let words = chars c.in-Some.next.text.now in
       let kind = kind_of c.in-Some.next.piece.kind words in
-      let before = c.loop-next.invariant.shown ((kind, words) ∷ more) rest
+      let before = c.loop-next.invariant.shown answer ((kind, words) ∷ more) rest
       (all_from _ _ _ more rest c.in-Some.ensures.found are) in (
         before.0,
         before.1,
-        marked_step c.args.format c.loop-next.sheet.format c.loop-next.sheet.line c.push_piece.new.self.line
+        marked_step c.args.format c.loop-next.sheet.format answer c.loop-next.sheet.line c.push_piece.new.self.line
             (string_bytes c.loop-next.sheet.out) (string_bytes c.push_piece.new.self.out) _ c.in-Some.next.text.now
             words
             c.style_of-style.result (reverse c.loop-next.styling.delimiters.items)
@@ -33,15 +34,23 @@ loop-next-preserved c = record {
 
 pub returns : goal.returns
 returns c =
-    let all = c.loop-next.invariant.shown [] (chars c.loop-next.walk.rest.now) (refl, c.in_default.ensures.none) in
+    let answer = c.in_ok-answer.answer in
+    let all = c.loop-next.invariant.shown answer [] (chars c.loop-next.walk.rest.now)
+    (refl, c.in_default.ensures.none) in
     let delimiters = c.in_ok-styles_of_delimiters.ensures in
     let same : c.rest.result.now ≡ c.loop-next.walk.rest.now =
     c.rest.ensures.rest ∙ ap (λ (walk : PieceWalk). walk.rest.now) c.in_default.ensures.unchanged in
-    marked_end c.args.format c.loop-next.sheet.format c.args.text.now (string_bytes c.loop-next.sheet.out)
-    (string_bytes c.push_rest.new.sheet.out) c.loop-next.sheet.line
+    let same-2 : c.rest-2.result.now ≡ c.loop-next.walk.rest.now =
+    c.rest-2.ensures.rest ∙ ap (λ (walk : PieceWalk). walk.rest.now) c.in_default.ensures.unchanged in
+    let explained : MatchOption answer (Parses first_position (chars c.loop-next.walk.rest.now))
+    (IsExplained first_position (chars c.loop-next.walk.rest.now)) =
+    subst (λ l. MatchOption answer (Parses first_position (chars l)) (IsExplained first_position (chars l))) same
+    c.in_ok-answer.ensures in
+    marked_end c.args.format c.loop-next.sheet.format answer c.args.text.now (string_bytes c.loop-next.sheet.out)
+    (string_bytes c.push_unread.new.sheet.out) c.loop-next.sheet.line
     (reverse c.in_ok-styles_of_delimiters.field-0.items)
     (chars c.loop-next.walk.rest.now) delimiters.1 all.0 delimiters.0
-    all.1 delimiters.2 delimiters.3 c.loop-next.invariant.format
-    (c.in_ok-push_rest.ensures ∙ ap (λ l. string_bytes c.loop-next.sheet.out
-    ++ marked_pieces c.loop-next.sheet.format c.loop-next.sheet.line (unread (chars l))) same)
+    all.1 delimiters.2 explained delimiters.3 c.loop-next.invariant.format
+    (c.in_ok-push_unread.ensures ∙ ap (λ l. string_bytes c.loop-next.sheet.out
+    ++ marked_pieces c.loop-next.sheet.format c.loop-next.sheet.line (unread answer (chars l))) same-2)
     all.2

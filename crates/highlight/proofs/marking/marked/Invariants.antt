@@ -1,5 +1,6 @@
-use Rattle.std.proofs.Common.{◌≡◌, ◌++◌, ℕ, true, false, List, length, reverse, string_bytes}
+use Rattle.std.proofs.Common.{◌≡◌, ◌++◌, ℕ, true, false, List, Option, length, reverse, string_bytes}
 use Rattle.std.specs.Str.{chars}
+use Rattle.explain.specs.declared.explained.Explained.{Explained}
 use Rattle.lexical.specs.Piece.{Piece}
 use Rattle.highlight.specs.Page.{marked_pieces}
 use Rattle.highlight.specs.Pieces.{AreAllPieces, shown_from}
@@ -9,11 +10,12 @@ use Rattle.highlight.proofs.marking.marked.Given as goal
 abbrev pub invariant-loop-next : goal.invariant-loop-next
 invariant-loop-next l = record {
   format : l.sheet.format ≡ l.fn.format;
-  shown : (more : List Piece) (rest : List ℕ) → AreAllPieces l.walk.at_front (chars l.walk.rest.now) more rest
+  shown : (answer : Option Explained) (more : List Piece) (rest : List ℕ)
+      → AreAllPieces l.walk.at_front (chars l.walk.rest.now) more rest
       → (all : List Piece) × AreAllPieces true (chars l.text) all rest
       × (string_bytes l.sheet.out ++ marked_pieces l.fn.format l.sheet.line
-      (shown_from (reverse l.styling.delimiters.items) l.styling.is_after_quote more rest)
-      ≡ marked_pieces l.fn.format 1 (shown_from (reverse l.initial.styling.delimiters.items) false all rest));
+      (shown_from answer (reverse l.styling.delimiters.items) l.styling.is_after_quote more rest)
+      ≡ marked_pieces l.fn.format 1 (shown_from answer (reverse l.initial.styling.delimiters.items) false all rest));
 }
 
 abbrev pub decreases-loop-next : goal.decreases-loop-next
