@@ -1,5 +1,7 @@
 //! The signs of trees: each is one tree, or two that are read as one.
-ghost use Rattle.std.specs.Prelude.{◌≡◌, [], MatchOption};
+ghost use Rattle.std.specs.Prelude.{◌≡◌, [], MatchOption, get_or, nat_eq};
+ghost use Rattle.std.specs.Cmp.Lexicographic.{pointwise};
+ghost use Rattle.pm_token.specs.Spelling.{name_text, spelled, spelling};
 ghost use Rattle.pm_stream.specs.Trees.{forest};
 ghost use Rattle.declarations.specs.Signs.{BeginsWith, group_class, is_early_keyword};
 ghost use Rattle.declarations.specs.Signs.{is_late_keyword, is_pub, is_restriction, is_truth, is_visibility};
@@ -232,78 +234,103 @@ fn operator_class(mark: char) -> Class
     }
 }
 
+// It is compared with those words alone that begin as it does: the compiler makes one choice of the tests of `first`.
 pub(crate) fn name_class(ident: &Ident) -> Class
     ensures { result ≡ name_class ident.now }
 {
-    if let Some(class) = path_class(ident) {
+    let first = ident.first_byte();
+    if let Some(class) = path_class(ident, first) {
         return class;
     }
-    if let Some(class) = operand_class(ident) {
+    if let Some(class) = operand_class(ident, first) {
         return class;
     }
-    match keyword_of(ident) {
+    match keyword_of(ident, first) {
         Some(keyword) => Class::Keyword(keyword),
-        None => Class::Word(word_of(ident)),
+        None => Class::Word(word_of(ident, first)),
+    }
+}
+
+// Whether the identifier, whose first byte is this one, is written so.
+#[inline(always)]
+fn is_written(ident: &Ident, first: u8, text: &str) -> bool
+    requires { first ≡ get_or (spelling ident.now) 0 0 }
+    ensures { result ≡ pointwise nat_eq (name_text ident.now) (spelled text.now) }
+{
+    match text.as_bytes().split_first() {
+        Some((byte, _)) => *byte == first && ident.eq_str(text),
+        None => ident.eq_str(text),
     }
 }
 
 // The keywords that stand in a path.
-fn path_class(ident: &Ident) -> Option<Class>
+#[inline(always)]
+fn path_class(ident: &Ident, first: u8) -> Option<Class>
+    requires { first ≡ get_or (spelling ident.now) 0 0 }
     ensures { result ≡ path_class ident.now }
 {
-    if ident.eq_str("self") {
+    if is_written(ident, first, "self") {
         return Some(Class::SelfValue);
     }
-    if ident.eq_str("Self") {
+    if is_written(ident, first, "Self") {
         return Some(Class::SelfType);
     }
-    if ident.eq_str("super") {
+    if is_written(ident, first, "super") {
         return Some(Class::Super);
     }
-    if ident.eq_str("crate") {
+    if is_written(ident, first, "crate") {
         return Some(Class::Crate);
     }
-    if ident.eq_str("_") {
+    if is_written(ident, first, "_") {
         return Some(Class::Underscore);
     }
     None
 }
 
 // The keywords that are operands, or stand before or after one that may be left out.
-fn operand_class(ident: &Ident) -> Option<Class>
+#[inline(always)]
+fn operand_class(ident: &Ident, first: u8) -> Option<Class>
+    requires { first ≡ get_or (spelling ident.now) 0 0 }
     ensures { result ≡ operand_class ident.now }
 {
-    if is_truth(ident) {
+    if is_truth(ident, first) {
         return Some(Class::Truth);
     }
-    if ident.eq_str("as") {
+    if is_written(ident, first, "as") {
         return Some(Class::As);
     }
-    if ident.eq_str("await") || ident.eq_str("continue") {
+    if is_written(ident, first, "await") || is_written(ident, first, "continue") {
         return Some(Class::Await);
     }
-    if ident.eq_str("return") || ident.eq_str("break") || ident.eq_str("yield") {
+    if is_written(ident, first, "return")
+        || is_written(ident, first, "break")
+        || is_written(ident, first, "yield")
+    {
         return Some(Class::Jump);
     }
     None
 }
 
-fn is_truth(ident: &Ident) -> bool
+#[inline(always)]
+fn is_truth(ident: &Ident, first: u8) -> bool
+    requires { first ≡ get_or (spelling ident.now) 0 0 }
     ensures { result ≡ is_truth ident.now }
 {
-    ident.eq_str("true") || ident.eq_str("false")
+    is_written(ident, first, "true") || is_written(ident, first, "false")
 }
 
-fn keyword_of(ident: &Ident) -> Option<Keyword>
+#[inline(always)]
+fn keyword_of(ident: &Ident, first: u8) -> Option<Keyword>
+    requires { first ≡ get_or (spelling ident.now) 0 0 }
     ensures { result ≡ keyword_of ident.now }
 {
-    if let Some(keyword) = item_keyword(ident) {
+    if let Some(keyword) = item_keyword(ident, first) {
         return Some(keyword);
     }
-    if let Some(keyword) = type_keyword(ident) {
+    if let Some(keyword) = type_keyword(ident, first) {
         return Some(keyword);
     }
-    if is_early_keyword(ident) || is_late_keyword(ident) {
+    if is_early_keyword(ident, first) || is_late_keyword(ident, first) {
         Some(Keyword::Other)
     } else {
         None
@@ -311,119 +338,129 @@ fn keyword_of(ident: &Ident) -> Option<Keyword>
 }
 
 // The keywords that begin items alone.
-fn item_keyword(ident: &Ident) -> Option<Keyword>
+#[inline(always)]
+fn item_keyword(ident: &Ident, first: u8) -> Option<Keyword>
+    requires { first ≡ get_or (spelling ident.now) 0 0 }
     ensures { result ≡ item_keyword ident.now }
 {
-    if ident.eq_str("struct") {
+    if is_written(ident, first, "struct") {
         return Some(Keyword::Struct);
     }
-    if ident.eq_str("enum") {
+    if is_written(ident, first, "enum") {
         return Some(Keyword::Enum);
     }
-    if ident.eq_str("static") {
+    if is_written(ident, first, "static") {
         return Some(Keyword::Static);
     }
-    if ident.eq_str("trait") {
+    if is_written(ident, first, "trait") {
         return Some(Keyword::Trait);
     }
-    if ident.eq_str("type") {
+    if is_written(ident, first, "type") {
         return Some(Keyword::Type);
     }
-    if ident.eq_str("mod") {
+    if is_written(ident, first, "mod") {
         return Some(Keyword::Mod);
     }
-    if ident.eq_str("macro") {
+    if is_written(ident, first, "macro") {
         return Some(Keyword::Macro);
     }
-    if ident.eq_str("pub") {
+    if is_written(ident, first, "pub") {
         return Some(Keyword::Pub);
     }
-    if ident.eq_str("where") {
+    if is_written(ident, first, "where") {
         return Some(Keyword::Where);
     }
     None
 }
 
 // The keywords before a type's operand.
-fn type_keyword(ident: &Ident) -> Option<Keyword>
+#[inline(always)]
+fn type_keyword(ident: &Ident, first: u8) -> Option<Keyword>
+    requires { first ≡ get_or (spelling ident.now) 0 0 }
     ensures { result ≡ type_keyword ident.now }
 {
-    if ident.eq_str("mut") {
+    if is_written(ident, first, "mut") {
         return Some(Keyword::Mut);
     }
-    if ident.eq_str("const") {
+    if is_written(ident, first, "const") {
         return Some(Keyword::Const);
     }
-    if ident.eq_str("extern") {
+    if is_written(ident, first, "extern") {
         return Some(Keyword::Extern);
     }
-    if ident.eq_str("for") {
+    if is_written(ident, first, "for") {
         return Some(Keyword::For);
     }
-    if ident.eq_str("dyn") {
+    if is_written(ident, first, "dyn") {
         return Some(Keyword::Dyn);
     }
-    if ident.eq_str("impl") {
+    if is_written(ident, first, "impl") {
         return Some(Keyword::Impl);
     }
-    if ident.eq_str("unsafe") {
+    if is_written(ident, first, "unsafe") {
         return Some(Keyword::Unsafe);
     }
-    if ident.eq_str("async") {
+    if is_written(ident, first, "async") {
         return Some(Keyword::Async);
     }
-    if ident.eq_str("fn") {
+    if is_written(ident, first, "fn") {
         return Some(Keyword::Fn);
     }
-    if ident.eq_str("use") {
+    if is_written(ident, first, "use") {
         return Some(Keyword::Use);
     }
     None
 }
 
 // The keywords that no rule names, in the order of the alphabet.
-fn is_early_keyword(ident: &Ident) -> bool
+#[inline(always)]
+fn is_early_keyword(ident: &Ident, first: u8) -> bool
+    requires { first ≡ get_or (spelling ident.now) 0 0 }
     ensures { result ≡ is_early_keyword ident.now }
 {
-    ident.eq_str("abstract")
-        || ident.eq_str("become")
-        || ident.eq_str("box")
-        || ident.eq_str("do")
-        || ident.eq_str("else")
-        || ident.eq_str("final")
-        || ident.eq_str("if")
-        || ident.eq_str("in")
-        || ident.eq_str("let")
+    is_written(ident, first, "abstract")
+        || is_written(ident, first, "become")
+        || is_written(ident, first, "box")
+        || is_written(ident, first, "do")
+        || is_written(ident, first, "else")
+        || is_written(ident, first, "final")
+        || is_written(ident, first, "if")
+        || is_written(ident, first, "in")
+        || is_written(ident, first, "let")
 }
 
-fn is_late_keyword(ident: &Ident) -> bool
+#[inline(always)]
+fn is_late_keyword(ident: &Ident, first: u8) -> bool
+    requires { first ≡ get_or (spelling ident.now) 0 0 }
     ensures { result ≡ is_late_keyword ident.now }
 {
-    ident.eq_str("loop")
-        || ident.eq_str("match")
-        || ident.eq_str("move")
-        || ident.eq_str("override")
-        || ident.eq_str("priv")
-        || ident.eq_str("ref")
-        || ident.eq_str("typeof")
-        || ident.eq_str("unsized")
-        || ident.eq_str("virtual")
-        || ident.eq_str("while")
+    is_written(ident, first, "loop")
+        || is_written(ident, first, "match")
+        || is_written(ident, first, "move")
+        || is_written(ident, first, "override")
+        || is_written(ident, first, "priv")
+        || is_written(ident, first, "ref")
+        || is_written(ident, first, "typeof")
+        || is_written(ident, first, "unsized")
+        || is_written(ident, first, "virtual")
+        || is_written(ident, first, "while")
 }
 
-fn word_of(ident: &Ident) -> Word
+#[inline(always)]
+fn word_of(ident: &Ident, first: u8) -> Word
+    requires { first ≡ get_or (spelling ident.now) 0 0 }
     ensures { result ≡ word_of ident.now }
 {
-    if ident.eq_str("auto") {
+    if is_written(ident, first, "auto") {
         return Word::Auto;
     }
-    if ident.eq_str("default") {
+    if is_written(ident, first, "default") {
         return Word::Default;
     }
-    if ident.eq_str("safe") {
+    if is_written(ident, first, "safe") {
         return Word::Safe;
     }
-    if ident.eq_str("union") {
+    if is_written(ident, first, "union") {
         return Word::Union;
     }
     Word::Plain

@@ -44,6 +44,12 @@ written_is true name = encodes-append (codes "r#") name
     ∙ ap (λ x. x ++ encode_utf8_all name) (encode_all_ascii (codes "r#") refl)
 written_is false name = refl
 
+-- a plain identifier is written with the bytes of its name
+pub plain_bytes : (raw : Bool) (name s : List ℕ) → raw ≡ false → name ≡ chars s → IsUtf8 s
+    → encode_utf8_all (raw_front raw ++ name) ≡ s
+plain_bytes true name s plain e own = absurd (both_ways _ plain refl)
+plain_bytes false name s plain e own = ap encode_utf8_all e ∙ encodes-chars s own
+
 -- an identifier is written so in bytes where it is in characters
 pub text_bytes : (raw : Bool) (name s text : List ℕ) → name ≡ chars s → IsUtf8 s → IsUtf8 text
     → (raw_front raw ++ s ≡ text) ↔ (raw_front raw ++ name ≡ chars text)

@@ -35,12 +35,12 @@ impl Model for Ident {
 
 impl Ident {
     ghost use Rattle.std.specs.Cmp.Lexicographic.{pointwise};
-    ghost use Rattle.std.specs.Prelude.{◌↔◌, IsTrue, true, false, nat_eq};
+    ghost use Rattle.std.specs.Prelude.{◌↔◌, IsTrue, true, false, get_or, nat_eq};
     ghost use Rattle.std.specs.Str.{chars};
     ghost use Rattle.pm_token.specs.Built.{IsBuiltToken};
     ghost use Rattle.pm_token.specs.IdentFault.{Refuses, ident_fault};
     ghost use Rattle.pm_token.specs.Leaf.{name_token};
-    ghost use Rattle.pm_token.specs.Spelling.{name_text, spelled};
+    ghost use Rattle.pm_token.specs.Spelling.{name_text, spelled, spelling};
     ghost use Rattle.lexical.specs.Token as tokens;
 
     /// The identifier of this name, which has no `r#`.
@@ -135,6 +135,22 @@ impl Ident {
         match text.strip_prefix("r#") {
             Some(rest) => name == rest.as_bytes(),
             None => false,
+        }
+    }
+
+    /// The first byte that the identifier is written with: `a` of `ab`, and `r` of a raw `ab`.
+    ///
+    /// A caller that looks for one of many words has to compare only those that begin so.
+    #[inline(always)]
+    pub fn first_byte(&self) -> u8
+        ensures { result ≡ get_or (spelling self.now) 0 0 }
+    {
+        if self.name.is_raw() {
+            return b'r';
+        }
+        match self.name.as_bytes().split_first() {
+            Some((byte, _)) => *byte,
+            None => 0,
         }
     }
 

@@ -89,6 +89,21 @@ impl Ident {
         }
     }
 
+    /// The first byte that the identifier is written with: `a` of `ab`, and `r` of a raw `ab`.
+    ///
+    /// A caller that looks for one of many words has to compare only those that begin so.
+    #[inline(always)]
+    pub fn first_byte(&self) -> u8
+    {
+        if self.name.is_raw() {
+            return b'r';
+        }
+        match self.name.as_bytes().split_first() {
+            Some((byte, _)) => *byte,
+            None => 0,
+        }
+    }
+
     /// Where it stands. Proofs learn by it what every identifier is (`built`).
     pub fn span(&self) -> Span
     {
