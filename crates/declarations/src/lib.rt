@@ -14,6 +14,7 @@ mod class;
 mod expression;
 mod fault;
 mod field;
+mod file;
 mod front;
 mod grammar;
 mod header;
@@ -30,6 +31,7 @@ pub use any_item::{AnyItem, ItemKind, split_any_item};
 pub use class::{Class, Keyword, Word};
 pub use fault::Fault;
 pub use field::{Field, parse_field, parse_tuple_field};
+pub use file::{File, Items, parse_file, parse_item};
 pub use item::{Body, Fields, TypeItem, parse_type_item};
 pub use keyword::is_keyword;
 pub use parts::{

@@ -1,0 +1,192 @@
+-- From items one after the other to files and their faults.
+use Rattle.std.proofs.Common.{◌≡◌, refl, sym, ◌∙◌, ap, subst, ℕ, suc, ◌+◌, ◌<◌, ◌≤◌, ◌==◌, true, false, List, []}
+use Rattle.std.proofs.Common.{Result, Ok, Err, IfErr}
+use Rattle.std.proofs.Common.{◌∷◌, ◌++◌, Some, length, drop, arith, append_assoc, inr}
+use Rattle.std.proofs.Math.Seq.{drop-append-add}
+use Rattle.std.proofs.lemmas.List.{length-append}
+use Rattle.pm_stream.specs.declared.stream.TokenTree.{TokenTree}
+use Rattle.declarations.proofs.ReadingLemmas.{split_only}
+use Rattle.declarations.proofs.SignLemmas.{behind_first}
+use Rattle.declarations.specs.Fault.{first_extent, extent_at}
+use Rattle.declarations.specs.File.{AreItems, AreItemsBefore, FileFaultAt, IsFile, braces, last_braces}
+use Rattle.declarations.specs.Forms.{AreInnerAttributes, IsAnyItem, any_item}
+use Rattle.declarations.specs.Grammar.{ends, step}
+use Rattle.declarations.specs.Reading.{FaultAt, Reads}
+use Rattle.declarations.specs.Signs.{Sign, signs, classes_of, trees_of}
+use Rattle.declarations.specs.Walk.{IsWalk}
+use Rattle.declarations.specs.Whole.{ReadsAll}
+use Rattle.declarations.specs.declared.place.Place.{Place}
+
+-- ---- what is read takes trees
+
+takes : (front rest trees : List TokenTree) (sign : Sign) (after : List Sign) → signs trees ≡ sign ∷ after
+    → trees ≡ front ++ rest → signs rest ≡ after → 0 < length front
+takes [] rest trees sign after read whole behind =
+    let again : sign ∷ after ≡ after = sym read ∙ ap signs whole ∙ behind in
+    let count : suc (length after) ≡ length after = ap length again in
+    absurd (omega arith)
+takes (tree ∷ front) rest trees sign after read whole behind = omega arith
+
+fewer : (from : Place) (trees part rest : List TokenTree) (piece : List Sign) → ends from ≡ false
+    → signs trees ≡ piece ++ signs rest → part ≡ trees_of piece → trees ≡ part ++ rest
+    → IsWalk step ends from (classes_of piece) (classes_of (signs rest)) → length rest < length trees
+fewer from trees part rest [] goes read taken whole stands =
+    let walks : Some from ≡ Some stands.last = stands.walks in
+    let same : from ≡ stands.last = cc in
+    let clash : false ≡ true = sym goes ∙ ap ends same ∙ stands.ended in
+    absurd (cc)
+fewer from trees part rest (sign ∷ piece) goes read taken whole stands =
+    let behind = behind_first trees sign (piece ++ signs rest) read in
+    let first = takes sign.trees behind.rest trees sign (piece ++ signs rest) read behind.whole behind.read in
+    let parts : length part ≡ length sign.trees + length (trees_of piece) =
+    ap length taken ∙ length-append sign.trees (trees_of piece) in
+    let sum : length trees ≡ length part + length rest = ap length whole ∙ length-append part rest in
+    omega arith
+
+-- an item isn't empty
+pub item_takes : (trees part rest : List TokenTree) → Reads IsAnyItem trees part rest → length rest < length trees
+item_takes trees part rest reads =
+    fewer any_item trees part rest reads.piece refl reads.read reads.taken reads.whole reads.stands
+
+-- ---- items one after the other
+
+items-snoc : (parts : List (List TokenTree)) (trees left part rest : List TokenTree)
+    → AreItemsBefore parts trees left → Reads IsAnyItem left part rest
+    → AreItemsBefore (parts ++ part ∷ []) trees rest
+items-snoc [] trees left part rest before reads =
+    (rest, subst (λ ts. Reads IsAnyItem ts part rest) (sym before) reads, refl)
+items-snoc (first ∷ parts) trees left part rest before reads =
+    (before.0, before.1, items-snoc parts before.0 left part rest before.2 reads)
+
+no_rest : (part rest : List TokenTree) → [] ≡ part ++ rest → rest ≡ []
+no_rest [] rest none = sym none
+no_rest (tree ∷ part) rest none = cc
+
+rest_items : (trees part rest : List TokenTree) (parts : List (List TokenTree)) → Reads IsAnyItem trees part rest
+    → AreItemsBefore parts trees [] → AreItems rest
+rest_items trees part rest [] reads none = ([], no_rest part rest (sym none ∙ reads.whole))
+rest_items trees part rest (first ∷ parts) reads before =
+    let only = split_only any_item trees part rest reads first before.0 before.1 in
+    (parts, subst (λ ts. AreItemsBefore parts ts []) only.1 before.2)
+
+-- the trees after an item are items where all are
+pub items_after : (trees part rest : List TokenTree) → Reads IsAnyItem trees part rest → AreItems trees → AreItems rest
+items_after trees part rest reads all = rest_items trees part rest all.0 reads all.1
+
+-- so are those after several
+items_left : (parts : List (List TokenTree)) (trees left : List TokenTree) → AreItemsBefore parts trees left
+    → AreItems trees → AreItems left
+items_left [] trees left before all = subst AreItems before all
+items_left (part ∷ parts) trees left before all =
+    items_left parts before.0 left before.2 (items_after trees part before.0 before.1 all)
+
+no_items : (left : List TokenTree) (parts : List (List TokenTree)) (within : ℕ) → (left ≡ [] → ⊥)
+    → FaultAt IsAnyItem left within → AreItemsBefore parts left [] → ⊥
+no_items left [] within more fault none = more none
+no_items left (part ∷ parts) within more fault before = fault.nothing part before.0 before.1
+
+-- an item stands at the front of items
+pub item_stands : (left : List TokenTree) (within : ℕ) → (left ≡ [] → ⊥) → FaultAt IsAnyItem left within
+    → AreItems left → ⊥
+item_stands left within more fault all = no_items left all.0 within more fault all.1
+
+-- ---- a file that is read from the front
+
+-- items are read as far as these trees
+pub record ReadUpTo (trees items left : List TokenTree) : Type 0 where
+  pub parts : List (List TokenTree)
+  pub front : List TokenTree
+  pub before : AreItemsBefore parts items left
+  pub whole : trees ≡ front ++ left
+
+pub none_read : (trees inner items : List TokenTree) → Reads AreInnerAttributes trees inner items
+    → ReadUpTo trees items items
+none_read trees inner items reads = record { parts = []; front = inner; before = refl; whole = reads.whole }
+
+pub one_read : (trees items left part rest : List TokenTree) → ReadUpTo trees items left
+    → Reads IsAnyItem left part rest → ReadUpTo trees items rest
+one_read trees items left part rest up reads = record {
+  parts = up.parts ++ part ∷ [];
+  front = up.front ++ part;
+  before = items-snoc up.parts items left part rest up.before reads;
+  whole = up.whole ∙ ap (λ ts. up.front ++ ts) reads.whole ∙ sym (append_assoc up.front part rest);
+}
+
+pub all_read : (trees items left : List TokenTree) → ReadUpTo trees items left → length left ≡ 0 → AreItems items
+all_read trees items [] up none = (up.parts, up.before)
+all_read trees items (tree ∷ left) up none = absurd (omega arith)
+
+pub some_left : (left : List TokenTree) → 0 < length left → left ≡ [] → ⊥
+some_left left more none =
+    let count : length left ≡ 0 = ap length none in
+    omega arith
+
+pub not_empty : (left : List TokenTree) → false ≡ (length left == 0) → 0 < length left
+not_empty [] more = cc
+not_empty (tree ∷ left) more = omega arith
+
+pub left_fits : (trees items left : List TokenTree) → ReadUpTo trees items left → length left ≤ length trees
+left_fits trees items left up =
+    let sum : length trees ≡ length up.front + length left = ap length up.whole ∙ length-append up.front left in
+    omega arith
+
+pub file_fault : (trees inner items left : List TokenTree) (within at : ℕ) → Reads AreInnerAttributes trees inner items
+    → ReadUpTo trees items left → 0 < length left → FaultAt IsAnyItem left within
+    → at + length left ≡ length trees + within → FileFaultAt trees at
+file_fault trees inner items left within at reads up more fault counted =
+    let sum : length trees ≡ length up.front + length left = ap length up.whole ∙ length-append up.front left in
+    inr (record {
+      inner = inner;
+      items = items;
+      inner_read = reads;
+      parts = up.parts;
+      front = up.front;
+      left = left;
+      before = up.before;
+      whole = up.whole;
+      more = some_left left more;
+      within = within;
+      fault = fault;
+      counted = omega arith;
+    })
+
+-- it is the same tree
+pub fault_extent : (trees items left : List TokenTree) (within at : ℕ) → ReadUpTo trees items left
+    → at + length left ≡ length trees + within → extent_at left within ≡ extent_at trees at
+fault_extent trees items left within at up counted =
+    let sum : length trees ≡ length up.front + length left = ap length up.whole ∙ length-append up.front left in
+    let count : length up.front + within ≡ at = omega arith in
+    ap first_extent (sym (drop-append-add up.front left within) ∙ ap (λ n. drop n (up.front ++ left)) count
+    ∙ ap (drop at) (sym up.whole))
+
+-- and no other reading is a file
+pub not_file : (trees inner items left inner2 items2 : List TokenTree) (within : ℕ)
+    → Reads AreInnerAttributes trees inner items → ReadUpTo trees items left → 0 < length left
+    → FaultAt IsAnyItem left within → IsFile trees inner2 items2 → ⊥
+not_file trees inner items left inner2 items2 within reads up more fault file =
+    let only = split_only _ trees inner items reads inner2 items2 file.inner_read in
+    item_stands left within (some_left left more) fault
+    (items_left up.parts items left up.before (subst AreItems only.1 file.are_items))
+
+-- ---- what an item ends with
+
+pub last_braces-snoc : (front : List TokenTree) (tree : TokenTree) → last_braces (front ++ tree ∷ []) ≡ braces tree
+last_braces-snoc [] tree = refl
+last_braces-snoc (first ∷ []) tree = refl
+last_braces-snoc (first ∷ next ∷ front) tree = last_braces-snoc (next ∷ front) tree
+
+-- ---- an item that is all of the trees
+
+pub alone : (trees : List TokenTree) → ReadsAll IsAnyItem trees → Reads IsAnyItem trees trees []
+alone trees all = record {
+  piece = all.piece;
+  read = all.read;
+  taken = all.taken;
+  whole = all.whole;
+  stands = all.stands.0;
+}
+
+-- what holds of every error holds of this result
+pub any_err : {A E : Type 0} → (r : Result A E) (Q : Type 0) → Q → IfErr r (λ e. Q)
+any_err (Ok a) Q q = tt
+any_err (Err e) Q q = q

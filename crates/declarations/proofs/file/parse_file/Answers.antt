@@ -1,0 +1,38 @@
+use Rattle.std.proofs.Common.{◌∙◌, ◌≤◌, List, length, arith}
+use Rattle.pm_stream.specs.declared.stream.TokenTree.{TokenTree}
+use Rattle.declarations.specs.File.{IsFile}
+use Rattle.declarations.proofs.FileLemmas.{any_err, fault_extent, item_takes, left_fits, none_read, not_empty}
+use Rattle.declarations.proofs.FileLemmas.{not_file, one_read}
+use Rattle.declarations.proofs.file.parse_file.Goals as goal
+
+pub returns-in_err-inner-clause-none : goal.returns-in_err-inner-clause-none
+returns-in_err-inner-clause-none c =
+    any_err c.from_residual.result ((inner items : List TokenTree) → IsFile c.args.trees.now inner items → ⊥)
+    (λ inner items file. c.in_err-inner.ensures.fault.nothing inner items file.inner_read)
+
+pub loop-left-init : goal.loop-left-init
+loop-left-init c =
+    none_read c.args.trees.now c.in_ok-inner.inner.now c.in_ok-inner.items.now c.in_ok-inner.ensures.ok
+
+pub loop-left-smaller : goal.loop-left-smaller
+loop-left-smaller c =
+    item_takes c.loop-left.left.now c.in-Ok.field-0-0.trees.now c.in-Ok.rest.now c.in-Ok.ensures.ok
+
+pub loop-left-preserved : goal.loop-left-preserved
+loop-left-preserved c =
+    one_read c.args.trees.now c.in_ok-inner.items.now c.loop-left.left.now c.in-Ok.field-0-0.trees.now
+    c.in-Ok.rest.now c.loop-left.invariant c.in-Ok.ensures.ok
+
+pub returns-in-Err-clause-span : goal.returns-in-Err-clause-span
+returns-in-Err-clause-span c =
+    let fits : length c.loop-left.left.now ≤ length c.args.trees.now =
+    left_fits c.args.trees.now c.in_ok-inner.items.now c.loop-left.left.now c.loop-left.invariant in
+    c.in-Err.ensures.span
+    ∙ fault_extent c.args.trees.now c.in_ok-inner.items.now c.loop-left.left.now c.in-Err.fault.at _
+    c.loop-left.invariant (omega arith)
+
+pub returns-in-Err-clause-none : goal.returns-in-Err-clause-none
+returns-in-Err-clause-none c = λ inner items.
+    not_file c.args.trees.now c.in_ok-inner.inner.now c.in_ok-inner.items.now c.loop-left.left.now inner items
+    c.in-Err.fault.at c.in_ok-inner.ensures.ok c.loop-left.invariant
+    (not_empty c.loop-left.left.now c.loop-left-test.ensures) c.in-Err.ensures.fault

@@ -1,0 +1,115 @@
+// Made from crates/declarations_tests/src/files.rt by rust/erase: change that file, not this one.
+
+use crate::shim::prelude::{AllocGlobal, HostRuntime};
+
+// Texts, and their items.
+use proved::declarations::{Fault, ItemKind, parse_file, parse_item};
+use proved::proc_macro2::{SourceMap, TokenStream};
+use crate::shim::process::Abort;
+use crate::shim::test::Fail;
+
+// How many inner attributes' trees a file has, and of each item its kind, and of the items in its braces how many.
+fn check_file(
+    rt: &(impl Abort + AllocGlobal),
+    text: &str,
+    inner: usize,
+    wanted: &[(ItemKind, usize)],
+) -> Result<(), Fail> {
+    let stream = TokenStream::from_str(text, &mut SourceMap::new(rt.alloc()))?;
+    let Ok(file) = parse_file(stream.trees()) else {
+        return assert_is(rt, false, text);
+    };
+    assert_is(rt, file.inner.len() == inner, text)?;
+    let mut items = file.items;
+    let mut wanted = wanted;
+    while let Some((item, rest)) = items.next() {
+        items = rest;
+        let Some(((kind, inside), more)) = wanted.split_first() else {
+            return assert_is(rt, false, text);
+        };
+        wanted = more;
+        let count = match item.body() {
+            Some(group) => match parse_file(group.stream_ref().trees()) {
+                Ok(body) => body.items.trees().len(),
+                Err(_) => 1000,
+            },
+            None => 0,
+        };
+        assert_is(rt, item.kind == *kind && count == *inside, text)?;
+    }
+    assert_is(rt, wanted.is_empty(), text)
+}
+
+fn assert_is(rt: &(impl Abort + AllocGlobal), is: bool, text: &str) -> Result<(), Fail> {
+    assert!(is, "{text:?}");
+    Ok(())
+}
+
+fn fault_of(fault: Option<Fault>) -> Option<(usize, bool)> {
+    match fault {
+        Some(fault) => Some((fault.at, fault.span.is_some())),
+        None => None,
+    }
+}
+
+// Where the fault of a file or an item stands, and whether a tree stands there; none where there is no fault.
+fn check_fault(
+    rt: &(impl Abort + AllocGlobal),
+    file: bool,
+    text: &str,
+    wanted: Option<(usize, bool)>,
+) -> Result<(), Fail> {
+    let stream = TokenStream::from_str(text, &mut SourceMap::new(rt.alloc()))?;
+    let fault = if file {
+        parse_file(stream.trees()).err()
+    } else {
+        parse_item(stream.trees()).err()
+    };
+    assert_is(rt, fault_of(fault) == wanted, text)
+}
+
+#[test]
+fn a_file_has_inner_attributes_and_items() -> Result<(), Fail> {
+    let rt = HostRuntime;
+    check_file(&rt, "", 0, &[])?;
+    check_file(&rt, "#![a]", 3, &[])?;
+    check_file(
+        &rt,
+        "//! a\n#![b] fn f() { x } mod m { #![c] struct S; } mod n; impl A { fn g(); }",
+        6,
+        &[
+            (ItemKind::Function, 0),
+            (ItemKind::Module, 3),
+            (ItemKind::Module, 0),
+            (ItemKind::Impl, 4),
+        ],
+    )?;
+    check_file(
+        &rt,
+        "trait T { type A; } extern \"C\" { static X: u8; } m! { fn f() {} }",
+        0,
+        &[
+            (ItemKind::Trait, 3),
+            (ItemKind::ExternBlock, 5),
+            (ItemKind::MacroCall, 0),
+        ],
+    )
+}
+
+#[test]
+fn a_fault_is_counted_from_the_front_of_the_file() -> Result<(), Fail> {
+    let rt = HostRuntime;
+    check_fault(&rt, true, "fn f() {} struct S;", None)?;
+    check_fault(&rt, true, "#![a] fn f() {} fn g fn", Some((9, true)))?;
+    check_fault(&rt, true, "#![a] struct S; #[b]", Some((8, false)))?;
+    check_fault(&rt, true, "#! a", Some((2, true)))?;
+    check_fault(&rt, true, "fn f() {} #![a]", Some((4, true)))
+}
+
+#[test]
+fn an_item_is_all_of_the_trees() -> Result<(), Fail> {
+    let rt = HostRuntime;
+    check_fault(&rt, false, "#[a] fn f() {}", None)?;
+    check_fault(&rt, false, "fn f() {} fn", Some((4, true)))?;
+    check_fault(&rt, false, "", Some((0, false)))
+}
