@@ -5,7 +5,8 @@ use Rattle.declarations.proofs.file.parse_item.Goals as goal
 
 pub returns-in_err-item-clause-fault : goal.returns-in_err-item-clause-fault
 returns-in_err-item-clause-fault c =
-    absurd (c.in_err-item.ensures.fault.nothing c.args.trees.now _ (alone c.args.trees.now c.in_ok-read_whole.ensures.ok))
+    absurd (c.in_err-item.ensures.fault.nothing c.args.trees.now _
+    (alone c.args.trees.now c.in_ok-read_whole.ensures.ok))
 
 pub returns-clause-ok : goal.returns-clause-ok
 returns-clause-ok c =
