@@ -10,3 +10,4 @@ pub mod SortLemmas
 pub mod ItemLemmas
 pub mod FieldLemmas
 pub mod VariantLemmas
+pub mod ParamLemmas

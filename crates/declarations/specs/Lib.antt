@@ -14,3 +14,4 @@ pub mod Field
 pub mod Fault
 pub mod Variant
 pub mod Kind
+pub mod Param

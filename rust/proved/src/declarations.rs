@@ -15,6 +15,7 @@ mod expression;
 mod fault;
 mod field;
 mod front;
+mod generics;
 mod grammar;
 mod header;
 mod item;
@@ -30,6 +31,9 @@ pub use any_item::{AnyItem, ItemKind, split_any_item};
 pub use class::{Class, Keyword, Word};
 pub use fault::Fault;
 pub use field::{Field, parse_field, parse_tuple_field};
+pub use generics::{
+    Param, ParamKind, Predicate, after_where, parse_param, parse_predicate, within_generics,
+};
 pub use item::{Body, Fields, TypeItem, parse_type_item};
 pub use keyword::is_keyword;
 pub use parts::{

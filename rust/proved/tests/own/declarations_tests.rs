@@ -4,6 +4,8 @@
 #[cfg(test)]
 mod any_items;
 #[cfg(test)]
+mod generics;
+#[cfg(test)]
 mod items;
 #[cfg(test)]
 mod parts;
