@@ -11,3 +11,4 @@ pub mod ItemLemmas
 pub mod FieldLemmas
 pub mod VariantLemmas
 pub mod FileLemmas
+pub mod ParamLemmas

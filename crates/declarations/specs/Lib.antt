@@ -15,3 +15,4 @@ pub mod Fault
 pub mod Variant
 pub mod Kind
 pub mod File
+pub mod Param

@@ -16,6 +16,7 @@ mod fault;
 mod field;
 mod file;
 mod front;
+mod generics;
 mod grammar;
 mod header;
 mod item;
@@ -32,6 +33,9 @@ pub use class::{Class, Keyword, Word};
 pub use fault::Fault;
 pub use field::{Field, parse_field, parse_tuple_field};
 pub use file::{File, Items, parse_file, parse_item};
+pub use generics::{
+    Param, ParamKind, Predicate, after_where, parse_param, parse_predicate, within_generics,
+};
 pub use item::{Body, Fields, TypeItem, parse_type_item};
 pub use keyword::is_keyword;
 pub use parts::{

@@ -6,6 +6,8 @@ mod any_items;
 #[cfg(test)]
 mod files;
 #[cfg(test)]
+mod generics;
+#[cfg(test)]
 mod items;
 #[cfg(test)]
 mod parts;

@@ -1,0 +1,9 @@
+use Rattle.declarations.proofs.ParamLemmas.{may_found}
+use Rattle.declarations.specs.Param.{ReadsConstant}
+use Rattle.declarations.specs.declared.class.Class.TheVariants as classes
+use Rattle.declarations.proofs.generics.may_constant.Goals as goal
+
+pub returns-in-Some : goal.returns-in-Some
+returns-in-Some c =
+    may_found c.constant_of.result (λ f. f.0.now) (λ f. f.1.now) (λ e. e.now) classes.Equals ReadsConstant
+    c.args.trees.now c.in-Some.left.now c.in-Some.ensures c.constant_of.ensures

@@ -1,0 +1,174 @@
+-- The parts of generic parameters and of the predicates of where clauses, in reading order.
+use Rattle.std.specs.Prelude.{◌≡◌, ℕ, ◌==◌, Bool, true, false, List, [], ◌∷◌, ◌++◌, codes}
+use Rattle.pm_stream.specs.declared.stream.TokenTree.{TokenTree}
+use Rattle.pm_stream.specs.declared.stream.TokenTree.TheVariants.{Group, Ident, Punct, Literal}
+use Rattle.declarations.specs.Forms.{AreAttributes, AreBounds, IsType}
+use Rattle.declarations.specs.Reading.{Reads}
+use Rattle.declarations.specs.Signs.{BeginsWith, is_written}
+use Rattle.declarations.specs.declared.class.Class.{Class}
+use Rattle.declarations.specs.declared.class.Class.TheVariants as classes
+use Rattle.declarations.specs.declared.class.Keyword.TheVariants as keywords
+use Rattle.declarations.specs.declared.class.Word.{Word}
+use Rattle.declarations.specs.declared.generics.Param.{Param}
+use Rattle.declarations.specs.declared.generics.ParamKind.{ParamKind}
+use Rattle.declarations.specs.declared.generics.ParamKind.TheVariants as kinds
+use Rattle.declarations.specs.declared.generics.Predicate.{Predicate}
+
+-- ---- signs and what may follow them
+
+-- the trees begin with a sign of this class, which is these trees, and the rest follows it
+pub record HasSign (class : Class) (trees sign rest : List TokenTree) : Type 0 where
+  pub begins : BeginsWith trees class rest
+  pub whole : trees ≡ sign ++ rest
+
+-- a word, whatever it is
+pub record IsWord (trees name rest : List TokenTree) : Type 0 where
+  pub word : Word
+  pub sign : HasSign (classes.Word word) trees name rest
+
+-- no sign of this class stands at the front
+abbrev pub HasNo : Class → List TokenTree → Type 0
+HasNo class trees = (rest : List TokenTree) → BeginsWith trees class rest → ⊥
+
+-- the mark and what the form reads after it; or no such mark, and nothing is taken
+pub data MayHave (mark : Class) (form : List TokenTree → List TokenTree → List TokenTree → Type 0)
+    (trees part rest : List TokenTree) : Type 0 where
+  stands : (left : List TokenTree) → BeginsWith trees mark left → form left part rest
+      → MayHave mark form trees part rest
+  left_out : HasNo mark trees → part ≡ [] → rest ≡ trees → MayHave mark form trees part rest
+
+-- the mark and what the form reads after it
+pub record MustHave (mark : Class) (form : List TokenTree → List TokenTree → List TokenTree → Type 0)
+    (trees part rest : List TokenTree) : Type 0 where
+  pub left : List TokenTree
+  pub begins : BeginsWith trees mark left
+  pub reads : form left part rest
+
+-- the end of an element of a list: a `,`, or no trees
+pub data EndsElement (trees rest : List TokenTree) : Type 0 where
+  comma : BeginsWith trees classes.Comma rest → EndsElement trees rest
+  last : trees ≡ [] → rest ≡ [] → EndsElement trees rest
+
+-- ---- generic parameters
+
+-- the trees of a parameter's parts
+pub record ParamTrees : Type 0 where
+  pub attributes : List TokenTree
+  pub kind : ParamKind
+  pub name : List TokenTree
+  pub bounds : List TokenTree
+  pub default : List TokenTree
+
+abbrev pub param_trees : Param → ParamTrees
+param_trees param = record {
+  attributes = param.attributes.now;
+  kind = param.kind;
+  name = param.name.now;
+  bounds = param.bounds.now;
+  default = param.default.now;
+}
+
+-- what its kind and its name are read of
+abbrev pub HasName : ParamKind → List TokenTree → List TokenTree → List TokenTree → Type 0
+HasName kinds.Lifetime trees name rest = HasSign classes.Lifetime trees name rest
+HasName kinds.Type trees name rest = IsWord trees name rest
+HasName kinds.Const trees name rest = MustHave (classes.Keyword keywords.Const) IsWord trees name rest
+
+-- bounds, or the type of a constant
+abbrev pub HasBounds : ParamKind → List TokenTree → List TokenTree → List TokenTree → Type 0
+HasBounds kinds.Lifetime trees bounds rest = MayHave classes.Colon (Reads AreBounds) trees bounds rest
+HasBounds kinds.Type trees bounds rest = MayHave classes.Colon (Reads AreBounds) trees bounds rest
+HasBounds kinds.Const trees bounds rest = MustHave classes.Colon (Reads IsType) trees bounds rest
+
+-- whether a sign is a constant by itself
+abbrev pub is_constant : Class → Bool
+is_constant classes.Literal = true
+is_constant classes.Braces = true
+is_constant classes.Truth = true
+is_constant _ = false
+
+-- the default of a constant: such a sign, `-` and a literal, or a type
+pub data ReadsConstant (trees part rest : List TokenTree) : Type 0 where
+  one_sign : (class : Class) → is_constant class ≡ true → HasSign class trees part rest → ReadsConstant trees part rest
+  negative : (left : List TokenTree) → BeginsWith trees classes.Minus left → BeginsWith left classes.Literal rest
+      → trees ≡ part ++ rest → ReadsConstant trees part rest
+  of_type : Reads IsType trees part rest → ReadsConstant trees part rest
+
+-- what stands after `=`
+abbrev pub HasDefault : ParamKind → List TokenTree → List TokenTree → List TokenTree → Type 0
+HasDefault kinds.Lifetime trees default rest = (default ≡ []) × (rest ≡ trees)
+HasDefault kinds.Type trees default rest = MayHave classes.Equals (Reads IsType) trees default rest
+HasDefault kinds.Const trees default rest = MayHave classes.Equals ReadsConstant trees default rest
+
+-- the trees begin with a parameter, and these are its parts: each is what its rule reads of the trees after the one
+-- before it, and a `,` follows the last, or nothing
+pub record IsParamAt (trees : List TokenTree) (param : ParamTrees) (rest : List TokenTree) : Type 0 where
+  pub from_name : List TokenTree
+  pub from_bounds : List TokenTree
+  pub from_default : List TokenTree
+  pub from_end : List TokenTree
+  pub attributes : Reads AreAttributes trees param.attributes from_name
+  pub name : HasName param.kind from_name param.name from_bounds
+  pub bounds : HasBounds param.kind from_bounds param.bounds from_default
+  pub default : HasDefault param.kind from_default param.default from_end
+  pub ends : EndsElement from_end rest
+
+-- and nothing else is one there
+abbrev pub IsOnlyParam : List TokenTree → ParamTrees → List TokenTree → Type 0
+IsOnlyParam trees param rest =
+    (param2 : ParamTrees) (rest2 : List TokenTree) → IsParamAt trees param2 rest2
+    → (param2 ≡ param) × (rest2 ≡ rest)
+
+-- ---- predicates
+
+pub record PredicateTrees : Type 0 where
+  pub bounded : List TokenTree
+  pub bounds : List TokenTree
+
+abbrev pub predicate_trees : Predicate → PredicateTrees
+predicate_trees predicate = record { bounded = predicate.bounded.now; bounds = predicate.bounds.now }
+
+-- the trees begin with a predicate, and these are its parts: a type, and after `:` bounds
+pub record IsPredicateAt (trees : List TokenTree) (predicate : PredicateTrees) (rest : List TokenTree)
+    : Type 0 where
+  pub from_colon : List TokenTree
+  pub from_end : List TokenTree
+  pub bounded : Reads IsType trees predicate.bounded from_colon
+  pub bounds : MustHave classes.Colon (Reads AreBounds) from_colon predicate.bounds from_end
+  pub ends : EndsElement from_end rest
+
+abbrev pub IsOnlyPredicate : List TokenTree → PredicateTrees → List TokenTree → Type 0
+IsOnlyPredicate trees predicate rest =
+    (predicate2 : PredicateTrees) (rest2 : List TokenTree) → IsPredicateAt trees predicate2 rest2
+    → (predicate2 ≡ predicate) × (rest2 ≡ rest)
+
+-- ---- what the lists stand in
+
+abbrev pub is_mark_of : ℕ → TokenTree → Bool
+is_mark_of c (Punct p) = p.mark == c
+is_mark_of c _ = false
+
+-- nothing, or all between `<` (60) and `>` (62)
+abbrev pub IsWithin : List TokenTree → List TokenTree → Type 0
+IsWithin [] inside = inside ≡ []
+IsWithin (first ∷ rest) inside =
+    (close : TokenTree) × (rest ≡ inside ++ close ∷ []) × (is_mark_of 60 first ≡ true)
+    × (is_mark_of 62 close ≡ true)
+
+-- nothing, or all after `where`
+abbrev pub IsAfterWhere : List TokenTree → List TokenTree → Type 0
+IsAfterWhere [] inside = inside ≡ []
+IsAfterWhere (Ident i ∷ rest) inside = (is_written i (codes "where") ≡ true) × (inside ≡ rest)
+IsAfterWhere _ inside = ⊥
+
+-- ---- steps of the parser
+
+-- the trees end with those that are left
+abbrev pub IsBack : List TokenTree → List TokenTree → Type 0
+IsBack left trees = (front : List TokenTree) × (trees ≡ front ++ left)
+
+-- the form reads nothing, and the fault stands before the trees that are left
+pub record Fails (form : List TokenTree → List TokenTree → List TokenTree → Type 0) (trees left : List TokenTree)
+    : Type 0 where
+  pub back : IsBack left trees
+  pub nothing : (part rest : List TokenTree) → form trees part rest → ⊥
