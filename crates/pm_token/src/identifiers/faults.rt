@@ -1,11 +1,13 @@
 //! Which names identifiers refuse.
 ghost use Rattle.std.specs.Prelude.{◌≡◌, ◌==◌, Bool, IsTrue, None, Some, false, length};
 ghost use Rattle.std.specs.Str.{chars};
+ghost use Rattle.std.specs.List.{list_all};
+ghost use Rattle.lexical.specs.Class.{is_ident_continue, is_ident_start};
 ghost use Rattle.lexical.specs.Finder.{while_front};
 ghost use Rattle.pm_token.specs.IdentFault.{ident_fault, is_name as name_only, is_number as digits_only};
 ghost use Rattle.pm_token.specs.IdentFault.{is_plain_continue, is_plain_start};
 
-use lexical::{is_reserved, name_at};
+use lexical::is_reserved;
 use std::alloc::AllocError;
 use std::error::Error;
 use std::fmt;
@@ -69,11 +71,34 @@ fn is_number(text: &str) -> bool
     text.chars().all(|c| c.is_ascii_digit())
 }
 
+/// Whether an identifier may begin with the character, by the rule `identifier-start`.
+fn begins_name(c: char) -> bool
+    ensures { result ≡ is_ident_start c }
+{
+    if c != '_' && !unicode_ident::is_xid_start(c) {
+        return false;
+    }
+    !c.is_whitespace() && c != '\u{200E}' && c != '\u{200F}' && c != '\u{FEFF}'
+}
+
+/// Whether an identifier may go on with each of the characters, by the rule `identifier-continue`.
+fn all_continue(text: &str) -> bool
+    ensures { result ≡ list_all is_ident_continue (chars text.now) }
+{
+    text.chars().all(|c| unicode_ident::is_xid_continue(c))
+}
+
 /// Whether the whole text is a name.
+// It looks at each character once, which the lexer's steps to the end of a name don't.
+#[tactic(auto, using(std::proofs::lemmas::Str::chars_past_char))]
 fn is_name(text: &str) -> bool
     ensures { result ≡ name_only (chars text.now) }
 {
-    name_at(text) == Some(text.len())
+    let mut rest = text.chars();
+    match rest.next() {
+        Some(first) => begins_name(first) && all_continue(rest.as_str()),
+        None => false,
+    }
 }
 
 /// Whether the byte is an ASCII letter or `_`.

@@ -1,7 +1,7 @@
 // Made from crates/pm_token/src/identifiers/faults.rt by rust/erase: change that file, not this one.
 //! Which names identifiers refuse.
 
-use crate::lexical::{is_reserved, name_at};
+use crate::lexical::is_reserved;
 use crate::shim::alloc::AllocError;
 use crate::shim::error::Error;
 use crate::shim::fmt;
@@ -56,10 +56,30 @@ fn is_number(text: &str) -> bool
     text.chars().all(|c| c.is_ascii_digit())
 }
 
+/// Whether an identifier may begin with the character, by the rule `identifier-start`.
+fn begins_name(c: char) -> bool
+{
+    if c != '_' && !crate::shim::unicode_ident::is_xid_start(c) {
+        return false;
+    }
+    !c.is_whitespace() && c != '\u{200E}' && c != '\u{200F}' && c != '\u{FEFF}'
+}
+
+/// Whether an identifier may go on with each of the characters, by the rule `identifier-continue`.
+fn all_continue(text: &str) -> bool
+{
+    text.chars().all(|c| crate::shim::unicode_ident::is_xid_continue(c))
+}
+
 /// Whether the whole text is a name.
+// It looks at each character once, which the lexer's steps to the end of a name don't.
 fn is_name(text: &str) -> bool
 {
-    name_at(text) == Some(text.len())
+    let mut rest = text.chars();
+    match rest.next() {
+        Some(first) => begins_name(first) && all_continue(rest.as_str()),
+        None => false,
+    }
 }
 
 /// Whether the byte is an ASCII letter or `_`.
