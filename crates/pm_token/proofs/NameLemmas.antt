@@ -1,23 +1,16 @@
 -- Lemmas on the names of identifiers.
 use Rattle.std.proofs.Common.{◌≡◌, ◌≢◌, ◌↔◌, ℕ, Bool, true, false, not, ◌==◌, List, [], ◌∷◌, ◌++◌, length, drop, IsTrue}
-use Rattle.std.proofs.Common.{eqb, nat_eq, codes, refl, sym, ap, ◌∙◌, arith, append-nil, length-append, ne_eqb, cond}
-use Rattle.std.proofs.Common.{Option, Some, None, IfSome, IfNone}
-use Rattle.std.specs.List.{list_all}
-use Rattle.std.specs.Option.{option_eq}
+use Rattle.std.proofs.Common.{nat_eq, codes, refl, sym, ap, ◌∙◌, arith, ne_eqb, cond}
+use Rattle.std.proofs.Common.{Option, Some, None}
 use Rattle.std.specs.Str.{chars, IsUtf8, encode_utf8_all}
 use Rattle.std.specs.Cmp.Lexicographic.{pointwise}
-use Rattle.std.proofs.lemmas.Bool.{and_parts, and_from, both_ways, false_from_ne_true, not-false, eq-eqb}
-use Rattle.std.proofs.lemmas.List.Folds.{list_all-append}
+use Rattle.std.proofs.lemmas.Bool.{and_parts, both_ways, not-false}
 use Rattle.std.proofs.lemmas.Option.{none-some}
 use Rattle.std.proofs.lemmas.Slice.Eq.{bytes_eq-Decides}
 use Rattle.std.proofs.lemmas.Str.{encodes-chars, encodes-append, encodes_same, length-le-encodes}
-use Rattle.lexical.specs.Class.{is_ident_continue}
-use Rattle.lexical.specs.Form.{HasNone}
-use Rattle.lexical.specs.Found.{IsAt}
 use Rattle.lexical.specs.Identifier.{Name, is_allowed}
 use Rattle.lexical.specs.Token as tokens
 use Rattle.lexical.specs.Token.{raw_front}
-use Rattle.lexical.proofs.PieceFacts.{name_continues}
 use Rattle.lexical.proofs.TextLemmas.{encode_all_ascii}
 use Rattle.pm_token.specs.Built.{IsBuiltToken}
 use Rattle.pm_token.specs.IdentFault.{is_name, is_number, ident_fault}
@@ -104,41 +97,6 @@ is_name-Name (c ∷ text) h =
       first = (c, refl, parts.0);
       second = record { each = parts.1; stops = refl };
     }
-
--- a text that is a name has only characters that an identifier may go on with
-pub is_name-continues : (text : List ℕ) → is_name text ≡ true → list_all is_ident_continue text ≡ true
-is_name-continues text h = name_continues text [] (is_name-Name text h)
-
--- what stands as a name is one
-pub Name-is_name : (p r : List ℕ) → Name p r → is_name p ≡ true
-Name-is_name p r h = ap is_name (h.whole ∙ ap (λ x. x ++ h.back) h.first.1) ∙ and_from _ _ h.first.2 h.second.each
-
--- a text that goes on after the name at its front is none
-longer_is_none : (p r : List ℕ) (d : ℕ) → Name p (d ∷ r) → is_name (p ++ d ∷ r) ≡ false
-longer_is_none p r d h = false_from_ne_true _ (λ is.
-    let all = and_parts _ _ (sym (list_all-append is_ident_continue p (d ∷ r)) ∙ is_name-continues (p ++ d ∷ r) is) in
-    both_ways _ h.second.stops (and_parts _ _ all.1).0)
-
-name_ends : (p r : List ℕ) (n : ℕ) → Name p r → n ≡ length (encode_utf8_all p)
-    → (n == length (encode_utf8_all (p ++ r))) ≡ is_name (p ++ r)
-name_ends p [] n h size =
-    eq-eqb n _ (size ∙ ap (λ x. length (encode_utf8_all x)) (sym (append-nil p)))
-    ∙ sym (ap is_name (append-nil p) ∙ Name-is_name p [] h)
-name_ends p (d ∷ r) n h size =
-    let whole = ap length (encodes-append p (d ∷ r)) ∙ length-append (encode_utf8_all p) (encode_utf8_all (d ∷ r)) in
-    ne_eqb n _ (λ e. omega (arith, whole, length-le-encodes (d ∷ r))) ∙ sym (longer_is_none p r d h)
-
--- the name at the front of a text is the whole text, or the text is none
-pub whole_name : (text : List ℕ) (found : Option ℕ) → IsUtf8 text → IfSome found (IsAt Name (chars text))
-    → IfNone found (HasNone Name (chars text))
-    → option_eq eqb found (Some (length text)) ≡ is_name (chars text)
-whole_name text None utf8 some none =
-    sym (false_from_ne_true _ (λ is. none (chars text) [] (sym (append-nil (chars text)))
-    (is_name-Name (chars text) is)))
-whole_name text (Some n) utf8 at none =
-    let bytes : encode_utf8_all (at.front ++ at.rest) ≡ text = ap encode_utf8_all (sym at.whole)
-    ∙ encodes-chars text utf8 in
-    ap (λ x. n == length x) (sym bytes) ∙ (name_ends at.front at.rest n at.stands at.size ∙ ap is_name (sym at.whole))
 
 -- ---- faults
 

@@ -11,7 +11,6 @@ use lexical::is_reserved;
 use std::alloc::AllocError;
 use std::error::Error;
 use std::fmt;
-use unicode_ident::{is_xid_continue, is_xid_start};
 
 /// Why an identifier was not made: the first of these that holds of its name.
 #[derive(Debug, Drop)]
@@ -76,7 +75,7 @@ fn is_number(text: &str) -> bool
 fn begins_name(c: char) -> bool
     ensures { result ≡ is_ident_start c }
 {
-    if c != '_' && !is_xid_start(c) {
+    if c != '_' && !unicode_ident::is_xid_start(c) {
         return false;
     }
     !c.is_whitespace() && c != '\u{200E}' && c != '\u{200F}' && c != '\u{FEFF}'
@@ -86,7 +85,7 @@ fn begins_name(c: char) -> bool
 fn all_continue(text: &str) -> bool
     ensures { result ≡ list_all is_ident_continue (chars text.now) }
 {
-    text.chars().all(|c| is_xid_continue(c))
+    text.chars().all(|c| unicode_ident::is_xid_continue(c))
 }
 
 /// Whether the whole text is a name.

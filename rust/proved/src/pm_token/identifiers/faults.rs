@@ -5,7 +5,6 @@ use crate::lexical::is_reserved;
 use crate::shim::alloc::AllocError;
 use crate::shim::error::Error;
 use crate::shim::fmt;
-use crate::shim::unicode_ident::{is_xid_continue, is_xid_start};
 
 /// Why an identifier was not made: the first of these that holds of its name.
 #[derive(Debug)]
@@ -60,7 +59,7 @@ fn is_number(text: &str) -> bool
 /// Whether an identifier may begin with the character, by the rule `identifier-start`.
 fn begins_name(c: char) -> bool
 {
-    if c != '_' && !is_xid_start(c) {
+    if c != '_' && !crate::shim::unicode_ident::is_xid_start(c) {
         return false;
     }
     !c.is_whitespace() && c != '\u{200E}' && c != '\u{200F}' && c != '\u{FEFF}'
@@ -69,7 +68,7 @@ fn begins_name(c: char) -> bool
 /// Whether an identifier may go on with each of the characters, by the rule `identifier-continue`.
 fn all_continue(text: &str) -> bool
 {
-    text.chars().all(|c| is_xid_continue(c))
+    text.chars().all(|c| crate::shim::unicode_ident::is_xid_continue(c))
 }
 
 /// Whether the whole text is a name.
