@@ -26,7 +26,14 @@ pub fn push_unread(
         Some(why) => {
             if why.before.start == 0 {
                 let (lo, hi) = bounds(fault_of(why).span);
-                push_faulty(alloc, sheet, &why.reason, lo.saturating_sub(FIRST), hi - lo, rest)
+                push_faulty(
+                    alloc,
+                    sheet,
+                    &why.reason,
+                    lo.saturating_sub(FIRST),
+                    hi - lo,
+                    rest,
+                )
             } else {
                 push_stuck(sheet, rest)
             }

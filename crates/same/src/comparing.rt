@@ -53,20 +53,10 @@ fn is_alike(alloc: Global, one: Said<'_>, other: Said<'_>) -> Result<bool, Alloc
     ensures { IfOk result (λ same. IsTrue same ↔ word_of one.entry ≡ word_of other.entry) }
 {
     Ok(match (one, other) {
-        (
-            Said::Name { raw, name },
-            Said::Name {
-                raw: other_raw,
-                name: other,
-            },
-        ) => { raw == other_raw && name == other }
-        (
-            Said::Mark { joint, mark },
-            Said::Mark {
-                joint: other_joint,
-                mark: other,
-            },
-        ) => { joint == other_joint && mark == other }
+        (Said::Name(raw, name), Said::Name(other_raw, other)) => raw == other_raw && name == other,
+        (Said::Mark(joint, mark), Said::Mark(other_joint, other)) => {
+            joint == other_joint && mark == other
+        }
         (Said::Literal(text), Said::Literal(other)) => text == other,
         (Said::DocText(text), Said::DocText(other)) => text == other,
         (Said::DocText(text), Said::Literal(literal)) => is_string_of(alloc, text, literal)?,

@@ -8,10 +8,10 @@ use pm_token::Delimiter;
 /// A token, an opener or a closer, or a comment.
 #[derive(Clone, Copy)]
 pub enum Said<'a> {
-    /// An identifier.
-    Name { raw: bool, name: &'a str },
-    /// A mark.
-    Mark { joint: bool, mark: char },
+    /// An identifier: whether it is raw, and its name.
+    Name(bool, &'a str),
+    /// A mark, after whether it is Joint.
+    Mark(bool, char),
     /// A literal as it is written.
     Literal(&'a str),
     /// The string literal of what a doc comment says.
@@ -49,7 +49,7 @@ pub enum DocStep {
 pub fn alone<'a>(mark: char) -> Said<'a>
     ensures { result ≡ Said.Mark false mark }
 {
-    Said::Mark { joint: false, mark }
+    Said::Mark(false, mark)
 }
 
 /// The step after it.

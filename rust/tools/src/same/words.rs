@@ -68,8 +68,8 @@ impl<'a> Words<'a> {
             PieceKind::Opener(c) => Some(Said::Opener(delimiter(c))),
             PieceKind::Closer(c) => Some(Said::Closer(delimiter(c))),
             PieceKind::Literal => Some(Said::Literal(next.text)),
-            PieceKind::Mark { joint, mark } => Some(Said::Mark { joint, mark }),
-            PieceKind::Name { raw, name } => Some(Said::Name { raw, name }),
+            PieceKind::Mark { joint, mark } => Some(Said::Mark(joint, mark)),
+            PieceKind::Name { raw, name } => Some(Said::Name(raw, name)),
         }
     }
 
@@ -81,10 +81,7 @@ impl<'a> Words<'a> {
             DocStep::Hash | DocStep::InnerHash => alone('#'),
             DocStep::Bang => alone('!'),
             DocStep::Opener => Said::Opener(Delimiter::Bracket),
-            DocStep::Name => Said::Name {
-                raw: false,
-                name: "doc",
-            },
+            DocStep::Name => Said::Name(false, "doc"),
             DocStep::Equals => alone('='),
             DocStep::Text => Said::DocText(self.doc_text()),
             DocStep::Closer => Said::Closer(Delimiter::Bracket),
