@@ -254,7 +254,8 @@ from_name_same trees attributes from_name reads param rest is =
     one_reading _ trees attributes from_name param.attributes is.from_name reads is.attributes
 
 -- what was read up to the bounds of a parameter
-pub record Named (trees attributes : List TokenTree) (kind : ParamKind) (name from_bounds : List TokenTree) : Type 0 where
+pub record Named (trees attributes : List TokenTree) (kind : ParamKind) (name from_bounds : List TokenTree)
+    : Type 0 where
   pub from_name : List TokenTree
   pub attributes_read : Reads AreAttributes trees attributes from_name
   pub name_read : HasName kind from_name name from_bounds

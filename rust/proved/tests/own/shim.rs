@@ -61,6 +61,8 @@ pub mod test {
     from!(proved::token_buffer::BufferError);
     #[cfg(feature = "quoting")]
     from!(proved::quoting::QuoteError proved::quoting::TemplateError);
+    #[cfg(feature = "declarations")]
+    from!(proved::declarations::Fault);
 }
 
 pub mod collections {
