@@ -1,8 +1,9 @@
 -- A layout that is written step by step.
 use Rattle.std.specs.Prelude.{not, ◌&&◌, ◌==◌}
 use Rattle.std.proofs.Common.{◌≡◌, ℕ, Bool, true, false, List, [], ◌∷◌, ◌++◌, Option, Some, None}
-use Rattle.std.proofs.Common.{refl, sym, ap, ◌∙◌, subst, zero, suc, append_assoc, append-nil, OnOk, arith, MatchOption}
-use Rattle.std.specs.Prelude.{Result, Ok, Err, is_ok, String, string_bytes}
+use Rattle.std.proofs.Common.{refl, sym, ap, ap₂, ◌∙◌, subst, zero, suc, append_assoc, append-nil, OnOk, arith}
+use Rattle.std.proofs.Common.{MatchOption}
+use Rattle.std.specs.Prelude.{Result, Ok, Err, encode_utf8, is_ok, String, string_bytes}
 use Rattle.std.specs.Str.{chars, encode_utf8_all}
 use Rattle.std.proofs.lemmas.Str.{IsUtf8-string_bytes, chars-encodes, encodes-chars, encodes_same}
 use Rattle.std.specs.Prelude.{if◌then◌else◌}
@@ -226,6 +227,14 @@ pub set_written : {E : Type 0} (r : Result (Unit {0}) E) (new old text : List �
 set_written (Ok v) new old text none is e =
     ap chars e ∙ (ap (λ x. chars (x ++ encode_utf8_all text)) none ∙ chars-encodes text is)
 set_written (Err v) new old text none is e = tt
+
+-- and of one character
+pub set_pushed : {E : Type 0} (r : Result (Unit {0}) E) (new old : List ℕ) (c d : ℕ) → old ≡ [] → IsText (d ∷ [])
+    → c ≡ d → new ≡ (if is_ok r then old ++ encode_utf8 c else old) → OnOk r (chars new ≡ d ∷ [])
+set_pushed (Ok v) new old c d none is same e =
+    ap chars (e ∙ (ap₂ (λ x y. x ++ encode_utf8 y) none same ∙ sym (append-nil (encode_utf8 d))))
+    ∙ chars-encodes (d ∷ []) is
+set_pushed (Err v) new old c d none is same e = tt
 
 pub opening_chars : (d : Delimiter) → chars (opening d) ≡ opening d
 unfolding chars

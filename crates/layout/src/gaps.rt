@@ -3,7 +3,7 @@ ghost use Rattle.std.specs.Prelude.{◌≡◌, ◌++◌, OnOk, ⊤};
 ghost use Rattle.std.specs.Str.{chars};
 ghost use Rattle.std.specs.Char.{is_ascii_digit};
 ghost use Rattle.lexical.specs.Text.{first_passes};
-ghost use Rattle.layout.specs.Writing.{before_of, event_of, fitting, gap_text, is_dot_token, is_joint_dot, some};
+ghost use Rattle.layout.specs.Writing.{before_of, event_of, fitting, gap_text, is_dot_token, is_joint_dot};
 ghost use Rattle.layout.specs.Writing.{spaces, steps_range};
 ghost use Rattle.layout.specs.Written.{Choice, choice_of};
 ghost use Rattle.layout.specs.Layout.{goes_on, is_joint, is_plain, parts_literal, parts_name};
@@ -64,10 +64,13 @@ pub(crate) fn fitting(before: Option<Step<'_>>, chosen: Gap, text: &str, next: S
     if is_joint(step) {
         return Gap::Nothing;
     }
+    let Gap::Nothing = chosen else {
+        return chosen;
+    };
     if goes_on(step, text) && !(is_plain(step) && begins_range(next)) {
-        return some(chosen);
+        return Gap::Space;
     }
-    chosen
+    Gap::Nothing
 }
 
 // Whether the step is past a literal of letters, digits and `_` alone.
@@ -114,16 +117,6 @@ fn is_dot_next(trees: &[TokenTree]) -> bool
     match trees.first() {
         Some(TokenTree::Punct(punct)) => punct.as_char() == '.',
         _ => false,
-    }
-}
-
-// A space in place of nothing.
-fn some(gap: Gap) -> Gap
-    ensures { result ≡ some gap }
-{
-    match gap {
-        Gap::Nothing => Gap::Space,
-        _ => gap,
     }
 }
 
@@ -201,6 +194,18 @@ pub(crate) fn push_gap(text: &mut TextBuilder, gap: Gap) -> Result<(), AllocErro
 
 // Writes so many spaces.
 fn push_spaces(text: &mut TextBuilder, count: usize) -> Result<(), AllocError>
+    ensures { OnOk result (text.new ≡ text.old ++ spaces count) }
+{
+    let mut left = count;
+    while left >= 8 {
+        text.push_text("        ")?;
+        left -= 8;
+    }
+    push_few_spaces(text, left)
+}
+
+// The same, one by one.
+fn push_few_spaces(text: &mut TextBuilder, count: usize) -> Result<(), AllocError>
     ensures { OnOk result (text.new ≡ text.old ++ spaces count) }
 {
     let mut left = count;

@@ -130,7 +130,7 @@ fn set_tree(text: &mut String, tree: &TokenTree) -> Result<(), AllocError>
         TokenTree::Punct(punct) => {
             // Nor does this.
             punct.span();
-            write!(text, "{punct}")
+            text.push(punct.as_char())
         }
         TokenTree::Literal(literal) => text.push_str(literal.text()),
     }

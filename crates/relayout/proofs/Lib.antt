@@ -5,3 +5,5 @@ mod RelaidLemmas
 mod ChoiceLemmas
 mod TokenLemmas
 mod CommentLemmas
+mod PartLemmas
+mod AttributeLemmas

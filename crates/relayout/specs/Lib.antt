@@ -2,4 +2,5 @@ pub mod Relayout
 pub mod Written
 pub mod Relaid
 pub mod Commented
+pub mod Comments
 pub mod Laws

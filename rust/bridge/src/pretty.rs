@@ -2,6 +2,7 @@
 use crate::{to_proved, NoToken, Spans};
 use proved::pretty_printer::to_pretty_string;
 use proved::quoting::QuoteError;
+use proved::relayout::{with_doc_comments, RelayoutError};
 use proved::shim::alloc::Global;
 use std::error::Error;
 use std::fmt::{self, Display};
@@ -9,10 +10,11 @@ use std::fmt::{self, Display};
 /// The stream's tokens as text for people: a statement or an item a line, blocks and long lists over several lines.
 ///
 /// The text reads back to the stream, up to spans and to the spacing of marks that can't be joined with what follows.
+/// The attributes that doc comments are read as are written as such on lines of their own, where that can be.
 ///
 /// ```
-/// let code: proc_macro2::TokenStream = "fn f(x:u8)->u8{match x{0=>1,_=>x}}".parse()?;
-/// let text = "fn f(x: u8) -> u8 {\n    match x {\n        0 => 1,\n        _ => x\n    }\n}\n";
+/// let code: proc_macro2::TokenStream = "/** Of x.*/fn f(x:u8)->u8{match x{0=>1,_=>x}}".parse()?;
+/// let text = "/// Of x.\nfn f(x: u8) -> u8 {\n    match x {\n        0 => 1,\n        _ => x\n    }\n}\n";
 /// assert_eq!(proved_bridge::pretty(&code)?, text);
 /// # Ok::<(), Box<dyn std::error::Error>>(())
 /// ```
@@ -24,7 +26,11 @@ use std::fmt::{self, Display};
 pub fn pretty(stream: &proc_macro2::TokenStream) -> Result<String, PrettyError> {
     let stream = to_proved(stream, &mut Spans::new()).map_err(PrettyError::NoToken)?;
     let text = to_pretty_string(Global, &stream).map_err(PrettyError::Quote)?;
-    Ok(text.into_rust())
+    match with_doc_comments(Global, text.as_str()) {
+        Ok(text) => Ok(text.into_rust()),
+        Err(RelayoutError::Memory(error)) => Err(PrettyError::Quote(QuoteError::Memory(error))),
+        Err(RelayoutError::NoPiece) => unreachable!("the text reads back"),
+    }
 }
 
 /// Why a stream isn't printed.

@@ -49,10 +49,13 @@ pub(crate) fn fitting(before: Option<Step<'_>>, chosen: Gap, text: &str, next: S
     if is_joint(step) {
         return Gap::Nothing;
     }
+    let Gap::Nothing = chosen else {
+        return chosen;
+    };
     if goes_on(step, text) && !(is_plain(step) && begins_range(next)) {
-        return some(chosen);
+        return Gap::Space;
     }
-    chosen
+    Gap::Nothing
 }
 
 // Whether the step is past a literal of letters, digits and `_` alone.
@@ -94,15 +97,6 @@ fn is_dot_next(trees: &[TokenTree]) -> bool
     match trees.first() {
         Some(TokenTree::Punct(punct)) => punct.as_char() == '.',
         _ => false,
-    }
-}
-
-// A space in place of nothing.
-fn some(gap: Gap) -> Gap
-{
-    match gap {
-        Gap::Nothing => Gap::Space,
-        _ => gap,
     }
 }
 
@@ -174,6 +168,17 @@ pub(crate) fn push_gap(text: &mut TextBuilder, gap: Gap) -> Result<(), AllocErro
 
 // Writes so many spaces.
 fn push_spaces(text: &mut TextBuilder, count: usize) -> Result<(), AllocError>
+{
+    let mut left = count;
+    while left >= 8 {
+        text.push_text("        ")?;
+        left -= 8;
+    }
+    push_few_spaces(text, left)
+}
+
+// The same, one by one.
+fn push_few_spaces(text: &mut TextBuilder, count: usize) -> Result<(), AllocError>
 {
     let mut left = count;
     while left > 0 {

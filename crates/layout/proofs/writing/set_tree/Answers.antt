@@ -2,7 +2,7 @@ use Rattle.std.proofs.Common.{ap, ◌∙◌}
 use Rattle.std.specs.Str.{chars}
 use Rattle.pm_token.specs.Leaf.{mark_token, name_token}
 use Rattle.pm_stream.specs.Delimited.{opening}
-use Rattle.layout.proofs.WritingLemmas.{set_text, set_written, opening_chars, token_is_text}
+use Rattle.layout.proofs.WritingLemmas.{set_pushed, set_text, set_written, opening_chars, token_is_text}
 use Rattle.layout.proofs.writing.set_tree.Goals as goal
 
 pub returns-in-Group : goal.returns-in-Group
@@ -20,8 +20,8 @@ returns-in-Ident c =
 pub returns-in-Punct : goal.returns-in-Punct
 returns-in-Punct c =
     rw c.in-Punct.is
-    (set_written c.write-in-Punct.result _ _ _ c.requires
-    (token_is_text (mark_token c.in-Punct.punct) c.span-in-Punct.ensures.built) c.write-in-Punct.ensures.bytes)
+    (set_pushed c.push.result _ _ _ c.in-Punct.punct.mark c.requires
+    (token_is_text (mark_token c.in-Punct.punct) c.span-in-Punct.ensures.built) c.as_char.ensures c.push.ensures.bytes)
 
 pub returns-in-Literal : goal.returns-in-Literal
 returns-in-Literal c =

@@ -1,0 +1,31 @@
+-- Gaps that are chosen, and their spaces.
+use Rattle.std.specs.Prelude.{◌-◌, if◌then◌else◌}
+use Rattle.std.proofs.Common.{◌≡◌, ◌≤◌, ℕ, suc, Bool, true, false, ◌++◌, List, Some, refl, sym, ap, ◌∙◌, arith, codes}
+use Rattle.std.specs.Str.{chars}
+use Rattle.pm_stream.specs.Events.{Event}
+use Rattle.layout.specs.Layout.{is_joint}
+use Rattle.layout.specs.Writing.{fitting, some, spaces}
+use Rattle.layout.specs.declared.gaps.Gap.{Gap}
+use Rattle.layout.specs.declared.gaps.Gap.TheVariants.{Nothing, Space, Line, Blank}
+
+same_both : (b : Bool) (gap : Gap) → gap ≡ if b then gap else gap
+same_both true gap = refl
+same_both false gap = refl
+
+-- a gap that isn't nothing is written as it is
+pub given_stays : (before : Event) (chosen : Gap) (text : List ℕ) (range : Bool) → is_joint before ≡ false
+    → (chosen ≡ Nothing → ⊥) → chosen ≡ fitting (Some before) chosen text range
+given_stays before Nothing text range apart some_gap = absurd (some_gap refl)
+given_stays before Space text range apart some_gap = rw apart (same_both _ Space)
+given_stays before (Line n) text range apart some_gap = rw apart (same_both _ (Line n))
+given_stays before (Blank n) text range apart some_gap = rw apart (same_both _ (Blank n))
+
+pub eight_chars : chars (codes "        ") ≡ codes "        "
+unfolding chars
+eight_chars = refl
+
+-- eight spaces come first
+pub eight_first : (n : ℕ) → 8 ≤ n → spaces n ≡ codes "        " ++ spaces (n - 8)
+eight_first n many =
+    let e : n ≡ suc (suc (suc (suc (suc (suc (suc (suc (n - 8)))))))) = omega (arith, many) in
+    ap spaces e

@@ -1,0 +1,53 @@
+-- What is written of a text with comments in the place of attributes.
+use Rattle.std.specs.Prelude.{ℕ, Bool, true, not, ◌||◌, ◌==◌, ◌≡◌, List, [], ◌∷◌, ◌++◌, IsTrue, codes}
+use Rattle.lexical.specs.Character.{carriage_return, line_feed}
+use Rattle.lexical.specs.Cover.{onto, IsCover, StandBefore}
+use Rattle.pm_token.specs.Escaped.{string_text}
+use Rattle.pm_token.specs.Text.{IsText}
+use Rattle.relayout.specs.Commented.{Part, White, Kept, Attribute, attribute_front, is_doc_line, is_free, may_all}
+use Rattle.relayout.specs.Commented.{may_be, new_pieces, old_part, old_pieces}
+use Rattle.relayout.specs.Laws.{KeepsTokens}
+
+-- a character that a line of a comment may have
+abbrev pub in_line : ℕ → Bool
+in_line c = not ((c == line_feed) || (c == carriage_return))
+
+-- the attribute of a text that a comment gives stands at the front, before the rest
+pub record IsAttribute (whole : List ℕ) (inner : Bool) (text rest : List ℕ) : Type 0 where
+  pub is : whole ≡ attribute_front inner ++ (string_text text ++ (codes "]\n" ++ rest))
+  pub may : IsTrue (is_doc_line inner text)
+
+-- no such attribute does
+abbrev pub HasNoAttribute : List ℕ → Type 0
+HasNoAttribute whole = (inner : Bool) (text rest : List ℕ) → IsText text → IsAttribute whole inner text rest → ⊥
+
+-- another piece is kept at the front of a text only where none does
+abbrev pub Stays : Part → List ℕ → Type 0
+Stays (White c) whole = Unit {0}
+Stays (Kept piece) whole = HasNoAttribute whole
+Stays (Attribute inner text) whole = Unit {0}
+
+-- each attribute that begins its line, and that a comment gives, is one of the parts
+abbrev pub AreFound : Bool → List Part → Type 0
+AreFound free [] = Unit {0}
+AreFound free (part ∷ parts) =
+    (IsTrue free → Stays part (onto (old_pieces (part ∷ parts)) [])) × AreFound (is_free free part) parts
+
+-- the part stands at the front of the text, before the rest
+pub record IsFirstPart (first free : Bool) (text : List ℕ) (part : Part) (rest : List ℕ) : Type 0 where
+  pub whole : text ≡ onto (old_part part) rest
+  pub stand : StandBefore first (old_part part) rest
+  pub may : IsTrue (may_be free part)
+  pub stays : IsTrue free → Stays part text
+
+-- ---- a text with comments
+
+-- the text is the source with comments in the place of all such attributes, and gives the same tokens up to spans
+pub record IsCommented (source text : List ℕ) : Type 0 where
+  pub parts : List Part
+  pub covers : IsCover (old_pieces parts) source
+  pub may : IsTrue (may_all true parts)
+  pub found : AreFound true parts
+  pub is : text ≡ onto (new_pieces parts) []
+  pub covers_now : IsCover (new_pieces parts) text
+  pub tokens : KeepsTokens source text
