@@ -10,3 +10,5 @@ pub mod SortLemmas
 pub mod ItemLemmas
 pub mod FieldLemmas
 pub mod VariantLemmas
+pub mod AttributeLemmas
+pub mod ListLemmas

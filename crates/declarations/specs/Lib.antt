@@ -14,3 +14,5 @@ pub mod Field
 pub mod Fault
 pub mod Variant
 pub mod Kind
+pub mod Attribute
+pub mod List
