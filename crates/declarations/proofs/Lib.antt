@@ -12,3 +12,5 @@ pub mod FieldLemmas
 pub mod VariantLemmas
 pub mod FileLemmas
 pub mod ParamLemmas
+pub mod AttributeLemmas
+pub mod ListLemmas

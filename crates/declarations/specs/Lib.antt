@@ -16,3 +16,5 @@ pub mod Variant
 pub mod Kind
 pub mod File
 pub mod Param
+pub mod Attribute
+pub mod List

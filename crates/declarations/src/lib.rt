@@ -10,6 +10,7 @@
 #![tactic(auto)]
 
 mod any_item;
+mod attribute;
 mod class;
 mod expression;
 mod fault;
@@ -21,6 +22,7 @@ mod grammar;
 mod header;
 mod item;
 mod keyword;
+mod list;
 mod parts;
 mod place;
 mod signs;
@@ -29,6 +31,7 @@ mod variant;
 mod walk;
 
 pub use any_item::{AnyItem, ItemKind, split_any_item};
+pub use attribute::{Attribute, AttributeArgs, Attributes, split_attribute};
 pub use class::{Class, Keyword, Word};
 pub use fault::Fault;
 pub use field::{Field, parse_field, parse_tuple_field};
@@ -38,6 +41,7 @@ pub use generics::{
 };
 pub use item::{Body, Fields, TypeItem, parse_type_item};
 pub use keyword::is_keyword;
+pub use list::{FieldList, VariantList};
 pub use parts::{
     split_attributes, split_bounds, split_expression, split_field, split_fields, split_generics,
     split_inner_attributes, split_item, split_tuple_field, split_tuple_fields, split_type,
