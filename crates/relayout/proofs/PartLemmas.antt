@@ -204,15 +204,15 @@ piece_part first free now text front rest out new k whole stands none after push
               stays = λ _. tt;
             },
             after ∙ (ap (λ b. b && (free || begins_with (codes "\n") front)) white
-            ∙ ap (λ x. free || begins_with (codes "\n") x.1) gap.1),
+                ∙ ap (λ x. free || begins_with (codes "\n") x.1) gap.1),
             push ∙ ap (λ x. out ++ x.1) gap.1,
           )
       | inr solid ↦ (
-          Kept (k, front),
-          record { whole = whole; stand = (stands, tt); may = refl; stays = none },
-          after ∙ ap (λ b. b && (free || begins_with (codes "\n") front)) solid,
-          push ∙ ap (λ x. out ++ x) (sym (append-nil front)),
-        )
+        Kept (k, front),
+        record { whole = whole; stand = (stands, tt); may = refl; stays = none },
+        after ∙ ap (λ b. b && (free || begins_with (codes "\n") front)) solid,
+        push ∙ ap (λ x. out ++ x) (sym (append-nil front)),
+      )
     ]
 
 -- ---- what follows is shorter
