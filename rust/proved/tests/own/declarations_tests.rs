@@ -4,10 +4,14 @@
 #[cfg(test)]
 mod any_items;
 #[cfg(test)]
+mod attributes;
+#[cfg(test)]
 mod files;
 #[cfg(test)]
 mod generics;
 #[cfg(test)]
 mod items;
+#[cfg(test)]
+mod lists;
 #[cfg(test)]
 mod parts;
