@@ -28,7 +28,7 @@ pub struct Attribute<'a> {
 /// What follows the path of an attribute.
 #[derive(Clone, Copy, Debug)]
 pub enum AttributeArgs<'a> {
-    /// Nothing, as in `#[test]`.
+    /// Nothing, as in `#[no_mangle]`.
     Nothing,
     /// A group alone, as in `#[derive(Clone)]`.
     Group(&'a Group),
