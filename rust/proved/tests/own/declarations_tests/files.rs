@@ -3,8 +3,8 @@
 use crate::shim::prelude::{AllocGlobal, HostRuntime};
 
 // Texts, and their items.
-use proved::declarations::{Fault, ItemKind, parse_file, parse_item};
-use proved::proc_macro2::{SourceMap, TokenStream};
+use proved::declarations::{ItemKind, parse_file, parse_item};
+use proved::proc_macro2::{SourceMap, TokenStream, TokenTree};
 use crate::shim::process::Abort;
 use crate::shim::test::Fail;
 
@@ -21,13 +21,11 @@ fn check_file(
     };
     assert_is(rt, file.inner.len() == inner, text)?;
     let mut items = file.items;
-    let mut wanted = wanted;
-    while let Some((item, rest)) = items.next() {
-        items = rest;
-        let Some(((kind, inside), more)) = wanted.split_first() else {
+    for (kind, inside) in wanted {
+        let Some((item, rest)) = items.next() else {
             return assert_is(rt, false, text);
         };
-        wanted = more;
+        items = rest;
         let count = match item.body() {
             Some(group) => match parse_file(group.stream_ref().trees()) {
                 Ok(body) => body.items.trees().len(),
@@ -37,7 +35,7 @@ fn check_file(
         };
         assert_is(rt, item.kind == *kind && count == *inside, text)?;
     }
-    assert_is(rt, wanted.is_empty(), text)
+    assert_is(rt, items.trees().is_empty(), text)
 }
 
 fn assert_is(rt: &(impl Abort + AllocGlobal), is: bool, text: &str) -> Result<(), Fail> {
@@ -45,10 +43,17 @@ fn assert_is(rt: &(impl Abort + AllocGlobal), is: bool, text: &str) -> Result<()
     Ok(())
 }
 
-fn fault_of(fault: Option<Fault>) -> Option<(usize, bool)> {
-    match fault {
-        Some(fault) => Some((fault.at, fault.span.is_some())),
-        None => None,
+fn fault_at(file: bool, trees: &[TokenTree]) -> Option<(usize, bool)> {
+    if file {
+        match parse_file(trees) {
+            Ok(_) => None,
+            Err(fault) => Some((fault.at, fault.span.is_some())),
+        }
+    } else {
+        match parse_item(trees) {
+            Ok(_) => None,
+            Err(fault) => Some((fault.at, fault.span.is_some())),
+        }
     }
 }
 
@@ -60,12 +65,7 @@ fn check_fault(
     wanted: Option<(usize, bool)>,
 ) -> Result<(), Fail> {
     let stream = TokenStream::from_str(text, &mut SourceMap::new(rt.alloc()))?;
-    let fault = if file {
-        parse_file(stream.trees()).err()
-    } else {
-        parse_item(stream.trees()).err()
-    };
-    assert_is(rt, fault_of(fault) == wanted, text)
+    assert_is(rt, fault_at(file, stream.trees()) == wanted, text)
 }
 
 #[test]
