@@ -10,3 +10,6 @@ pub mod SortLemmas
 pub mod ItemLemmas
 pub mod FieldLemmas
 pub mod VariantLemmas
+pub mod AttributeLemmas
+pub mod ListLemmas
+pub mod CompileErrorLemmas

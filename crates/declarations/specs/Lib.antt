@@ -14,3 +14,6 @@ pub mod Field
 pub mod Fault
 pub mod Variant
 pub mod Kind
+pub mod Attribute
+pub mod CompileError
+pub mod List

@@ -10,6 +10,7 @@
 #![tactic(auto)]
 
 mod any_item;
+mod attribute;
 mod class;
 mod expression;
 mod fault;
@@ -19,6 +20,8 @@ mod grammar;
 mod header;
 mod item;
 mod keyword;
+mod list;
+mod message;
 mod parts;
 mod place;
 mod signs;
@@ -27,11 +30,14 @@ mod variant;
 mod walk;
 
 pub use any_item::{AnyItem, ItemKind, split_any_item};
+pub use attribute::{Attribute, AttributeArgs, Attributes, split_attribute};
 pub use class::{Class, Keyword, Word};
 pub use fault::Fault;
 pub use field::{Field, parse_field, parse_tuple_field};
 pub use item::{Body, Fields, TypeItem, parse_type_item};
 pub use keyword::is_keyword;
+pub use list::{FieldList, VariantList};
+pub use message::compile_error;
 pub use parts::{
     split_attributes, split_bounds, split_expression, split_field, split_fields, split_generics,
     split_inner_attributes, split_item, split_tuple_field, split_tuple_fields, split_type,

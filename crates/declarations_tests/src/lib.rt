@@ -7,3 +7,7 @@ mod any_items;
 mod items;
 #[cfg(test)]
 mod parts;
+#[cfg(test)]
+mod attributes;
+#[cfg(test)]
+mod lists;

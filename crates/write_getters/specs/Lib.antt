@@ -1,2 +1,3 @@
+pub mod Fields
+pub mod Getters
 pub mod Answer
-pub mod Impl

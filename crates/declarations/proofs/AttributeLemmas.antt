@@ -1,0 +1,38 @@
+-- The path of an attribute.
+use Rattle.std.proofs.Common.{◌≡◌, ◌+◌, ◌≤◌, refl, sym, ◌∙◌, ap, suc, Bool, true, false, List, [], ◌∷◌, length, drop, arith}
+use Rattle.std.specs.List.{prefix_len}
+use Rattle.pm_stream.specs.DocGroup.{trees_of}
+use Rattle.pm_stream.specs.Forest.{Forest}
+use Rattle.pm_stream.specs.Trees.{forest}
+use Rattle.pm_stream.specs.declared.stream.TokenTree.{TokenTree}
+use Rattle.pm_stream.proofs.DocLemmas.{trees_of-forest}
+use Rattle.declarations.specs.Attribute.{goes_on}
+
+-- the trees in a group
+pub held_trees : (trees : List TokenTree) (stream held : Forest) → forest trees ≡ stream → stream ≡ held
+    → trees_of held ≡ trees
+held_trees trees stream held whole same = ap trees_of (sym same ∙ sym whole) ∙ trees_of-forest trees
+
+within_cons : (b : Bool) (tree : TokenTree) (trees : List TokenTree) → goes_on tree ≡ b
+    → prefix_len goes_on trees ≤ length trees → prefix_len goes_on (tree ∷ trees) ≤ length (tree ∷ trees)
+within_cons false tree trees is here = rw is (omega arith)
+within_cons true tree trees is here = rw is (omega arith)
+
+pub path_within : (trees : List TokenTree) → prefix_len goes_on trees ≤ length trees
+path_within [] = omega arith
+path_within (tree ∷ trees) = within_cons (goes_on tree) tree trees refl (path_within trees)
+
+stops_cons : (b : Bool) (tree : TokenTree) (trees : List TokenTree) → goes_on tree ≡ b
+    → prefix_len goes_on (drop (prefix_len goes_on trees) trees) ≡ 0
+    → prefix_len goes_on (drop (prefix_len goes_on (tree ∷ trees)) (tree ∷ trees)) ≡ 0
+stops_cons false tree trees is here =
+    let n : prefix_len goes_on (tree ∷ trees) ≡ 0 = rw is refl in
+    ap (λ k. prefix_len goes_on (drop k (tree ∷ trees))) n ∙ n
+stops_cons true tree trees is here =
+    let n : prefix_len goes_on (tree ∷ trees) ≡ suc (prefix_len goes_on trees) = rw is (omega arith) in
+    ap (λ k. prefix_len goes_on (drop k (tree ∷ trees))) n ∙ here
+
+-- no path goes on after it
+pub path_stops : (trees : List TokenTree) → prefix_len goes_on (drop (prefix_len goes_on trees) trees) ≡ 0
+path_stops [] = refl
+path_stops (tree ∷ trees) = stops_cons (goes_on tree) tree trees refl (path_stops trees)

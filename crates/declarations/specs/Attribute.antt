@@ -1,0 +1,90 @@
+-- Attributes, one at a time.
+use Rattle.std.specs.Prelude.{◌≡◌, ℕ, ◌==◌, ◌<◌, ◌&&◌, Bool, true, false, not, List, [], ◌∷◌, ◌++◌, nat_eq}
+use Rattle.std.specs.Prelude.{drop, if◌then◌else◌, length, take_while}
+use Rattle.std.specs.List.{prefix_len}
+use Rattle.std.specs.Cmp.Lexicographic.{pointwise}
+use Rattle.pm_token.specs.Leaf.{Mark}
+use Rattle.pm_token.specs.Spelling.{name_text}
+use Rattle.pm_token.specs.declared.delimiters.Delimiter.{Delimiter}
+use Rattle.pm_token.specs.declared.delimiters.Delimiter.TheVariants as delimiters
+use Rattle.pm_stream.specs.DocGroup.{trees_of}
+use Rattle.pm_stream.specs.declared.stream.Group.{Group as Grouped}
+use Rattle.pm_stream.specs.declared.stream.TokenTree.{TokenTree}
+use Rattle.pm_stream.specs.declared.stream.TokenTree.TheVariants.{Group, Ident, Punct, Literal}
+use Rattle.declarations.specs.declared.attribute.Attribute.{Attribute}
+use Rattle.declarations.specs.declared.attribute.AttributeArgs.{AttributeArgs}
+use Rattle.declarations.specs.declared.attribute.AttributeArgs.TheVariants as args
+
+-- an attribute: its `#`, perhaps with `!`, and its brackets
+pub record Parts : Type 0 where
+  pub marks : List TokenTree
+  pub group : Grouped
+
+-- what an attribute lends
+abbrev pub parts_of : Attribute → Parts
+parts_of attribute = record { marks = attribute.marks.now; group = attribute.group.now }
+
+-- all its trees
+abbrev pub attribute_trees : Parts → List TokenTree
+attribute_trees parts = parts.marks ++ Group parts.group ∷ []
+
+abbrev pub is_bracket : Delimiter → Bool
+is_bracket delimiters.Bracket = true
+is_bracket _ = false
+
+-- `#` (35) and brackets
+abbrev pub is_outer : Mark → Grouped → Bool
+is_outer hash g = (hash.mark == 35) && is_bracket g.delimiter
+
+-- `#`, `!` (33) and brackets
+abbrev pub is_inner : Mark → Mark → Grouped → Bool
+is_inner hash mark g = (hash.mark == 35) && ((mark.mark == 33) && is_bracket g.delimiter)
+
+-- the attributes at the front of trees, as far as they go
+abbrev pub attributes_in : List TokenTree → List Parts
+attributes_in (Punct hash ∷ Group g ∷ rest) =
+    if is_outer hash g then record { marks = Punct hash ∷ []; group = g } ∷ attributes_in rest else []
+attributes_in (Punct hash ∷ Punct mark ∷ Group g ∷ rest) =
+    if is_inner hash mark g then record { marks = Punct hash ∷ Punct mark ∷ []; group = g } ∷ attributes_in rest
+    else []
+attributes_in _ = []
+
+-- the trees begin with the attribute
+abbrev pub IsAttributeAt : List TokenTree → Attribute → List TokenTree → Type 0
+IsAttributeAt trees attribute rest = trees ≡ attribute_trees (parts_of attribute) ++ rest
+
+-- ---- what stands in its brackets
+
+abbrev pub inside : Attribute → List TokenTree
+inside attribute = trees_of attribute.group.now.stream
+
+abbrev pub has_no_delimiters : Delimiter → Bool
+has_no_delimiters delimiters.None = true
+has_no_delimiters _ = false
+
+-- a path may go on with the tree: it isn't `=` (61), nor a group with delimiters
+abbrev pub goes_on : TokenTree → Bool
+goes_on (Group g) = has_no_delimiters g.delimiter
+goes_on (Ident i) = true
+goes_on (Punct p) = not (p.mark == 61)
+goes_on (Literal l) = true
+
+-- the path at the front
+abbrev pub path_of : List TokenTree → List TokenTree
+path_of trees = take_while goes_on trees
+
+-- the trees after it
+abbrev pub after_path : List TokenTree → List TokenTree
+after_path trees = drop (prefix_len goes_on trees) trees
+
+-- the trees are one identifier, written so
+abbrev pub is_word : List TokenTree → List ℕ → Bool
+is_word (Ident name ∷ []) text = pointwise nat_eq (name_text name) text
+is_word _ text = false
+
+-- the trees after a path are these arguments
+abbrev pub AreArgs : List TokenTree → AttributeArgs → Type 0
+AreArgs rest args.Nothing = rest ≡ []
+AreArgs rest (args.Group g) = rest ≡ Group g.now ∷ []
+AreArgs rest (args.Value trees) = (equals : Mark) × (equals.mark ≡ 61) × (rest ≡ Punct equals ∷ trees.now)
+AreArgs rest (args.Other g trees) = (rest ≡ Group g.now ∷ trees.now) × (0 < length trees.now)

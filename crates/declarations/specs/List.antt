@@ -1,0 +1,91 @@
+-- Lists of parts, one at a time.
+use Rattle.std.specs.Prelude.{◌≡◌, ℕ, ◌⊎◌, Bool, true, false, List, [], ◌∷◌, Option, Some, None, Result, Ok, Err, length}
+use Rattle.std.specs.Prelude.{MatchOption, MatchResult}
+use Rattle.pm_stream.specs.Trees.{forest}
+use Rattle.pm_stream.specs.declared.stream.Group.{Group as Grouped}
+use Rattle.pm_stream.specs.declared.stream.TokenTree.{TokenTree}
+use Rattle.pm_stream.specs.declared.stream.TokenTree.TheVariants.{Group, Ident, Punct, Literal}
+use Rattle.declarations.specs.Fault.{extent_at}
+use Rattle.declarations.specs.Field.{IsFieldAt, HasFieldParts, HasTypeParts}
+use Rattle.declarations.specs.Forms.{IsField, IsTupleField, IsVariant}
+use Rattle.declarations.specs.Reading.{Reads, FaultAt}
+use Rattle.declarations.specs.Variant.{IsVariantAt}
+use Rattle.declarations.specs.declared.class.Class.{Class}
+use Rattle.declarations.specs.declared.fault.Fault.{Fault}
+use Rattle.declarations.specs.declared.field.Field.{Field}
+use Rattle.declarations.specs.declared.item.Fields.{Fields}
+use Rattle.declarations.specs.declared.item.Fields.TheVariants as fields
+use Rattle.declarations.specs.declared.list.FieldList.{FieldList}
+use Rattle.declarations.specs.declared.list.VariantList.{VariantList}
+use Rattle.declarations.specs.declared.variant.Variant.{Variant}
+
+-- what follows a part of a list: nothing, or `,` (44) and the trees that are left
+abbrev pub IsPastComma : List TokenTree → List TokenTree → Type 0
+IsPastComma [] left = left ≡ []
+IsPastComma (Punct mark ∷ rest) left = (mark.mark ≡ 44) × (left ≡ rest)
+IsPastComma (tree ∷ rest) left = ⊥
+
+-- a part is read, and neither a `,` nor the end follows it
+pub record LacksComma (form : List Class → List Class → Type 0) (trees : List TokenTree) (at : ℕ) : Type 0 where
+  pub part : List TokenTree
+  pub rest : List TokenTree
+  pub reads : Reads form trees part rest
+  pub counted : at ≡ length part
+  pub none : (left : List TokenTree) → IsPastComma rest left → ⊥
+
+-- the fault of a list: so many trees stand before it, of those that are left
+pub record IsListFault (form : List Class → List Class → Type 0) (trees : List TokenTree) (fault : Fault)
+    : Type 0 where
+  pub place : FaultAt form trees fault.at ⊎ LacksComma form trees fault.at
+  pub span : fault.span ≡ extent_at trees fault.at
+
+-- the part of a list at its front, as `at` says, and the trees after its comma
+abbrev pub IsFirst : {A : Type 0} → (List TokenTree → A → List TokenTree → Type 0) → List TokenTree → A
+    → List TokenTree → Type 0
+IsFirst at trees part left = (rest : List TokenTree) × at trees part rest × IsPastComma rest left
+
+-- the first part or the fault, after which nothing is left
+abbrev pub BeginsList : {A : Type 0} → (List TokenTree → A → List TokenTree → Type 0)
+    → (List Class → List Class → Type 0) → List TokenTree → Result A Fault → List TokenTree → Type 0
+BeginsList at form trees found left =
+    MatchResult found (λ part. IsFirst at trees part left) (λ fault. IsListFault form trees fault × (left ≡ []))
+
+-- a list gives these parts, and these trees are left
+abbrev pub Lists : {A : Type 0} → (List TokenTree → A → List TokenTree → Type 0) → List TokenTree → List A
+    → List TokenTree → Type 0
+Lists at trees [] left = trees ≡ left
+Lists at trees (part ∷ parts) left = (next : List TokenTree) × IsFirst at trees part next × Lists at next parts left
+
+-- ---- fields
+
+abbrev pub IsFieldOf : Bool → List TokenTree → Field → List TokenTree → Type 0
+IsFieldOf true = IsFieldAt IsField HasFieldParts
+IsFieldOf false = IsFieldAt IsTupleField HasTypeParts
+
+abbrev pub field_form : Bool → List Class → List Class → Type 0
+field_form true = IsField
+field_form false = IsTupleField
+
+-- a call for the next field gives it, or the fault, and nothing after the last
+abbrev pub GivesField : FieldList → Option (Result Field Fault) → FieldList → Type 0
+GivesField old given new =
+    MatchOption given ((old.left.now ≡ []) × (new ≡ old))
+    (λ found. BeginsList (IsFieldOf old.named) (field_form old.named) old.left.now found new.left.now
+    × (new.named ≡ old.named))
+
+-- the trees in a group
+abbrev pub AreInside : List TokenTree → Grouped → Type 0
+AreInside trees g = forest trees ≡ g.stream
+
+-- the fields that a struct or a variant has
+abbrev pub ListsFields : Fields → FieldList → Type 0
+ListsFields (fields.Named g) list = (list.named ≡ true) × AreInside list.left.now g.now
+ListsFields (fields.Tuple g) list = (list.named ≡ false) × AreInside list.left.now g.now
+ListsFields fields.Unit list = list.left.now ≡ []
+
+-- ---- variants
+
+abbrev pub GivesVariant : VariantList → Option (Result Variant Fault) → VariantList → Type 0
+GivesVariant old given new =
+    MatchOption given ((old.left.now ≡ []) × (new ≡ old))
+    (λ found. BeginsList IsVariantAt IsVariant old.left.now found new.left.now)

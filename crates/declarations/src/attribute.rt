@@ -1,0 +1,251 @@
+//! Attributes, one at a time.
+ghost use Rattle.std.specs.Prelude.{◌≡◌, ◌==◌, [], ◌∷◌, IfNone, IfSome, List, MatchOption, length};
+ghost use Rattle.std.specs.Prelude.{option_copied};
+ghost use Rattle.std.specs.List.{prefix_len};
+ghost use Rattle.pm_token.specs.Leaf.{Mark};
+ghost use Rattle.pm_token.specs.Spelling.{spelled};
+ghost use Rattle.pm_stream.specs.DocGroup.{doc_of};
+ghost use Rattle.pm_stream.specs.declared.stream.Group.{Group as Grouped};
+ghost use Rattle.pm_stream.specs.declared.stream.TokenTree.{TokenTree as Tree};
+ghost use Rattle.pm_stream.specs.declared.stream.TokenTree.TheVariants as trees_are;
+ghost use Rattle.declarations.specs.Attribute.{AreArgs, IsAttributeAt, after_path, attributes_in, goes_on};
+ghost use Rattle.declarations.specs.Attribute.{has_no_delimiters, inside, is_bracket, is_inner, is_outer, is_word};
+ghost use Rattle.declarations.specs.Attribute.{parts_of, path_of};
+
+use crate::item::split_group;
+use pm_stream::{Group, TokenTree};
+use pm_token::{Delimiter, Literal, Punct};
+
+/// An attribute, as `#[derive(Clone)]` or `#![no_std]`. A doc comment is one too.
+#[derive(Clone, Copy, Debug)]
+pub struct Attribute<'a> {
+    /// `#`, or `#` and `!`.
+    pub marks: &'a [TokenTree],
+    /// The brackets, with what stands in them.
+    pub group: &'a Group,
+}
+
+/// What follows the path of an attribute.
+#[derive(Clone, Copy, Debug)]
+pub enum AttributeArgs<'a> {
+    /// Nothing, as in `#[test]`.
+    Nothing,
+    /// A group alone, as in `#[derive(Clone)]`.
+    Group(&'a Group),
+    /// The trees after `=`, as in `#[path = "a.rs"]`.
+    Value(&'a [TokenTree]),
+    /// A group, and trees after it, which no attribute of Rust has.
+    Other(&'a Group, &'a [TokenTree]),
+}
+
+/// The attributes at the front of trees, in order, as of those of an item, a field or a variant.
+///
+/// It ends before the first trees that are no attribute, which stay in `left`. It takes no memory.
+///
+/// ```text
+/// for attribute in Attributes::new(field.attributes) {
+///     if attribute.is("serde") { .. }
+/// }
+/// ```
+#[derive(Clone, Copy, Debug)]
+pub struct Attributes<'a> {
+    /// The trees that are left.
+    pub left: &'a [TokenTree],
+}
+
+impl<'a> Attributes<'a> {
+    /// The attributes at the front of these trees.
+    pub fn new(trees: &'a [TokenTree]) -> Attributes<'a>
+        ensures { result.left.now ≡ trees.now }
+    {
+        Attributes { left: trees }
+    }
+}
+
+impl<'a> Iterator for Attributes<'a> {
+    ghost use Rattle.std.specs.Iterator.{YieldsFirstBy, item_count};
+
+    type Item = Attribute<'a>;
+
+    // What is given are the attributes at the front of the trees, each once.
+    ghost next_gives = { YieldsFirstBy parts_of (λ list. attributes_in list.left.now) };
+
+    ghost remaining = { item_count (λ list. attributes_in list.left.now) };
+
+    fn next(&mut self) -> Option<Attribute<'a>> {
+        let (attribute, rest) = split_attribute(self.left)?;
+        self.left = rest;
+        Some(attribute)
+    }
+}
+
+/// The attribute at the front of the trees, outer or inner, and the trees after it. `None` where none stands there.
+///
+/// Of `#[a] #[b] pub x` it is `#[a]`, and `#[b] pub x` is left.
+pub fn split_attribute(trees: &[TokenTree]) -> Option<(Attribute<'_>, &[TokenTree])>
+    ensures found { MatchOption result (attributes_in trees.now ≡ [])
+        (λ found. attributes_in trees.now ≡ parts_of found.0 ∷ attributes_in found.1.now) }
+    ensures parts { IfSome result (λ found. IsAttributeAt trees.now found.0 found.1.now) }
+{
+    let (hash, rest) = split_mark(trees)?;
+    match split_group(rest) {
+        Some((group, after)) if is_outer(hash, group) => {
+            let (marks, _) = trees.split_at(1);
+            Some((Attribute { marks, group }, after))
+        }
+        Some(_) => None,
+        None => split_inner(trees, hash, rest),
+    }
+}
+
+// The same, where an inner attribute alone may stand: these trees follow the first mark.
+fn split_inner<'a>(
+    trees: &'a [TokenTree],
+    hash: &Punct,
+    rest: &'a [TokenTree],
+) -> Option<(Attribute<'a>, &'a [TokenTree])>
+    requires whole { trees.now ≡ trees_are.Punct hash.now ∷ rest.now }
+    requires none { (group : Grouped) → (after : List Tree) → rest.now ≡ trees_are.Group group ∷ after → ⊥ }
+    ensures found { MatchOption result (attributes_in trees.now ≡ [])
+        (λ found. attributes_in trees.now ≡ parts_of found.0 ∷ attributes_in found.1.now) }
+    ensures parts { IfSome result (λ found. IsAttributeAt trees.now found.0 found.1.now) }
+{
+    let (mark, brackets) = split_mark(rest)?;
+    let (group, after) = split_group(brackets)?;
+    if is_inner(hash, mark, group) {
+        let (marks, _) = trees.split_at(2);
+        Some((Attribute { marks, group }, after))
+    } else {
+        None
+    }
+}
+
+// The mark that the trees begin with, and the trees after it.
+fn split_mark(trees: &[TokenTree]) -> Option<(&Punct, &[TokenTree])>
+    ensures found { IfSome result (λ found. trees.now ≡ trees_are.Punct found.0.now ∷ found.1.now) }
+    ensures none { IfNone result ((mark : Mark) → (rest : List Tree) → trees.now ≡ trees_are.Punct mark ∷ rest → ⊥) }
+{
+    match trees.split_first() {
+        Some((TokenTree::Punct(mark), rest)) => Some((mark, rest)),
+        _ => None,
+    }
+}
+
+fn is_outer(hash: &Punct, group: &Group) -> bool
+    ensures { result ≡ is_outer hash.now group.now }
+{
+    hash.as_char() == '#' && is_bracket(group.delimiter())
+}
+
+fn is_inner(hash: &Punct, mark: &Punct, group: &Group) -> bool
+    ensures { result ≡ is_inner hash.now mark.now group.now }
+{
+    hash.as_char() == '#' && mark.as_char() == '!' && is_bracket(group.delimiter())
+}
+
+fn is_bracket(delimiter: Delimiter) -> bool
+    ensures { result ≡ is_bracket delimiter }
+{
+    match delimiter {
+        Delimiter::Bracket => true,
+        Delimiter::Parenthesis | Delimiter::Brace | Delimiter::None => false,
+    }
+}
+
+impl<'a> Attribute<'a> {
+    /// Whether it is an inner attribute, as `#![a]`.
+    pub fn is_inner(&self) -> bool
+        ensures { result ≡ (length self.now.marks.now == 2) }
+    {
+        self.marks.len() == 2
+    }
+
+    /// Its path: the trees in the brackets before the first `=` or group with delimiters.
+    ///
+    /// Of `#[rustfmt::skip]` it is `rustfmt::skip`, of `#[doc = "a"]` `doc`, and of `#[unsafe(no_mangle)]` `unsafe`.
+    pub fn path(&self) -> &'a [TokenTree]
+        ensures { result.now ≡ path_of (inside self.now) }
+    {
+        let inside = self.group.stream_ref().trees();
+        let (path, _) = inside.split_at(path_len(inside));
+        path
+    }
+
+    /// What follows its path.
+    pub fn args(&self) -> AttributeArgs<'a>
+        ensures { AreArgs (after_path (inside self.now)) result }
+    {
+        let inside = self.group.stream_ref().trees();
+        let (_, rest) = inside.split_at(path_len(inside));
+        args_of(rest)
+    }
+
+    /// Whether its path is this one identifier. A raw identifier is written with its `r#`.
+    pub fn is(&self, word: &str) -> bool
+        ensures { result ≡ is_word (path_of (inside self.now)) (spelled word.now) }
+    {
+        match self.path() {
+            [TokenTree::Ident(name)] => name.eq_str(word),
+            _ => false,
+        }
+    }
+
+    /// The literal of a doc comment, or of `#[doc = "text"]`, and `None` of every other attribute.
+    pub fn doc(&self) -> Option<&'a Literal>
+        ensures { option_copied result ≡ doc_of self.now.group.now }
+    {
+        self.group.doc()
+    }
+}
+
+// How many trees a path at the front has.
+fn path_len(trees: &[TokenTree]) -> usize
+    ensures { result ≡ prefix_len goes_on trees.now }
+{
+    let mut left = trees;
+    while let Some((tree, rest)) = left.split_first() {
+        if !goes_on(tree) {
+            return trees.len() - left.len();
+        }
+        left = rest;
+    }
+    trees.len()
+}
+
+// Whether a path may go on with the tree.
+fn goes_on(tree: &TokenTree) -> bool
+    ensures { result ≡ goes_on tree.now }
+{
+    match tree {
+        TokenTree::Group(group) => has_no_delimiters(group.delimiter()),
+        TokenTree::Punct(mark) => mark.as_char() != '=',
+        TokenTree::Ident(_) | TokenTree::Literal(_) => true,
+    }
+}
+
+fn has_no_delimiters(delimiter: Delimiter) -> bool
+    ensures { result ≡ has_no_delimiters delimiter }
+{
+    match delimiter {
+        Delimiter::None => true,
+        Delimiter::Parenthesis | Delimiter::Bracket | Delimiter::Brace => false,
+    }
+}
+
+// The arguments that these trees after a path are.
+fn args_of(rest: &[TokenTree]) -> AttributeArgs<'_>
+    requires { prefix_len goes_on rest.now ≡ 0 }
+    ensures { AreArgs rest.now result }
+{
+    match rest.split_first() {
+        None => AttributeArgs::Nothing,
+        Some((TokenTree::Group(group), after)) => {
+            if after.is_empty() {
+                AttributeArgs::Group(group)
+            } else {
+                AttributeArgs::Other(group, after)
+            }
+        }
+        Some((_, value)) => AttributeArgs::Value(value),
+    }
+}

@@ -1,0 +1,207 @@
+//! Lists of fields and of variants, one at a time.
+ghost use Rattle.std.specs.Prelude.{◌≡◌, ◌-◌, ◌≤◌, ◌<◌, IfErr, IfNone, IfOk, IfSome, List, MatchResult, length, true};
+ghost use Rattle.pm_stream.specs.declared.stream.TokenTree.{TokenTree as Tree};
+ghost use Rattle.declarations.specs.Fault.{extent_at, first_extent};
+ghost use Rattle.declarations.specs.Forms.{IsVariant};
+ghost use Rattle.declarations.specs.List.{AreInside, IsFirst, IsFieldOf, IsListFault, IsPastComma, ListsFields};
+ghost use Rattle.declarations.specs.List.{field_form};
+ghost use Rattle.declarations.specs.Reading.{FaultAt};
+ghost use Rattle.declarations.specs.Variant.{IsVariantAt};
+
+use crate::fault::Fault;
+use crate::field::{Field, parse_field, parse_tuple_field};
+use crate::item::Fields;
+use crate::variant::{Variant, parse_variant};
+use pm_stream::{Group, TokenTree};
+
+/// The fields in braces or parentheses, in order, with `,` between two and perhaps after the last.
+///
+/// It gives each field, or the fault where the trees go on with none. After a fault it gives nothing. Each field is as
+/// [`parse_field`] answers it of the trees that are left, [`parse_tuple_field`] where it has no name; so is a fault,
+/// whose trees are counted from there on. Of `a: A, b: B` it gives `a: A` and `b: B`. It takes no memory.
+///
+/// ```text
+/// for field in fields.list() {
+///     let field = field?;
+///     ..
+/// }
+/// ```
+#[derive(Clone, Copy, Debug)]
+pub struct FieldList<'a> {
+    /// Whether the fields have names.
+    pub named: bool,
+    /// The trees that are left.
+    pub left: &'a [TokenTree],
+}
+
+/// The variants in the braces of an enum, in order, with `,` between two and perhaps after the last.
+///
+/// It gives each variant as [`parse_variant`] answers it of the trees that are left, or the fault. After a fault it
+/// gives nothing. Of `A, B(u8) = 1` it gives `A` and `B(u8) = 1`. It takes no memory.
+#[derive(Clone, Copy, Debug)]
+pub struct VariantList<'a> {
+    /// The trees that are left.
+    pub left: &'a [TokenTree],
+}
+
+impl<'a> FieldList<'a> {
+    /// The fields with names in this group, as in the braces of a union.
+    pub fn named(group: &'a Group) -> FieldList<'a>
+        ensures named { result.named ≡ true }
+        ensures inside { AreInside result.left.now group.now }
+    {
+        FieldList {
+            named: true,
+            left: group.stream_ref().trees(),
+        }
+    }
+}
+
+impl<'a> Fields<'a> {
+    /// Its fields, one at a time.
+    pub fn list(&self) -> FieldList<'a>
+        ensures { ListsFields self.now result }
+    {
+        match self {
+            Fields::Named(group) => FieldList::named(group),
+            Fields::Tuple(group) => FieldList {
+                named: false,
+                left: group.stream_ref().trees(),
+            },
+            Fields::Unit => FieldList {
+                named: true,
+                left: &[],
+            },
+        }
+    }
+}
+
+impl<'a> VariantList<'a> {
+    /// The variants in these braces.
+    pub fn new(group: &'a Group) -> VariantList<'a>
+        ensures { AreInside result.left.now group.now }
+    {
+        VariantList {
+            left: group.stream_ref().trees(),
+        }
+    }
+}
+
+impl<'a> Iterator for FieldList<'a> {
+    ghost use Rattle.std.specs.Iterator.{at_most};
+    ghost use Rattle.declarations.specs.List.{GivesField};
+
+    type Item = Result<Field<'a>, Fault>;
+
+    ghost next_gives = { GivesField };
+
+    // No more come than trees are left.
+    ghost remaining = { λ list. at_most (length list.left.now) };
+
+    fn next(&mut self) -> Option<Result<Field<'a>, Fault>> {
+        if self.left.is_empty() {
+            return None;
+        }
+        match first_field(self.named, self.left) {
+            Ok((field, left)) => {
+                self.left = left;
+                Some(Ok(field))
+            }
+            Err(fault) => {
+                self.left = &[];
+                Some(Err(fault))
+            }
+        }
+    }
+}
+
+impl<'a> Iterator for VariantList<'a> {
+    ghost use Rattle.std.specs.Iterator.{at_most};
+    ghost use Rattle.declarations.specs.List.{GivesVariant};
+
+    type Item = Result<Variant<'a>, Fault>;
+
+    ghost next_gives = { GivesVariant };
+
+    ghost remaining = { λ list. at_most (length list.left.now) };
+
+    fn next(&mut self) -> Option<Result<Variant<'a>, Fault>> {
+        if self.left.is_empty() {
+            return None;
+        }
+        match first_variant(self.left) {
+            Ok((variant, left)) => {
+                self.left = left;
+                Some(Ok(variant))
+            }
+            Err(fault) => {
+                self.left = &[];
+                Some(Err(fault))
+            }
+        }
+    }
+}
+
+// The first field of a list, and the trees after its comma.
+fn first_field(named: bool, trees: &[TokenTree]) -> Result<(Field<'_>, &[TokenTree]), Fault>
+    ensures given { MatchResult result (λ found. IsFirst (IsFieldOf named) trees.now found.0 found.1.now)
+        (λ fault. IsListFault (field_form named) trees.now fault) }
+    ensures fewer { IfOk result (λ found. length found.1.now < length trees.now) }
+{
+    match field_at(named, trees) {
+        Ok((field, rest)) => match past_comma(rest) {
+            Some(left) => Ok((field, left)),
+            None => Err(fault_after(trees, rest)),
+        },
+        Err(fault) => Err(fault),
+    }
+}
+
+// The field at the front of the trees, with a name or without, and the trees after it.
+fn field_at(named: bool, trees: &[TokenTree]) -> Result<(Field<'_>, &[TokenTree]), Fault>
+    ensures ok { IfOk result (λ found. IsFieldOf named trees.now found.0 found.1.now) }
+    ensures fault { IfErr result (λ fault. FaultAt (field_form named) trees.now fault.at) }
+    ensures span { IfErr result (λ fault. fault.span ≡ extent_at trees.now fault.at) }
+{
+    if named {
+        parse_field(trees)
+    } else {
+        parse_tuple_field(trees)
+    }
+}
+
+// The first variant of a list, and the trees after its comma.
+fn first_variant(trees: &[TokenTree]) -> Result<(Variant<'_>, &[TokenTree]), Fault>
+    ensures given { MatchResult result (λ found. IsFirst IsVariantAt trees.now found.0 found.1.now)
+        (λ fault. IsListFault IsVariant trees.now fault) }
+    ensures fewer { IfOk result (λ found. length found.1.now < length trees.now) }
+{
+    match parse_variant(trees) {
+        Ok((variant, rest)) => match past_comma(rest) {
+            Some(left) => Ok((variant, left)),
+            None => Err(fault_after(trees, rest)),
+        },
+        Err(fault) => Err(fault),
+    }
+}
+
+// The fault before these trees, the last of all.
+fn fault_after(trees: &[TokenTree], rest: &[TokenTree]) -> Fault
+    requires { length rest.now ≤ length trees.now }
+    ensures at { result.at ≡ length trees.now - length rest.now }
+    ensures span { result.span ≡ first_extent rest.now }
+{
+    Fault::ahead_of(trees.len() - rest.len(), rest)
+}
+
+// The trees after the comma at the front, or none where none are left.
+fn past_comma(trees: &[TokenTree]) -> Option<&[TokenTree]>
+    ensures found { IfSome result (λ left. IsPastComma trees.now left.now) }
+    ensures none { IfNone result ((left : List Tree) → IsPastComma trees.now left → ⊥) }
+{
+    match trees.split_first() {
+        None => Some(trees),
+        Some((TokenTree::Punct(mark), rest)) if mark.as_char() == ',' => Some(rest),
+        Some(_) => None,
+    }
+}

@@ -1,0 +1,93 @@
+// Attributes, and what stands in their brackets.
+use declarations::{AttributeArgs, Attributes};
+use proc_macro2::{SourceMap, TokenStream};
+use std::process::Abort;
+use std::test::Fail;
+
+/// What follows a path, by how many trees stand in it.
+#[derive(Clone, Copy, Debug, PartialEq, Eq)]
+enum Args {
+    Nothing,
+    Group(usize),
+    Value(usize),
+    Other(usize),
+}
+
+fn shown(args: AttributeArgs<'_>) -> Args {
+    match args {
+        AttributeArgs::Nothing => Args::Nothing,
+        AttributeArgs::Group(group) => Args::Group(group.stream_ref().trees().len()),
+        AttributeArgs::Value(value) => Args::Value(value.len()),
+        AttributeArgs::Other(_, trees) => Args::Other(trees.len()),
+    }
+}
+
+// The attributes of each text: how many trees the path has, what follows it, whether it is inner and a doc comment.
+fn check(
+    rt: &(impl Abort + AllocGlobal),
+    text: &str,
+    rows: &[(usize, Args, bool, bool)],
+    left: usize,
+) -> Result<(), Fail> {
+    let stream = TokenStream::from_str(text, &mut SourceMap::new(rt.alloc()))?;
+    let mut attributes = Attributes::new(stream.trees());
+    for (path, args, inner, doc) in rows {
+        match attributes.next() {
+            Some(attribute) => {
+                assert_eq!(rt; attribute.path().len(), *path, "{text:?}");
+                assert_eq!(rt; shown(attribute.args()), *args, "{text:?}");
+                assert_eq!(rt; attribute.is_inner(), *inner, "{text:?}");
+                assert_eq!(rt; attribute.doc().is_some(), *doc, "{text:?}");
+            }
+            None => assert!(rt; false, "{text:?}"),
+        }
+    }
+    assert!(rt; attributes.next().is_none(), "{text:?}");
+    assert_eq!(rt; attributes.left.len(), left, "{text:?}");
+    Ok(())
+}
+
+#[test]
+fn an_attribute_has_a_path_and_arguments(rt: HostRuntime) -> Result<(), Fail> {
+    check(
+        &rt,
+        "#[test] #[a::b(c, d)] #[e = f + 1] /// g\n #[h {}] pub x",
+        &[
+            (1, Args::Nothing, false, false),
+            (4, Args::Group(3), false, false),
+            (1, Args::Value(3), false, false),
+            (1, Args::Value(1), false, true),
+            (1, Args::Group(0), false, false),
+        ],
+        2,
+    )?;
+    check(
+        &rt,
+        "#![a] //! b\n #[] #[= c] #[(d) e] # (f)",
+        &[
+            (1, Args::Nothing, true, false),
+            (1, Args::Value(1), true, true),
+            (0, Args::Nothing, false, false),
+            (0, Args::Value(1), false, false),
+            (0, Args::Other(1), false, false),
+        ],
+        2,
+    )?;
+    check(&rt, "", &[], 0)?;
+    check(&rt, "#", &[], 1)?;
+    check(&rt, "#!", &[], 2)
+}
+
+#[test]
+fn a_word_is_a_whole_path(rt: HostRuntime) -> Result<(), Fail> {
+    let text = "#[getter(skip)] #[getter::a] #[r#getter] #[getter]";
+    let stream = TokenStream::from_str(text, &mut SourceMap::new(rt.alloc()))?;
+    let mut found = 0_usize;
+    for attribute in Attributes::new(stream.trees()) {
+        if attribute.is("getter") {
+            found = found.saturating_add(1);
+        }
+    }
+    assert_eq!(rt; found, 2);
+    Ok(())
+}

@@ -1,0 +1,114 @@
+// Made from crates/declarations_tests/src/lists.rt by rust/erase: change that file, not this one.
+
+use crate::shim::prelude::{AllocGlobal, HostRuntime};
+
+// Lists of fields and variants: how many come, and where the fault stands.
+use proved::declarations::{Body, Fault, parse_type_item, VariantList, FieldList};
+use proved::proc_macro2::{SourceMap, TokenStream};
+use crate::shim::process::Abort;
+use crate::shim::test::Fail;
+
+/// How many parts come before the end, and the fault if there is one, by how many trees stand before it.
+#[derive(Clone, Copy, Debug, PartialEq, Eq)]
+struct Given {
+    parts: usize,
+    fault: Option<usize>,
+}
+
+fn whole(parts: usize) -> Given {
+    Given { parts, fault: None }
+}
+
+fn faulty(parts: usize, at: usize) -> Given {
+    Given {
+        parts,
+        fault: Some(at),
+    }
+}
+
+fn fields_given(list: FieldList<'_>) -> Given {
+    let mut parts = 0_usize;
+    for field in list {
+        match field {
+            Ok(_) => parts = parts.saturating_add(1),
+            Err(fault) => return faulty(parts, fault.at),
+        }
+    }
+    whole(parts)
+}
+
+fn variants_given(list: VariantList<'_>) -> Given {
+    let mut parts = 0_usize;
+    for variant in list {
+        match variant {
+            Ok(_) => parts = parts.saturating_add(1),
+            Err(fault) => return faulty(parts, fault.at),
+        }
+    }
+    whole(parts)
+}
+
+fn parts_given(body: &Body<'_>) -> Given {
+    match body {
+        Body::Struct(fields) => fields_given(fields.list()),
+        Body::Enum(group) => variants_given(VariantList::new(group)),
+        Body::Union(group) => fields_given(FieldList::named(group)),
+    }
+}
+
+fn check(rt: &(impl Abort + AllocGlobal), rows: &[(&str, Given)]) -> Result<(), Fail> {
+    for (text, wanted) in rows {
+        let stream = TokenStream::from_str(text, &mut SourceMap::new(rt.alloc()))?;
+        match parse_type_item(stream.trees()) {
+            Ok(item) => assert_eq!(parts_given(&item.body), *wanted, "{text:?}"),
+            Err(fault) => assert!(false, "{text:?}: {fault}"),
+        }
+    }
+    Ok(())
+}
+
+#[test]
+fn each_part_of_a_body_is_given_or_its_fault() -> Result<(), Fail> {
+    let rt = HostRuntime;
+    check(
+        &rt,
+        &[
+            ("struct S;", whole(0)),
+            ("struct S {}", whole(0)),
+            ("struct S { #[x] pub a: Vec<u8, u8>, b: fn() -> u8, }", whole(2)),
+            ("struct S(u8, pub (u8, u8), Vec<A, B>);", whole(3)),
+            ("struct S(pub(crate) u8,);", whole(1)),
+            ("union U { a: u8, b: u16 }", whole(2)),
+            ("enum E { A, B(u8), C { c: u8 } = f::<X, Y>(), }", whole(3)),
+            ("struct S { a: u8 b: u8 }", faulty(0, 3)),
+            ("struct S { a: u8, , }", faulty(1, 0)),
+            ("struct S { a: u8, b }", faulty(1, 1)),
+            ("struct S(u8, fn);", faulty(1, 1)),
+            ("enum E { A = 1 B }", faulty(0, 3)),
+            ("enum E { A, B =, C }", faulty(1, 2)),
+            ("struct S { , }", faulty(0, 0)),
+        ],
+    )
+}
+
+#[test]
+fn a_fault_is_told_to_the_compiler() -> Result<(), Fail> {
+    let rt = HostRuntime;
+    let mut map = SourceMap::new(rt.alloc());
+    for (text, wanted) in [
+        ("struct S; fn", "::core::compile_error! { \"not expected here\" }"),
+        ("struct S", "::core::compile_error! { \"the declaration ends too early\" }"),
+    ] {
+        let stream = TokenStream::from_str(text, &mut map)?;
+        match parse_type_item(stream.trees()) {
+            Ok(_) => assert!(false, "{text:?}"),
+            Err(fault) => {
+                let told = fault.to_compile_error(rt.alloc())?;
+                let same = TokenStream::from_str(wanted, &mut map)?;
+                assert!(told.same_tokens(&same), "{told}");
+                assert!(told.is_well_spaced(), "{text:?}");
+            }
+        }
+    }
+    Ok(())
+}
