@@ -61,6 +61,10 @@ pub mod test {
     from!(proved::token_buffer::BufferError);
     #[cfg(feature = "quoting")]
     from!(proved::quoting::QuoteError proved::quoting::TemplateError);
+    #[cfg(feature = "declarations")]
+    from!(proved::declarations::Fault);
+    #[cfg(feature = "item_headers")]
+    from!(proved::item_headers::HeaderError);
 }
 
 pub mod collections {
