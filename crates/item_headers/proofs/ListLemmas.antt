@@ -1,14 +1,10 @@
 -- Lists that are written element by element.
-use Rattle.std.proofs.Common.{◌≡◌, refl, sym, ◌∙◌, ap, subst, ℕ, ◌+◌, ◌<◌, ◌≤◌, Bool, true, false, List, [], ◌∷◌, ◌++◌}
-use Rattle.std.proofs.Common.{append-nil, arith, length, map}
+use Rattle.std.proofs.Common.{◌≡◌, refl, sym, ◌∙◌, ap, subst, ◌<◌, Bool, true, false, List, [], ◌∷◌, ◌++◌}
+use Rattle.std.proofs.Common.{arith, length, map}
 use Rattle.declarations.proofs.ParamLemmas.{fewer_param, one_param}
-use Rattle.declarations.specs.Param.{EndsElement, HasBounds, HasDefault, HasName, HasSign, IsParamAt, IsPredicateAt}
-use Rattle.declarations.specs.Param.{IsWithin, IsAfterWhere, MayHave, MustHave, ParamTrees, PredicateTrees}
-use Rattle.declarations.specs.Param.{ReadsConstant, stands, left_out, comma, last, one_sign, negative, of_type}
-use Rattle.declarations.specs.Signs.{BeginsWith}
-use Rattle.declarations.specs.declared.generics.ParamKind.{ParamKind}
+use Rattle.declarations.specs.Param.{IsParamAt, IsPredicateAt, IsWithin, ParamTrees, PredicateTrees}
 use Rattle.declarations.specs.declared.generics.ParamKind.TheVariants as kinds
-use Rattle.item_headers.specs.Header.{AreParams, ArePredicates, HasParams, HasPredicates, param_in, predicate_in}
+use Rattle.item_headers.specs.Header.{AreParams, ArePredicates, HasParams, param_in, predicate_in}
 use Rattle.item_headers.specs.Header.{bounded, bounded_as, bounds_on_types}
 use Rattle.item_headers.specs.Lists.{any_of, lead_of, listed, listed_after, mark, put}
 use Rattle.item_headers.specs.declared.lists.Lead.{Lead}
@@ -17,7 +13,7 @@ use Rattle.item_headers.specs.declared.params.Form.{Form}
 use Rattle.pm_stream.proofs.BuildingLemmas.{joined_assoc, joined_nil}
 use Rattle.pm_stream.specs.declared.stream.TokenTree.{TokenTree}
 use Rattle.proc_macro2.specs.Building.{split}
-use Rattle.proc_macro2.specs.Forest.{Forest, nil, leaf, group, joined}
+use Rattle.proc_macro2.specs.Forest.{Forest, joined}
 
 -- ---- elements after others
 
@@ -219,17 +215,17 @@ same_params trees (param ∷ params) (param2 ∷ params2) read read2 =
     let rest = same_params read.0 params params2 read.2 (subst (λ t. AreParams t params2 []) one.1 read2.2) in
     ap (λ p. p ∷ params2) one.0 ∙ ap (λ ps. param ∷ ps) rest
 
-same_last : {A : Type 0} → (front front2 : List A) (last last2 : A) → front ++ last ∷ [] ≡ front2 ++ last2 ∷ []
+same_last : {A : Type 0} → (front front2 : List A) (end end2 : A) → front ++ end ∷ [] ≡ front2 ++ end2 ∷ []
     → front ≡ front2
-same_last [] [] last last2 same = refl
-same_last [] (first2 ∷ []) last last2 same = cc
-same_last [] (first2 ∷ second2 ∷ front2) last last2 same = cc
-same_last (first ∷ []) [] last last2 same = cc
-same_last (first ∷ second ∷ front) [] last last2 same = cc
-same_last (first ∷ front) (first2 ∷ front2) last last2 same =
+same_last [] [] end end2 same = refl
+same_last [] (first2 ∷ []) end end2 same = cc
+same_last [] (first2 ∷ second2 ∷ front2) end end2 same = cc
+same_last (first ∷ []) [] end end2 same = cc
+same_last (first ∷ second ∷ front) [] end end2 same = cc
+same_last (first ∷ front) (first2 ∷ front2) end end2 same =
     let firsts : first ≡ first2 = cc in
-    let rests : front ++ last ∷ [] ≡ front2 ++ last2 ∷ [] = cc in
-    let more = same_last front front2 last last2 rests in
+    let rests : front ++ end ∷ [] ≡ front2 ++ end2 ∷ [] = cc in
+    let more = same_last front front2 end end2 rests in
     cc
 
 same_within : (trees inside inside2 : List TokenTree) → IsWithin trees inside → IsWithin trees inside2
@@ -253,6 +249,10 @@ joined_two old first second now new now_is new_is =
 
 -- ---- trees put in, one after another
 
+no_trees : (trees : List TokenTree) → length trees ≡ 0 → trees ≡ []
+no_trees [] none = refl
+no_trees (tree ∷ trees) none = absurd (omega arith)
+
 pub put_step : (start now new : Forest) (trees left : List TokenTree) (tree copy : TokenTree) (rest : List TokenTree)
     → left ≡ tree ∷ rest → copy ≡ tree → new ≡ joined now (split copy)
     → joined now (put left) ≡ joined start (put trees) → joined new (put rest) ≡ joined start (put trees)
@@ -260,7 +260,7 @@ put_step start now new trees left tree copy rest whole same is so_far =
     ap (λ f. joined f (put rest)) (is ∙ ap (λ t. joined now (split t)) same)
     ∙ joined_assoc now (split tree) (put rest) ∙ ap (λ ts. joined now (put ts)) (sym whole) ∙ so_far
 
-pub put_done : (start now : Forest) (trees left : List TokenTree) → left ≡ []
+pub put_done : (start now : Forest) (trees left : List TokenTree) → length left ≡ 0
     → joined now (put left) ≡ joined start (put trees) → now ≡ joined start (put trees)
 put_done start now trees left none so_far =
-    sym (joined_nil now) ∙ ap (λ ts. joined now (put ts)) (sym none) ∙ so_far
+    sym (joined_nil now) ∙ ap (λ ts. joined now (put ts)) (sym (no_trees left none)) ∙ so_far

@@ -7,7 +7,7 @@ use Rattle.proc_macro2.specs.Forest.{Forest, nil, joined}
 use Rattle.proc_macro2.specs.Trees.{alone}
 use Rattle.pm_stream.specs.declared.stream.TokenTree.{TokenTree}
 use Rattle.pm_stream.specs.declared.stream.TokenTree.TheVariants.{Ident}
-use Rattle.pm_token.specs.Leaf.{Name}
+use Rattle.proc_macro2.specs.Leaf.{Name}
 use Rattle.item_headers.specs.Lists.{led, listed, mark, put, word}
 use Rattle.item_headers.specs.declared.lists.Lead.{Lead}
 use Rattle.item_headers.specs.declared.lists.Lead.TheVariants as leads

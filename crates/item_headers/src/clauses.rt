@@ -1,7 +1,8 @@
 //! Where clauses, with predicates added.
 ghost use Rattle.std.specs.Prelude.{◌≡◌, ◌∷◌, [], IfOk, List, OnOk, false, map};
 ghost use Rattle.declarations.specs.Param.{ParamTrees, PredicateTrees, param_trees, predicate_trees};
-ghost use Rattle.item_headers.specs.Header.{HasParams, HasPredicates, bounded, bounds_on_types, predicate_in, where_with};
+ghost use Rattle.item_headers.specs.Header.{HasParams, HasPredicates, bounded, bounds_on_types, predicate_in};
+ghost use Rattle.item_headers.specs.Header.{where_with};
 ghost use Rattle.item_headers.specs.Lists.{any_of, listed, listed_after};
 ghost use Rattle.item_headers.specs.declared.lists.Lead.TheVariants as leads;
 ghost use Rattle.proc_macro2.specs.Forest.{Forest, joined};
@@ -14,9 +15,9 @@ use declarations::{
     Param, ParamKind, Predicate, TypeItem, after_where, parse_param, parse_predicate,
     within_generics,
 };
-use proc_macro2::{TokenStream, TokenTree};
+use proc_macro2::{IdentError, TokenStream, TokenTree};
 use quoting::Quote;
-use std::alloc::Global;
+use std::alloc::{AllocError, Global};
 
 /// The where clause of the item, or nothing where it has no predicates.
 ///
@@ -47,7 +48,8 @@ pub fn where_clause_with(
     let mut quote = Quote::new(alloc);
     let any = push_where(&mut quote, alloc, item.where_clause)?;
     push_lead(&mut quote, alloc, Lead::Where, any)?;
-    quote.push_stream(predicate.clone()?)?;
+    let copy = predicate.clone()?;
+    quote.push_stream(copy)?;
     Ok(quote.finish()?)
 }
 
@@ -92,7 +94,7 @@ pub(crate) fn push_where(
     Ok(any)
 }
 
-fn push_predicate(quote: &mut Quote, predicate: &Predicate<'_>) -> Result<(), HeaderError>
+fn push_predicate(quote: &mut Quote, predicate: &Predicate<'_>) -> Result<(), AllocError>
     ensures { OnOk result (quote.new ≡ joined quote.old (predicate_in (predicate_trees predicate.now))) }
 {
     push_trees(quote, predicate.bounded)?;
@@ -113,10 +115,11 @@ fn push_bounds(
         × (quote.new ≡ joined quote.old (listed_after any leads.Where (bounds_on_types bound.now params)))) }
 {
     let mut left = within_generics(generics)?;
-    let mut any = any;
+    let mut any_now = any;
     while !left.is_empty() {
         let (param, rest) = parse_param(left)?;
-        any = push_bound(quote, alloc, &param, bound, any)?;
+        let more = push_bound(quote, alloc, &param, bound, any_now)?;
+        any_now = more;
         left = rest;
     }
     Ok(())
@@ -129,19 +132,21 @@ fn push_bound(
     param: &Param<'_>,
     bound: &TokenStream,
     any: bool,
-) -> Result<bool, HeaderError>
+) -> Result<bool, IdentError>
     ensures { IfOk result (λ more. (quote.new
         ≡ joined quote.old (listed_after any leads.Where (bounded bound.now (param_trees param.now) [])))
         × (more ≡ any_of any (bounded bound.now (param_trees param.now) []))) }
 {
     match param.kind {
+        ParamKind::Lifetime => Ok(any),
         ParamKind::Type => {
             push_lead(quote, alloc, Lead::Where, any)?;
             push_trees(quote, param.name)?;
             push_mark(quote, ':')?;
-            quote.push_stream(bound.clone()?)?;
+            let copy = bound.clone()?;
+            quote.push_stream(copy)?;
             Ok(true)
         }
-        ParamKind::Lifetime | ParamKind::Const => Ok(any),
+        ParamKind::Const => Ok(any),
     }
 }

@@ -13,7 +13,7 @@ use std::fmt;
 pub enum HeaderError {
     /// A generic parameter or a predicate isn't as the grammar has it. The trees are counted from that one.
     Fault(Fault),
-    /// No keyword could be made; for the keywords that are written that is so where memory ran out.
+    /// A keyword or a mark couldn't be put in; for those that are written that is so where memory ran out.
     Keyword(IdentError),
     /// No printed text shows what was put together, or memory ran out.
     Quote(QuoteError),

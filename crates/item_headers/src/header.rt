@@ -1,8 +1,7 @@
 //! The front of an `impl`.
-ghost use Rattle.std.specs.Prelude.{◌≡◌, [], IfOk, List, OnOk};
+ghost use Rattle.std.specs.Prelude.{◌≡◌, [], IfOk, List};
 ghost use Rattle.declarations.specs.Param.{ParamTrees, PredicateTrees};
 ghost use Rattle.item_headers.specs.Header.{HasParams, HasPredicates, front, header, where_with};
-ghost use Rattle.proc_macro2.specs.Forest.{joined};
 ghost use Rattle.proc_macro2.specs.WellSpaced.{IsWellSpaced};
 ghost use Rattle.quoting.specs.Respaced.{respaced};
 
@@ -29,8 +28,7 @@ pub fn impl_header(
         × (stream ≡ respaced (header params item.now.name.now trait_path.now (where_with predicates [])))) }
     ensures spaced { IfOk result IsWellSpaced }
 {
-    let mut quote = Quote::new(alloc);
-    push_front(&mut quote, alloc, item, trait_path)?;
+    let mut quote = front(alloc, item, trait_path)?;
     push_where(&mut quote, alloc, item.where_clause)?;
     Ok(quote.finish()?)
 }
@@ -46,26 +44,31 @@ pub fn impl_header_where(
         × (stream ≡ respaced (header params item.now.name.now trait_path.now where_clause.now))) }
     ensures spaced { IfOk result IsWellSpaced }
 {
-    let mut quote = Quote::new(alloc);
-    push_front(&mut quote, alloc, item, trait_path)?;
-    quote.push_stream(where_clause.clone()?)?;
+    let mut quote = front(alloc, item, trait_path)?;
+    let clause = where_clause.clone()?;
+    quote.push_stream(clause)?;
     Ok(quote.finish()?)
 }
 
-// Puts all before the where clause at the end.
-fn push_front(
-    quote: &mut Quote,
-    alloc: Global,
-    item: &TypeItem<'_>,
-    trait_path: &TokenStream,
-) -> Result<(), HeaderError>
-    ensures { OnOk result ((params : List ParamTrees) × HasParams item.now.generics.now params
-        × (quote.new ≡ joined quote.old (front params item.now.name.now trait_path.now))) }
+// All before the where clause.
+fn front(alloc: Global, item: &TypeItem<'_>, trait_path: &TokenStream) -> Result<Quote, HeaderError>
+    ensures { IfOk result (λ quote. (params : List ParamTrees) × HasParams item.now.generics.now params
+        × (quote ≡ front params item.now.name.now trait_path.now)) }
 {
-    push_word(quote, alloc, "impl")?;
-    push_generics(quote, alloc, item.generics, Lead::Angle, Form::Declared)?;
-    quote.push_stream(trait_path.clone()?)?;
-    push_word(quote, alloc, "for")?;
-    quote.push(TokenTree::Ident(item.name.clone()?))?;
-    push_generics(quote, alloc, item.generics, Lead::Angle, Form::Named)
+    let mut quote = Quote::new(alloc);
+    push_word(&mut quote, alloc, "impl")?;
+    push_generics(
+        &mut quote,
+        alloc,
+        item.generics,
+        Lead::Angle,
+        Form::Declared,
+    )?;
+    let path = trait_path.clone()?;
+    quote.push_stream(path)?;
+    push_word(&mut quote, alloc, "for")?;
+    let name = item.name.clone()?;
+    quote.push(TokenTree::Ident(name))?;
+    push_generics(&mut quote, alloc, item.generics, Lead::Angle, Form::Named)?;
+    Ok(quote)
 }

@@ -1,8 +1,10 @@
 //! Generic parameters, without their defaults or by their names.
 ghost use Rattle.std.specs.Prelude.{◌≡◌, IfOk, List, OnOk};
 ghost use Rattle.declarations.specs.Param.{ParamTrees, param_trees};
-ghost use Rattle.item_headers.specs.Header.{HasParams, generics, impl_generics, keyword, param_in, turbofish, type_generics};
+ghost use Rattle.item_headers.specs.Header.{HasParams, generics, impl_generics, keyword, param_in, turbofish};
+ghost use Rattle.item_headers.specs.Header.{type_generics};
 ghost use Rattle.item_headers.specs.declared.lists.Lead.TheVariants as leads;
+ghost use Rattle.item_headers.specs.declared.params.Form.TheVariants as forms;
 ghost use Rattle.proc_macro2.specs.Forest.{joined};
 ghost use Rattle.proc_macro2.specs.WellSpaced.{IsWellSpaced};
 ghost use Rattle.quoting.specs.Respaced.{respaced};
@@ -10,7 +12,7 @@ ghost use Rattle.quoting.specs.Respaced.{respaced};
 use crate::errors::HeaderError;
 use crate::lists::{Lead, push_lead, push_led, push_mark, push_trees, push_word};
 use declarations::{Param, ParamKind, TypeItem, parse_param, within_generics};
-use proc_macro2::{TokenStream, TokenTree};
+use proc_macro2::{IdentError, TokenStream, TokenTree};
 use quoting::Quote;
 use std::alloc::Global;
 
@@ -94,7 +96,7 @@ pub(crate) fn push_generics(
         left = rest;
     }
     if any {
-        push_mark(quote, '>')?;
+        return Ok(push_mark(quote, '>')?);
     }
     Ok(())
 }
@@ -104,27 +106,32 @@ fn push_param(
     alloc: Global,
     param: &Param<'_>,
     form: Form,
-) -> Result<(), HeaderError>
+) -> Result<(), IdentError>
     ensures { OnOk result (quote.new ≡ joined quote.old (param_in form (param_trees param.now))) }
 {
     match form {
-        Form::Declared => {
-            push_trees(quote, param.attributes)?;
-            push_keyword(quote, alloc, param.kind)?;
-            push_trees(quote, param.name)?;
-            push_led(quote, param.bounds)?;
-        }
-        Form::Named => push_trees(quote, param.name)?,
+        Form::Declared => push_declared(quote, alloc, param),
+        Form::Named => Ok(push_trees(quote, param.name)?),
     }
-    Ok(())
+}
+
+// Puts all of a parameter but its default at the end.
+fn push_declared(quote: &mut Quote, alloc: Global, param: &Param<'_>) -> Result<(), IdentError>
+    ensures { OnOk result (quote.new ≡ joined quote.old (param_in forms.Declared (param_trees param.now))) }
+{
+    push_trees(quote, param.attributes)?;
+    push_keyword(quote, alloc, param.kind)?;
+    push_trees(quote, param.name)?;
+    Ok(push_led(quote, param.bounds)?)
 }
 
 // Puts the keyword of a parameter at the end, if it has one.
-fn push_keyword(quote: &mut Quote, alloc: Global, kind: ParamKind) -> Result<(), HeaderError>
+fn push_keyword(quote: &mut Quote, alloc: Global, kind: ParamKind) -> Result<(), IdentError>
     ensures { OnOk result (quote.new ≡ joined quote.old (keyword kind)) }
 {
     match kind {
+        ParamKind::Lifetime => Ok(()),
+        ParamKind::Type => Ok(()),
         ParamKind::Const => push_word(quote, alloc, "const"),
-        ParamKind::Lifetime | ParamKind::Type => Ok(()),
     }
 }

@@ -9,9 +9,9 @@ use crate::declarations::{
     Param, ParamKind, Predicate, TypeItem, after_where, parse_param, parse_predicate,
     within_generics,
 };
-use crate::proc_macro2::{TokenStream, TokenTree};
+use crate::proc_macro2::{IdentError, TokenStream, TokenTree};
 use crate::quoting::Quote;
-use crate::shim::alloc::Global;
+use crate::shim::alloc::{AllocError, Global};
 
 /// The where clause of the item, or nothing where it has no predicates.
 ///
@@ -35,7 +35,8 @@ pub fn where_clause_with(
     let mut quote = Quote::new(alloc);
     let any = push_where(&mut quote, alloc, item.where_clause)?;
     push_lead(&mut quote, alloc, Lead::Where, any)?;
-    quote.push_stream(predicate.clone()?)?;
+    let copy = predicate.clone()?;
+    quote.push_stream(copy)?;
     Ok(quote.finish()?)
 }
 
@@ -73,7 +74,7 @@ pub(crate) fn push_where(
     Ok(any)
 }
 
-fn push_predicate(quote: &mut Quote, predicate: &Predicate<'_>) -> Result<(), HeaderError>
+fn push_predicate(quote: &mut Quote, predicate: &Predicate<'_>) -> Result<(), AllocError>
 {
     push_trees(quote, predicate.bounded)?;
     push_mark(quote, ':')?;
@@ -91,10 +92,11 @@ fn push_bounds(
 ) -> Result<(), HeaderError>
 {
     let mut left = within_generics(generics)?;
-    let mut any = any;
+    let mut any_now = any;
     while !left.is_empty() {
         let (param, rest) = parse_param(left)?;
-        any = push_bound(quote, alloc, &param, bound, any)?;
+        let more = push_bound(quote, alloc, &param, bound, any_now)?;
+        any_now = more;
         left = rest;
     }
     Ok(())
@@ -107,16 +109,18 @@ fn push_bound(
     param: &Param<'_>,
     bound: &TokenStream,
     any: bool,
-) -> Result<bool, HeaderError>
+) -> Result<bool, IdentError>
 {
     match param.kind {
+        ParamKind::Lifetime => Ok(any),
         ParamKind::Type => {
             push_lead(quote, alloc, Lead::Where, any)?;
             push_trees(quote, param.name)?;
             push_mark(quote, ':')?;
-            quote.push_stream(bound.clone()?)?;
+            let copy = bound.clone()?;
+            quote.push_stream(copy)?;
             Ok(true)
         }
-        ParamKind::Lifetime | ParamKind::Const => Ok(any),
+        ParamKind::Const => Ok(any),
     }
 }

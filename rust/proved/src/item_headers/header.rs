@@ -22,8 +22,7 @@ pub fn impl_header(
     trait_path: &TokenStream,
 ) -> Result<TokenStream, HeaderError>
 {
-    let mut quote = Quote::new(alloc);
-    push_front(&mut quote, alloc, item, trait_path)?;
+    let mut quote = front(alloc, item, trait_path)?;
     push_where(&mut quote, alloc, item.where_clause)?;
     Ok(quote.finish()?)
 }
@@ -36,24 +35,29 @@ pub fn impl_header_where(
     where_clause: &TokenStream,
 ) -> Result<TokenStream, HeaderError>
 {
-    let mut quote = Quote::new(alloc);
-    push_front(&mut quote, alloc, item, trait_path)?;
-    quote.push_stream(where_clause.clone()?)?;
+    let mut quote = front(alloc, item, trait_path)?;
+    let clause = where_clause.clone()?;
+    quote.push_stream(clause)?;
     Ok(quote.finish()?)
 }
 
-// Puts all before the where clause at the end.
-fn push_front(
-    quote: &mut Quote,
-    alloc: Global,
-    item: &TypeItem<'_>,
-    trait_path: &TokenStream,
-) -> Result<(), HeaderError>
+// All before the where clause.
+fn front(alloc: Global, item: &TypeItem<'_>, trait_path: &TokenStream) -> Result<Quote, HeaderError>
 {
-    push_word(quote, alloc, "impl")?;
-    push_generics(quote, alloc, item.generics, Lead::Angle, Form::Declared)?;
-    quote.push_stream(trait_path.clone()?)?;
-    push_word(quote, alloc, "for")?;
-    quote.push(TokenTree::Ident(item.name.clone()?))?;
-    push_generics(quote, alloc, item.generics, Lead::Angle, Form::Named)
+    let mut quote = Quote::new(alloc);
+    push_word(&mut quote, alloc, "impl")?;
+    push_generics(
+        &mut quote,
+        alloc,
+        item.generics,
+        Lead::Angle,
+        Form::Declared,
+    )?;
+    let path = trait_path.clone()?;
+    quote.push_stream(path)?;
+    push_word(&mut quote, alloc, "for")?;
+    let name = item.name.clone()?;
+    quote.push(TokenTree::Ident(name))?;
+    push_generics(&mut quote, alloc, item.generics, Lead::Angle, Form::Named)?;
+    Ok(quote)
 }

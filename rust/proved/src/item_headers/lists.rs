@@ -3,8 +3,7 @@
 
 use crate::shim::prelude::Clone;
 
-use crate::item_headers::errors::HeaderError;
-use crate::proc_macro2::{Ident, Punct, Spacing, Span, TokenTree};
+use crate::proc_macro2::{Ident, IdentError, Punct, Spacing, Span, TokenTree};
 use crate::quoting::Quote;
 use crate::shim::alloc::{AllocError, Global};
 
@@ -26,7 +25,7 @@ pub(crate) fn push_mark(quote: &mut Quote, character: char) -> Result<(), AllocE
 }
 
 // Puts a word at the end.
-pub(crate) fn push_word(quote: &mut Quote, alloc: Global, name: &str) -> Result<(), HeaderError>
+pub(crate) fn push_word(quote: &mut Quote, alloc: Global, name: &str) -> Result<(), IdentError>
 {
     let ident = Ident::new(alloc, name, Span::call_site())?;
     quote.push(TokenTree::Ident(ident))?;
@@ -38,7 +37,8 @@ pub(crate) fn push_trees(quote: &mut Quote, trees: &[TokenTree]) -> Result<(), A
 {
     let mut left = trees;
     while let Some((tree, rest)) = left.split_first() {
-        quote.push(tree.clone()?)?;
+        let copy = tree.clone()?;
+        quote.push(copy)?;
         left = rest;
     }
     Ok(())
@@ -51,7 +51,8 @@ pub(crate) fn push_led(quote: &mut Quote, trees: &[TokenTree]) -> Result<(), All
         return Ok(());
     }
     push_mark(quote, ':')?;
-    push_trees(quote, trees)
+    push_trees(quote, trees)?;
+    Ok(())
 }
 
 // Puts what stands before an element at the end: the first, or one after others.
@@ -60,20 +61,34 @@ pub(crate) fn push_lead(
     alloc: Global,
     lead: Lead,
     any: bool,
-) -> Result<(), HeaderError>
+) -> Result<(), IdentError>
 {
     if any {
-        push_mark(quote, ',')?;
-        return Ok(());
+        return Ok(push_mark(quote, ',')?);
     }
+    push_first_lead(quote, alloc, lead)
+}
+
+fn push_first_lead(quote: &mut Quote, alloc: Global, lead: Lead) -> Result<(), IdentError>
+{
     match lead {
-        Lead::Angle => push_mark(quote, '<')?,
-        Lead::Turbofish => {
-            quote.push(TokenTree::Punct(Punct::new(':', Spacing::Joint)))?;
-            push_mark(quote, ':')?;
-            push_mark(quote, '<')?;
-        }
-        Lead::Where => push_word(quote, alloc, "where")?,
+        Lead::Angle => Ok(push_mark(quote, '<')?),
+        Lead::Turbofish => Ok(push_turbofish(quote)?),
+        Lead::Where => push_word(quote, alloc, "where"),
     }
+}
+
+// Puts `::<` at the end.
+fn push_turbofish(quote: &mut Quote) -> Result<(), AllocError>
+{
+    push_joint_colon(quote)?;
+    push_mark(quote, ':')?;
+    push_mark(quote, '<')?;
     Ok(())
+}
+
+// Puts a `:` that is Joint at the end.
+fn push_joint_colon(quote: &mut Quote) -> Result<(), AllocError>
+{
+    quote.push(TokenTree::Punct(Punct::new(':', Spacing::Joint)))
 }

@@ -4,7 +4,7 @@
 use crate::item_headers::errors::HeaderError;
 use crate::item_headers::lists::{Lead, push_lead, push_led, push_mark, push_trees, push_word};
 use crate::declarations::{Param, ParamKind, TypeItem, parse_param, within_generics};
-use crate::proc_macro2::{TokenStream, TokenTree};
+use crate::proc_macro2::{IdentError, TokenStream, TokenTree};
 use crate::quoting::Quote;
 use crate::shim::alloc::Global;
 
@@ -77,7 +77,7 @@ pub(crate) fn push_generics(
         left = rest;
     }
     if any {
-        push_mark(quote, '>')?;
+        return Ok(push_mark(quote, '>')?);
     }
     Ok(())
 }
@@ -87,25 +87,29 @@ fn push_param(
     alloc: Global,
     param: &Param<'_>,
     form: Form,
-) -> Result<(), HeaderError>
+) -> Result<(), IdentError>
 {
     match form {
-        Form::Declared => {
-            push_trees(quote, param.attributes)?;
-            push_keyword(quote, alloc, param.kind)?;
-            push_trees(quote, param.name)?;
-            push_led(quote, param.bounds)?;
-        }
-        Form::Named => push_trees(quote, param.name)?,
+        Form::Declared => push_declared(quote, alloc, param),
+        Form::Named => Ok(push_trees(quote, param.name)?),
     }
-    Ok(())
+}
+
+// Puts all of a parameter but its default at the end.
+fn push_declared(quote: &mut Quote, alloc: Global, param: &Param<'_>) -> Result<(), IdentError>
+{
+    push_trees(quote, param.attributes)?;
+    push_keyword(quote, alloc, param.kind)?;
+    push_trees(quote, param.name)?;
+    Ok(push_led(quote, param.bounds)?)
 }
 
 // Puts the keyword of a parameter at the end, if it has one.
-fn push_keyword(quote: &mut Quote, alloc: Global, kind: ParamKind) -> Result<(), HeaderError>
+fn push_keyword(quote: &mut Quote, alloc: Global, kind: ParamKind) -> Result<(), IdentError>
 {
     match kind {
+        ParamKind::Lifetime => Ok(()),
+        ParamKind::Type => Ok(()),
         ParamKind::Const => push_word(quote, alloc, "const"),
-        ParamKind::Lifetime | ParamKind::Type => Ok(()),
     }
 }

@@ -77,7 +77,8 @@ const ROWS: &[Row] = &[
         where_clause: "where for <'b > [T ; { 1 }] : A + 'b , Vec < T >: B < C , D >",
         with: "where for <'b > [T ; { 1 }] : A + 'b , Vec < T >: B < C , D > , X : Y",
         bound: "where for <'b > [T ; { 1 }] : A + 'b , Vec < T >: B < C , D > , T : Z <'b >",
-        header: "impl < T : for <'a > Fn (&'a u8) -> Vec < T >> Z <'b > for U < T > where for <'b > [T ; { 1 }] : A + 'b , Vec < T >: B < C , D >",
+        header: "impl < T : for <'a > Fn (&'a u8) -> Vec < T >> Z <'b > for U < T > \
+            where for <'b > [T ; { 1 }] : A + 'b , Vec < T >: B < C , D >",
     },
 ];
 
