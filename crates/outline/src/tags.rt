@@ -1,0 +1,19 @@
+//! What is written of lines.
+
+use std::io;
+use std::io::Write;
+
+/// Writes the lines.
+pub fn print_all<W: Write>(lines: &[String], writer: &mut W) -> io::Result<()> {
+    for line in lines {
+        writeln!(writer, "{line}")?;
+    }
+    Ok(())
+}
+
+/// Writes a `tags` file of these lines, sorted by their bytes.
+pub fn print_tags<W: Write>(lines: &mut Vec<String>, writer: &mut W) -> io::Result<()> {
+    lines.sort_unstable();
+    writer.write_all(b"!_TAG_FILE_SORTED\t1\t//\n")?;
+    print_all(lines.as_slice(), writer)
+}
