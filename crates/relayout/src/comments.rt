@@ -131,11 +131,7 @@ struct Attribute<'a> {
 
 // The attribute at the front of the text, if nothing but white space stands before it on its line (`free`), LF follows
 // it, and a comment gives its text.
-fn attribute_at(
-    alloc: Global,
-    text: &str,
-    free: bool,
-) -> Result<Option<Attribute<'_>>, AllocError>
+fn attribute_at(alloc: Global, text: &str, free: bool) -> Result<Option<Attribute<'_>>, AllocError>
     ensures found { IfOk result (λ found. MatchOption found (IsTrue free → HasNoAttribute (chars text.now))
         (λ it. (free ≡ true)
         × IsAttribute (chars text.now) it.inner (chars (string_bytes it.text)) (chars it.rest.now))) }

@@ -102,11 +102,7 @@ struct Attribute<'a> {
 
 // The attribute at the front of the text, if nothing but white space stands before it on its line (`free`), LF follows
 // it, and a comment gives its text.
-fn attribute_at(
-    alloc: Global,
-    text: &str,
-    free: bool,
-) -> Result<Option<Attribute<'_>>, AllocError>
+fn attribute_at(alloc: Global, text: &str, free: bool) -> Result<Option<Attribute<'_>>, AllocError>
 {
     if !free {
         return Ok(None);
