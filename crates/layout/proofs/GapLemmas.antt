@@ -1,10 +1,10 @@
 -- Gaps that are chosen, and their spaces.
 use Rattle.std.specs.Prelude.{◌-◌, if◌then◌else◌}
-use Rattle.std.proofs.Common.{◌≡◌, ◌≤◌, ℕ, suc, Bool, true, false, ◌++◌, List, Some, refl, sym, ap, ◌∙◌, arith, codes}
+use Rattle.std.proofs.Common.{◌≡◌, ◌≤◌, ℕ, suc, Bool, true, false, ◌++◌, List, Some, refl, ap, arith, codes}
 use Rattle.std.specs.Str.{chars}
 use Rattle.pm_stream.specs.Events.{Event}
 use Rattle.layout.specs.Layout.{is_joint}
-use Rattle.layout.specs.Writing.{fitting, some, spaces}
+use Rattle.layout.specs.Writing.{fitting, spaces}
 use Rattle.layout.specs.declared.gaps.Gap.{Gap}
 use Rattle.layout.specs.declared.gaps.Gap.TheVariants.{Nothing, Space, Line, Blank}
 

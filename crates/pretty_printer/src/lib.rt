@@ -5,10 +5,11 @@
 //! layout.
 #![tactic(auto)]
 
-ghost use Rattle.std.specs.Prelude.{IfErr, IfOk, string_bytes};
+ghost use Rattle.std.specs.Prelude.{◌≡◌, Err, IfErr, IfOk, string_bytes};
 ghost use Rattle.std.specs.Str.{chars};
 ghost use Rattle.layout.specs.Layout.{IsLayout};
-ghost use Rattle.layout.specs.Writing.{ReadsBack};
+ghost use Rattle.layout.specs.Writing.{IsNoWrite, ReadsBack};
+ghost use Rattle.layout.specs.declared.errors.LayoutError.TheVariants.{NotWellSpaced};
 ghost use Rattle.proc_macro2.specs.WellSpaced.{IsWellSpaced};
 ghost use Rattle.quoting.specs.Choice.{HopelessIfNamed};
 ghost use Rattle.quoting.specs.Fault.{IsFaultOf};
@@ -20,24 +21,13 @@ mod printer;
 mod roles;
 mod widths;
 
-use atoms::atoms;
 use layout::{Chooser, Gap, LayoutError, Place, text_with};
-use lists::atom;
-use printer::gaps;
+use printer::Printer;
 use proc_macro2::TokenStream;
-use quoting::{Quote, QuoteError};
-use roles::assign_roles;
-use std::alloc::{AllocError, Global};
-use widths::{find_parts, measure, measure_group};
+use quoting::{Quote, QuoteError, laws};
+use std::alloc::Global;
 
-/// Chooses the gaps of a pretty text, one after another.
-#[derive(Drop)]
-struct Planned {
-    gaps: Vec<Gap>,
-    next: usize,
-}
-
-impl Chooser for Planned {
+impl<'a> Chooser for Printer<'a> {
     fn gap(&mut self, place: Place<'_>) -> Gap {
         if place.after.is_none() {
             return match place.before {
@@ -45,12 +35,7 @@ impl Chooser for Planned {
                 None => Gap::Nothing,
             };
         }
-        let chosen = match self.gaps.get(self.next) {
-            Some(gap) => *gap,
-            None => Gap::Space,
-        };
-        self.next = self.next.saturating_add(1);
-        chosen
+        self.next_gap()
     }
 }
 
@@ -72,56 +57,33 @@ pub fn to_pretty_string(alloc: Global, stream: &TokenStream) -> Result<String, Q
     ensures fault { IfErr result (IsFaultOf stream.now) }
     ensures hopeless { IfErr result (HopelessIfNamed stream.now) }
 {
+    laws::respacing();
+    match lay_out(alloc, stream) {
+        Ok(text) => return Ok(text),
+        Err(LayoutError::Memory(error)) => return Err(QuoteError::Memory(error)),
+        Err(LayoutError::NotWellSpaced) => {}
+        Err(LayoutError::Write(_)) => unreachable!(),
+    }
     let mut quote = Quote::new(alloc);
     quote.push_stream(stream.clone()?)?;
     let stream = quote.finish()?;
-    let text = lay_out(alloc, &stream)?;
-    Ok(text)
-}
-
-// The tokens of a stream that is well spaced, as text for people.
-fn lay_out(alloc: Global, stream: &TokenStream) -> Result<String, AllocError>
-    requires { IsWellSpaced stream.now }
-    ensures layout { IfOk result (λ text. IsLayout stream.now (chars (string_bytes text))) }
-    ensures back { IfOk result (λ text. ReadsBack stream.now (chars (string_bytes text))) }
-{
-    let mut chooser = Planned {
-        gaps: plan(alloc, stream)?,
-        next: 0,
-    };
-    match text_with(stream, &mut chooser, alloc) {
+    match lay_out(alloc, &stream) {
         Ok(text) => Ok(text),
-        Err(LayoutError::Memory(error)) => Err(error),
+        Err(LayoutError::Memory(error)) => Err(QuoteError::Memory(error)),
         Err(LayoutError::NotWellSpaced | LayoutError::Write(_)) => unreachable!(),
     }
 }
 
-// The gaps before the tokens of a stream.
-fn plan(alloc: Global, stream: &TokenStream) -> Result<Vec<Gap>, AllocError> {
-    let (mut atoms, top) = atoms(alloc, stream)?;
-    let mut opens = Vec::new(alloc);
-    assign_roles(&mut atoms, &mut opens, 0, top)?;
-    find_parts(&mut atoms, 0, top, true);
-    for index in 0..atoms.len() {
-        let group = atom(atoms.as_slice(), index);
-        if !group.is_empty() {
-            assign_roles(&mut atoms, &mut opens, group.first, group.end)?;
-            let parts = find_parts(&mut atoms, group.first, group.end, group.is_brace());
-            if let Some(own) = atoms.get_mut(index) {
-                own.parts = parts;
-            }
-        }
-    }
-    // Groups stand before what is inside them, and are measured after it.
-    let count = atoms.len();
-    for passed in 0..count {
-        let index = count.saturating_sub(passed).saturating_sub(1);
-        let group = atom(atoms.as_slice(), index);
-        if !group.is_empty() {
-            measure(&mut atoms, group.first, group.end);
-            measure_group(&mut atoms, index);
-        }
-    }
-    measure(&mut atoms, 0, top);
-    gaps(alloc, atoms, top)
+// The tokens of a stream as text for people, if it is well spaced.
+fn lay_out(alloc: Global, stream: &TokenStream) -> Result<String, LayoutError>
+    ensures spaced { IfOk result (λ text. IsWellSpaced stream.now) }
+    ensures layout { IfOk result (λ text. IsLayout stream.now (chars (string_bytes text))) }
+    ensures back { IfOk result (λ text. ReadsBack stream.now (chars (string_bytes text))) }
+    ensures refused { result ≡ Err NotWellSpaced → IsWellSpaced stream.now → ⊥ }
+    ensures unwritten { IfErr result IsNoWrite }
+{
+    let mut printer = Printer::new(alloc, stream)?;
+    let text = text_with(stream, &mut printer, alloc)?;
+    printer.finish()?;
+    Ok(text)
 }

@@ -1,12 +1,13 @@
 //! What operators and groups mean where they stand.
 use crate::atoms::{Atom, Kind, Role, Sign, Word};
 use crate::lists::{after, atom, before, set_role};
+use crate::widths::wants_space;
 use proc_macro2::Delimiter;
 use std::alloc::AllocError;
 
 /// Gives the atoms of a list their roles. `opens` is for indexes.
 pub fn assign_roles(
-    atoms: &mut Vec<Atom<'_>>,
+    atoms: &mut Vec<Atom>,
     opens: &mut Vec<usize>,
     first: usize,
     end: usize,
@@ -26,7 +27,7 @@ pub fn assign_roles(
 
 // Finds the `<` and `>` that enclose types.
 fn pair_angles(
-    atoms: &mut Vec<Atom<'_>>,
+    atoms: &mut Vec<Atom>,
     opens: &mut Vec<usize>,
     first: usize,
     end: usize,
@@ -64,7 +65,7 @@ fn pair_angles(
 }
 
 // Whether no type goes on with the atom.
-fn ends_types(atom: &Atom<'_>) -> bool {
+fn ends_types(atom: &Atom) -> bool {
     match atom.kind {
         Kind::Word(word) => matches!(
             word,
@@ -109,11 +110,10 @@ struct State {
 }
 
 impl State {
-    // Gives the atom of this index its role.
-    fn take(&mut self, atoms: &mut Vec<Atom<'_>>, first: usize, end: usize, index: usize) {
+    // Gives the atom of this index its role, and says whether a space stands before it.
+    fn take(&mut self, atoms: &mut Vec<Atom>, first: usize, end: usize, index: usize) {
         let own = atom(atoms.as_slice(), index);
         let previous = before(atoms.as_slice(), first, index);
-        let earlier = before(atoms.as_slice(), first, index.saturating_sub(1));
         let next = after(atoms.as_slice(), end, index);
         if own.role == Role::Less {
             self.depth = self.depth.saturating_add(1);
@@ -121,28 +121,27 @@ impl State {
         if own.role == Role::Greater {
             self.depth = self.depth.saturating_sub(1);
         }
+        let mut begins = false;
+        let mut role = own.role;
         match own.kind {
-            Kind::Word(word) => {
-                if self.take_word(word, &previous, &next) {
-                    if let Some(changed) = atoms.get_mut(index) {
-                        changed.begins_branches = true;
-                    }
-                }
-            }
+            Kind::Word(word) => begins = self.take_word(word, previous, next),
             Kind::Group(delimiter) => {
-                let role = self.group_role(delimiter, &own, &previous, &earlier, &next);
-                set_role(atoms, index, role);
+                let earlier = before(atoms.as_slice(), first, index.saturating_sub(1));
+                role = self.group_role(delimiter, own, previous, earlier, next);
             }
-            Kind::Sign(sign) => {
-                let role = self.sign_role(sign, own.role, &previous, &next);
-                set_role(atoms, index, role);
-            }
+            Kind::Sign(sign) => role = self.sign_role(sign, own.role, previous, next),
             Kind::Nothing => {}
+        }
+        let spaced = index > first && wants_space(atoms.as_slice(), first, index, role);
+        if let Some(changed) = atoms.get_mut(index) {
+            changed.role = role;
+            changed.spaced = spaced;
+            changed.begins_branches = begins;
         }
     }
 
     // Whether an `if` begins that gives a value.
-    fn take_word(&mut self, word: Word, previous: &Atom<'_>, next: &Atom<'_>) -> bool {
+    fn take_word(&mut self, word: Word, previous: &Atom, next: &Atom) -> bool {
         let head = match word {
             Word::Fn => Head::Fn,
             Word::Impl => Head::Impl,
@@ -183,10 +182,10 @@ impl State {
     fn group_role(
         &mut self,
         delimiter: Delimiter,
-        own: &Atom<'_>,
-        previous: &Atom<'_>,
-        earlier: &Atom<'_>,
-        next: &Atom<'_>,
+        own: &Atom,
+        previous: &Atom,
+        earlier: &Atom,
+        next: &Atom,
     ) -> Role {
         if delimiter != Delimiter::Brace {
             if previous.is_mark('$') {
@@ -235,7 +234,7 @@ impl State {
         }
     }
 
-    fn sign_role(&mut self, sign: Sign, role: Role, previous: &Atom<'_>, next: &Atom<'_>) -> Role {
+    fn sign_role(&mut self, sign: Sign, role: Role, previous: &Atom, next: &Atom) -> Role {
         let mark = match sign {
             Sign::One(mark) => mark,
             _ => ' ',

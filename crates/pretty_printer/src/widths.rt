@@ -10,12 +10,13 @@ const FIELDS: usize = 18;
 
 /// Finds the parts of a list, and answers how many there are: each to a comma outside of angles, and in braces also to
 /// a semicolon, an attribute and the end of a block.
-pub fn find_parts(atoms: &mut Vec<Atom<'_>>, first: usize, end: usize, block: bool) -> usize {
+pub fn find_parts(atoms: &mut Vec<Atom>, first: usize, end: usize, block: bool) -> usize {
     let mut start = first;
     let mut count: usize = 0;
     let mut depth: usize = 0;
     let mut in_where = false;
     let mut signs_only = true;
+    let mut plain = true;
     for index in first..end {
         let own = atom(atoms.as_slice(), index);
         let next = after(atoms.as_slice(), end, index);
@@ -26,33 +27,36 @@ pub fn find_parts(atoms: &mut Vec<Atom<'_>>, first: usize, end: usize, block: bo
             depth = depth.saturating_sub(1);
         }
         in_where = in_where || own.is_word(Word::Where);
+        plain = plain && !in_where && !(own.role == Role::After && next.role == Role::Dot);
         let comma = own.role == Role::Comma && depth == 0 && !(block && in_where);
         let ends = !own.glued && (comma || block && ends_statement(&own, &next, signs_only));
         signs_only = signs_only && own.is_sign();
         if ends {
             let past = index.saturating_add(1);
-            set_part_end(atoms, start, past);
+            set_part(atoms, start, past, plain);
             start = past;
             count = count.saturating_add(1);
             in_where = false;
             signs_only = true;
+            plain = true;
         }
     }
     if start < end {
-        set_part_end(atoms, start, end);
+        set_part(atoms, start, end, plain);
         count = count.saturating_add(1);
     }
     count
 }
 
-fn set_part_end(atoms: &mut Vec<Atom<'_>>, start: usize, end: usize) {
+fn set_part(atoms: &mut Vec<Atom>, start: usize, end: usize, plain: bool) {
     if let Some(atom) = atoms.get_mut(start) {
         atom.part_end = end;
+        atom.plain = plain;
     }
 }
 
 // Whether a statement or an attribute ends with the atom. `signs_only` says that only operators stand before it.
-fn ends_statement(own: &Atom<'_>, next: &Atom<'_>, signs_only: bool) -> bool {
+fn ends_statement(own: &Atom, next: &Atom, signs_only: bool) -> bool {
     if own.is_brace() && matches!(own.role, Role::Block | Role::Branch | Role::Expression) {
         let goes_on = matches!(
             next.role,
@@ -70,15 +74,15 @@ fn ends_statement(own: &Atom<'_>, next: &Atom<'_>, signs_only: bool) -> bool {
     own.role == Role::Semicolon || own.role == Role::Attribute && signs_only
 }
 
-/// Whether a space looks well before the atom of this index, which isn't the first of its list.
-pub fn wants_space(atoms: &[Atom<'_>], first: usize, index: usize) -> bool {
+/// Whether a space looks well before the atom of this index and role, which isn't the first of its list.
+pub fn wants_space(atoms: &[Atom], first: usize, index: usize, role: Role) -> bool {
     let previous = before(atoms, first, index);
     let next = atom(atoms, index);
     if previous.glued {
         return false;
     }
     if next.is_sign() {
-        match next.role {
+        match role {
             Role::Comma
             | Role::Semicolon
             | Role::Dot
@@ -109,8 +113,8 @@ pub fn wants_space(atoms: &[Atom<'_>], first: usize, index: usize) -> bool {
             _ => true,
         };
     }
-    if next.is_sign() && matches!(next.role, Role::Path | Role::Range | Role::Less) {
-        let opens = next.role == Role::Less
+    if next.is_sign() && matches!(role, Role::Path | Role::Range | Role::Less) {
+        let opens = role == Role::Less
             && (previous.is_word(Word::Impl)
                 || previous.is_word(Word::For)
                 || previous.is_word(Word::Fn));
@@ -130,8 +134,10 @@ pub fn wants_space(atoms: &[Atom<'_>], first: usize, index: usize) -> bool {
 }
 
 /// Measures a list all of whose groups are measured.
-pub fn measure(atoms: &mut Vec<Atom<'_>>, first: usize, end: usize) {
-    place(atoms, first, end);
+pub fn measure(atoms: &mut Vec<Atom>, first: usize, end: usize) {
+    if !place(atoms, first, end) {
+        return;
+    }
     let mut changed = false;
     for index in first..end {
         if atom(atoms.as_slice(), index).begins_branches {
@@ -143,15 +149,17 @@ pub fn measure(atoms: &mut Vec<Atom<'_>>, first: usize, end: usize) {
     }
 }
 
-// Sets what stands before each atom.
-fn place(atoms: &mut Vec<Atom<'_>>, first: usize, end: usize) {
+// Sets what stands before each atom, on one line. Answers whether an `if` begins that gives a value.
+fn place(atoms: &mut Vec<Atom>, first: usize, end: usize) -> bool {
     let mut offset: usize = 0;
     let mut tall: usize = 0;
+    let mut branches = false;
     for index in first..end {
-        if index > first && wants_space(atoms.as_slice(), first, index) {
-            offset = offset.saturating_add(1);
-        }
         if let Some(own) = atoms.get_mut(index) {
+            branches = branches || own.begins_branches;
+            if own.spaced {
+                offset = offset.saturating_add(1);
+            }
             own.offset = offset;
             own.tall_before = tall;
             offset = offset.saturating_add(own.width);
@@ -160,10 +168,11 @@ fn place(atoms: &mut Vec<Atom<'_>>, first: usize, end: usize) {
             }
         }
     }
+    branches
 }
 
 // Makes blocks of the branches of the `if` of this index, where they are too wide for one line. Answers whether it did.
-fn spread(atoms: &mut Vec<Atom<'_>>, index: usize, end: usize) -> bool {
+fn spread(atoms: &mut Vec<Atom>, index: usize, end: usize) -> bool {
     let mut past = index.saturating_add(1);
     for later in index..end {
         let own = atom(atoms.as_slice(), later);
@@ -188,7 +197,7 @@ fn spread(atoms: &mut Vec<Atom<'_>>, index: usize, end: usize) -> bool {
 }
 
 /// Measures a group whose list is measured.
-pub fn measure_group(atoms: &mut Vec<Atom<'_>>, index: usize) {
+pub fn measure_group(atoms: &mut Vec<Atom>, index: usize) {
     let group = atom(atoms.as_slice(), index);
     if group.is_empty() {
         return;

@@ -1,8 +1,7 @@
 -- Where an attribute begins that a doc comment gives, and where none does.
-use Rattle.std.proofs.Common.{◌≡◌, ◌⊎◌, ℕ, Bool, true, false, ◌&&◌, List, [], ◌∷◌, ◌++◌, codes, refl}
+use Rattle.std.proofs.Common.{◌≡◌, ℕ, Bool, true, false, List, [], ◌∷◌, ◌++◌, codes, refl}
 use Rattle.std.proofs.Common.{sym, ap, ap₂, ◌∙◌, subst, inl, inr, ◌==◌, drop}
-use Rattle.std.specs.Prelude.{Result, Ok, Err, Option, Some, None, IfOk, MatchOption, String, string_bytes}
-use Rattle.std.specs.Str.{chars}
+use Rattle.std.specs.Prelude.{Result, Ok, Err, Option, Some, None, IfOk, MatchOption}
 use Rattle.std.proofs.lemmas.Bool.{both_ways}
 use Rattle.lexical.specs.Literal.{AnyLiteral, Literal as IsLiteral}
 use Rattle.lexical.specs.Piece.{Leaf}

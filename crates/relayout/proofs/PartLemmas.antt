@@ -1,13 +1,12 @@
 -- A text that is written part by part, with comments in the place of attributes.
 use Rattle.std.proofs.Common.{◌≡◌, ℕ, Bool, true, false, ◌&&◌, List, [], ◌∷◌, ◌++◌, codes, refl}
-use Rattle.std.proofs.Common.{sym, ap, ap₂, ◌∙◌, subst, inl, append_assoc, append-nil}
+use Rattle.std.proofs.Common.{sym, ap, ◌∙◌, subst, inl, append_assoc, append-nil}
 use Rattle.std.proofs.Common.{◌||◌, ◌<◌, inr, length, arith}
 use Rattle.std.specs.Str.{chars}
 use Rattle.std.proofs.lemmas.Bool.{and_from, cases_Bool}
 use Rattle.lexical.specs.Cover.{onto, StandBefore, IsCover}
 use Rattle.lexical.specs.Piece.{Kind, Piece, Gap, IsPiece}
 use Rattle.lexical.specs.Text.{begins_with}
-use Rattle.lexical.specs.Token.{Name, Literal}
 use Rattle.lexical.proofs.PieceFacts.{piece_not_empty, piece_shortens}
 use Rattle.lexical.proofs.PieceLemmas.{one_piece}
 use Rattle.grammar_laws.proofs.LeafLaws.{onto_split}

@@ -3,8 +3,8 @@
 
 use crate::shim::prelude::{String, Vec};
 
-use crate::proc_macro2::{Delimiter, Punct, Spacing, TokenStream, TokenTree};
-use crate::shim::alloc::{AllocError, Global};
+use crate::proc_macro2::{Delimiter, Punct, Spacing, TokenTree};
+use crate::shim::alloc::AllocError;
 
 /// What an atom is.
 #[derive(Clone, Copy)]
@@ -122,15 +122,26 @@ pub enum Role {
     Expression,
 }
 
+/// A line that breaks before an atom.
+#[derive(Clone, Copy)]
+pub enum Break {
+    Nothing,
+    /// Before an operator: what comes later in the expression stands as far in.
+    Operator(usize),
+    Line(usize),
+}
+
 /// A word, an operator or a group.
 #[derive(Clone, Copy)]
-pub struct Atom<'a> {
+pub struct Atom {
     pub kind: Kind,
     pub role: Role,
     /// How many tokens it has. A group counts as its opener.
     pub tokens: usize,
     /// Whether its last mark is Joint, so that no gap may follow.
     pub glued: bool,
+    /// Whether a space stands before it, where its list is on one line.
+    pub spaced: bool,
     /// How many characters it has, where a group is on one line.
     pub width: usize,
     /// Whether it needs several lines.
@@ -139,10 +150,12 @@ pub struct Atom<'a> {
     pub offset: usize,
     /// How many before it in its list need several lines.
     pub tall_before: usize,
-    /// Where a part of a list begins, the index after its last atom. Else 0.
+    /// Where a part of a list begins, the index after its last atom, and whether it is on one line if it is short. Else
+    /// 0 and false.
     pub part_end: usize,
-    /// Of a group: the trees inside, and the indexes of its first atom and after its last.
-    pub trees: &'a [TokenTree],
+    pub plain: bool,
+    pub line: Break,
+    /// Of a group: the indexes of its first atom and after its last.
     pub first: usize,
     pub end: usize,
     /// Of a group: how many parts it has.
@@ -154,20 +167,44 @@ pub struct Atom<'a> {
     pub begins_branches: bool,
 }
 
-impl<'a> Atom<'a> {
+/// No atom.
+pub static NOTHING: Atom = Atom {
+    kind: Kind::Nothing,
+    role: Role::Plain,
+    tokens: 0,
+    glued: false,
+    spaced: false,
+    width: 0,
+    tall: false,
+    offset: 0,
+    tall_before: 0,
+    part_end: 0,
+    plain: false,
+    line: Break::Nothing,
+    first: 0,
+    end: 0,
+    parts: 0,
+    statements: false,
+    rest: false,
+    begins_branches: false,
+};
+
+impl Atom {
     /// An atom with no role yet.
-    pub fn new(kind: Kind, tokens: usize, glued: bool, width: usize) -> Atom<'a> {
+    pub fn new(kind: Kind, tokens: usize, glued: bool, width: usize) -> Atom {
         Atom {
             kind,
             role: Role::Plain,
             tokens,
             glued,
+            spaced: false,
             width,
             tall: false,
             offset: 0,
             tall_before: 0,
             part_end: 0,
-            trees: &[],
+            plain: false,
+            line: Break::Nothing,
             first: 0,
             end: 0,
             parts: 0,
@@ -175,11 +212,6 @@ impl<'a> Atom<'a> {
             rest: false,
             begins_branches: false,
         }
-    }
-
-    /// No atom.
-    pub fn nothing() -> Atom<'a> {
-        Atom::new(Kind::Nothing, 0, false, 0)
     }
 
     pub fn is_nothing(&self) -> bool {
@@ -286,48 +318,18 @@ impl<'a> Atom<'a> {
     }
 }
 
-/// All atoms of a stream, list after list: those of the stream, and then those of each group, in the order of the
-/// groups. Also the index after the last of the stream's own.
-pub fn atoms<'a>(
-    alloc: Global,
-    stream: &'a TokenStream,
-) -> Result<(Vec<Atom<'a>>, usize), AllocError> {
-    let mut atoms = Vec::new(alloc);
-    let mut text = String::new(alloc);
-    push_list(&mut atoms, &mut text, stream.trees())?;
-    let top = atoms.len();
-    for next in 0..usize::MAX {
-        let Some(atom) = atoms.get(next) else {
-            break;
-        };
-        if !atom.is_group() {
-            continue;
-        }
-        let trees = atom.trees;
-        let first = atoms.len();
-        push_list(&mut atoms, &mut text, trees)?;
-        let end = atoms.len();
-        let mut statements = false;
-        let mut rest = false;
-        for index in first..end {
-            if let Some(inner) = atoms.get(index) {
-                statements = statements || inner.is_mark(';') || inner.is_arm();
-                rest = rest || inner.is_range();
-            }
-        }
-        if let Some(group) = atoms.get_mut(next) {
-            group.first = first;
-            group.end = end;
-            group.statements = statements;
-            group.rest = rest;
-        }
-    }
-    Ok((atoms, top))
+/// A group whose atoms aren't there yet.
+#[derive(Clone, Copy)]
+pub struct Unread<'a> {
+    /// The index of its own atom.
+    pub index: usize,
+    pub trees: &'a [TokenTree],
 }
 
-// The atoms of these trees. The text is for writing names.
-fn push_list<'a>(
-    atoms: &mut Vec<Atom<'a>>,
+/// The atoms of these trees, after the others, and their groups after the others. The text is for writing names.
+pub fn push_list<'a>(
+    atoms: &mut Vec<Atom>,
+    groups: &mut Vec<Unread<'a>>,
     text: &mut String,
     trees: &'a [TokenTree],
 ) -> Result<(), AllocError> {
@@ -342,9 +344,12 @@ fn push_list<'a>(
         };
         let atom = match tree {
             TokenTree::Group(group) => {
-                let mut atom = Atom::new(Kind::Group(group.delimiter()), 1, false, 2);
-                atom.trees = group.stream_ref().trees();
-                atom
+                let inside = group.stream_ref().trees();
+                groups.push(Unread {
+                    index: atoms.len(),
+                    trees: inside,
+                })?;
+                group_atom(group.delimiter(), inside)
             }
             TokenTree::Ident(ident) => {
                 text.clear();
@@ -368,45 +373,81 @@ fn push_list<'a>(
     Ok(())
 }
 
+// The group of these trees.
+fn group_atom(delimiter: Delimiter, trees: &[TokenTree]) -> Atom {
+    let mut atom = Atom::new(Kind::Group(delimiter), 1, false, 2);
+    let mut passed: usize = 0;
+    for index in 0..trees.len() {
+        if passed > 0 {
+            passed -= 1;
+            continue;
+        }
+        if let Some(TokenTree::Punct(punct)) = trees.get(index) {
+            let inner = operator(punct, trees, index);
+            passed = inner.marks.saturating_sub(1);
+            match inner.sign {
+                Sign::One(';') | Sign::Arm => atom.statements = true,
+                Sign::Range => atom.rest = true,
+                _ => {}
+            }
+        }
+    }
+    atom
+}
+
 // How many characters stand on the first line of a text.
 fn first_line(text: &str) -> usize {
-    let mut count: usize = 0;
-    for c in text.chars() {
-        if c == '\n' {
-            break;
-        }
-        count = count.saturating_add(1);
+    match text.split_once('\n') {
+        Some((line, _)) => line.chars().count(),
+        None => text.chars().count(),
     }
-    count
 }
 
 // The lifetime or the operator that begins with this mark, which is the tree of this index.
-fn mark_atom<'a>(
+fn mark_atom(
     text: &mut String,
     punct: &Punct,
-    trees: &'a [TokenTree],
+    trees: &[TokenTree],
     index: usize,
-) -> Result<Atom<'a>, AllocError> {
-    let second_index = index.saturating_add(1);
-    if punct.as_char() == '\'' {
-        return match trees.get(second_index) {
-            Some(TokenTree::Ident(ident)) => {
-                text.clear();
-                write!(text, "{ident}")?;
-                let width = text.as_str().chars().count().saturating_add(1);
-                Ok(Atom::new(Kind::Word(Word::Lifetime), 2, false, width))
-            }
-            _ => Ok(Atom::new(Kind::Sign(Sign::One('\'')), 1, true, 1)),
-        };
+) -> Result<Atom, AllocError> {
+    if punct.as_char() != '\'' {
+        let own = operator(punct, trees, index);
+        return Ok(Atom::new(Kind::Sign(own.sign), own.marks, own.glued, own.marks));
     }
+    match trees.get(index.saturating_add(1)) {
+        Some(TokenTree::Ident(ident)) => {
+            text.clear();
+            write!(text, "{ident}")?;
+            let width = text.as_str().chars().count().saturating_add(1);
+            Ok(Atom::new(Kind::Word(Word::Lifetime), 2, false, width))
+        }
+        _ => Ok(Atom::new(Kind::Sign(Sign::One('\'')), 1, true, 1)),
+    }
+}
+
+// An operator, of how many marks it is, and whether the last is Joint.
+#[derive(Clone, Copy)]
+struct Marks {
+    sign: Sign,
+    marks: usize,
+    glued: bool,
+}
+
+// The operator that begins with this mark, which is the tree of this index.
+fn operator(punct: &Punct, trees: &[TokenTree], index: usize) -> Marks {
+    let second_index = index.saturating_add(1);
     let first = punct.as_char();
     let first_joint = is_joint(punct);
-    let one = Atom::new(Kind::Sign(Sign::One(first)), 1, first_joint, 1);
+    let one = Marks {
+        sign: Sign::One(first),
+        marks: 1,
+        glued: first_joint,
+    };
     if !first_joint {
-        return Ok(one);
+        return one;
     }
     let Some(second_punct) = mark_at(trees, second_index) else {
-        return Ok(one);
+        return one;
     };
     let second = second_punct.as_char();
     let second_joint = is_joint(second_punct);
@@ -414,13 +455,21 @@ fn mark_atom<'a>(
         if let Some(third_punct) = mark_at(trees, second_index.saturating_add(1)) {
             let third = third_punct.as_char();
             if third == '.' || third == '=' {
-                return Ok(Atom::new(Kind::Sign(Sign::Range), 3, is_joint(third_punct), 3));
+                return Marks {
+                    sign: Sign::Range,
+                    marks: 3,
+                    glued: is_joint(third_punct),
+                };
             }
         }
     }
     match pair(first, second) {
-        Some(sign) => Ok(Atom::new(Kind::Sign(sign), 2, second_joint, 2)),
-        None => Ok(one),
+        Some(sign) => Marks {
+            sign,
+            marks: 2,
+            glued: second_joint,
+        },
+        None => one,
     }
 }
 
@@ -457,10 +506,34 @@ fn mark_at<'a>(trees: &'a [TokenTree], index: usize) -> Option<&'a Punct> {
 
 // What an identifier of this text is.
 fn word_of(text: &str) -> Word {
+    // Most names are told by their first byte.
+    let Some(first) = text.as_bytes().first() else {
+        return Word::Name;
+    };
+    match *first {
+        b'a' | b'b' | b'c' | b'd' => word_to_d(text),
+        b'e' | b'f' | b'i' | b'l' => word_to_l(text),
+        b'm' | b'p' | b'r' | b's' => word_to_s(text),
+        b't' | b'u' | b'v' | b'w' | b'y' => word_to_y(text),
+        _ => Word::Name,
+    }
+}
+
+fn word_to_d(text: &str) -> Word {
     match text {
         "as" => Word::As,
         "await" => Word::Await,
         "break" => Word::Break,
+        "async" | "const" | "continue" | "dyn" => Word::Keyword,
+        "block" => Word::Fragment,
+        "debug_assert" => Word::Format2,
+        "assert_eq" | "assert_ne" => Word::Format3,
+        _ => Word::Name,
+    }
+}
+
+fn word_to_l(text: &str) -> Word {
+    match text {
         "else" => Word::Else,
         "enum" => Word::Enum,
         "extern" => Word::Extern,
@@ -471,44 +544,36 @@ fn word_of(text: &str) -> Word {
         "in" => Word::In,
         "let" => Word::Let,
         "loop" => Word::Loop,
+        "expr" | "ident" | "item" | "lifetime" | "literal" => Word::Fragment,
+        "format" | "eprint" | "eprintln" => Word::Format1,
+        _ => Word::Name,
+    }
+}
+
+fn word_to_s(text: &str) -> Word {
+    match text {
         "macro_rules" => Word::MacroRules,
         "match" => Word::Match,
         "mod" => Word::Mod,
         "pub" => Word::Pub,
         "return" => Word::Return,
         "struct" => Word::Struct,
+        "move" | "mut" | "ref" | "static" => Word::Keyword,
+        "meta" | "pat" | "path" | "stmt" => Word::Fragment,
+        "panic" | "print" | "println" => Word::Format1,
+        _ => Word::Name,
+    }
+}
+
+fn word_to_y(text: &str) -> Word {
+    match text {
         "trait" => Word::Trait,
         "union" => Word::Union,
         "where" => Word::Where,
         "while" => Word::While,
-        "async"
-        | "const"
-        | "continue"
-        | "dyn"
-        | "move"
-        | "mut"
-        | "ref"
-        | "static"
-        | "type"
-        | "unsafe"
-        | "use"
-        | "yield" => Word::Keyword,
-        "block"
-        | "expr"
-        | "ident"
-        | "item"
-        | "lifetime"
-        | "literal"
-        | "meta"
-        | "pat"
-        | "path"
-        | "stmt"
-        | "tt"
-        | "ty"
-        | "vis" => Word::Fragment,
-        "format" | "panic" | "print" | "println" | "eprint" | "eprintln" => Word::Format1,
-        "write" | "writeln" | "debug_assert" => Word::Format2,
-        "assert_eq" | "assert_ne" => Word::Format3,
+        "type" | "unsafe" | "use" | "yield" => Word::Keyword,
+        "tt" | "ty" | "vis" => Word::Fragment,
+        "write" | "writeln" => Word::Format2,
         _ => Word::Name,
     }
 }

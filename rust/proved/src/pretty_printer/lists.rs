@@ -3,44 +3,44 @@
 
 use crate::shim::prelude::Vec;
 
-use crate::pretty_printer::atoms::{Atom, Role};
+use crate::pretty_printer::atoms::{Atom, NOTHING, Role};
 
 /// The atom of this index.
-pub fn atom<'a>(atoms: &[Atom<'a>], index: usize) -> Atom<'a> {
+pub fn atom(atoms: &[Atom], index: usize) -> &Atom {
     match atoms.get(index) {
-        Some(atom) => *atom,
-        None => Atom::nothing(),
+        Some(atom) => atom,
+        None => &NOTHING,
     }
 }
 
 /// The atom before this index in the list that begins at `first`.
-pub fn before<'a>(atoms: &[Atom<'a>], first: usize, index: usize) -> Atom<'a> {
+pub fn before(atoms: &[Atom], first: usize, index: usize) -> &Atom {
     if index > first {
         atom(atoms, index - 1)
     } else {
-        Atom::nothing()
+        &NOTHING
     }
 }
 
 /// The atom after this index in the list that ends before `end`.
-pub fn after<'a>(atoms: &[Atom<'a>], end: usize, index: usize) -> Atom<'a> {
+pub fn after(atoms: &[Atom], end: usize, index: usize) -> &Atom {
     let next = index.saturating_add(1);
     if next < end {
         atom(atoms, next)
     } else {
-        Atom::nothing()
+        &NOTHING
     }
 }
 
 /// Gives the atom this role.
-pub fn set_role(atoms: &mut Vec<Atom<'_>>, index: usize, role: Role) {
+pub fn set_role(atoms: &mut Vec<Atom>, index: usize, role: Role) {
     if let Some(atom) = atoms.get_mut(index) {
         atom.role = role;
     }
 }
 
 /// How many characters the atoms from `from` on and before `end` take on one line.
-pub fn width(atoms: &[Atom<'_>], from: usize, end: usize) -> usize {
+pub fn width(atoms: &[Atom], from: usize, end: usize) -> usize {
     if end <= from {
         return 0;
     }
@@ -51,7 +51,7 @@ pub fn width(atoms: &[Atom<'_>], from: usize, end: usize) -> usize {
 }
 
 /// Whether one of them needs several lines.
-pub fn is_tall(atoms: &[Atom<'_>], from: usize, end: usize) -> bool {
+pub fn is_tall(atoms: &[Atom], from: usize, end: usize) -> bool {
     if end <= from {
         return false;
     }
