@@ -97,10 +97,8 @@ pub fn after_where(where_clause: &[TokenTree]) -> Result<&[TokenTree], Fault>
 ///
 /// Where no parameter stands, or neither `,` nor the end follows it, it answers a fault, which stands where one of its
 /// parts has one, or before the first sign that no part takes. What a parameter is `specs/Param.antt` says. That no
-/// parameter stands there then is proved; which place the fault has, and that the tables of [`split_generics`] read the
-/// same lists, is only tested.
-///
-/// [`split_generics`]: crate::split_generics
+/// parameter stands there then is proved; which place the fault has, and that the tables of
+/// [`split_generics`](crate::split_generics) read the same lists, is only tested.
 pub fn parse_param(trees: &[TokenTree]) -> Result<(Param<'_>, &[TokenTree]), Fault>
     ensures ok { IfOk result (λ found. IsParamAt trees.now (param_trees found.0) found.1.now) }
     ensures only { IfOk result (λ found. IsOnlyParam trees.now (param_trees found.0) found.1.now) }
