@@ -1,5 +1,5 @@
 -- The path of an attribute.
-use Rattle.std.proofs.Common.{◌≡◌, ◌+◌, ◌≤◌, refl, sym, ◌∙◌, ap, suc, Bool, true, false, List, [], ◌∷◌, length, drop}
+use Rattle.std.proofs.Common.{◌≡◌, ◌≤◌, refl, sym, ◌∙◌, ap, suc, Bool, true, false, List, [], ◌∷◌, length, drop}
 use Rattle.std.proofs.Common.{arith}
 use Rattle.std.specs.List.{prefix_len}
 use Rattle.pm_stream.specs.DocGroup.{trees_of}

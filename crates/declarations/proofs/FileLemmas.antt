@@ -1,52 +1,21 @@
 -- From items one after the other to files and their faults.
-use Rattle.std.proofs.Common.{◌≡◌, refl, sym, ◌∙◌, ap, subst, ℕ, suc, ◌+◌, ◌<◌, ◌≤◌, ◌==◌, true, false, List, []}
+use Rattle.std.proofs.Common.{◌≡◌, refl, sym, ◌∙◌, ap, subst, ℕ, ◌+◌, ◌<◌, ◌≤◌, ◌==◌, false, List, []}
 use Rattle.std.proofs.Common.{Result, Ok, Err, IfErr}
-use Rattle.std.proofs.Common.{◌∷◌, ◌++◌, Some, length, drop, arith, append_assoc, inr}
+use Rattle.std.proofs.Common.{◌∷◌, ◌++◌, length, drop, arith, append_assoc, inr}
 use Rattle.std.proofs.Math.Seq.{drop-append-add}
 use Rattle.std.proofs.lemmas.List.{length-append}
 use Rattle.pm_stream.specs.declared.stream.TokenTree.{TokenTree}
+use Rattle.declarations.proofs.ListLemmas.{reads_fewer}
 use Rattle.declarations.proofs.ReadingLemmas.{split_only}
-use Rattle.declarations.proofs.SignLemmas.{behind_first}
 use Rattle.declarations.specs.Fault.{first_extent, extent_at}
 use Rattle.declarations.specs.File.{AreItems, AreItemsBefore, FileFaultAt, IsFile, braces, last_braces}
 use Rattle.declarations.specs.Forms.{AreInnerAttributes, IsAnyItem, any_item}
-use Rattle.declarations.specs.Grammar.{ends, step}
 use Rattle.declarations.specs.Reading.{FaultAt, Reads}
-use Rattle.declarations.specs.Signs.{Sign, signs, classes_of, trees_of}
-use Rattle.declarations.specs.Walk.{IsWalk}
 use Rattle.declarations.specs.Whole.{ReadsAll}
-use Rattle.declarations.specs.declared.place.Place.{Place}
-
--- ---- what is read takes trees
-
-takes : (front rest trees : List TokenTree) (sign : Sign) (after : List Sign) → signs trees ≡ sign ∷ after
-    → trees ≡ front ++ rest → signs rest ≡ after → 0 < length front
-takes [] rest trees sign after read whole behind =
-    let again : sign ∷ after ≡ after = sym read ∙ ap signs whole ∙ behind in
-    let count : suc (length after) ≡ length after = ap length again in
-    absurd (omega arith)
-takes (tree ∷ front) rest trees sign after read whole behind = omega arith
-
-fewer : (from : Place) (trees part rest : List TokenTree) (piece : List Sign) → ends from ≡ false
-    → signs trees ≡ piece ++ signs rest → part ≡ trees_of piece → trees ≡ part ++ rest
-    → IsWalk step ends from (classes_of piece) (classes_of (signs rest)) → length rest < length trees
-fewer from trees part rest [] goes read taken whole stands =
-    let walks : Some from ≡ Some stands.last = stands.walks in
-    let same : from ≡ stands.last = cc in
-    let clash : false ≡ true = sym goes ∙ ap ends same ∙ stands.ended in
-    absurd (cc)
-fewer from trees part rest (sign ∷ piece) goes read taken whole stands =
-    let behind = behind_first trees sign (piece ++ signs rest) read in
-    let first = takes sign.trees behind.rest trees sign (piece ++ signs rest) read behind.whole behind.read in
-    let parts : length part ≡ length sign.trees + length (trees_of piece) =
-    ap length taken ∙ length-append sign.trees (trees_of piece) in
-    let sum : length trees ≡ length part + length rest = ap length whole ∙ length-append part rest in
-    omega arith
 
 -- an item isn't empty
-pub item_takes : (trees part rest : List TokenTree) → Reads IsAnyItem trees part rest → length rest < length trees
-item_takes trees part rest reads =
-    fewer any_item trees part rest reads.piece refl reads.read reads.taken reads.whole reads.stands
+pub item_fewer : (trees part rest : List TokenTree) → Reads IsAnyItem trees part rest → length rest < length trees
+item_fewer trees part rest reads = reads_fewer any_item trees part rest refl reads
 
 -- ---- items one after the other
 
@@ -70,7 +39,7 @@ rest_items trees part rest (first ∷ parts) reads before =
     (parts, subst (λ ts. AreItemsBefore parts ts []) only.1 before.2)
 
 -- the trees after an item are items where all are
-pub items_after : (trees part rest : List TokenTree) → Reads IsAnyItem trees part rest → AreItems trees → AreItems rest
+items_after : (trees part rest : List TokenTree) → Reads IsAnyItem trees part rest → AreItems trees → AreItems rest
 items_after trees part rest reads all = rest_items trees part rest all.0 reads all.1
 
 -- so are those after several
@@ -86,7 +55,7 @@ no_items left [] within more fault none = more none
 no_items left (part ∷ parts) within more fault before = fault.nothing part before.0 before.1
 
 -- an item stands at the front of items
-pub item_stands : (left : List TokenTree) (within : ℕ) → (left ≡ [] → ⊥) → FaultAt IsAnyItem left within
+item_stands : (left : List TokenTree) (within : ℕ) → (left ≡ [] → ⊥) → FaultAt IsAnyItem left within
     → AreItems left → ⊥
 item_stands left within more fault all = no_items left all.0 within more fault all.1
 

@@ -1,7 +1,7 @@
 -- The parts of parameters and predicates: at most one stands at a place, and where none does.
-use Rattle.std.proofs.Common.{◌≡◌, refl, sym, ◌∙◌, ap, subst, ℕ, ◌+◌, ◌-◌, ◌≤◌, ◌<◌, Bool, true, false, List, [], ◌∷◌}
+use Rattle.std.proofs.Common.{◌≡◌, refl, sym, ◌∙◌, ap, subst, ℕ, ◌+◌, ◌≤◌, ◌<◌, true, false, List, [], ◌∷◌}
 use Rattle.std.proofs.Common.{Result, Ok, Err, MatchResult}
-use Rattle.std.proofs.Common.{◌++◌, Option, Some, None, append_assoc, append-nil, arith, drop, length}
+use Rattle.std.proofs.Common.{◌++◌, Some, None, append_assoc, arith, drop, length}
 use Rattle.std.proofs.lemmas.List.{append_cancel_left, append_cancel_right, length-append}
 use Rattle.std.proofs.Math.Seq.{drop-append_seam}
 use Rattle.pm_stream.specs.declared.stream.TokenTree.{TokenTree}

@@ -1,14 +1,21 @@
 -- The items of a file, or of what stands in braces, and what an item ends with.
-use Rattle.std.specs.Prelude.{◌≡◌, ◌+◌, ◌⊎◌, ℕ, List, [], ◌∷◌, ◌++◌, length, Option, Some, None}
+use Rattle.std.specs.Prelude.{◌≡◌, ◌+◌, ◌⊎◌, ℕ, List, [], ◌∷◌, ◌++◌, length, Option, Some, None, Result}
+use Rattle.std.specs.Prelude.{MatchOption, MatchResult}
+use Rattle.pm_token.specs.Leaf.{Name}
 use Rattle.pm_token.specs.declared.delimiters.Delimiter.{Delimiter}
 use Rattle.pm_token.specs.declared.delimiters.Delimiter.TheVariants as delimiters
 use Rattle.pm_stream.specs.declared.stream.Group.{Group as Grouped}
 use Rattle.pm_stream.specs.declared.stream.TokenTree.{TokenTree}
 use Rattle.pm_stream.specs.declared.stream.TokenTree.TheVariants.{Group}
+use Rattle.declarations.specs.Fault.{extent_at}
 use Rattle.declarations.specs.Forms.{AreInnerAttributes, IsAnyItem}
+use Rattle.declarations.specs.Kind.{Tells}
 use Rattle.declarations.specs.Reading.{FaultAt, Reads}
+use Rattle.declarations.specs.declared.any_item.AnyItem.{AnyItem}
 use Rattle.declarations.specs.declared.any_item.ItemKind.{ItemKind}
 use Rattle.declarations.specs.declared.any_item.ItemKind.TheVariants as kinds
+use Rattle.declarations.specs.declared.fault.Fault.{Fault}
+use Rattle.declarations.specs.declared.file.Items.{Items}
 
 -- the trees are these parts, each of them an item, one after the other, and then those that are left
 abbrev pub AreItemsBefore : List (List TokenTree) → List TokenTree → List TokenTree → Type 0
@@ -43,6 +50,21 @@ pub record ItemFaultAt (trees : List TokenTree) (at : ℕ) : Type 0 where
 -- that of the inner attributes, or of the first item that isn't read
 abbrev pub FileFaultAt : List TokenTree → ℕ → Type 0
 FileFaultAt trees at = FaultAt AreInnerAttributes trees at ⊎ ItemFaultAt trees at
+
+-- the kind and the name of this item are those of the one walk over its signs
+abbrev pub TellsOf : List TokenTree → List TokenTree → AnyItem → Type 0
+TellsOf trees rest item =
+    (name : Option Name) × Tells trees rest item.kind name
+    × MatchOption item.name (name ≡ None) (λ ident. name ≡ Some ident.now)
+
+-- a call for the next item gives it, or the fault, after which nothing is left, and nothing after the last
+abbrev pub GivesItem : Items → Option (Result AnyItem Fault) → Items → Type 0
+GivesItem old given new =
+    MatchOption given ((old.left.now ≡ []) × (new ≡ old))
+    (λ found. MatchResult found
+    (λ item. Reads IsAnyItem old.left.now item.trees.now new.left.now × TellsOf old.left.now new.left.now item)
+    (λ fault. FaultAt IsAnyItem old.left.now fault.at × (fault.span ≡ extent_at old.left.now fault.at)
+    × (new.left.now ≡ [])))
 
 -- ---- what an item ends with
 

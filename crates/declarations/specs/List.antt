@@ -1,10 +1,10 @@
 -- Lists of parts, one at a time.
-use Rattle.std.specs.Prelude.{◌≡◌, ℕ, ◌⊎◌, Bool, true, false, List, [], ◌∷◌, Option, Some, None, Result, Ok, Err}
+use Rattle.std.specs.Prelude.{◌≡◌, ℕ, ◌⊎◌, Bool, true, false, List, [], ◌∷◌, Option, Result}
 use Rattle.std.specs.Prelude.{MatchOption, MatchResult, length}
 use Rattle.pm_stream.specs.Trees.{forest}
 use Rattle.pm_stream.specs.declared.stream.Group.{Group as Grouped}
 use Rattle.pm_stream.specs.declared.stream.TokenTree.{TokenTree}
-use Rattle.pm_stream.specs.declared.stream.TokenTree.TheVariants.{Group, Ident, Punct, Literal}
+use Rattle.pm_stream.specs.declared.stream.TokenTree.TheVariants.{Punct}
 use Rattle.declarations.specs.Fault.{extent_at}
 use Rattle.declarations.specs.Field.{IsFieldAt, HasFieldParts, HasTypeParts}
 use Rattle.declarations.specs.Forms.{IsField, IsTupleField, IsVariant}

@@ -1,5 +1,5 @@
 //! Any item at the front of trees, with its kind and name.
-ghost use Rattle.std.specs.Prelude.{◌≡◌, IfErr, IfOk, MatchOption, None, Option, Some};
+ghost use Rattle.std.specs.Prelude.{◌≡◌, ◌<◌, IfErr, IfOk, MatchOption, None, Option, Some, length};
 ghost use Rattle.pm_token.specs.Leaf.{Name};
 ghost use Rattle.declarations.specs.Fault.{extent_at};
 ghost use Rattle.declarations.specs.Forms.{IsAnyItem};
@@ -52,7 +52,7 @@ pub enum ItemKind {
 }
 
 /// An item: its trees, with attributes and visibility, and what it declares.
-#[derive(Clone, Copy)]
+#[derive(Clone, Copy, Debug)]
 pub struct AnyItem<'a> {
     /// What it declares.
     pub kind: ItemKind,
@@ -71,6 +71,7 @@ pub struct AnyItem<'a> {
 pub fn split_any_item<'a>(trees: &'a [TokenTree]) -> Result<(AnyItem<'a>, &'a [TokenTree]), Fault>
     ensures ok { IfOk result (λ found. Reads IsAnyItem trees.now found.0.trees.now found.1.now) }
     ensures only { IfOk result (λ found. IsOnly IsAnyItem trees.now found.0.trees.now found.1.now) }
+    ensures fewer { IfOk result (λ found. length found.1.now < length trees.now) }
     // The kind and the name are those of the one walk over the item's signs.
     ensures told { IfOk result (λ found. (name : Option Name) × Tells trees.now found.1.now found.0.kind name
         × MatchOption found.0.name (name ≡ None) (λ ident. name ≡ Some ident.now)) }

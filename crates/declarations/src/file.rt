@@ -1,12 +1,12 @@
 //! Files, and what modules, traits and the like have in their braces: inner attributes, and items one after the other.
-ghost use Rattle.std.specs.Prelude.{◌≡◌, [], IfErr, IfOk, List, MatchOption, None, Option, Some};
+ghost use Rattle.std.specs.Prelude.{◌≡◌, [], IfErr, IfOk, List, MatchOption, None, Option, Some, length};
 ghost use Rattle.pm_stream.specs.declared.stream.TokenTree.{TokenTree as Tree};
 ghost use Rattle.pm_token.specs.Leaf.{Name};
 ghost use Rattle.declarations.specs.Fault.{extent_at};
-ghost use Rattle.declarations.specs.File.{AreItems, FileFaultAt, IsFile, body_of, braces, last_braces};
+ghost use Rattle.declarations.specs.File.{FileFaultAt, IsFile, body_of, braces, last_braces};
 ghost use Rattle.declarations.specs.Forms.{IsAnyItem};
 ghost use Rattle.declarations.specs.Kind.{Tells};
-ghost use Rattle.declarations.specs.Reading.{FaultAt, Reads};
+ghost use Rattle.declarations.specs.Reading.{FaultAt};
 ghost use Rattle.declarations.specs.Whole.{IsWhole, ReadsAll};
 
 use crate::any_item::{AnyItem, ItemKind, split_any_item};
@@ -27,10 +27,14 @@ pub struct File<'a> {
 }
 
 /// The items that are left of a file, one after the other. It is copied freely.
-#[derive(Clone, Copy)]
+///
+/// It gives each item as [`split_any_item`] answers it of the trees that are left, or the fault where the trees go on
+/// with none. After a fault it gives nothing. Those that [`parse_file`] answers have no fault. Of `fn f() {} struct S;`
+/// it gives the function `f` and the struct `S`. It takes no memory.
+#[derive(Clone, Copy, Debug)]
 pub struct Items<'a> {
-    trees: &'a [TokenTree],
-    ghost are: { ∥ AreItems trees.now ∥₁ },
+    /// The trees that are left.
+    pub left: &'a [TokenTree],
 }
 
 /// The inner attributes and the items that the trees are.
@@ -40,7 +44,7 @@ pub struct Items<'a> {
 /// stands within the items' groups isn't read. Of `#![a] fn f() {} struct S;` the inner attributes are `#![a]`, and
 /// there are two items. It takes no memory.
 pub fn parse_file(trees: &[TokenTree]) -> Result<File<'_>, Fault>
-    ensures ok { IfOk result (λ file. IsFile trees.now file.inner.now file.items.trees.now) }
+    ensures ok { IfOk result (λ file. IsFile trees.now file.inner.now file.items.left.now) }
     ensures fault { IfErr result (λ fault. FileFaultAt trees.now fault.at) }
     ensures span { IfErr result (λ fault. fault.span ≡ extent_at trees.now fault.at) }
     ensures none { IfErr result (λ fault. (inner : List Tree) → (items : List Tree) → IsFile trees.now inner items
@@ -62,7 +66,7 @@ pub fn parse_file(trees: &[TokenTree]) -> Result<File<'_>, Fault>
     }
     Ok(File {
         inner,
-        items: Items { trees: items },
+        items: Items { left: items },
     })
 }
 
@@ -90,31 +94,30 @@ pub fn parse_item(trees: &[TokenTree]) -> Result<AnyItem<'_>, Fault>
     Ok(item)
 }
 
-impl<'a> Items<'a> {
-    /// The trees of all items that are left.
-    pub fn trees(self) -> &'a [TokenTree]
-        ensures value { result.now ≡ self.entry.trees.now }
-        ensures items { ∥ AreItems result.now ∥₁ }
-    {
-        self.trees
-    }
+impl<'a> Iterator for Items<'a> {
+    ghost use Rattle.std.specs.Iterator.{at_most};
+    ghost use Rattle.declarations.specs.File.{GivesItem};
 
-    /// The first item, and those after it. None at the end.
-    ///
-    /// It is what [`split_any_item`] answers. Of `fn f() {} struct S;` it is the function `f`, and the struct is left.
-    pub fn next(self) -> Option<(AnyItem<'a>, Items<'a>)>
-        ensures found { MatchOption result (self.entry.trees.now ≡ [])
-            (λ found. Reads IsAnyItem self.entry.trees.now found.0.trees.now found.1.trees.now) }
-        ensures told { MatchOption result (self.entry.trees.now ≡ []) (λ found. (name : Option Name)
-            × Tells self.entry.trees.now found.1.trees.now found.0.kind name
-            × MatchOption found.0.name (name ≡ None) (λ ident. name ≡ Some ident.now)) }
-    {
-        if self.trees.is_empty() {
+    type Item = Result<AnyItem<'a>, Fault>;
+
+    ghost next_gives = { GivesItem };
+
+    // No more come than trees are left.
+    ghost remaining = { λ items. at_most (length items.left.now) };
+
+    fn next(&mut self) -> Option<Result<AnyItem<'a>, Fault>> {
+        if self.left.is_empty() {
             return None;
         }
-        match split_any_item(self.trees) {
-            Ok((item, rest)) => Some((item, Items { trees: rest })),
-            Err(_) => None,
+        match split_any_item(self.left) {
+            Ok((item, rest)) => {
+                self.left = rest;
+                Some(Ok(item))
+            }
+            Err(fault) => {
+                self.left = &[];
+                Some(Err(fault))
+            }
         }
     }
 }

@@ -1,5 +1,5 @@
 // Texts, and their items.
-use declarations::{ItemKind, parse_file, parse_item};
+use declarations::{ItemKind, Items, parse_file, parse_item};
 use proc_macro2::{SourceMap, TokenStream, TokenTree};
 use std::process::Abort;
 use std::test::Fail;
@@ -18,20 +18,19 @@ fn check_file(
     assert_is(rt, file.inner.len() == inner, text)?;
     let mut items = file.items;
     for (kind, inside) in wanted {
-        let Some((item, rest)) = items.next() else {
+        let Some(Ok(item)) = items.next() else {
             return assert_is(rt, false, text);
         };
-        items = rest;
         let count = match item.body() {
             Some(group) => match parse_file(group.stream_ref().trees()) {
-                Ok(body) => body.items.trees().len(),
+                Ok(body) => body.items.left.len(),
                 Err(_) => 1000,
             },
             None => 0,
         };
         assert_is(rt, item.kind == *kind && count == *inside, text)?;
     }
-    assert_is(rt, items.trees().is_empty(), text)
+    assert_is(rt, items.next().is_none(), text)
 }
 
 fn assert_is(rt: &(impl Abort + AllocGlobal), is: bool, text: &str) -> Result<(), Fail> {
@@ -105,4 +104,27 @@ fn an_item_is_all_of_the_trees(rt: HostRuntime) -> Result<(), Fail> {
     check_fault(&rt, false, "#[a] fn f() {}", None)?;
     check_fault(&rt, false, "fn f() {} fn", Some((4, true)))?;
     check_fault(&rt, false, "", Some((0, false)))
+}
+
+// How many items a list gives before its fault, where the fault stands, and whether more comes after it.
+fn items_before_a_fault(trees: &[TokenTree]) -> (usize, Option<usize>, bool) {
+    let mut items = Items { left: trees };
+    let mut count = 0;
+    for item in items.by_ref() {
+        match item {
+            Ok(_) => count += 1,
+            Err(fault) => return (count, Some(fault.at), items.next().is_some()),
+        }
+    }
+    (count, None, items.next().is_some())
+}
+
+#[test]
+fn nothing_comes_after_a_fault(rt: HostRuntime) -> Result<(), Fail> {
+    let mut map = SourceMap::new(rt.alloc());
+    let good = TokenStream::from_str("fn f() {} struct S; use a;", &mut map)?;
+    assert!(rt; items_before_a_fault(good.trees()) == (3, None, false));
+    let bad = TokenStream::from_str("fn f() {} struct S fn g() {} use a;", &mut map)?;
+    assert!(rt; items_before_a_fault(bad.trees()) == (1, Some(2), false));
+    Ok(())
 }

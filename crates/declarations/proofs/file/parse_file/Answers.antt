@@ -1,7 +1,7 @@
 use Rattle.std.proofs.Common.{◌∙◌, ◌≤◌, List, length, arith}
 use Rattle.pm_stream.specs.declared.stream.TokenTree.{TokenTree}
 use Rattle.declarations.specs.File.{IsFile}
-use Rattle.declarations.proofs.FileLemmas.{any_err, fault_extent, item_takes, left_fits, none_read, not_empty}
+use Rattle.declarations.proofs.FileLemmas.{any_err, fault_extent, left_fits, none_read, not_empty}
 use Rattle.declarations.proofs.FileLemmas.{not_file, one_read}
 use Rattle.declarations.proofs.file.parse_file.Goals as goal
 
@@ -13,10 +13,6 @@ returns-in_err-inner-clause-none c =
 pub loop-left-init : goal.loop-left-init
 loop-left-init c =
     none_read c.args.trees.now c.in_ok-inner.inner.now c.in_ok-inner.items.now c.in_ok-inner.ensures.ok
-
-pub loop-left-smaller : goal.loop-left-smaller
-loop-left-smaller c =
-    item_takes c.loop-left.left.now c.in-Ok.field-0-0.trees.now c.in-Ok.rest.now c.in-Ok.ensures.ok
 
 pub loop-left-preserved : goal.loop-left-preserved
 loop-left-preserved c =

@@ -1,4 +1,4 @@
-use Rattle.std.proofs.Common.{inl, arith}
+use Rattle.std.proofs.Common.{inl}
 use Rattle.declarations.specs.List.{field_form}
 use Rattle.declarations.proofs.ListLemmas.{field_fewer, field_part, lacks_comma, rest_within}
 use Rattle.declarations.proofs.list.first_field.Goals as goal

@@ -1,4 +1,4 @@
-use Rattle.std.proofs.Common.{inl, arith}
+use Rattle.std.proofs.Common.{inl}
 use Rattle.declarations.specs.Forms.{IsVariant}
 use Rattle.declarations.proofs.ListLemmas.{variant_fewer, lacks_comma, rest_within}
 use Rattle.declarations.proofs.list.first_variant.Goals as goal

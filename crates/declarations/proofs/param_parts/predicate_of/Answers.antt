@@ -1,7 +1,7 @@
 use Rattle.std.proofs.lemmas.Result.{err_from_is_err_and}
 use Rattle.declarations.proofs.ParamLemmas.{back_more, back_must_bounds, back_reads, predicate_bounds_fail}
 use Rattle.declarations.proofs.ParamLemmas.{predicate_end_fails}
-use Rattle.declarations.proofs.generics.predicate_of.Goals as goal
+use Rattle.declarations.proofs.param_parts.predicate_of.Goals as goal
 
 pub returns-in_err-bounded-clause-nothing : goal.returns-in_err-bounded-clause-nothing
 returns-in_err-bounded-clause-nothing c =

@@ -2,7 +2,7 @@ use Rattle.declarations.proofs.ParamLemmas.{must_found, must_none}
 use Rattle.declarations.specs.Forms.{AreBounds}
 use Rattle.declarations.specs.Reading.{Reads}
 use Rattle.declarations.specs.declared.class.Class.TheVariants as classes
-use Rattle.declarations.proofs.generics.must_bounds.Goals as goal
+use Rattle.declarations.proofs.param_parts.must_bounds.Goals as goal
 
 pub returns-in-Some : goal.returns-in-Some
 returns-in-Some c =

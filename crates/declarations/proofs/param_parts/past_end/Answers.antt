@@ -1,6 +1,6 @@
-use Rattle.std.proofs.Common.{◌≡◌, ◌==◌, ◌∙◌, ap, false, length}
+use Rattle.std.proofs.Common.{◌≡◌, ◌==◌, ◌∙◌, ap, false}
 use Rattle.declarations.proofs.ParamLemmas.{no_end}
-use Rattle.declarations.proofs.generics.past_end.Goals as goal
+use Rattle.declarations.proofs.param_parts.past_end.Goals as goal
 
 pub returns-in-None : goal.returns-in-None
 returns-in-None c =

@@ -1,9 +1,9 @@
 use Rattle.std.proofs.lemmas.Result.{err_from_is_err_and}
-use Rattle.declarations.proofs.ParamLemmas.{Bounded, Defaulted, Named, back_bounded, back_defaulted, back_more}
+use Rattle.declarations.proofs.ParamLemmas.{Bounded, Named, back_bounded, back_defaulted, back_more}
 use Rattle.declarations.proofs.ParamLemmas.{back_name, back_reads, bounds_fail, default_fails, end_fails, name_fails}
 use Rattle.declarations.specs.Param.{ParamTrees}
 use Rattle.declarations.specs.declared.generics.ParamKind.TheVariants as kinds
-use Rattle.declarations.proofs.generics.param_of.Goals as goal
+use Rattle.declarations.proofs.param_parts.param_of.Goals as goal
 
 pub returns-in_err-attributes-clause-nothing : goal.returns-in_err-attributes-clause-nothing
 returns-in_err-attributes-clause-nothing c =

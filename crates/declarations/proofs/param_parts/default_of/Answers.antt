@@ -1,6 +1,6 @@
 use Rattle.std.proofs.Common.{MatchResult, subst, sym}
 use Rattle.declarations.specs.Param.{Fails, HasDefault}
-use Rattle.declarations.proofs.generics.default_of.Goals as goal
+use Rattle.declarations.proofs.param_parts.default_of.Goals as goal
 
 pub returns-in-Type : goal.returns-in-Type
 returns-in-Type c =

@@ -3,7 +3,7 @@ use Rattle.declarations.proofs.ParamLemmas.{back_more, back_sign, minus_fails, t
 use Rattle.declarations.specs.Param.{is_constant, negative, one_sign}
 use Rattle.declarations.specs.Signs.{BeginsWith}
 use Rattle.declarations.specs.declared.class.Class.TheVariants as classes
-use Rattle.declarations.proofs.generics.constant_of.Goals as goal
+use Rattle.declarations.proofs.param_parts.constant_of.Goals as goal
 
 pub before-requires-in-Some-past_literal : goal.before-requires-in-Some-past_literal
 before-requires-in-Some-past_literal c =

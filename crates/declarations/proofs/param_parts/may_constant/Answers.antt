@@ -1,7 +1,7 @@
 use Rattle.declarations.proofs.ParamLemmas.{may_found}
 use Rattle.declarations.specs.Param.{ReadsConstant}
 use Rattle.declarations.specs.declared.class.Class.TheVariants as classes
-use Rattle.declarations.proofs.generics.may_constant.Goals as goal
+use Rattle.declarations.proofs.param_parts.may_constant.Goals as goal
 
 pub returns-in-Some : goal.returns-in-Some
 returns-in-Some c =

@@ -1,11 +1,11 @@
-use Rattle.std.proofs.Common.{rules, ◌≡◌, arith, subst}
+use Rattle.std.proofs.Common.{rules, arith}
 use Rattle.std.proofs.lemmas.Grind.{common_steps}
 use Rattle.std.proofs.lemmas.Result.{err_from_is_err_and}
 use Rattle.declarations.proofs.ParamLemmas.{const_fails}
 use Rattle.declarations.specs.Signs.{BeginsWith}
 use Rattle.declarations.specs.declared.class.Class.TheVariants as classes
 use Rattle.declarations.specs.declared.class.Keyword.TheVariants as keywords
-use Rattle.declarations.proofs.generics.name_of.Goals as goal
+use Rattle.declarations.proofs.param_parts.name_of.Goals as goal
 
 pub returns-in_err-name-in-Keyword-Const-clause-nothing : goal.returns-in_err-name-in-Keyword-Const-clause-nothing
 returns-in_err-name-in-Keyword-Const-clause-nothing c =

@@ -1,6 +1,6 @@
 use Rattle.std.proofs.Common.{MatchResult, subst, sym}
 use Rattle.declarations.specs.Param.{Fails, HasBounds}
-use Rattle.declarations.proofs.generics.bounds_of.Goals as goal
+use Rattle.declarations.proofs.param_parts.bounds_of.Goals as goal
 
 pub returns-in-Lifetime : goal.returns-in-Lifetime
 returns-in-Lifetime c =
