@@ -219,18 +219,29 @@ END
 
 if has proc-macro2-1 && has unicode-ident-1; then
     try "the bridge over the public crate" bridge test --offline --quiet --all-features
-    # A derive over the bridge: its own test, and the lines and columns at which it tells faults.
+    # Macros over the bridge: their own tests, and the lines and columns at which they tell errors.
+    #
+    #   told EXAMPLE [ERROR LINE:COLUMN]..
     told() {
-        ! in_copy example/names test --offline --quiet --features wrong --test wrong > "$room/seen" 2>&1 || return 1
-        grep -A 1 '^error: a variant has a name alone' "$room/seen" | grep -q -- '--> wrong/names.rs:7:10$' &&
-            grep -A 1 '^error: a name is a literal' "$room/seen" | grep -q -- '--> wrong/names.rs:12:6$' && return
-        cat "$room/seen"
-        return 1
+        local example=$1
+        shift
+        ! in_copy "example/$example" test --offline --quiet --features wrong --test wrong > "$room/seen" 2>&1 || return 1
+        while [ $# -gt 0 ]; do
+            if ! grep -A 1 "^error: $1" "$room/seen" | grep -q -- "--> wrong/$example.rs:$2$"; then
+                cat "$room/seen"
+                return 1
+            fi
+            shift 2
+        done
     }
     try "the example of a derive over the bridge and the public crate" in_copy example/names test --offline --quiet
-    try "its errors stand at its user's tokens" told
+    try "its errors stand at its user's tokens" \
+        told names "a variant has a name alone" 7:10 "a name is a literal" 12:6
+    try "the example of an attribute over the bridge" in_copy example/traced test --offline --quiet
+    wanted="only a function with a body is traced"
+    try "its errors stand at its user's tokens" told traced "$wanted" 5:1 "$wanted" 9:5
 else
-    skip "the bridge over the public crate, and its example: no proc-macro2 or unicode-ident"
+    skip "the bridge over the public crate, and its examples: no proc-macro2 or unicode-ident"
 fi
 
 generated() {

@@ -1,0 +1,90 @@
+//! An attribute that wraps a function's body, over `proved-bridge`, which needs neither syn nor quote. What the function
+//! is comes from the proved `parse_item`; all of its tokens but the braces stay as they are.
+use proved_bridge::proved::declarations::{compile_error, parse_item, AnyItem, Fault, ItemKind};
+use proved_bridge::proved::proc_macro2::{Delimiter, Group, Ident, Literal, SourceMap, Span, TokenStream, TokenTree};
+use proved_bridge::proved::quoting::{Hole, Quote};
+use proved_bridge::proved::shim::alloc::Global;
+use proved_bridge::proved::shim::clone::Clone as _;
+use proved_bridge::{from_proved, to_proved, NoToken, Spans};
+
+/// What stands before the statements of the body. The guard speaks however the body is left.
+const PROLOGUE: &str = "
+    struct Left;
+    impl ::core::ops::Drop for Left {
+        fn drop(&mut self) { #log(#text, false) }
+    }
+    #log(#text, true);
+    let _left = Left;";
+
+/// The code that tells what is wrong, where it is wrong.
+struct Refusal(TokenStream);
+
+impl From<Fault> for Refusal {
+    fn from(fault: Fault) -> Refusal {
+        let Ok(told) = fault.to_compile_error(Global);
+        Refusal(told)
+    }
+}
+
+fn refusal(what: &str, span: Span) -> Refusal {
+    let Ok(told) = compile_error(Global, what, span);
+    Refusal(told)
+}
+
+/// `#[traced(log)]` calls `log(name, true)` when the function begins, and `log(name, false)` when it is left: at its
+/// end, by `return`, by `?` or by a panic.
+#[proc_macro_attribute]
+pub fn traced(log: proc_macro::TokenStream, item: proc_macro::TokenStream) -> proc_macro::TokenStream {
+    let mut spans = Spans::new();
+    expanded(&log.into(), &item.into(), &mut spans).expect("both sides have these tokens").into()
+}
+
+fn expanded(
+    log: &proc_macro2::TokenStream,
+    item: &proc_macro2::TokenStream,
+    spans: &mut Spans,
+) -> Result<proc_macro2::TokenStream, NoToken> {
+    let (log, item) = (to_proved(log, spans)?, to_proved(item, spans)?);
+    from_proved(&wrapped(&log, &item).unwrap_or_else(|refusal| refusal.0), spans)
+}
+
+/// The function with its new body.
+fn wrapped(log: &TokenStream, item: &TokenStream) -> Result<TokenStream, Refusal> {
+    let item = parse_item(item.trees())?;
+    let (name, head, body) = function(&item)?;
+    let mut statements = prologue(log, name)?;
+    let (Ok(inside), Ok(mut whole)) = (body.stream(), copied(head));
+    let Ok(()) = statements.extend_streams([inside]);
+    let mut braces = Group::new(Delimiter::Brace, statements);
+    braces.set_span(body.span());
+    let Ok(()) = whole.extend_trees([TokenTree::Group(braces)]);
+    Ok(whole)
+}
+
+/// A function's name, its trees before the body, and the body.
+fn function<'a>(item: &AnyItem<'a>) -> Result<(&'a Ident, &'a [TokenTree], &'a Group), Refusal> {
+    match (item.kind, item.name, item.trees) {
+        (ItemKind::Function, Some(name), [head @ .., TokenTree::Group(body)]) => Ok((name, head, body)),
+        (_, _, [first, ..]) => Err(refusal("only a function with a body is traced", first.span())),
+        _ => Err(refusal("a function is wanted", Span::call_site())),
+    }
+}
+
+/// The prologue of the function of this name.
+fn prologue(log: &TokenStream, name: &Ident) -> Result<TokenStream, Refusal> {
+    let Ok(text) = Literal::string(Global, &name.to_string());
+    let Ok(text) = TokenStream::from_tree(Global, TokenTree::Literal(text));
+    let mut quote = Quote::new(Global);
+    let holes = [Hole::one("log", log), Hole::one("text", &text)];
+    quote.parse(PROLOGUE, &mut SourceMap::new(Global), &holes).expect("each hole is filled");
+    let span = log.trees().first().map_or_else(Span::call_site, TokenTree::span);
+    quote.finish().map_err(|_| refusal("this can't be written as the name of a function", span))
+}
+
+fn copied(trees: &[TokenTree]) -> Result<TokenStream, proved_bridge::proved::shim::alloc::AllocError> {
+    let mut copy = TokenStream::new(Global);
+    for tree in trees {
+        copy.extend_trees([tree.clone()?])?;
+    }
+    Ok(copy)
+}
