@@ -1,5 +1,6 @@
 #!/usr/bin/env bash
-# Compares all structs, enums and unions in folders of Rust files with syn 2, part by part, and times both.
+# Compares all items in folders of Rust files with syn 2, by kind, name and extent, and structs, enums and unions part
+# by part, and times both.
 #
 #   bench/declarations/compare.sh FOLDER..
 #
@@ -8,7 +9,7 @@
 # Each difference without a known cause is printed, then counts and times: for each file the least of 5 runs over its
 # items' streams, by the clock. The status is 1 if there is such a difference.
 set -eu
-[ $# -gt 0 ] || { sed -n '2,4s/^# *//p' "$0"; exit 2; }
+[ $# -gt 0 ] || { sed -n '2,5s/^# *//p' "$0"; exit 2; }
 registry=$(cd "${CARGO_REGISTRY:-/usr/share/cargo/registry}" && pwd)
 package=$(dirname "$0")/syn
 room=$(mktemp -d)

@@ -1,4 +1,5 @@
 //! Why syn has a part otherwise.
+use crate::every::Entry;
 use syn::DeriveInput;
 
 /// An item that syn has, but not as a derive would be given it.
@@ -22,4 +23,10 @@ pub fn of_part(name: &str, theirs: &str, ours: &str) -> Option<&'static str> {
 pub fn of_refusal(item: &DeriveInput) -> Option<&'static str> {
     let is_nameless = item.generics.type_params().any(|parameter| parameter.ident == "_");
     is_nameless.then_some("syn reads `_` as the name of a type parameter")
+}
+
+/// The cause, if one explains that an item of a file differs.
+pub fn of_entry(theirs: &Entry, ours: &Entry) -> Option<&'static str> {
+    let is_kept = theirs.kind.is_none() && (theirs.depth, theirs.extent) == (ours.depth, ours.extent);
+    is_kept.then_some("syn keeps the item as tokens alone")
 }

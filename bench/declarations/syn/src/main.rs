@@ -1,8 +1,10 @@
-//! Compares all parts of structs, enums and unions as the crate `declarations` and syn 2 have them.
+//! Compares what files declare, and all parts of structs, enums and unions, as the crate `declarations` and syn 2 have
+//! them.
 //!
 //! Its words are folders of Rust files. It prints each difference that has no cause in `cause.rs`, with its file and
 //! item, and counts; the status is 1 if there is one.
 mod cause;
+mod every;
 mod items;
 mod ours;
 mod parts;
@@ -28,9 +30,11 @@ struct Counts {
     unread_files: usize,
     items: usize,
     parts: usize,
+    entries: usize,
     by_cause: BTreeMap<&'static str, usize>,
     without_cause: usize,
     times: Times,
+    times_of_files: Times,
 }
 
 impl Counts {
@@ -40,10 +44,37 @@ impl Counts {
         };
         self.files += 1;
         match syn::parse_file(&text) {
-            Ok(file) => self.items(path, items::item_texts(&file)),
+            Ok(file) => {
+                self.entries(path, without_shebang(&text), &file);
+                self.items(path, items::item_texts(&file));
+            }
             Err(_) => self.unread_files += 1,
         }
         proc_macro2::extra::invalidate_current_thread_spans();
+    }
+
+    /// The items of the file at all depths.
+    fn entries(&mut self, path: &Path, text: &str, file: &syn::File) {
+        let mut map = SourceMap::new(Global);
+        let ours = match OwnStream::from_str(text, &mut map) {
+            Ok(ours) => ours,
+            Err(fault) => return self.differ(None, path, "", &format!("ours doesn't lex it: {fault}")),
+        };
+        let found = match every::ours(ours.trees(), &map) {
+            Ok(found) => found,
+            Err(fault) => return self.differ(None, path, "", &format!("ours refuses it: {fault:?}")),
+        };
+        let theirs = every::theirs(file);
+        self.entries += theirs.len();
+        if theirs.len() != found.len() {
+            self.differ(None, path, "", &format!("syn has {} items, ours {}", theirs.len(), found.len()));
+        }
+        for (theirs, ours) in theirs.iter().zip(&found).filter(|(theirs, ours)| theirs != ours) {
+            let told = format!("\n  syn:  {theirs:?}\n  ours: {ours:?}");
+            self.differ(cause::of_entry(theirs, ours), path, "", &told);
+        }
+        let theirs = text.parse().expect("syn has read the text");
+        self.times_of_files.add_file(&Lexed { theirs, ours });
     }
 
     fn items(&mut self, path: &Path, texts: Vec<String>) {
@@ -103,14 +134,24 @@ impl Counts {
 
     fn print(&self) {
         println!("files {}, of which syn doesn't read {}", self.files, self.unread_files);
-        println!("items {}", self.items);
+        println!("items of all kinds {}", self.entries);
+        println!("structs, enums and unions {}", self.items);
         println!("parts {}", self.parts);
         for (cause, count) in &self.by_cause {
             println!("differences {count}: {cause}");
         }
         println!("differences without a cause {}", self.without_cause);
-        let [theirs, ours] = [&self.times.theirs, &self.times.ours].map(|time| time.as_secs_f64() * 1000.0);
-        println!("time in milliseconds: syn {theirs:.1}, ours {ours:.1}, ratio {:.4}", ours / theirs);
+        self.times_of_files.print("files");
+        self.times.print("structs, enums and unions");
+    }
+}
+
+/// The text after a first line that no Rust is, as syn leaves it out.
+fn without_shebang(text: &str) -> &str {
+    let text = text.strip_prefix('\u{feff}').unwrap_or(text);
+    match text.strip_prefix("#!") {
+        Some(rest) if !rest.trim_start().starts_with('[') => text.find('\n').map_or("", |end| &text[end..]),
+        _ => text,
     }
 }
 

@@ -1,9 +1,9 @@
 //! Times of both sides on the same items, lexed before.
-use crate::ours;
+use crate::{every, ours};
 use proved::pm_stream::TokenStream as OwnStream;
 use std::hint::black_box;
 use std::time::{Duration, Instant};
-use syn::DeriveInput;
+use syn::{DeriveInput, File};
 
 const RUNS: usize = 5;
 
@@ -13,7 +13,7 @@ pub struct Lexed {
     pub ours: OwnStream,
 }
 
-/// How long it takes to find the parts of items.
+/// How long it takes to find what files declare, or the parts of items.
 #[derive(Default)]
 pub struct Times {
     pub theirs: Duration,
@@ -21,6 +21,14 @@ pub struct Times {
 }
 
 impl Times {
+    /// Adds the least times of some runs over a file, which ours reads as far as its items' braces.
+    pub fn add_file(&mut self, file: &Lexed) {
+        self.theirs += least(|| drop(black_box(syn::parse2::<File>(file.theirs.clone()))));
+        self.ours += least(|| {
+            let _ = black_box(every::count(file.ours.trees()));
+        });
+    }
+
     /// Adds the least times of some runs over the items.
     pub fn add(&mut self, items: &[Lexed]) {
         self.theirs += least(|| {
@@ -36,6 +44,11 @@ impl Times {
                 drop(black_box(found));
             }
         });
+    }
+
+    pub fn print(&self, what: &str) {
+        let [theirs, ours] = [&self.theirs, &self.ours].map(|time| time.as_secs_f64() * 1000.0);
+        println!("milliseconds for {what}: syn {theirs:.1}, ours {ours:.1}, ratio {:.4}", ours / theirs);
     }
 }
 
