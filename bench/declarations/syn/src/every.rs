@@ -40,6 +40,15 @@ fn add_ours(trees: &[TokenTree], map: &SourceMap, depth: usize, found: &mut Vec<
     Ok(())
 }
 
+/// Leaves out those of ours that stand within an item that syn keeps as tokens alone, of which it has none.
+pub fn drop_kept(ours: &mut Vec<Entry>, theirs: &[Entry]) {
+    let kept: Vec<_> = theirs.iter().filter(|entry| entry.kind.is_none()).collect();
+    let is_in = |inner: &Entry, outer: &Entry| {
+        inner.depth > outer.depth && inner.extent.0 >= outer.extent.0 && inner.extent.1 <= outer.extent.1
+    };
+    ours.retain(|entry| !kept.iter().any(|outer| is_in(entry, outer)));
+}
+
 /// How many items there are, with none of their places.
 ///
 /// # Errors

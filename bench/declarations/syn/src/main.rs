@@ -60,11 +60,12 @@ impl Counts {
             Ok(ours) => ours,
             Err(fault) => return self.differ(None, path, "", &format!("ours doesn't lex it: {fault}")),
         };
-        let found = match every::ours(ours.trees(), &map) {
+        let mut found = match every::ours(ours.trees(), &map) {
             Ok(found) => found,
             Err(fault) => return self.differ(None, path, "", &format!("ours refuses it: {fault:?}")),
         };
         let theirs = every::theirs(file);
+        every::drop_kept(&mut found, &theirs);
         self.entries += theirs.len();
         if theirs.len() != found.len() {
             self.differ(None, path, "", &format!("syn has {} items, ours {}", theirs.len(), found.len()));
