@@ -1,0 +1,44 @@
+// Made from crates/outline/src/names.rt by rust/erase: change that file, not this one.
+//! What declarations are called.
+
+use proved::shim::prelude::String;
+
+use proved::declarations::ItemKind;
+use proved::shim::alloc::{AllocError, Global};
+
+/// The word for a kind of declaration.
+pub fn word_of(kind: ItemKind) -> &'static str {
+    match kind {
+        ItemKind::Constant => "const",
+        ItemKind::Enum => "enum",
+        ItemKind::ExternBlock => "extern",
+        ItemKind::ExternCrate => "crate",
+        ItemKind::Function => "fn",
+        ItemKind::Group => "item",
+        ItemKind::Impl => "impl",
+        ItemKind::Macro | ItemKind::MacroCall => "macro",
+        ItemKind::Module => "mod",
+        ItemKind::Static => "static",
+        ItemKind::Struct => "struct",
+        ItemKind::Trait | ItemKind::TraitAlias => "trait",
+        ItemKind::TypeAlias => "type",
+        ItemKind::Union => "union",
+        ItemKind::Use => "use",
+    }
+}
+
+/// The text on one line: a space for each run of spaces and controls.
+pub fn one_line(alloc: Global, text: &str) -> Result<String, AllocError> {
+    let mut out = String::new(alloc);
+    let mut gap = false;
+    for c in text.chars() {
+        if c > ' ' && gap {
+            out.push(' ')?;
+        }
+        if c > ' ' {
+            out.push(c)?;
+        }
+        gap = c <= ' ';
+    }
+    Ok(out)
+}
