@@ -106,25 +106,25 @@ fn an_item_is_all_of_the_trees(rt: HostRuntime) -> Result<(), Fail> {
     check_fault(&rt, false, "", Some((0, false)))
 }
 
-// How many items a list gives before its fault, where the fault stands, and whether more comes after it.
-fn items_before_a_fault(trees: &[TokenTree]) -> (usize, Option<usize>, bool) {
-    let mut items = Items { left: trees };
-    let mut count = 0;
-    for item in items.by_ref() {
+// How many items come, and where the last fault stands; both are those of the whole list.
+fn items_given(items: Items<'_>) -> (usize, Option<usize>) {
+    let mut count = 0_usize;
+    let mut at = None;
+    for item in items {
         match item {
-            Ok(_) => count += 1,
-            Err(fault) => return (count, Some(fault.at), items.next().is_some()),
+            Ok(_) => count = count.saturating_add(1),
+            Err(fault) => at = Some(fault.at),
         }
     }
-    (count, None, items.next().is_some())
+    (count, at)
 }
 
 #[test]
 fn nothing_comes_after_a_fault(rt: HostRuntime) -> Result<(), Fail> {
     let mut map = SourceMap::new(rt.alloc());
     let good = TokenStream::from_str("fn f() {} struct S; use a;", &mut map)?;
-    assert!(rt; items_before_a_fault(good.trees()) == (3, None, false));
+    assert!(rt; items_given(Items { left: good.trees() }) == (3, None));
     let bad = TokenStream::from_str("fn f() {} struct S fn g() {} use a;", &mut map)?;
-    assert!(rt; items_before_a_fault(bad.trees()) == (1, Some(2), false));
+    assert!(rt; items_given(Items { left: bad.trees() }) == (1, Some(2)));
     Ok(())
 }

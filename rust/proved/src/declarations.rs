@@ -23,6 +23,7 @@ mod header;
 mod item;
 mod keyword;
 mod list;
+mod param_parts;
 mod parts;
 mod place;
 mod signs;

@@ -47,7 +47,7 @@ pub enum ItemKind {
 }
 
 /// An item: its trees, with attributes and visibility, and what it declares.
-#[derive(Clone, Copy)]
+#[derive(Clone, Copy, Debug)]
 pub struct AnyItem<'a> {
     /// What it declares.
     pub kind: ItemKind,

@@ -19,9 +19,14 @@ pub struct File<'a> {
 }
 
 /// The items that are left of a file, one after the other. It is copied freely.
-#[derive(Clone, Copy)]
+///
+/// It gives each item as [`split_any_item`] answers it of the trees that are left, or the fault where the trees go on
+/// with none. After a fault it gives nothing. Those that [`parse_file`] answers have no fault. Of `fn f() {} struct S;`
+/// it gives the function `f` and the struct `S`. It takes no memory.
+#[derive(Clone, Copy, Debug)]
 pub struct Items<'a> {
-    trees: &'a [TokenTree],
+    /// The trees that are left.
+    pub left: &'a [TokenTree],
 }
 
 /// The inner attributes and the items that the trees are.
@@ -48,7 +53,7 @@ pub fn parse_file(trees: &[TokenTree]) -> Result<File<'_>, Fault>
     }
     Ok(File {
         inner,
-        items: Items { trees: items },
+        items: Items { left: items },
     })
 }
 
@@ -71,24 +76,24 @@ pub fn parse_item(trees: &[TokenTree]) -> Result<AnyItem<'_>, Fault>
     Ok(item)
 }
 
-impl<'a> Items<'a> {
-    /// The trees of all items that are left.
-    pub fn trees(self) -> &'a [TokenTree]
-    {
-        self.trees
-    }
+impl<'a> Iterator for Items<'a> {
+    type Item = Result<AnyItem<'a>, Fault>;
 
-    /// The first item, and those after it. None at the end.
-    ///
-    /// It is what [`split_any_item`] answers. Of `fn f() {} struct S;` it is the function `f`, and the struct is left.
-    pub fn next(self) -> Option<(AnyItem<'a>, Items<'a>)>
-    {
-        if self.trees.is_empty() {
+    // No more come than trees are left.
+
+    fn next(&mut self) -> Option<Result<AnyItem<'a>, Fault>> {
+        if self.left.is_empty() {
             return None;
         }
-        match split_any_item(self.trees) {
-            Ok((item, rest)) => Some((item, Items { trees: rest })),
-            Err(_) => None,
+        match split_any_item(self.left) {
+            Ok((item, rest)) => {
+                self.left = rest;
+                Some(Ok(item))
+            }
+            Err(fault) => {
+                self.left = &[];
+                Some(Err(fault))
+            }
         }
     }
 }

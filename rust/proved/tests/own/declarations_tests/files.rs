@@ -3,7 +3,7 @@
 use crate::shim::prelude::{AllocGlobal, HostRuntime};
 
 // Texts, and their items.
-use proved::declarations::{ItemKind, parse_file, parse_item};
+use proved::declarations::{ItemKind, Items, parse_file, parse_item};
 use proved::proc_macro2::{SourceMap, TokenStream, TokenTree};
 use crate::shim::process::Abort;
 use crate::shim::test::Fail;
@@ -22,20 +22,19 @@ fn check_file(
     assert_is(rt, file.inner.len() == inner, text)?;
     let mut items = file.items;
     for (kind, inside) in wanted {
-        let Some((item, rest)) = items.next() else {
+        let Some(Ok(item)) = items.next() else {
             return assert_is(rt, false, text);
         };
-        items = rest;
         let count = match item.body() {
             Some(group) => match parse_file(group.stream_ref().trees()) {
-                Ok(body) => body.items.trees().len(),
+                Ok(body) => body.items.left.len(),
                 Err(_) => 1000,
             },
             None => 0,
         };
         assert_is(rt, item.kind == *kind && count == *inside, text)?;
     }
-    assert_is(rt, items.trees().is_empty(), text)
+    assert_is(rt, items.next().is_none(), text)
 }
 
 fn assert_is(rt: &(impl Abort + AllocGlobal), is: bool, text: &str) -> Result<(), Fail> {
@@ -112,4 +111,28 @@ fn an_item_is_all_of_the_trees() -> Result<(), Fail> {
     check_fault(&rt, false, "#[a] fn f() {}", None)?;
     check_fault(&rt, false, "fn f() {} fn", Some((4, true)))?;
     check_fault(&rt, false, "", Some((0, false)))
+}
+
+// How many items come, and where the last fault stands; both are those of the whole list.
+fn items_given(items: Items<'_>) -> (usize, Option<usize>) {
+    let mut count = 0_usize;
+    let mut at = None;
+    for item in items {
+        match item {
+            Ok(_) => count = count.saturating_add(1),
+            Err(fault) => at = Some(fault.at),
+        }
+    }
+    (count, at)
+}
+
+#[test]
+fn nothing_comes_after_a_fault() -> Result<(), Fail> {
+    let rt = HostRuntime;
+    let mut map = SourceMap::new(rt.alloc());
+    let good = TokenStream::from_str("fn f() {} struct S; use a;", &mut map)?;
+    assert!(items_given(Items { left: good.trees() }) == (3, None));
+    let bad = TokenStream::from_str("fn f() {} struct S fn g() {} use a;", &mut map)?;
+    assert!(items_given(Items { left: bad.trees() }) == (1, Some(2)));
+    Ok(())
 }
