@@ -31,7 +31,8 @@ pub fn lines_of(
     form: Form,
     path: &str,
     text: &str,
-) -> Result<Result<Vec<String>, Unlisted>, Failure> {
+) -> Result<Result<Vec<String>, Unlisted>, Failure>
+{
     let mut map = SourceMap::new(alloc);
     let stream = match TokenStream::from_str(text, &mut map) {
         Ok(stream) => stream,
@@ -46,14 +47,15 @@ pub fn lines_of(
     }
 }
 
-// The lines of these entries.
+// The lines of these entries of the map's one text.
 fn all_lines(
     alloc: Global,
     form: Form,
     path: &str,
     map: &SourceMap,
     entries: &[Entry<'_>],
-) -> Result<Vec<String>, AllocError> {
+) -> Result<Vec<String>, AllocError>
+{
     let mut lines = Vec::new(alloc);
     for entry in entries {
         if let Some(line) = entry_line(alloc, form, path, map, entry)? {
@@ -63,42 +65,63 @@ fn all_lines(
     Ok(lines)
 }
 
-// The line of the entry.
+// The line of an entry of the map's one text.
 fn entry_line(
     alloc: Global,
     form: Form,
     path: &str,
     map: &SourceMap,
     entry: &Entry<'_>,
-) -> Result<Option<String>, AllocError> {
-    let name = match entry.name {
-        Some(name) => spelled(alloc, name)?,
-        None => one_line(alloc, header_of(entry, map))?,
-    };
-    let shown = Shown {
-        depth: entry.depth,
-        kind: entry.kind,
-        named: entry.name.is_some(),
-        name: name.as_str(),
-        start: start_of(first_of(entry.header), map),
-    };
-    line_of(alloc, form, path, shown)
+) -> Result<Option<String>, AllocError>
+{
+    let start = start_of(first_of(entry.header), map);
+    match entry.name {
+        Some(name) => {
+            let name = spelled(alloc, name)?;
+            line_of(alloc, form, path, entry.shown(name.as_str(), start))
+        }
+        None => {
+            let header = one_line(alloc, header_of(entry, map))?;
+            line_of(alloc, form, path, entry.shown(header.as_str(), start))
+        }
+    }
+}
+
+impl<'a> Entry<'a> {
+    // It under this name or header, where it begins.
+    fn shown<'b>(&self, name: &'b str, start: LineColumn) -> Shown<'b>
+    {
+        Shown {
+            depth: self.depth,
+            kind: self.kind,
+            named: self.name.is_some(),
+            name,
+            start,
+        }
+    }
 }
 
 // The name as it is written.
-fn spelled(alloc: Global, name: &Ident) -> Result<String, AllocError> {
+fn spelled(alloc: Global, name: &Ident) -> Result<String, AllocError>
+{
     let mut out = String::new(alloc);
     write!(out, "{name}")?;
     Ok(out)
 }
 
 // The text from the first tree of the entry's header through the one before the last.
-fn header_of<'a>(entry: &Entry<'_>, map: &'a SourceMap) -> &'a str {
-    let first = first_of(entry.header);
-    if !map.holds(first) {
+fn header_of<'a>(entry: &Entry<'_>, map: &'a SourceMap) -> &'a str
+{
+    through(first_of(entry.header), last_of(entry.header), map)
+}
+
+// The text from the one span through the other.
+fn through(from: Span, to: Span, map: &SourceMap) -> &str
+{
+    if !map.holds(from) {
         return "";
     }
-    match first.join(last_of(entry.header), map) {
+    match from.join(to, map) {
         Some(span) => match span.source_str(map) {
             Some(text) => text,
             None => "",
@@ -108,7 +131,8 @@ fn header_of<'a>(entry: &Entry<'_>, map: &'a SourceMap) -> &'a str {
 }
 
 // Where the span begins, if the map holds it.
-fn start_of(span: Span, map: &SourceMap) -> LineColumn {
+fn start_of(span: Span, map: &SourceMap) -> LineColumn
+{
     if map.holds(span) {
         span.start(map)
     } else {

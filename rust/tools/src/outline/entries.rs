@@ -3,9 +3,7 @@
 
 use proved::shim::prelude::Vec;
 
-use proved::declarations::{
-    AnyItem, Fault, ItemKind, split_any_item, split_attributes, split_inner_attributes,
-};
+use proved::declarations::{AnyItem, Fault, ItemKind, Items, split_attributes, split_inner_attributes};
 use proved::pm_span::Span;
 use proved::pm_stream::TokenTree;
 use proved::pm_token::Ident;
@@ -33,22 +31,6 @@ pub struct Stop {
     pub last: Option<Span>,
 }
 
-// A declaration that is open: the trees after it.
-#[derive(Clone, Copy)]
-struct Open<'a> {
-    after: &'a [TokenTree],
-}
-
-// The first item of trees.
-#[derive(Clone, Copy)]
-struct First<'a> {
-    entry: Entry<'a>,
-    // The trees of the items in it.
-    inside: &'a [TokenTree],
-    // The trees after it.
-    rest: &'a [TokenTree],
-}
-
 /// The declarations of a file, in reading order, each before those in it; or where trees are no items.
 ///
 /// Of `mod m { fn f() {} } struct S;` they are `m`, `f` at the depth 1, and `S`.
@@ -58,33 +40,33 @@ pub fn entries<'a>(
 ) -> Result<Result<Vec<Entry<'a>>, Stop>, AllocError>
 {
     let mut entries = Vec::new(alloc);
-    // The declarations that are open, the outermost first.
-    let mut outer: Vec<Open<'a>> = Vec::new(alloc);
     let items = match items_of(trees) {
         Ok(items) => items,
         Err(stop) => return Ok(Err(stop)),
     };
-    let mut left = items;
-    // A step takes a tree or closes a declaration: there are fewer than the bound, which no memory has trees for.
+    // What is left of the file and of each declaration that is open, the innermost last.
+    let mut levels = Vec::new(alloc);
+    levels.push(items)?;
+    // A step takes an item or leaves a declaration: there are fewer than the bound, which no memory has trees for.
     'walk: for _ in 0..u64::MAX {
-        if left.is_empty() {
-            let Some(open) = outer.pop() else {
-                return Ok(Ok(entries));
-            };
-            left = open.after;
+        let Some(mut here) = levels.pop() else {
+            return Ok(Ok(entries));
+        };
+        let left = here.left;
+        let Some(found) = here.next() else {
             continue 'walk;
-        }
-        let First {
-            entry,
-            inside,
-            rest,
-        } = match first_item(outer.len(), left) {
-            Ok(first) => first,
+        };
+        let item = match found {
+            Ok(item) => item,
+            Err(fault) => return Ok(Err(Stop::at(fault, left))),
+        };
+        let (entry, inside) = match open_item(levels.len(), &item) {
+            Ok(both) => both,
             Err(stop) => return Ok(Err(stop)),
         };
         push_listed(&mut entries, entry)?;
-        outer.push(Open { after: rest })?;
-        left = inside;
+        levels.push(here)?;
+        levels.push(inside)?;
     }
     Err(AllocError::met())
 }
@@ -107,44 +89,38 @@ fn is_listed(entry: &Entry<'_>) -> bool
     }
 }
 
-// The trees after the inner attributes.
-fn items_of(trees: &[TokenTree]) -> Result<&[TokenTree], Stop>
+// The items after the inner attributes.
+fn items_of(trees: &[TokenTree]) -> Result<Items<'_>, Stop>
 {
     match split_inner_attributes(trees) {
-        Ok((_, items)) => Ok(items),
+        Ok((_, left)) => Ok(Items { left }),
         Err(fault) => Err(Stop::at(fault, trees)),
     }
 }
 
-// The first item of trees, which is in so many.
-fn first_item<'a>(depth: usize, trees: &'a [TokenTree]) -> Result<First<'a>, Stop>
+// The entry of an item that is in so many, and the items in it.
+fn open_item<'a>(depth: usize, item: &AnyItem<'a>) -> Result<(Entry<'a>, Items<'a>), Stop>
 {
-    let (item, rest) = match split_any_item(trees) {
-        Ok(found) => found,
-        Err(fault) => return Err(Stop::at(fault, trees)),
-    };
-    let entry = match entry_of(depth, &item) {
+    let entry = match entry_of(depth, item) {
         Ok(entry) => entry,
         Err(stop) => return Err(stop),
     };
-    let Some(group) = item.body() else {
-        return Ok(First {
-            entry,
-            inside: &[],
-            rest,
-        });
-    };
-    match items_of(group.stream_ref().trees()) {
-        Ok(inside) => Ok(First {
-            entry,
-            inside,
-            rest,
-        }),
+    match items_in(item) {
+        Ok(inside) => Ok((entry, inside)),
         Err(stop) => Err(stop),
     }
 }
 
-// The entry of the item.
+// The items in an item.
+fn items_in<'a>(item: &AnyItem<'a>) -> Result<Items<'a>, Stop>
+{
+    match item.body() {
+        Some(group) => items_of(group.stream_ref().trees()),
+        None => Ok(Items { left: &[] }),
+    }
+}
+
+// The entry of an item that is in so many.
 fn entry_of<'a>(depth: usize, item: &AnyItem<'a>) -> Result<Entry<'a>, Stop>
 {
     match split_attributes(item.trees) {

@@ -31,52 +31,75 @@ pub fn line_of(
     form: Form,
     path: &str,
     shown: Shown<'_>,
-) -> Result<Option<String>, AllocError> {
-    let Shown {
-        depth,
-        kind,
-        named,
-        name,
-        start,
-    } = shown;
-    let line = start.line;
-    // As wide as the sum needs.
-    let column = start.column as u128 + 1;
-    let word = word_of(kind);
-    let mut out = String::new(alloc);
+) -> Result<Option<String>, AllocError>
+{
     match form {
-        Form::Lines => {
-            write!(out, "{path}:{line}:{column}: ")?;
-            push_indent(&mut out, depth)?;
-            if named {
-                write!(out, "{word} {name}")?;
-            } else {
-                write!(out, "{name}")?;
-            }
-        }
-        Form::Json => {
-            let file = escaped(alloc, path)?;
-            let name = escaped(alloc, name)?;
-            write!(
-                out,
-                "{{\"file\":\"{file}\",\"line\":{line},\"column\":{column},\"kind\":\"{word}\",\"name\":\"{name}\",\
-                 \"depth\":{depth}}}"
-            )?;
-        }
-        Form::Ctags => {
-            if !named {
-                return Ok(None);
-            }
-            write!(out, "{name}\t{path}\t{line};\"\t{word}")?;
-        }
+        Form::Lines => Ok(Some(plain(alloc, path, shown)?)),
+        Form::Json => Ok(Some(json(alloc, path, shown)?)),
+        Form::Ctags if shown.named => Ok(Some(tag(alloc, path, shown)?)),
+        Form::Ctags => Ok(None),
     }
-    Ok(Some(out))
 }
 
-// Puts in two spaces for each level, of 32 at most.
-fn push_indent(out: &mut String, depth: usize) -> Result<(), AllocError> {
+// `FILE:L:C: fn name`, the line and the column from 1.
+fn plain(alloc: Global, path: &str, shown: Shown<'_>) -> Result<String, AllocError>
+{
+    let mut out = String::new(alloc);
+    let line = shown.start.line;
+    // As wide as the sum needs.
+    let column = shown.start.column as u128 + 1;
+    write!(out, "{path}:{line}:{column}: ")?;
+    push_indent(&mut out, shown.depth)?;
+    push_title(&mut out, shown)?;
+    Ok(out)
+}
+
+// An object of JSON.
+fn json(alloc: Global, path: &str, shown: Shown<'_>) -> Result<String, AllocError>
+{
+    let mut out = String::new(alloc);
+    let line = shown.start.line;
+    // As wide as the sum needs.
+    let column = shown.start.column as u128 + 1;
+    let file = escaped(alloc, path)?;
+    let word = word_of(shown.kind);
+    let name = escaped(alloc, shown.name)?;
+    let depth = shown.depth;
+    write!(
+        out,
+        "{{\"file\":\"{file}\",\"line\":{line},\"column\":{column},\"kind\":\"{word}\",\"name\":\"{name}\",\
+         \"depth\":{depth}}}"
+    )?;
+    Ok(out)
+}
+
+// A line of a `tags` file.
+fn tag(alloc: Global, path: &str, shown: Shown<'_>) -> Result<String, AllocError>
+{
+    let mut out = String::new(alloc);
+    let name = shown.name;
+    let line = shown.start.line;
+    let word = word_of(shown.kind);
+    write!(out, "{name}\t{path}\t{line};\"\t{word}")?;
+    Ok(out)
+}
+
+// Appends two spaces for each level, of 32 at most.
+fn push_indent(out: &mut String, depth: usize) -> Result<(), AllocError>
+{
     for _ in 0..depth.min(32) {
         out.push_str("  ")?;
     }
     Ok(())
+}
+
+// Appends what is declared: the word and the name, or the header.
+fn push_title(out: &mut String, shown: Shown<'_>) -> Result<(), AllocError>
+{
+    let name = shown.name;
+    if !shown.named {
+        return out.push_str(name);
+    }
+    let word = word_of(shown.kind);
+    write!(out, "{word} {name}")
 }

@@ -7,7 +7,8 @@ use proved::declarations::ItemKind;
 use proved::shim::alloc::{AllocError, Global};
 
 /// The word for a kind of declaration.
-pub fn word_of(kind: ItemKind) -> &'static str {
+pub fn word_of(kind: ItemKind) -> &'static str
+{
     match kind {
         ItemKind::Constant => "const",
         ItemKind::Enum => "enum",
@@ -28,17 +29,25 @@ pub fn word_of(kind: ItemKind) -> &'static str {
 }
 
 /// The text on one line: a space for each run of spaces and controls.
-pub fn one_line(alloc: Global, text: &str) -> Result<String, AllocError> {
+pub fn one_line(alloc: Global, text: &str) -> Result<String, AllocError>
+{
     let mut out = String::new(alloc);
     let mut gap = false;
     for c in text.chars() {
-        if c > ' ' && gap {
-            out.push(' ')?;
-        }
-        if c > ' ' {
-            out.push(c)?;
-        }
+        push_in_line(&mut out, gap, c)?;
         gap = c <= ' ';
     }
     Ok(out)
+}
+
+// Appends a character, after a space where a gap is before it, unless it is part of one.
+fn push_in_line(out: &mut String, gap: bool, c: char) -> Result<(), AllocError>
+{
+    if c <= ' ' {
+        return Ok(());
+    }
+    if gap {
+        out.push(' ')?;
+    }
+    out.push(c)
 }

@@ -28,42 +28,87 @@ pub struct Options {
     pub paths: Vec<String>,
 }
 
+// What a word says.
+#[derive(Clone, Copy, Debug, PartialEq, Eq)]
+enum Word {
+    Json,
+    Ctags,
+    Unknown,
+    Path,
+}
+
 /// What the words ask for: options anywhere, the last of which counts, and paths, of which standard input is one where
 /// there is no other.
 ///
 /// Fails with `Usage` where a word begins with `-` that is no option, and with `Memory`.
-pub fn options_of(alloc: Global, words: &[String]) -> Result<Options, Failure> {
-    let mut form = Form::Lines;
-    let mut paths = Vec::new(alloc);
+pub fn options_of(alloc: Global, words: &[String]) -> Result<Options, Failure>
+{
+    let mut options = Options::new(alloc);
     for word in words {
-        match word.as_str() {
-            "--json" => form = Form::Json,
-            "--ctags" => form = Form::Ctags,
-            path => {
-                if is_option(path) {
-                    return Err(Failure::Usage(USAGE));
-                }
-                push_path(alloc, &mut paths, path)?;
-            }
+        match word_of(word.as_str()) {
+            Word::Unknown => return Err(Failure::Usage(USAGE)),
+            known => options.take(alloc, known, word.as_str())?,
         }
     }
-    if paths.is_empty() {
-        push_path(alloc, &mut paths, "-")?;
+    options.read_input_at_least(alloc)?;
+    Ok(options)
+}
+
+// What the word says.
+fn word_of(word: &str) -> Word
+{
+    match word {
+        "--json" => Word::Json,
+        "--ctags" => Word::Ctags,
+        _ => other_word(word),
     }
-    Ok(Options { form, paths })
 }
 
-// Appends a path.
-fn push_path(alloc: Global, paths: &mut Vec<String>, path: &str) -> Result<(), AllocError> {
-    paths.push(String::from_str(alloc, path)?)?;
-    Ok(())
-}
-
-// Whether the word begins with `-`, and is more than that.
-fn is_option(word: &str) -> bool {
+// The same of a word that is no option that is known.
+fn other_word(word: &str) -> Word
+{
     match word.as_bytes() {
-        [b'-'] => false,
-        [b'-', ..] => true,
-        _ => false,
+        [b'-'] => Word::Path,
+        [b'-', ..] => Word::Unknown,
+        _ => Word::Path,
+    }
+}
+
+impl Options {
+    // What is asked for before any word.
+    fn new(alloc: Global) -> Options
+    {
+        Options {
+            form: Form::Lines,
+            paths: Vec::new(alloc),
+        }
+    }
+
+    // Takes a word.
+    fn take(&mut self, alloc: Global, known: Word, word: &str) -> Result<(), AllocError>
+    {
+        match known {
+            Word::Json => self.form = Form::Json,
+            Word::Ctags => self.form = Form::Ctags,
+            Word::Path => self.push_path(alloc, word)?,
+            Word::Unknown => {}
+        }
+        Ok(())
+    }
+
+    // Standard input is read where no file is named.
+    fn read_input_at_least(&mut self, alloc: Global) -> Result<(), AllocError>
+    {
+        if self.paths.is_empty() {
+            self.push_path(alloc, "-")?;
+        }
+        Ok(())
+    }
+
+    // Appends a path.
+    fn push_path(&mut self, alloc: Global, path: &str) -> Result<(), AllocError>
+    {
+        self.paths.push(String::from_str(alloc, path)?)?;
+        Ok(())
     }
 }

@@ -7,7 +7,8 @@ use proved::shim::io;
 use proved::shim::io::Write;
 
 /// Writes the lines.
-pub fn print_all<W: Write>(lines: &[String], writer: &mut W) -> io::Result<()> {
+pub fn print_all<W: Write>(lines: &[String], writer: &mut W) -> io::Result<()>
+{
     for line in lines {
         writeln!(writer, "{line}")?;
     }
@@ -15,7 +16,8 @@ pub fn print_all<W: Write>(lines: &[String], writer: &mut W) -> io::Result<()> {
 }
 
 /// Writes a `tags` file of these lines, sorted by their bytes.
-pub fn print_tags<W: Write>(lines: &mut Vec<String>, writer: &mut W) -> io::Result<()> {
+pub fn print_tags<W: Write>(lines: &mut Vec<String>, writer: &mut W) -> io::Result<()>
+{
     lines.sort_unstable();
     writer.write_all(b"!_TAG_FILE_SORTED\t1\t//\n")?;
     print_all(lines.as_slice(), writer)
