@@ -1,15 +1,16 @@
 -- Several files, one after the other.
-use Rattle.std.proofs.Common.{◌≡◌, ◌∙◌, ℕ, suc, ◌+◌, ◌<◌, ◌≤◌, ◌++◌, List, [], ◌∷◌, refl, ap, arith, subst, sym}
-use Rattle.std.proofs.Common.{zero, max, Bool, true, false, cond, ◌==◌, ◌⊎◌, inl, inr, append_assoc, codes, drop, get_or, length, map, string_bytes, String}
-use Rattle.std.specs.declared.alloc.Global.{Global}
-use Rattle.std.proofs.Math.Nat.{max-eq_left, max-eq_right, max-zero, zero-max}
+use Rattle.std.proofs.Common.{◌≡◌, ◌∙◌, ℕ, zero, suc, ◌+◌, ◌<◌, ◌≤◌, ◌==◌, ◌⊎◌, inl, inr, Bool, true, false, cond}
+use Rattle.std.proofs.Common.{List, [], ◌∷◌, ◌++◌, refl, ap, arith, subst, sym, append_assoc, codes, drop, get_or}
+use Rattle.std.proofs.Common.{length, map, max, string_bytes, String}
 use Rattle.std.proofs.Math.Dec.{leb}
+use Rattle.std.proofs.Math.ListN.{drop_of_length-le}
+use Rattle.std.proofs.Math.Nat.{max-eq_left, max-eq_right, max-zero, zero-max}
+use Rattle.std.proofs.Math.Seq.{drop-cons}
 use Rattle.std.proofs.lemmas.Bool.Decides.{leb_tells}
 use Rattle.std.specs.Ordering.{is_lt, nat_cmp, ord_max}
+use Rattle.std.specs.declared.alloc.Global.{Global}
 use Rattle.std.specs.declared.cmp.Ordering.TheVariants.{Less, Equal, Greater}
-use Rattle.std.proofs.Math.Seq.{drop-cons}
 use native.Mathlib.Numerals.{unary_clauses}
-use Rattle.std.proofs.Math.ListN.{drop_of_length-le}
 use Rattle.outline.specs.Files.{AreOf, IsOf, Outcome}
 use Rattle.outline.specs.Tags.{ended}
 use Rattle.outline.specs.declared.options.Form.{Form}
@@ -60,7 +61,8 @@ greater_is a b = by_test (leb_tells (suc b) a)
     by_test : (((leb (suc b) a ≡ true) × (suc b ≤ a)) ⊎ ((leb (suc b) a ≡ false) × (a < suc b)))
         → ord_max nat_cmp a b ≡ max a b
     by_test (inl (is, above)) =
-        ap (λ less. cond (is_lt (cond less Less (cond (b == a) Equal Greater))) a b) is ∙ sym (max-eq_left (omega arith))
+        ap (λ less. cond (is_lt (cond less Less (cond (b == a) Equal Greater))) a b) is
+        ∙ sym (max-eq_left (omega arith))
     by_test (inr (is, within)) =
         ap (λ less. cond (is_lt (cond less Less (cond (b == a) Equal Greater))) a b) is
         ∙ (never_less a b (b == a) ∙ sym (max-eq_right (omega arith)))

@@ -1,12 +1,11 @@
 -- Lines, one after the other.
 use Rattle.std.proofs.Common.{◌≡◌, ◌∙◌, ◌++◌, ◌+◌, ◌<◌, ◌≤◌, ℕ, suc, List, [], ◌∷◌, Option, sym, ap, subst, arith}
-use Rattle.std.proofs.Common.{drop, get_or, length, map, codes, string_bytes, String}
+use Rattle.std.proofs.Common.{ap₂, append_assoc, drop, get_or, length, map, codes, string_bytes, String}
 use Rattle.std.proofs.KnownBytes.{Appends-nil, Appends-trans}
 use Rattle.std.proofs.Math.ListN.{drop_of_length-le}
 use Rattle.std.proofs.Math.Seq.{drop-cons}
 use Rattle.std.specs.Io.KnownBytes.{Appends}
 use Rattle.std.specs.declared.alloc.Global.{Global}
-use Rattle.std.proofs.Common.{append_assoc, ap₂}
 use Rattle.std.proofs.lemmas.List.{get_or-map, length-map}
 use Rattle.std.specs.Cmp.Lexicographic.{slice_cmp}
 use Rattle.std.specs.List.Sorted.{IsSorted}
@@ -33,7 +32,8 @@ ended_one lines k line old between new within is first rest =
 pub ended_none : (lines : List (String Global)) (k : ℕ) (known : Option (List ℕ)) → length lines ≤ k
     → Appends known known (ended (map string_bytes (drop k lines)))
 ended_none lines k known past =
-    subst (λ l. Appends known known (ended (map string_bytes l))) (sym (drop_of_length-le lines past)) (Appends-nil known)
+    subst (λ l. Appends known known (ended (map string_bytes l))) (sym (drop_of_length-le lines past))
+    (Appends-nil known)
 
 -- texts in order are so by their bytes
 pub sorted_bytes : (lines : List (String Global)) → IsSorted string_cmp lines
