@@ -72,7 +72,7 @@ programs() {
     }
     stored() {
         local name words wanted status
-        for name in tokens highlight find_calls pretty rust_check same indent; do
+        for name in tokens highlight find_calls pretty rust_check same indent outline; do
             words=()
             wanted=0
             status=0
@@ -95,7 +95,8 @@ programs() {
         refused 'a\0377' 2 '-: error: not UTF-8 at byte 1\n' highlight html
     if command -v python3 > /dev/null; then
         try "the rows of checks/programs on rust/tools" \
-            env "CARGO_BUILD=$built" ../checks/programs tokens highlight find_calls pretty rust_check same indent
+            env "CARGO_BUILD=$built" ../checks/programs tokens highlight find_calls pretty rust_check same indent \
+            outline
         try "the commands of README.md print what it shows" ../checks/pages "$built" ../README.md
     fi
     tools() { (cd tools && cargo "$@"); }

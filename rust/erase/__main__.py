@@ -31,7 +31,7 @@ TESTED = ['conformance']
 # The library's own tests, and the lexer once more with what compares the two, which another test of the package takes.
 OWN_TESTS = ['two_lexers', 'token_tests', 'stream_tests', 'buffer_tests', 'quoting_tests', 'declarations_tests']
 # The programs, and the library that they share.
-PROGRAMS = ['messages', 'tokens', 'highlight', 'find_calls', 'pretty', 'rust_check', 'same', 'indent']
+PROGRAMS = ['messages', 'tokens', 'highlight', 'find_calls', 'pretty', 'rust_check', 'same', 'indent', 'outline']
 # What isn't erased: tests within the library, what is for them alone, tests of how many bytes a value takes in Rattle,
 # and each `main`, which is by hand.
 LEFT_OUT = {'tests.rt', 'failing.rt', 'sizes.rt', 'main.rt'}

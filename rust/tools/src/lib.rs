@@ -1,4 +1,5 @@
-//! What the programs `tokens`, `highlight`, `find_calls`, `pretty`, `rust_check`, `same` and `indent` call.
+//! What the programs `tokens`, `highlight`, `find_calls`, `pretty`, `rust_check`, `same`,
+//! `indent` and `outline` call.
 //!
 //! Each module is a crate of `crates/`, made into plain Rust by `rust/erase` as those of [`proved`] are. A program's
 //! `main` is by hand, in `src/bin`: what `main.rt` of its crate does, over the streams and words of
@@ -92,4 +93,17 @@ pub mod indent {
     pub mod answer;
     mod choosing;
     pub mod options;
+}
+
+/// The program `outline`, but for its `main`.
+#[allow(dead_code, unreachable_code, unused_imports, clippy::complexity, clippy::style)]
+pub mod outline {
+    mod answer;
+    mod entries;
+    pub mod files;
+    mod json;
+    mod lines;
+    mod names;
+    pub mod options;
+    mod tags;
 }

@@ -4,6 +4,7 @@ use super::alloc::{AllocError, Global};
 use super::clone::Clone;
 use super::vec::Vec;
 use core::borrow::Borrow;
+use core::cmp::Ordering;
 use core::fmt;
 use core::hash::{Hash, Hasher};
 use core::ops::Deref;
@@ -117,6 +118,19 @@ impl PartialEq for String {
 }
 
 impl Eq for String {}
+
+/// Contract: by their bytes.
+impl PartialOrd for String {
+    fn partial_cmp(&self, other: &String) -> Option<Ordering> {
+        Some(self.cmp(other))
+    }
+}
+
+impl Ord for String {
+    fn cmp(&self, other: &String) -> Ordering {
+        self.0.cmp(&other.0)
+    }
+}
 
 /// Contract: as the text's own, so that a map finds it by its text.
 impl Hash for String {

@@ -1,0 +1,6 @@
+mod FilesLemmas
+mod JsonLemmas
+mod LineLemmas
+mod OutlineLemmas
+mod PlaceLemmas
+mod TagLemmas

@@ -1,0 +1,7 @@
+use Rattle.std.proofs.Common.{reverse}
+use Rattle.outline.proofs.OutlineLemmas.{Completes}
+use Rattle.outline.proofs.entries.entries.Given as goal
+
+-- with what is left of the items of all that is open, the declarations are all
+abbrev pub invariant-walk : goal.invariant-walk
+invariant-walk l = Completes l.trees l.entries.items (reverse l.levels.items)

@@ -1,0 +1,7 @@
+pub mod Json
+pub mod Line
+pub mod Options
+pub mod Outline
+pub mod Answer
+pub mod Tags
+pub mod Files

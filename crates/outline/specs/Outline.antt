@@ -1,0 +1,128 @@
+-- Which declarations a file has.
+use Rattle.std.specs.Prelude.{◌≡◌, ℕ, suc, Bool, true, if◌then◌else◌, is_some, List, [], ◌∷◌, ◌++◌, Option, Some, None}
+use Rattle.std.specs.Prelude.{option_copied}
+use Rattle.pm_span.specs.Extent.{Extent, nowhere}
+use Rattle.pm_token.specs.Leaf.{Name}
+use Rattle.pm_stream.specs.Forest.{Forest}
+use Rattle.pm_stream.specs.Trees.{forest}
+use Rattle.pm_stream.specs.TreeSpan.{extent_of}
+use Rattle.pm_stream.specs.declared.stream.Group.{Group as Grouped}
+use Rattle.pm_stream.specs.declared.stream.TokenTree.{TokenTree}
+use Rattle.declarations.specs.File.{body_of}
+use Rattle.declarations.specs.Forms.{AreAttributes, AreInnerAttributes, IsAnyItem}
+use Rattle.declarations.specs.Kind.{Tells}
+use Rattle.declarations.specs.Reading.{Reads}
+use Rattle.declarations.specs.declared.any_item.AnyItem.{AnyItem}
+use Rattle.declarations.specs.declared.any_item.ItemKind.{ItemKind}
+use Rattle.declarations.specs.declared.any_item.ItemKind.TheVariants.{Impl, ExternBlock}
+use Rattle.declarations.specs.declared.file.Items.{Items}
+use Rattle.outline.specs.declared.entries.Entry.{Entry as Given}
+
+-- ---- the items of a file, and of what is in them
+
+-- items in order: the kind of the first, its name and its trees after its attributes, then the items in it, and then
+-- those after it
+pub data Outline : Type 0 where
+  nothing : Outline
+  item : ItemKind → Option Name → List TokenTree → Outline → Outline → Outline
+
+-- the trees of the stream are inner attributes, and then these of items
+pub record AreTrees (stream : Forest) (items : List TokenTree) : Type 0 where
+  pub all : List TokenTree
+  pub inner : List TokenTree
+  pub held : forest all ≡ stream
+  pub read : Reads AreInnerAttributes all inner items
+
+-- these are the trees of the items in braces, if there are some
+abbrev pub AreInside : Option Grouped → List TokenTree → Type 0
+AreInside None items = items ≡ []
+AreInside (Some group) items = AreTrees group.stream items
+
+-- an item is at the front of the trees, with this header, these trees of the items in it, and these after it
+pub record BeginsWithItem (trees : List TokenTree) (kind : ItemKind) (name : Option Name)
+    (header items rest : List TokenTree) : Type 0 where
+  pub part : List TokenTree
+  pub attributes : List TokenTree
+  pub read : Reads IsAnyItem trees part rest
+  pub told : Tells trees rest kind name
+  pub front : Reads AreAttributes part attributes header
+  pub inside : AreInside (body_of kind part) items
+
+-- the trees are these items
+abbrev pub IsOutline : List TokenTree → Outline → Type 0
+IsOutline trees nothing = trees ≡ []
+IsOutline trees (item kind name header inside after) =
+    (items : List TokenTree) × (rest : List TokenTree) × BeginsWithItem trees kind name header items rest
+    × IsOutline items inside × IsOutline rest after
+
+-- the trees are a file of these items
+abbrev pub IsTreesOutline : List TokenTree → Outline → Type 0
+IsTreesOutline trees outline =
+    (inner : List TokenTree) × (items : List TokenTree) × Reads AreInnerAttributes trees inner items
+    × IsOutline items outline
+
+-- ---- what is listed of them
+
+-- a declaration: how many it is in, its kind and name, and its trees after its attributes
+pub record Entry : Type 0 where
+  pub depth : ℕ
+  pub kind : ItemKind
+  pub name : Option Name
+  pub header : List TokenTree
+
+-- what has a name is listed, and an `impl` and a block of foreign items by its header
+abbrev pub is_listed : ItemKind → Option Name → Bool
+is_listed Impl name = true
+is_listed ExternBlock name = true
+is_listed _ name = is_some name
+
+abbrev pub entry_of : ℕ → ItemKind → Option Name → List TokenTree → Entry
+entry_of depth kind name header = record {
+  depth = depth;
+  kind = kind;
+  name = name;
+  header = header;
+}
+
+abbrev pub listed : Bool → Entry → List Entry
+listed is entry = if is then entry ∷ [] else []
+
+-- the declarations among items that are in so many, each before those in it, and then others
+abbrev pub entries_onto : ℕ → Outline → List Entry → List Entry
+entries_onto depth nothing more = more
+entries_onto depth (item kind name header inside after) more =
+    listed (is_listed kind name) (entry_of depth kind name header)
+    ++ entries_onto (suc depth) inside (entries_onto depth after more)
+
+abbrev pub entries_of : Outline → List Entry
+entries_of outline = entries_onto 0 outline []
+
+-- it in the program
+abbrev pub seen : Given → Entry
+seen entry = record {
+  depth = entry.depth;
+  kind = entry.kind;
+  name = option_copied entry.name;
+  header = entry.header.now;
+}
+
+-- the entry of an item that is in so many, and the items in it
+pub record Opens (depth : ℕ) (item : AnyItem) (entry : Given) (inside : Items) : Type 0 where
+  pub attributes : List TokenTree
+  pub front : Reads AreAttributes item.trees.now attributes entry.header.now
+  pub is : seen entry ≡ entry_of depth item.kind (option_copied item.name) entry.header.now
+  pub holds : AreInside (body_of item.kind item.trees.now) inside.left.now
+
+-- ---- where it stands
+
+-- where the first tree stands
+abbrev pub first_of : List TokenTree → Extent
+first_of [] = nowhere
+first_of (tree ∷ trees) = extent_of tree
+
+-- that of the tree before the last, or of the only one
+abbrev pub last_of : List TokenTree → Extent
+last_of [] = nowhere
+last_of (tree ∷ []) = extent_of tree
+last_of (tree ∷ last ∷ []) = extent_of tree
+last_of (tree ∷ next ∷ last ∷ trees) = last_of (next ∷ last ∷ trees)

@@ -1,0 +1,188 @@
+//! What the program lists of a text.
+ghost use Rattle.std.specs.Prelude.{◌≡◌, ℕ, IfErr, IfOk, List, None, is_some, map as mapped, option_map};
+ghost use Rattle.std.specs.Prelude.{string_bytes};
+ghost use Rattle.std.specs.Str.{chars};
+ghost use Rattle.pm_span.specs.Files.{new_map, with_file};
+ghost use Rattle.pm_token.specs.Spelling.{spelling};
+ghost use Rattle.messages.specs.Parsed.{MayFail};
+ghost use Rattle.outline.specs.Answer.{Lists, lines_of, place_in, shown, through};
+ghost use Rattle.outline.specs.Line.{line_of, seen as seen_line};
+ghost use Rattle.outline.specs.Outline.{first_of, last_of, seen};
+
+use crate::entries::{Entry, Stop, entries, first_of, last_of};
+use crate::lines::{Shown, line_of};
+use crate::names::one_line;
+use crate::options::Form;
+use declarations::Fault;
+use messages::Failure;
+use pm_span::Span;
+use pm_token::Ident;
+use proc_macro2::{LineColumn, SourceMap, TokenStream};
+use std::alloc::{AllocError, Global};
+
+/// Where a file has what is no declaration.
+#[derive(Clone, Copy)]
+pub struct Unlisted {
+    /// Where that begins.
+    pub start: LineColumn,
+    /// What doesn't fit.
+    pub fault: Fault,
+}
+
+/// The lines of the declarations in the text of the file at this path, in reading order; or where it has no such.
+///
+/// Fails with `Fault` where the text doesn't parse, with `MapFull` where it is too long, and with `Memory`.
+pub fn lines_of(
+    alloc: Global,
+    form: Form,
+    path: &str,
+    text: &str,
+) -> Result<Result<Vec<String>, Unlisted>, Failure>
+    ensures ok { IfOk result (λ found. IfOk found (λ lines.
+        Lists form path.now (chars text.now) (mapped string_bytes lines.items))) }
+    ensures err { IfErr result (MayFail (chars text.now) None None) }
+{
+    let mut map = SourceMap::new(alloc);
+    let stream = match TokenStream::from_str(text, &mut map) {
+        Ok(stream) => stream,
+        Err(error) => return Err(Failure::unparsed(error, &map)),
+    };
+    match entries(alloc, stream.trees())? {
+        Ok(entries) => Ok(Ok(all_lines(alloc, form, path, &map, entries.as_slice())?)),
+        Err(stop) => Ok(Err(Unlisted {
+            start: stop.place(&map),
+            fault: stop.fault,
+        })),
+    }
+}
+
+// The lines of these entries of the map's one text.
+fn all_lines(
+    alloc: Global,
+    form: Form,
+    path: &str,
+    map: &SourceMap,
+    entries: &[Entry<'_>],
+) -> Result<Vec<String>, AllocError>
+    ensures { (text : List ℕ) → map.now ≡ with_file new_map text → IfOk result (λ lines.
+        mapped string_bytes lines.items ≡ lines_of form path.now text (mapped seen entries.now)) }
+{
+    let mut lines = Vec::new(alloc);
+    for entry in entries {
+        if let Some(line) = entry_line(alloc, form, path, map, entry)? {
+            lines.push(line)?;
+        }
+    }
+    Ok(lines)
+}
+
+// The line of an entry of the map's one text.
+fn entry_line(
+    alloc: Global,
+    form: Form,
+    path: &str,
+    map: &SourceMap,
+    entry: &Entry<'_>,
+) -> Result<Option<String>, AllocError>
+    ensures { (text : List ℕ) → map.now ≡ with_file new_map text → IfOk result (λ line.
+        option_map string_bytes line ≡ line_of form path.now (shown text (seen entry.now))) }
+{
+    let start = start_of(first_of(entry.header), map);
+    match entry.name {
+        Some(name) => {
+            let name = spelled(alloc, name)?;
+            line_of(alloc, form, path, entry.shown(name.as_str(), start))
+        }
+        None => {
+            let header = one_line(alloc, header_of(entry, map))?;
+            line_of(alloc, form, path, entry.shown(header.as_str(), start))
+        }
+    }
+}
+
+impl<'a> Entry<'a> {
+    // It under this name or header, where it begins.
+    fn shown<'b>(&self, name: &'b str, start: LineColumn) -> Shown<'b>
+        ensures { seen_line result ≡ record {
+          depth = self.now.depth;
+          kind = self.now.kind;
+          named = is_some self.now.name;
+          name = name.now;
+          start = start;
+        } }
+    {
+        Shown {
+            depth: self.depth,
+            kind: self.kind,
+            named: self.name.is_some(),
+            name,
+            start,
+        }
+    }
+}
+
+// The name as it is written.
+fn spelled(alloc: Global, name: &Ident) -> Result<String, AllocError>
+    ensures { IfOk result (λ out. string_bytes out ≡ spelling name.now) }
+{
+    let mut out = String::new(alloc);
+    write!(out, "{name}")?;
+    Ok(out)
+}
+
+// The text from the first tree of the entry's header through the one before the last.
+fn header_of<'a>(entry: &Entry<'_>, map: &'a SourceMap) -> &'a str
+    ensures { (text : List ℕ) → map.now ≡ with_file new_map text → chars result.now
+        ≡ through text (first_of entry.now.header.now) (last_of entry.now.header.now) }
+{
+    through(first_of(entry.header), last_of(entry.header), map)
+}
+
+// The text from the one span through the other.
+fn through(from: Span, to: Span, map: &SourceMap) -> &str
+    ensures { (text : List ℕ) → map.now ≡ with_file new_map text → chars result.now ≡ through text from to }
+{
+    if !map.holds(from) {
+        return "";
+    }
+    match from.join(to, map) {
+        Some(span) => match span.source_str(map) {
+            Some(text) => text,
+            None => "",
+        },
+        None => "",
+    }
+}
+
+// Where the span begins, if the map holds it.
+fn start_of(span: Span, map: &SourceMap) -> LineColumn
+    ensures { (text : List ℕ) → map.now ≡ with_file new_map text → result ≡ place_in text span }
+{
+    if map.holds(span) {
+        span.start(map)
+    } else {
+        LineColumn { line: 1, column: 0 }
+    }
+}
+
+impl Stop {
+    // Where the fault stands: at its tree, or after the last one.
+    fn place(self, map: &SourceMap) -> LineColumn {
+        if let Some(span) = self.fault.span {
+            return start_of(span, map);
+        }
+        match self.last {
+            Some(span) => end_of(span, map),
+            None => LineColumn { line: 1, column: 0 },
+        }
+    }
+}
+
+// Where the span ends, if the map holds it.
+fn end_of(span: Span, map: &SourceMap) -> LineColumn {
+    if map.holds(span) {
+        span.end(map)
+    } else {
+        LineColumn { line: 1, column: 0 }
+    }
+}

@@ -1,0 +1,185 @@
+//! The declarations among trees.
+ghost use Rattle.std.specs.Prelude.{◌≡◌, ◌++◌, IfOk, List, OnOk, length, map, option_copied};
+ghost use Rattle.pm_stream.specs.declared.stream.TokenTree.{TokenTree as Tree};
+ghost use Rattle.declarations.specs.Forms.{AreAttributes, AreInnerAttributes};
+ghost use Rattle.declarations.specs.Reading.{Reads};
+ghost use Rattle.declarations.specs.File.{body_of};
+ghost use Rattle.outline.specs.Outline.{AreInside, IsTreesOutline, Opens, Outline, entries_of, entry_of, first_of};
+ghost use Rattle.outline.specs.Outline.{is_listed, last_of, listed, seen};
+
+use declarations::{AnyItem, Fault, ItemKind, Items, split_attributes, split_inner_attributes};
+use pm_span::Span;
+use pm_stream::TokenTree;
+use pm_token::Ident;
+use std::alloc::{AllocError, Global};
+
+/// A declaration.
+#[derive(Clone, Copy)]
+pub struct Entry<'a> {
+    /// How many declarations it stands in.
+    pub depth: usize,
+    /// What is declared.
+    pub kind: ItemKind,
+    /// Its name, but for an `impl` and a block of foreign items.
+    pub name: Option<&'a Ident>,
+    /// Its trees after its attributes.
+    pub header: &'a [TokenTree],
+}
+
+/// Where trees are no declarations.
+#[derive(Clone, Copy)]
+pub struct Stop {
+    /// What doesn't fit.
+    pub fault: Fault,
+    /// The last tree before the end, at which more may be missing.
+    pub last: Option<Span>,
+}
+
+/// The declarations of a file, in reading order, each before those in it; or where trees are no items.
+///
+/// Of `mod m { fn f() {} } struct S;` they are `m`, `f` at the depth 1, and `S`.
+pub fn entries<'a>(
+    alloc: Global,
+    trees: &'a [TokenTree],
+) -> Result<Result<Vec<Entry<'a>>, Stop>, AllocError>
+    ensures { IfOk result (λ found. IfOk found (λ entries. (outline : Outline) × IsTreesOutline trees.now outline
+        × (map seen entries.items ≡ entries_of outline))) }
+{
+    let mut entries = Vec::new(alloc);
+    let items = match items_of(trees) {
+        Ok(items) => items,
+        Err(stop) => return Ok(Err(stop)),
+    };
+    // What is left of the file and of each declaration that is open, the innermost last.
+    let mut levels = Vec::new(alloc);
+    levels.push(items)?;
+    // A step takes an item or leaves a declaration: there are fewer than the bound, which no memory has trees for.
+    'walk: for _ in 0..u64::MAX {
+        let Some(mut here) = levels.pop() else {
+            return Ok(Ok(entries));
+        };
+        let left = here.left;
+        let Some(found) = here.next() else {
+            continue 'walk;
+        };
+        let item = match found {
+            Ok(item) => item,
+            Err(fault) => return Ok(Err(Stop::at(fault, left))),
+        };
+        let (entry, inside) = match open_item(levels.len(), &item) {
+            Ok(both) => both,
+            Err(stop) => return Ok(Err(stop)),
+        };
+        push_listed(&mut entries, entry)?;
+        levels.push(here)?;
+        levels.push(inside)?;
+    }
+    Err(AllocError)
+}
+
+// Puts in an entry that is listed.
+fn push_listed<'a>(entries: &mut Vec<Entry<'a>>, entry: Entry<'a>) -> Result<(), AllocError>
+    ensures { OnOk result (map seen entries.new.items ≡ map seen entries.old.items
+        ++ listed (is_listed entry.entry.kind (option_copied entry.entry.name)) (seen entry.entry)) }
+{
+    if is_listed(&entry) {
+        entries.push(entry)?;
+    }
+    Ok(())
+}
+
+// Whether an item is listed: it has a name, or a header in place of one.
+fn is_listed(entry: &Entry<'_>) -> bool
+    ensures { result ≡ is_listed entry.now.kind (option_copied entry.now.name) }
+{
+    match entry.kind {
+        ItemKind::Impl | ItemKind::ExternBlock => true,
+        _ => entry.name.is_some(),
+    }
+}
+
+// The items after the inner attributes.
+fn items_of(trees: &[TokenTree]) -> Result<Items<'_>, Stop>
+    ensures { IfOk result (λ items. (inner : List Tree)
+        × Reads AreInnerAttributes trees.now inner items.left.now) }
+{
+    match split_inner_attributes(trees) {
+        Ok((_, left)) => Ok(Items { left }),
+        Err(fault) => Err(Stop::at(fault, trees)),
+    }
+}
+
+// The entry of an item that is in so many, and the items in it.
+fn open_item<'a>(depth: usize, item: &AnyItem<'a>) -> Result<(Entry<'a>, Items<'a>), Stop>
+    ensures { IfOk result (λ found. Opens depth item.now found.0 found.1) }
+{
+    let entry = match entry_of(depth, item) {
+        Ok(entry) => entry,
+        Err(stop) => return Err(stop),
+    };
+    match items_in(item) {
+        Ok(inside) => Ok((entry, inside)),
+        Err(stop) => Err(stop),
+    }
+}
+
+// The items in an item.
+fn items_in<'a>(item: &AnyItem<'a>) -> Result<Items<'a>, Stop>
+    ensures { IfOk result (λ inside. AreInside (body_of item.now.kind item.now.trees.now) inside.left.now) }
+{
+    match item.body() {
+        Some(group) => items_of(group.stream_ref().trees()),
+        None => Ok(Items { left: &[] }),
+    }
+}
+
+// The entry of an item that is in so many.
+fn entry_of<'a>(depth: usize, item: &AnyItem<'a>) -> Result<Entry<'a>, Stop>
+    ensures { IfOk result (λ entry. (attributes : List Tree)
+        × Reads AreAttributes item.now.trees.now attributes entry.header.now
+        × (seen entry ≡ entry_of depth item.now.kind (option_copied item.now.name) entry.header.now)) }
+{
+    match split_attributes(item.trees) {
+        Ok((_, header)) => Ok(Entry {
+            depth,
+            kind: item.kind,
+            name: item.name,
+            header,
+        }),
+        Err(fault) => Err(Stop::at(fault, item.trees)),
+    }
+}
+
+/// Where the first of the trees stands.
+pub fn first_of(trees: &[TokenTree]) -> Span
+    ensures { result ≡ first_of trees.now }
+{
+    match trees.split_first() {
+        Some((first, _)) => first.span(),
+        None => Span::call_site(),
+    }
+}
+
+/// Where the tree before the last stands, or the only one.
+pub fn last_of(trees: &[TokenTree]) -> Span
+    ensures { result ≡ last_of trees.now }
+{
+    match trees.split_last() {
+        Some((last, front)) => match front.split_last() {
+            Some((before, _)) => before.span(),
+            None => last.span(),
+        },
+        None => Span::call_site(),
+    }
+}
+
+impl Stop {
+    // The fault of these trees.
+    fn at(fault: Fault, trees: &[TokenTree]) -> Stop {
+        let last = match trees.split_last() {
+            Some((last, _)) => Some(last.span()),
+            None => None,
+        };
+        Stop { fault, last }
+    }
+}

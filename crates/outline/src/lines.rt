@@ -1,0 +1,110 @@
+//! The line of a declaration.
+ghost use Rattle.std.specs.Prelude.{◌≡◌, ◌++◌, IfOk, OnOk, option_map, string_bytes};
+ghost use Rattle.outline.specs.Line.{indent, json, line_of, plain, seen, tag, title};
+
+use crate::json::escaped;
+use crate::names::word_of;
+use crate::options::Form;
+use declarations::ItemKind;
+use proc_macro2::LineColumn;
+use std::alloc::{AllocError, Global};
+
+/// A declaration, as it is shown.
+#[derive(Clone, Copy)]
+pub struct Shown<'a> {
+    /// How many declarations it stands in.
+    pub depth: usize,
+    /// What is declared.
+    pub kind: ItemKind,
+    /// Whether it has a name.
+    pub named: bool,
+    /// Its name, or its header.
+    pub name: &'a str,
+    /// Where it begins.
+    pub start: LineColumn,
+}
+
+/// The line of a declaration in the file at this path, without its end. In a `tags` file only what has a name has one.
+pub fn line_of(
+    alloc: Global,
+    form: Form,
+    path: &str,
+    shown: Shown<'_>,
+) -> Result<Option<String>, AllocError>
+    ensures { IfOk result (λ line. option_map string_bytes line ≡ line_of form path.now (seen shown.entry)) }
+{
+    match form {
+        Form::Lines => Ok(Some(plain(alloc, path, shown)?)),
+        Form::Json => Ok(Some(json(alloc, path, shown)?)),
+        Form::Ctags if shown.named => Ok(Some(tag(alloc, path, shown)?)),
+        Form::Ctags => Ok(None),
+    }
+}
+
+// `FILE:L:C: fn name`, the line and the column from 1.
+fn plain(alloc: Global, path: &str, shown: Shown<'_>) -> Result<String, AllocError>
+    ensures { IfOk result (λ out. string_bytes out ≡ plain path.now (seen shown.entry)) }
+{
+    let mut out = String::new(alloc);
+    let line = shown.start.line;
+    // As wide as the sum needs.
+    let column = shown.start.column as u128 + 1;
+    write!(out, "{path}:{line}:{column}: ")?;
+    push_indent(&mut out, shown.depth)?;
+    push_title(&mut out, shown)?;
+    Ok(out)
+}
+
+// An object of JSON.
+fn json(alloc: Global, path: &str, shown: Shown<'_>) -> Result<String, AllocError>
+    ensures { IfOk result (λ out. string_bytes out ≡ json path.now (seen shown.entry)) }
+{
+    let mut out = String::new(alloc);
+    let line = shown.start.line;
+    // As wide as the sum needs.
+    let column = shown.start.column as u128 + 1;
+    let file = escaped(alloc, path)?;
+    let word = word_of(shown.kind);
+    let name = escaped(alloc, shown.name)?;
+    let depth = shown.depth;
+    write!(
+        out,
+        "{{\"file\":\"{file}\",\"line\":{line},\"column\":{column},\"kind\":\"{word}\",\"name\":\"{name}\",\
+         \"depth\":{depth}}}"
+    )?;
+    Ok(out)
+}
+
+// A line of a `tags` file.
+fn tag(alloc: Global, path: &str, shown: Shown<'_>) -> Result<String, AllocError>
+    ensures { IfOk result (λ out. string_bytes out ≡ tag path.now (seen shown.entry)) }
+{
+    let mut out = String::new(alloc);
+    let name = shown.name;
+    let line = shown.start.line;
+    let word = word_of(shown.kind);
+    write!(out, "{name}\t{path}\t{line};\"\t{word}")?;
+    Ok(out)
+}
+
+// Appends two spaces for each level, of 32 at most.
+fn push_indent(out: &mut String, depth: usize) -> Result<(), AllocError>
+    ensures { OnOk result (string_bytes out.new ≡ string_bytes out.old ++ indent depth) }
+{
+    for _ in 0..depth.min(32) {
+        out.push_str("  ")?;
+    }
+    Ok(())
+}
+
+// Appends what is declared: the word and the name, or the header.
+fn push_title(out: &mut String, shown: Shown<'_>) -> Result<(), AllocError>
+    ensures { OnOk result (string_bytes out.new ≡ string_bytes out.old ++ title (seen shown.entry)) }
+{
+    let name = shown.name;
+    if !shown.named {
+        return out.push_str(name);
+    }
+    let word = word_of(shown.kind);
+    write!(out, "{word} {name}")
+}

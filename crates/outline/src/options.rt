@@ -1,0 +1,125 @@
+//! What the words after the program's name ask for.
+ghost use Rattle.std.specs.Prelude.{◌≡◌, ◌⊎◌, IfErr, IfOk, None, OnOk, Some, map, string_bytes};
+ghost use Rattle.messages.specs.declared.errors.Failure.TheVariants.{Memory};
+ghost use Rattle.outline.specs.Options.{asks, no_wish, or_input, other_word, usage_of, wishes_of, with_word, word_of};
+
+use messages::Failure;
+use std::alloc::{AllocError, Global};
+
+/// How the program is called.
+pub const USAGE: &str = "outline [--json|--ctags] [FILE..]";
+
+/// How declarations are listed.
+#[derive(Clone, Copy, Debug, PartialEq, Eq)]
+pub enum Form {
+    /// A line for each.
+    Lines,
+    /// An object of JSON on a line for each.
+    Json,
+    /// A `tags` file for editors.
+    Ctags,
+}
+
+/// What is listed.
+#[derive(Drop)]
+pub struct Options {
+    /// How.
+    pub form: Form,
+    /// The paths of the files, `-` for standard input.
+    pub paths: Vec<String>,
+}
+
+// What a word says.
+#[derive(Clone, Copy, Debug, PartialEq, Eq)]
+enum Word {
+    Json,
+    Ctags,
+    Unknown,
+    Path,
+}
+
+/// What the words ask for: options anywhere, the last of which counts, and paths, of which standard input is one where
+/// there is no other.
+///
+/// Fails with `Usage` where a word begins with `-` that is no option, and with `Memory`.
+pub fn options_of(alloc: Global, words: &[String]) -> Result<Options, Failure>
+    ensures ok { IfOk result (λ options. asks no_wish (map string_bytes words.now) ≡ Some (wishes_of options)) }
+    ensures err { IfErr result (λ failure.
+        ((usage_of failure ≡ Some USAGE.now) × (asks no_wish (map string_bytes words.now) ≡ None))
+        ⊎ (failure ≡ Memory)) }
+{
+    let mut options = Options::new(alloc);
+    for word in words {
+        match word_of(word.as_str()) {
+            Word::Unknown => return Err(Failure::Usage(USAGE)),
+            known => options.take(alloc, known, word.as_str())?,
+        }
+    }
+    options.read_input_at_least(alloc)?;
+    Ok(options)
+}
+
+// What the word says.
+fn word_of(word: &str) -> Word
+    ensures { result ≡ word_of word.now }
+{
+    match word {
+        "--json" => Word::Json,
+        "--ctags" => Word::Ctags,
+        _ => other_word(word),
+    }
+}
+
+// The same of a word that is no option that is known.
+fn other_word(word: &str) -> Word
+    ensures { result ≡ other_word word.now }
+{
+    match word.as_bytes() {
+        [b'-'] => Word::Path,
+        [b'-', ..] => Word::Unknown,
+        _ => Word::Path,
+    }
+}
+
+impl Options {
+    // What is asked for before any word.
+    fn new(alloc: Global) -> Options
+        ensures { wishes_of result ≡ no_wish }
+    {
+        Options {
+            form: Form::Lines,
+            paths: Vec::new(alloc),
+        }
+    }
+
+    // Takes a word.
+    fn take(&mut self, alloc: Global, known: Word, word: &str) -> Result<(), AllocError>
+        ensures { OnOk result (wishes_of self.new ≡ with_word known word.now (wishes_of self.old)) }
+    {
+        match known {
+            Word::Json => self.form = Form::Json,
+            Word::Ctags => self.form = Form::Ctags,
+            Word::Path => self.push_path(alloc, word)?,
+            Word::Unknown => {}
+        }
+        Ok(())
+    }
+
+    // Standard input is read where no file is named.
+    fn read_input_at_least(&mut self, alloc: Global) -> Result<(), AllocError>
+        ensures { OnOk result (wishes_of self.new ≡ or_input (wishes_of self.old)) }
+    {
+        if self.paths.is_empty() {
+            self.push_path(alloc, "-")?;
+        }
+        Ok(())
+    }
+
+    // Appends a path.
+    fn push_path(&mut self, alloc: Global, path: &str) -> Result<(), AllocError>
+        ensures { OnOk result (wishes_of self.new ≡ with_word Word.Path path.now (wishes_of self.old)) }
+    {
+        self.paths.push(String::from_str(alloc, path)?)?;
+        Ok(())
+    }
+}

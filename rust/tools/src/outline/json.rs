@@ -1,0 +1,45 @@
+// Made from crates/outline/src/json.rt by rust/erase: change that file, not this one.
+//! Texts in JSON.
+
+use proved::shim::prelude::String;
+
+use proved::shim::alloc::{AllocError, Global};
+
+/// The text as it stands in a string of JSON.
+pub fn escaped(alloc: Global, text: &str) -> Result<String, AllocError>
+{
+    let mut out = String::new(alloc);
+    for c in text.chars() {
+        push_escaped(&mut out, c)?;
+    }
+    Ok(out)
+}
+
+// Appends a character: a quote, a backslash and the controls are escaped.
+fn push_escaped(out: &mut String, c: char) -> Result<(), AllocError>
+{
+    match c {
+        '"' => out.push_str("\\\""),
+        '\\' => out.push_str("\\\\"),
+        '\0'..='\u{F}' => push_control(out, "\\u000", c as u8),
+        '\u{10}'..='\u{1F}' => push_control(out, "\\u001", c as u8 - 16),
+        _ => out.push(c),
+    }
+}
+
+// Appends what begins the escape of a control, and its last digit.
+fn push_control(out: &mut String, front: &str, digit: u8) -> Result<(), AllocError>
+{
+    out.push_str(front)?;
+    out.push(hex(digit))
+}
+
+// A digit of a number to the base 16.
+fn hex(digit: u8) -> char
+{
+    if digit < 10 {
+        (b'0' + digit) as char
+    } else {
+        (b'a' - 10 + digit) as char
+    }
+}

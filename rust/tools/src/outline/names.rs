@@ -1,0 +1,53 @@
+// Made from crates/outline/src/names.rt by rust/erase: change that file, not this one.
+//! What declarations are called.
+
+use proved::shim::prelude::String;
+
+use proved::declarations::ItemKind;
+use proved::shim::alloc::{AllocError, Global};
+
+/// The word for a kind of declaration.
+pub fn word_of(kind: ItemKind) -> &'static str
+{
+    match kind {
+        ItemKind::Constant => "const",
+        ItemKind::Enum => "enum",
+        ItemKind::ExternBlock => "extern",
+        ItemKind::ExternCrate => "crate",
+        ItemKind::Function => "fn",
+        ItemKind::Group => "item",
+        ItemKind::Impl => "impl",
+        ItemKind::Macro | ItemKind::MacroCall => "macro",
+        ItemKind::Module => "mod",
+        ItemKind::Static => "static",
+        ItemKind::Struct => "struct",
+        ItemKind::Trait | ItemKind::TraitAlias => "trait",
+        ItemKind::TypeAlias => "type",
+        ItemKind::Union => "union",
+        ItemKind::Use => "use",
+    }
+}
+
+/// The text on one line: a space for each run of spaces and controls.
+pub fn one_line(alloc: Global, text: &str) -> Result<String, AllocError>
+{
+    let mut out = String::new(alloc);
+    let mut gap = false;
+    for c in text.chars() {
+        push_in_line(&mut out, gap, c)?;
+        gap = c <= ' ';
+    }
+    Ok(out)
+}
+
+// Appends a character, after a space where a gap is before it, unless it is part of one.
+fn push_in_line(out: &mut String, gap: bool, c: char) -> Result<(), AllocError>
+{
+    if c <= ' ' {
+        return Ok(());
+    }
+    if gap {
+        out.push(' ')?;
+    }
+    out.push(c)
+}

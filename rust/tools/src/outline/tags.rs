@@ -1,0 +1,24 @@
+// Made from crates/outline/src/tags.rt by rust/erase: change that file, not this one.
+//! What is written of lines.
+
+use proved::shim::prelude::{String, Vec};
+
+use proved::shim::io;
+use proved::shim::io::Write;
+
+/// Writes the lines.
+pub fn print_all<W: Write>(lines: &[String], writer: &mut W) -> io::Result<()>
+{
+    for line in lines {
+        writeln!(writer, "{line}")?;
+    }
+    Ok(())
+}
+
+/// Writes a `tags` file of these lines, sorted by their bytes.
+pub fn print_tags<W: Write>(lines: &mut Vec<String>, writer: &mut W) -> io::Result<()>
+{
+    lines.sort_unstable();
+    writer.write_all(b"!_TAG_FILE_SORTED\t1\t//\n")?;
+    print_all(lines.as_slice(), writer)
+}
