@@ -1,8 +1,11 @@
-//! Tests of layouts: what choosers give is written, and random streams come back from random gaps.
+//! Tests of layouts: what choosers give is written, random streams come back from random gaps, and doc attributes of a
+//! text become comments.
 #![tactic(auto)]
 
 #[cfg(test)]
 mod choosers;
+#[cfg(test)]
+mod doc_comments;
 #[cfg(test)]
 mod random_gaps;
 #[cfg(test)]

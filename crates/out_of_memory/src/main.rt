@@ -13,6 +13,7 @@ mod names;
 mod parsing;
 mod quotes;
 mod reading;
+mod relaying;
 mod shown;
 mod unfailing;
 mod watched;
@@ -55,6 +56,7 @@ fn run<W: Write>(
         "extend" => building::run_extend(alloc, out, call, input),
         "read" => reading::run(alloc, out, call, input),
         "copy" => copies::run(alloc, out, call, input),
+        "relay" => relaying::run(alloc, out, call, input),
         "quote" => quotes::run(alloc, out, call),
         "unfailing" => unfailing::run(alloc, out, call, input),
         _ => Err(Fail::NoCase),

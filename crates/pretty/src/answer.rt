@@ -1,18 +1,21 @@
 //! What the program writes for a text.
-ghost use Rattle.std.specs.Prelude.{IfErr, List, OnOk, ℕ};
+ghost use Rattle.std.specs.Prelude.{◌≡◌, IfErr, IfOk, List, OnOk, ℕ, string_bytes};
 ghost use Rattle.std.specs.Str.{chars};
 ghost use Rattle.messages.specs.Parsed.{MayFail};
+ghost use Rattle.messages.specs.declared.errors.Failure.TheVariants.{Memory};
 ghost use Rattle.proc_macro2.specs.WellSpaced.{IsWellSpaced};
-ghost use Rattle.pretty.specs.Answer.{Writes, WritesLayout};
+ghost use Rattle.pretty.specs.Answer.{IsPretty, Writes, WritesPretty};
 
 use messages::Failure;
 use pretty_printer::to_pretty_string;
 use proc_macro2::{SourceMap, TokenStream};
 use quoting::QuoteError;
+use relayout::{RelayoutError, with_doc_comments};
 use std::alloc::Global;
 use std::io::Write;
 
-/// Writes the tokens of the text, in a layout that reads back to them.
+/// Writes the tokens of the text, in a layout that reads back to them, with doc comments in the place of the attributes
+/// that they are read as.
 ///
 /// Fails with `Fault`, which has line and column, `MapFull` and `Memory` before anything is written, and with `Write`;
 /// then a beginning of the text may stand.
@@ -34,15 +37,29 @@ fn print_stream<W: Write>(
     writer: &mut W,
 ) -> Result<(), Failure>
     requires { IsWellSpaced stream.now }
-    ensures ok { OnOk result (WritesLayout stream.now (W.contents writer.old) (W.contents writer.new)) }
+    ensures ok { OnOk result (WritesPretty stream.now (W.contents writer.old) (W.contents writer.new)) }
     ensures err { IfErr result (λ failure. (text : List ℕ)
         → MayFail text (W.contents writer.old) (W.contents writer.new) failure) }
+{
+    let pretty = pretty_text(alloc, stream)?;
+    writer.write_all(pretty.as_str().as_bytes())?;
+    Ok(())
+}
+
+// The pretty text of a stream that is well spaced. Only memory can fail.
+fn pretty_text(alloc: Global, stream: &TokenStream) -> Result<String, Failure>
+    requires { IsWellSpaced stream.now }
+    ensures ok { IfOk result (λ text. IsPretty stream.now (chars (string_bytes text))) }
+    ensures err { IfErr result (λ failure. failure ≡ Memory) }
 {
     let pretty = match to_pretty_string(alloc, stream) {
         Ok(pretty) => pretty,
         Err(QuoteError::Memory(_)) => return Err(Failure::Memory),
         Err(QuoteError::NoneGroup | QuoteError::LoneQuote) => unreachable!(),
     };
-    writer.write_all(pretty.as_str().as_bytes())?;
-    Ok(())
+    match with_doc_comments(alloc, pretty.as_str()) {
+        Ok(text) => Ok(text),
+        Err(RelayoutError::Memory(_)) => Err(Failure::Memory),
+        Err(RelayoutError::NoPiece) => unreachable!(),
+    }
 }

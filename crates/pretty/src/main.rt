@@ -1,10 +1,10 @@
 //! Prints the tokens of a source text so that people read them well.
 //!
 //! `pretty FILE` reads the file, `pretty` standard input. What it writes has the tokens of the text, and reads back to
-//! them; doc comments are written as attributes. Plain comments are lost. The status is 0 where the text was read and
-//! all was written, 1 where the text has a fault, and 2 where the words ask for nothing, a read or a write failed, the
-//! input isn't UTF-8 or too long, or memory ran out. A line on standard error says why, but nothing where nobody reads
-//! the output any more.
+//! them; doc attributes are written as doc comments where that can be. Plain comments are lost. The status is 0 where
+//! the text was read and all was written, 1 where the text has a fault, and 2 where the words ask for nothing, a read
+//! or a write failed, the input isn't UTF-8 or too long, or memory ran out. A line on standard error says why, but
+//! nothing where nobody reads the output any more.
 #![tactic(auto)]
 
 mod answer;

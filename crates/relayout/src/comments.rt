@@ -70,6 +70,11 @@ fn push_part<'a>(
         × (next.1 ≡ is_free free part) × (out.new ≡ out.old ++ onto (new_part part) []))) }
     ensures utf8 { IfOk result (λ found. IfSome found (λ next. IsUtf8 next.0.now)) }
 {
+    // Texts have so many spaces that these are not left to the lexer.
+    if let Some(rest) = strip(text, " ") {
+        out.push(' ')?;
+        return Ok(Some((rest, free)));
+    }
     match attribute_at(alloc, text, free)? {
         Some(found) => {
             out.push_text(front_of(found.inner))?;
@@ -204,6 +209,13 @@ fn text_of(alloc: Global, literal: &str) -> Result<Option<String>, AllocError>
         ((text : List ℕ) → IsText text → chars literal.now ≡ string_text text → ⊥)
         (λ text. chars literal.now ≡ string_text (chars (string_bytes text)))) }
 {
+    // Most texts stand in their literals as they are.
+    if let Some(plain) = unquoted(literal) {
+        let text = String::from_str(alloc, plain)?;
+        if let Some(text) = same_literal(alloc, literal, text)? {
+            return Ok(Some(text));
+        }
+    }
     if !Literal::is_whole(literal) {
         return Ok(None);
     }
@@ -213,6 +225,11 @@ fn text_of(alloc: Global, literal: &str) -> Result<Option<String>, AllocError>
         Err(ConversionErrorKind::InvalidLiteralKind) => Ok(None),
         Err(ConversionErrorKind::FailedToUnescape(_)) => Ok(None),
     }
+}
+
+// What stands between quotes, if they stand around it.
+fn unquoted(literal: &str) -> Option<&str> {
+    literal.strip_prefix('"')?.strip_suffix('"')
 }
 
 // The text, if this is its string literal.

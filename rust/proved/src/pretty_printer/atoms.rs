@@ -192,26 +192,12 @@ pub static NOTHING: Atom = Atom {
 impl Atom {
     /// An atom with no role yet.
     pub fn new(kind: Kind, tokens: usize, glued: bool, width: usize) -> Atom {
-        Atom {
-            kind,
-            role: Role::Plain,
-            tokens,
-            glued,
-            spaced: false,
-            width,
-            tall: false,
-            offset: 0,
-            tall_before: 0,
-            part_end: 0,
-            plain: false,
-            line: Break::Nothing,
-            first: 0,
-            end: 0,
-            parts: 0,
-            statements: false,
-            rest: false,
-            begins_branches: false,
-        }
+        let mut atom = NOTHING;
+        atom.kind = kind;
+        atom.tokens = tokens;
+        atom.glued = glued;
+        atom.width = width;
+        atom
     }
 
     pub fn is_nothing(&self) -> bool {
@@ -255,10 +241,6 @@ impl Atom {
 
     pub fn is_path(&self) -> bool {
         matches!(self.kind, Kind::Sign(Sign::Path))
-    }
-
-    pub fn is_range(&self) -> bool {
-        matches!(self.kind, Kind::Sign(Sign::Range))
     }
 
     pub fn is_group(&self) -> bool {

@@ -50,6 +50,11 @@ fn push_part<'a>(
     free: bool,
 ) -> Result<Option<(&'a str, bool)>, AllocError>
 {
+    // Texts have so many spaces that these are not left to the lexer.
+    if let Some(rest) = strip(text, " ") {
+        out.push(' ')?;
+        return Ok(Some((rest, free)));
+    }
     match attribute_at(alloc, text, free)? {
         Some(found) => {
             out.push_text(front_of(found.inner))?;
@@ -155,6 +160,13 @@ fn split_literal(text: &str) -> Option<(&str, &str)>
 // The text of which this is the string literal, as `Literal::string` writes it.
 fn text_of(alloc: Global, literal: &str) -> Result<Option<String>, AllocError>
 {
+    // Most texts stand in their literals as they are.
+    if let Some(plain) = unquoted(literal) {
+        let text = String::from_str(alloc, plain)?;
+        if let Some(text) = same_literal(alloc, literal, text)? {
+            return Ok(Some(text));
+        }
+    }
     if !Literal::is_whole(literal) {
         return Ok(None);
     }
@@ -164,6 +176,11 @@ fn text_of(alloc: Global, literal: &str) -> Result<Option<String>, AllocError>
         Err(ConversionErrorKind::InvalidLiteralKind) => Ok(None),
         Err(ConversionErrorKind::FailedToUnescape(_)) => Ok(None),
     }
+}
+
+// What stands between quotes, if they stand around it.
+fn unquoted(literal: &str) -> Option<&str> {
+    literal.strip_prefix('"')?.strip_suffix('"')
 }
 
 // The text, if this is its string literal.

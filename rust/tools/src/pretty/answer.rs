@@ -1,14 +1,18 @@
 // Made from crates/pretty/src/answer.rt by rust/erase: change that file, not this one.
 //! What the program writes for a text.
 
+use proved::shim::prelude::String;
+
 use crate::messages::Failure;
 use proved::pretty_printer::to_pretty_string;
 use proved::proc_macro2::{SourceMap, TokenStream};
 use proved::quoting::QuoteError;
+use proved::relayout::{RelayoutError, with_doc_comments};
 use proved::shim::alloc::Global;
 use proved::shim::io::Write;
 
-/// Writes the tokens of the text, in a layout that reads back to them.
+/// Writes the tokens of the text, in a layout that reads back to them, with doc comments in the place of the attributes
+/// that they are read as.
 ///
 /// Fails with `Fault`, which has line and column, `MapFull` and `Memory` before anything is written, and with `Write`;
 /// then a beginning of the text may stand.
@@ -28,11 +32,22 @@ fn print_stream<W: Write>(
     writer: &mut W,
 ) -> Result<(), Failure>
 {
+    let pretty = pretty_text(alloc, stream)?;
+    writer.write_all(pretty.as_str().as_bytes())?;
+    Ok(())
+}
+
+// The pretty text of a stream that is well spaced. Only memory can fail.
+fn pretty_text(alloc: Global, stream: &TokenStream) -> Result<String, Failure>
+{
     let pretty = match to_pretty_string(alloc, stream) {
         Ok(pretty) => pretty,
         Err(QuoteError::Memory(_)) => return Err(Failure::Memory),
         Err(QuoteError::NoneGroup | QuoteError::LoneQuote) => unreachable!(),
     };
-    writer.write_all(pretty.as_str().as_bytes())?;
-    Ok(())
+    match with_doc_comments(alloc, pretty.as_str()) {
+        Ok(text) => Ok(text),
+        Err(RelayoutError::Memory(_)) => Err(Failure::Memory),
+        Err(RelayoutError::NoPiece) => unreachable!(),
+    }
 }

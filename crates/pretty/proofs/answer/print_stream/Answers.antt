@@ -6,14 +6,11 @@ use Rattle.pretty.proofs.answer.print_stream.Goals as goal
 
 pub returns-clause-ok : goal.returns-clause-ok
 returns-clause-ok g c =
-    let bytes = string_bytes c.in-Ok.pretty in
-    let kept = c.in-Ok.ensures.unchanged c.requires in
-    record {
-      text = chars bytes;
-      layout = kept.0;
-      back = kept.1;
-      appends = rw (
-        encodes-chars bytes (IsUtf8-string_bytes c.in-Ok.pretty),
+    let bytes = string_bytes c.in_ok-pretty.pretty in (
+      chars bytes,
+      c.in_ok-pretty.ensures.ok,
+      rw (
+        encodes-chars bytes (IsUtf8-string_bytes c.in_ok-pretty.pretty),
         ← (c.as_bytes.ensures.value ∙ c.as_str.ensures.value),
-      ) c.in_ok-write_all.ensures.bytes;
-    }
+      ) c.in_ok-write_all.ensures.bytes,
+    )

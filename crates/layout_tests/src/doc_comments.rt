@@ -1,0 +1,67 @@
+// Texts with doc comments in the place of doc attributes.
+use relayout::{RelayoutError, with_doc_comments};
+use std::process::Abort;
+use std::test::Fail;
+
+/// A text with attributes, and with comments.
+const COMMENTS: &[(&str, &str)] = &[
+    ("#[doc = \" a\"]\nfn f() {}", "/// a\nfn f() {}"),
+    ("# ![doc = \"/a\"]\n\n", "//!/a\n\n"),
+    ("\t /* b */\n  #[doc = \"\"]\n", "\t /* b */\n  ///\n"),
+    ("#[doc = \"\\t\\\"\\\\é'\"]\n", "///\t\"\\é'\n"),
+    (
+        "{\n    #[doc = \"a\"]\n    #[doc = \"b\"]\n}",
+        "{\n    ///a\n    ///b\n}",
+    ),
+];
+
+/// Texts that stay as they are: the attribute isn't spelled so, or other text stands on its line, or no comment of one
+/// line gives what it says.
+const KEPT: &[&str] = &[
+    "",
+    "/// a\n",
+    "#[doc=\" a\"]\n",
+    "#[doc = r\" a\"]\n",
+    "#[doc = \"\\u{e9}\"]\n",
+    "#![doc = \" a\"]\n",
+    "x #[doc = \" a\"]\n",
+    "/* x */ #[doc = \" a\"]\n",
+    "#[doc = \" a\"] x\n",
+    "#[doc = \" a\"]",
+    "#[doc = \"/a\"]\n",
+    "#[doc = \"a\\n\"]\n",
+    "# ![doc = \"a\\r\"]\n",
+    "\"\n#[doc = a]\n\" (]",
+];
+
+/// Asserts what the text is with comments.
+fn check(rt: &(impl Abort + AllocGlobal), text: &str, want: &str) -> Result<(), Fail> {
+    match with_doc_comments(rt.alloc(), text) {
+        Ok(out) => assert_eq!(rt; out.as_str(), want, "of {text:?}"),
+        Err(error) => assert!(rt; false, "{error:?} of {text:?}"),
+    }
+    Ok(())
+}
+
+#[test]
+fn attributes_become_comments(rt: HostRuntime) -> Result<(), Fail> {
+    for &(text, want) in COMMENTS {
+        check(&rt, text, want)?;
+    }
+    Ok(())
+}
+
+#[test]
+fn other_text_stays(rt: HostRuntime) -> Result<(), Fail> {
+    for text in KEPT {
+        check(&rt, text, text)?;
+    }
+    Ok(())
+}
+
+#[test]
+fn a_text_that_no_pieces_cover_is_reported(rt: HostRuntime) -> Result<(), Fail> {
+    let out = with_doc_comments(rt.alloc(), "#[doc = \" a\"]\n\"");
+    assert!(rt; matches!(&out, Err(RelayoutError::NoPiece)));
+    Ok(())
+}
