@@ -228,7 +228,7 @@ same_last (first ∷ front) (first2 ∷ front2) end end2 same =
     let more = same_last front front2 end end2 rests in
     cc
 
-same_within : (trees inside inside2 : List TokenTree) → IsWithin trees inside → IsWithin trees inside2
+pub same_within : (trees inside inside2 : List TokenTree) → IsWithin trees inside → IsWithin trees inside2
     → inside2 ≡ inside
 same_within [] inside inside2 within within2 = within2 ∙ sym within
 same_within (first ∷ rest) inside inside2 within within2 =

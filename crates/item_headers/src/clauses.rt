@@ -1,6 +1,7 @@
 //! Where clauses, with predicates added.
-ghost use Rattle.std.specs.Prelude.{◌≡◌, ◌∷◌, [], IfOk, List, OnOk, false, map};
+ghost use Rattle.std.specs.Prelude.{◌≡◌, ◌∷◌, [], IfErr, IfOk, List, OnOk, false, map};
 ghost use Rattle.declarations.specs.Param.{ParamTrees, PredicateTrees, param_trees, predicate_trees};
+ghost use Rattle.item_headers.specs.Fault.{HasNoParams, HasNoPredicates, HasNotBoth, IfFault};
 ghost use Rattle.item_headers.specs.Header.{HasParams, HasPredicates, bounded, bounds_on_types, predicate_in};
 ghost use Rattle.item_headers.specs.Header.{where_with};
 ghost use Rattle.item_headers.specs.Lists.{any_of, listed, listed_after};
@@ -21,10 +22,12 @@ use std::alloc::{AllocError, Global};
 
 /// The where clause of the item, or nothing where it has no predicates.
 ///
-/// Of `struct S<T> where T: A,` it is `where T: A`.
+/// Of `struct S<T> where T: A,` it is `where T: A`, and of `struct S<T> where` nothing. A fault tells that the trees in
+/// its place aren't the where clause of an item.
 pub fn where_clause(alloc: Global, item: &TypeItem<'_>) -> Result<TokenStream, HeaderError>
     ensures ok { IfOk result (λ stream. (predicates : List PredicateTrees)
         × HasPredicates item.now.where_clause.now predicates × (stream ≡ respaced (where_with predicates []))) }
+    ensures fault { IfErr result (λ error. IfFault error (HasNoPredicates item.now.where_clause.now)) }
     ensures spaced { IfOk result IsWellSpaced }
 {
     let mut quote = Quote::new(alloc);
@@ -34,7 +37,8 @@ pub fn where_clause(alloc: Global, item: &TypeItem<'_>) -> Result<TokenStream, H
 
 /// The where clause of the item, and a predicate more.
 ///
-/// Of `struct S<T> where T: A,` and `T: B` it is `where T: A, T: B`; of `struct S<T>` it is `where T: B`.
+/// Of `struct S<T> where T: A,` and `T: B` it is `where T: A, T: B`; of `struct S<T>` it is `where T: B`. What the
+/// predicate is isn't looked at. It fails as [`where_clause`] does.
 pub fn where_clause_with(
     alloc: Global,
     item: &TypeItem<'_>,
@@ -43,6 +47,7 @@ pub fn where_clause_with(
     ensures ok { IfOk result (λ stream. (predicates : List PredicateTrees)
         × HasPredicates item.now.where_clause.now predicates
         × (stream ≡ respaced (where_with predicates (predicate.now ∷ [])))) }
+    ensures fault { IfErr result (λ error. IfFault error (HasNoPredicates item.now.where_clause.now)) }
     ensures spaced { IfOk result IsWellSpaced }
 {
     let mut quote = Quote::new(alloc);
@@ -55,7 +60,8 @@ pub fn where_clause_with(
 
 /// The where clause of the item, and this bound on each parameter that is a type.
 ///
-/// Of `struct S<'a, T, U, const N: usize> where T: A` and `B` it is `where T: A, T: B, U: B`.
+/// Of `struct S<'a, T, U, const N: usize> where T: A` and `B` it is `where T: A, T: B, U: B`. A fault tells that the
+/// generic parameters or the where clause aren't those of an item. What the bound is isn't looked at.
 pub fn where_clause_with_bound(
     alloc: Global,
     item: &TypeItem<'_>,
@@ -64,6 +70,7 @@ pub fn where_clause_with_bound(
     ensures ok { IfOk result (λ stream. (predicates : List PredicateTrees) × (params : List ParamTrees)
         × HasPredicates item.now.where_clause.now predicates × HasParams item.now.generics.now params
         × (stream ≡ respaced (where_with predicates (bounds_on_types bound.now params)))) }
+    ensures fault { IfErr result (λ error. IfFault error (HasNotBoth item.now.generics.now item.now.where_clause.now)) }
     ensures spaced { IfOk result IsWellSpaced }
 {
     let mut quote = Quote::new(alloc);
@@ -78,9 +85,10 @@ pub(crate) fn push_where(
     alloc: Global,
     where_clause: &[TokenTree],
 ) -> Result<bool, HeaderError>
-    ensures { IfOk result (λ any. (predicates : List PredicateTrees) × HasPredicates where_clause.now predicates
+    ensures ok { IfOk result (λ any. (predicates : List PredicateTrees) × HasPredicates where_clause.now predicates
         × (quote.new ≡ joined quote.old (listed leads.Where (map predicate_in predicates)))
         × (any ≡ any_of false predicates)) }
+    ensures fault { IfErr result (λ error. IfFault error (HasNoPredicates where_clause.now)) }
 {
     let mut left = after_where(where_clause)?;
     let mut any = false;
@@ -111,8 +119,9 @@ fn push_bounds(
     bound: &TokenStream,
     any: bool,
 ) -> Result<(), HeaderError>
-    ensures { OnOk result ((params : List ParamTrees) × HasParams generics.now params
+    ensures ok { OnOk result ((params : List ParamTrees) × HasParams generics.now params
         × (quote.new ≡ joined quote.old (listed_after any leads.Where (bounds_on_types bound.now params)))) }
+    ensures fault { IfErr result (λ error. IfFault error (HasNoParams generics.now)) }
 {
     let mut left = within_generics(generics)?;
     let mut any_now = any;

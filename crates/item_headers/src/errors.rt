@@ -11,7 +11,8 @@ use std::fmt;
 /// Why nothing is written.
 #[derive(Debug, Drop)]
 pub enum HeaderError {
-    /// A generic parameter or a predicate isn't as the grammar has it. The trees are counted from that one.
+    /// The generic parameters or the where clause aren't as the grammar has them. The trees are counted from the
+    /// parameter or the predicate that doesn't fit, and from the front of all where the brackets or the `where` don't.
     Fault(Fault),
     /// A keyword or a mark couldn't be put in; for those that are written that is so where memory ran out.
     Keyword(IdentError),

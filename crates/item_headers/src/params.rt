@@ -1,6 +1,7 @@
 //! Generic parameters, without their defaults or by their names.
-ghost use Rattle.std.specs.Prelude.{◌≡◌, IfOk, List, OnOk};
+ghost use Rattle.std.specs.Prelude.{◌≡◌, IfErr, IfOk, List, OnOk};
 ghost use Rattle.declarations.specs.Param.{ParamTrees, param_trees};
+ghost use Rattle.item_headers.specs.Fault.{HasNoParams, IfFault};
 ghost use Rattle.item_headers.specs.Header.{HasParams, generics, impl_generics, keyword, param_in, turbofish};
 ghost use Rattle.item_headers.specs.Header.{type_generics};
 ghost use Rattle.item_headers.specs.declared.lists.Lead.TheVariants as leads;
@@ -28,10 +29,12 @@ pub(crate) enum Form {
 /// The generic parameters of an `impl` for the item: its own without their defaults, attributes kept, or nothing where
 /// it has none.
 ///
-/// Of `struct S<'a, T: A = B, const N: usize = 3>` they are `<'a, T: A, const N: usize>`.
+/// Of `struct S<'a, T: A = B, const N: usize = 3>` they are `<'a, T: A, const N: usize>`. A fault tells that the trees
+/// in their place aren't the generic parameters of an item.
 pub fn impl_generics(alloc: Global, item: &TypeItem<'_>) -> Result<TokenStream, HeaderError>
     ensures ok { IfOk result (λ stream. (params : List ParamTrees) × HasParams item.now.generics.now params
         × (stream ≡ respaced (impl_generics params))) }
+    ensures fault { IfErr result (λ error. IfFault error (HasNoParams item.now.generics.now)) }
     ensures spaced { IfOk result IsWellSpaced }
 {
     let mut quote = Quote::new(alloc);
@@ -47,10 +50,11 @@ pub fn impl_generics(alloc: Global, item: &TypeItem<'_>) -> Result<TokenStream, 
 
 /// The arguments of the item's type: the names of its parameters in order, or nothing where it has none.
 ///
-/// Of `struct S<'a, T: A = B, const N: usize = 3>` they are `<'a, T, N>`.
+/// Of `struct S<'a, T: A = B, const N: usize = 3>` they are `<'a, T, N>`. It fails as [`impl_generics`] does.
 pub fn type_generics(alloc: Global, item: &TypeItem<'_>) -> Result<TokenStream, HeaderError>
     ensures ok { IfOk result (λ stream. (params : List ParamTrees) × HasParams item.now.generics.now params
         × (stream ≡ respaced (type_generics params))) }
+    ensures fault { IfErr result (λ error. IfFault error (HasNoParams item.now.generics.now)) }
     ensures spaced { IfOk result IsWellSpaced }
 {
     let mut quote = Quote::new(alloc);
@@ -58,10 +62,12 @@ pub fn type_generics(alloc: Global, item: &TypeItem<'_>) -> Result<TokenStream, 
     Ok(quote.finish()?)
 }
 
-/// The same as an expression wants them, as `::<'a, T, N>`.
+/// The same as an expression wants them, as `::<'a, T, N>`; nothing where the item has none. It fails as
+/// [`impl_generics`] does.
 pub fn turbofish(alloc: Global, item: &TypeItem<'_>) -> Result<TokenStream, HeaderError>
     ensures ok { IfOk result (λ stream. (params : List ParamTrees) × HasParams item.now.generics.now params
         × (stream ≡ respaced (turbofish params))) }
+    ensures fault { IfErr result (λ error. IfFault error (HasNoParams item.now.generics.now)) }
     ensures spaced { IfOk result IsWellSpaced }
 {
     let mut quote = Quote::new(alloc);
@@ -83,8 +89,9 @@ pub(crate) fn push_generics(
     lead: Lead,
     form: Form,
 ) -> Result<(), HeaderError>
-    ensures { OnOk result ((params : List ParamTrees) × HasParams trees.now params
+    ensures ok { OnOk result ((params : List ParamTrees) × HasParams trees.now params
         × (quote.new ≡ joined quote.old (generics lead form params))) }
+    ensures fault { IfErr result (λ error. IfFault error (HasNoParams trees.now)) }
 {
     let mut left = within_generics(trees)?;
     let mut any = false;

@@ -1,4 +1,4 @@
-// Items, and what is written for them, as it is printed. What is printed with a body is read again as an `impl`.
+// Items, and what is written for them, as it is printed. What is printed is read again.
 use declarations::{ItemKind, TypeItem, parse_item, parse_type_item, split_expression};
 use item_headers::{
     HeaderError, impl_generics, impl_header, impl_header_where, turbofish, type_generics,
@@ -6,10 +6,12 @@ use item_headers::{
 };
 use proc_macro2::{Delimiter, Group, SourceMap, TokenStream, TokenTree};
 use quoting::QuoteError;
+use std::alloc::{AllocError, Global};
 use std::process::Abort;
 use std::test::Fail;
 
-/// An item, and what is printed of it for the trait `Z<'b>`, the predicate `X: Y` and the bound `Z<'b>`.
+/// An item, and what is printed of it for the trait `Z<'b>`, the predicate `X: Y` and the bound `Z<'b>`. A header is
+/// the front and a where clause.
 #[derive(Clone, Copy)]
 struct Row {
     item: &'static str,
@@ -19,7 +21,7 @@ struct Row {
     where_clause: &'static str,
     with: &'static str,
     bound: &'static str,
-    header: &'static str,
+    front: &'static str,
 }
 
 const ROWS: &[Row] = &[
@@ -31,7 +33,7 @@ const ROWS: &[Row] = &[
         where_clause: "",
         with: "where X : Y",
         bound: "",
-        header: "impl Z <'b > for S",
+        front: "impl Z <'b > for S",
     },
     Row {
         item: "struct S<>() where;",
@@ -41,7 +43,7 @@ const ROWS: &[Row] = &[
         where_clause: "",
         with: "where X : Y",
         bound: "",
-        header: "impl Z <'b > for S",
+        front: "impl Z <'b > for S",
     },
     // Defaults and the last commas are left out.
     Row {
@@ -52,7 +54,7 @@ const ROWS: &[Row] = &[
         where_clause: "where T : D",
         with: "where T : D , X : Y",
         bound: "where T : D , T : Z <'b > , U : Z <'b >",
-        header: "impl < 'a , T : A < B >, const N : usize , U > Z <'b > for S < 'a , T , N , U > where T : D",
+        front: "impl < 'a , T : A < B >, const N : usize , U > Z <'b > for S < 'a , T , N , U >",
     },
     // The where clause of a tuple struct stands after its fields.
     Row {
@@ -63,7 +65,7 @@ const ROWS: &[Row] = &[
         where_clause: "where T : Copy + 'static , [T ; 2] :",
         with: "where T : Copy + 'static , [T ; 2] : , X : Y",
         bound: "where T : Copy + 'static , [T ; 2] : , T : Z <'b >",
-        header: "impl < T , const B : bool > Z <'b > for W < T , B > where T : Copy + 'static , [T ; 2] :",
+        front: "impl < T , const B : bool > Z <'b > for W < T , B >",
     },
     // Attributes are kept.
     Row {
@@ -74,7 +76,7 @@ const ROWS: &[Row] = &[
         where_clause: "",
         with: "where X : Y",
         bound: "where r#fn : Z <'b >",
-        header: "impl < # [a] 'a : 'b + 'c , 'b , r#fn > Z <'b > for E < 'a , 'b , r#fn >",
+        front: "impl < # [a] 'a : 'b + 'c , 'b , r#fn > Z <'b > for E < 'a , 'b , r#fn >",
     },
     Row {
         item: "union U<T: for<'a> Fn(&'a u8) -> Vec<T>> where for<'b> [T; { 1 }]: A + 'b, Vec<T>: B<C, D> {}",
@@ -84,24 +86,89 @@ const ROWS: &[Row] = &[
         where_clause: "where for <'b > [T ; { 1 }] : A + 'b , Vec < T >: B < C , D >",
         with: "where for <'b > [T ; { 1 }] : A + 'b , Vec < T >: B < C , D > , X : Y",
         bound: "where for <'b > [T ; { 1 }] : A + 'b , Vec < T >: B < C , D > , T : Z <'b >",
-        header: "impl < T : for <'a > Fn (&'a u8) -> Vec < T >> Z <'b > for U < T > \
-            where for <'b > [T ; { 1 }] : A + 'b , Vec < T >: B < C , D >",
+        front: "impl < T : for <'a > Fn (&'a u8) -> Vec < T >> Z <'b > for U < T >",
     },
 ];
 
 fn check_printed(
     rt: &(impl Abort + AllocGlobal),
     row: Row,
-    stream: &TokenStream,
+    found: Result<TokenStream, HeaderError>,
     wanted: &str,
 ) -> Result<(), Fail> {
+    let stream = found?;
     let text = format!(in rt.alloc(); "{stream}")?;
     assert!(rt; text.as_str() == wanted, "of {:?}: {text:?}", row.item);
     Ok(())
 }
 
-// With braces the text is one `impl`.
-fn check_read_again(rt: &(impl Abort + AllocGlobal), header: &TokenStream) -> Result<(), Fail> {
+fn header_text(alloc: Global, row: Row, clause: &str) -> Result<String, AllocError> {
+    if clause.is_empty() {
+        return format!(in alloc; "{}", row.front);
+    }
+    format!(in alloc; "{} {clause}", row.front)
+}
+
+fn check_parts(rt: &(impl Abort + AllocGlobal), row: Row, item: &TypeItem<'_>) -> Result<(), Fail> {
+    let alloc = rt.alloc();
+    check_printed(rt, row, impl_generics(alloc, item), row.impl_generics)?;
+    check_printed(rt, row, type_generics(alloc, item), row.type_generics)?;
+    check_printed(rt, row, turbofish(alloc, item), row.turbofish)?;
+    check_printed(rt, row, where_clause(alloc, item), row.where_clause)
+}
+
+fn check_bounds(
+    rt: &(impl Abort + AllocGlobal),
+    row: Row,
+    item: &TypeItem<'_>,
+    path: &TokenStream,
+) -> Result<(), Fail> {
+    let alloc = rt.alloc();
+    let wanted = header_text(alloc, row, row.where_clause)?;
+    check_printed(rt, row, impl_header(alloc, item, path), &wanted)?;
+    let clause = where_clause_with_bound(alloc, item, path)?;
+    let wanted = header_text(alloc, row, row.bound)?;
+    check_printed(
+        rt,
+        row,
+        impl_header_where(alloc, item, path, &clause),
+        &wanted,
+    )?;
+    check_printed(rt, row, Ok(clause), row.bound)
+}
+
+#[test]
+fn an_impl_has_the_parameters_of_its_type(rt: HostRuntime) -> Result<(), Fail> {
+    let alloc = rt.alloc();
+    let mut map = SourceMap::new(alloc);
+    let predicate = TokenStream::from_str("X: Y", &mut map)?;
+    let path = TokenStream::from_str("Z<'b>", &mut map)?;
+    for row in ROWS {
+        let stream = TokenStream::from_str(row.item, &mut map)?;
+        let item = parse_type_item(stream.trees())?;
+        check_parts(&rt, *row, &item)?;
+        check_printed(
+            &rt,
+            *row,
+            where_clause_with(alloc, &item, &predicate),
+            row.with,
+        )?;
+        check_bounds(&rt, *row, &item, &path)?;
+    }
+    Ok(())
+}
+
+// Of an item with the parameters and the where clause that are written the same is written again.
+fn check_written_again(rt: &(impl Abort + AllocGlobal), row: Row) -> Result<(), Fail> {
+    let text = format!(in rt.alloc(); "enum E {} {} {{}}", row.impl_generics, row.where_clause)?;
+    let stream = TokenStream::from_str(&text, &mut SourceMap::new(rt.alloc()))?;
+    let item = parse_type_item(stream.trees())?;
+    check_parts(rt, row, &item)
+}
+
+// With braces a header is one `impl`.
+fn check_impl(rt: &(impl Abort + AllocGlobal), row: Row, clause: &str) -> Result<(), Fail> {
+    let header = header_text(rt.alloc(), row, clause)?;
     let text = format!(in rt.alloc(); "{header} {{}}")?;
     let stream = TokenStream::from_str(&text, &mut SourceMap::new(rt.alloc()))?;
     let item = parse_item(stream.trees())?;
@@ -112,49 +179,11 @@ fn check_read_again(rt: &(impl Abort + AllocGlobal), header: &TokenStream) -> Re
     Ok(())
 }
 
-// What is written of an item with the written parameters and clause is the same again.
-fn check_written_again(rt: &(impl Abort + AllocGlobal), row: Row) -> Result<(), Fail> {
-    let alloc = rt.alloc();
-    let text = format!(in alloc; "enum E {} {} {{}}", row.impl_generics, row.where_clause)?;
-    let stream = TokenStream::from_str(&text, &mut SourceMap::new(alloc))?;
-    let item = parse_type_item(stream.trees())?;
-    check_printed(rt, row, &impl_generics(alloc, &item)?, row.impl_generics)?;
-    check_printed(rt, row, &type_generics(alloc, &item)?, row.type_generics)?;
-    check_printed(rt, row, &where_clause(alloc, &item)?, row.where_clause)
-}
-
-fn check_headers(
-    rt: &(impl Abort + AllocGlobal),
-    row: Row,
-    item: &TypeItem<'_>,
-    path: &TokenStream,
-) -> Result<(), Fail> {
-    let header = impl_header(rt.alloc(), item, path)?;
-    check_printed(rt, row, &header, row.header)?;
-    check_read_again(rt, &header)?;
-    let clause = where_clause_with_bound(rt.alloc(), item, path)?;
-    check_printed(rt, row, &clause, row.bound)?;
-    let header = impl_header_where(rt.alloc(), item, path, &clause)?;
-    check_read_again(rt, &header)
-}
-
-#[test]
-fn an_impl_has_the_parameters_of_its_type(rt: HostRuntime) -> Result<(), Fail> {
-    for row in ROWS {
-        let alloc = rt.alloc();
-        let mut map = SourceMap::new(alloc);
-        let stream = TokenStream::from_str(row.item, &mut map)?;
-        let item = parse_type_item(stream.trees())?;
-        check_printed(&rt, *row, &impl_generics(alloc, &item)?, row.impl_generics)?;
-        check_printed(&rt, *row, &type_generics(alloc, &item)?, row.type_generics)?;
-        check_printed(&rt, *row, &turbofish(alloc, &item)?, row.turbofish)?;
-        check_printed(&rt, *row, &where_clause(alloc, &item)?, row.where_clause)?;
-        let predicate = TokenStream::from_str("X: Y", &mut map)?;
-        let clause = where_clause_with(alloc, &item, &predicate)?;
-        check_printed(&rt, *row, &clause, row.with)?;
-        let path = TokenStream::from_str("Z<'b>", &mut map)?;
-        check_headers(&rt, *row, &item, &path)?;
-    }
+fn check_expression(rt: &(impl Abort + AllocGlobal), row: Row) -> Result<(), Fail> {
+    let text = format!(in rt.alloc(); "S {}::new()", row.turbofish)?;
+    let stream = TokenStream::from_str(&text, &mut SourceMap::new(rt.alloc()))?;
+    let (_, rest) = split_expression(stream.trees())?;
+    assert!(rt; rest.is_empty(), "{text:?} is no expression");
     Ok(())
 }
 
@@ -162,10 +191,9 @@ fn an_impl_has_the_parameters_of_its_type(rt: HostRuntime) -> Result<(), Fail> {
 fn what_is_written_is_read_as_it_was_meant(rt: HostRuntime) -> Result<(), Fail> {
     for row in ROWS {
         check_written_again(&rt, *row)?;
-        let text = format!(in rt.alloc(); "S {}::new()", row.turbofish)?;
-        let stream = TokenStream::from_str(&text, &mut SourceMap::new(rt.alloc()))?;
-        let (_, rest) = split_expression(stream.trees())?;
-        assert!(rt; rest.is_empty(), "{text:?} is no expression");
+        check_impl(&rt, *row, row.where_clause)?;
+        check_impl(&rt, *row, row.bound)?;
+        check_expression(&rt, *row)?;
     }
     Ok(())
 }

@@ -15,7 +15,8 @@ use crate::shim::alloc::{AllocError, Global};
 
 /// The where clause of the item, or nothing where it has no predicates.
 ///
-/// Of `struct S<T> where T: A,` it is `where T: A`.
+/// Of `struct S<T> where T: A,` it is `where T: A`, and of `struct S<T> where` nothing. A fault tells that the trees in
+/// its place aren't the where clause of an item.
 pub fn where_clause(alloc: Global, item: &TypeItem<'_>) -> Result<TokenStream, HeaderError>
 {
     let mut quote = Quote::new(alloc);
@@ -25,7 +26,8 @@ pub fn where_clause(alloc: Global, item: &TypeItem<'_>) -> Result<TokenStream, H
 
 /// The where clause of the item, and a predicate more.
 ///
-/// Of `struct S<T> where T: A,` and `T: B` it is `where T: A, T: B`; of `struct S<T>` it is `where T: B`.
+/// Of `struct S<T> where T: A,` and `T: B` it is `where T: A, T: B`; of `struct S<T>` it is `where T: B`. What the
+/// predicate is isn't looked at. It fails as [`where_clause`] does.
 pub fn where_clause_with(
     alloc: Global,
     item: &TypeItem<'_>,
@@ -42,7 +44,8 @@ pub fn where_clause_with(
 
 /// The where clause of the item, and this bound on each parameter that is a type.
 ///
-/// Of `struct S<'a, T, U, const N: usize> where T: A` and `B` it is `where T: A, T: B, U: B`.
+/// Of `struct S<'a, T, U, const N: usize> where T: A` and `B` it is `where T: A, T: B, U: B`. A fault tells that the
+/// generic parameters or the where clause aren't those of an item. What the bound is isn't looked at.
 pub fn where_clause_with_bound(
     alloc: Global,
     item: &TypeItem<'_>,

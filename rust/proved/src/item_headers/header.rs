@@ -15,7 +15,8 @@ use crate::shim::alloc::Global;
 /// The front of an `impl` of a trait for the item's type, up to its braces.
 ///
 /// Of `struct S<'a, T: A = B> where T: C { .. }` and the trait `D<T>` it is
-/// `impl<'a, T: A> D<T> for S<'a, T> where T: C`.
+/// `impl<'a, T: A> D<T> for S<'a, T> where T: C`. A fault tells that the generic parameters or the where clause aren't
+/// those of an item. What the trait is isn't looked at.
 pub fn impl_header(
     alloc: Global,
     item: &TypeItem<'_>,
@@ -27,7 +28,11 @@ pub fn impl_header(
     Ok(quote.finish()?)
 }
 
-/// The same with this where clause in the place of the item's, as the calls for where clauses answer it.
+/// The same with this where clause in the place of the item's, as the calls for where clauses answer it; an empty
+/// stream is no where clause.
+///
+/// Of the same item and `where T: C, T: D<T>` it is `impl<'a, T: A> D<T> for S<'a, T> where T: C, T: D<T>`. A fault
+/// tells that the generic parameters aren't those of an item. What the trait and the clause are isn't looked at.
 pub fn impl_header_where(
     alloc: Global,
     item: &TypeItem<'_>,

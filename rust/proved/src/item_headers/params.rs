@@ -20,7 +20,8 @@ pub(crate) enum Form {
 /// The generic parameters of an `impl` for the item: its own without their defaults, attributes kept, or nothing where
 /// it has none.
 ///
-/// Of `struct S<'a, T: A = B, const N: usize = 3>` they are `<'a, T: A, const N: usize>`.
+/// Of `struct S<'a, T: A = B, const N: usize = 3>` they are `<'a, T: A, const N: usize>`. A fault tells that the trees
+/// in their place aren't the generic parameters of an item.
 pub fn impl_generics(alloc: Global, item: &TypeItem<'_>) -> Result<TokenStream, HeaderError>
 {
     let mut quote = Quote::new(alloc);
@@ -36,7 +37,7 @@ pub fn impl_generics(alloc: Global, item: &TypeItem<'_>) -> Result<TokenStream, 
 
 /// The arguments of the item's type: the names of its parameters in order, or nothing where it has none.
 ///
-/// Of `struct S<'a, T: A = B, const N: usize = 3>` they are `<'a, T, N>`.
+/// Of `struct S<'a, T: A = B, const N: usize = 3>` they are `<'a, T, N>`. It fails as [`impl_generics`] does.
 pub fn type_generics(alloc: Global, item: &TypeItem<'_>) -> Result<TokenStream, HeaderError>
 {
     let mut quote = Quote::new(alloc);
@@ -44,7 +45,8 @@ pub fn type_generics(alloc: Global, item: &TypeItem<'_>) -> Result<TokenStream, 
     Ok(quote.finish()?)
 }
 
-/// The same as an expression wants them, as `::<'a, T, N>`.
+/// The same as an expression wants them, as `::<'a, T, N>`; nothing where the item has none. It fails as
+/// [`impl_generics`] does.
 pub fn turbofish(alloc: Global, item: &TypeItem<'_>) -> Result<TokenStream, HeaderError>
 {
     let mut quote = Quote::new(alloc);

@@ -5,7 +5,7 @@ use Rattle.item_headers.proofs.clauses.where_clause_with.Goals as goal
 
 pub returns-clause-ok : goal.returns-clause-ok
 returns-clause-ok c =
-    let put = c.in_ok-any.ensures in (
+    let put = c.in_ok-any.ensures.ok in (
       put.0,
       put.1,
       with_one put.0 c.args.predicate.now _ _ _ _ _ _ c.new-quote.ensures put.2 put.3 c.in_ok-push_lead.ensures

@@ -3,12 +3,12 @@ use Rattle.item_headers.proofs.HeaderLemmas.{front_written}
 use Rattle.item_headers.proofs.ListLemmas.{one_params}
 use Rattle.item_headers.proofs.header.front.Goals as goal
 
-pub returns : goal.returns
+pub returns-clause-ok : goal.returns-clause-ok
 unfolding chars
-returns c =
+returns-clause-ok c =
     let item = c.args.item.now in
-    let declared = c.in_ok-push_generics.ensures in
-    let named = c.in_ok-push_generics-2.ensures in (
+    let declared = c.in_ok-push_generics.ensures.ok in
+    let named = c.in_ok-push_generics-2.ensures.ok in (
       declared.0,
       declared.1,
       front_written declared.0 named.0 item.name.now c.in_ok-name.name c.args.trait_path.now c.in_ok-path.path

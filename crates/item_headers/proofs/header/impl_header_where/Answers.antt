@@ -5,7 +5,7 @@ use Rattle.item_headers.proofs.header.impl_header_where.Goals as goal
 
 pub returns-clause-ok : goal.returns-clause-ok
 returns-clause-ok c =
-    let put = c.in_ok-quote.ensures in (
+    let put = c.in_ok-quote.ensures.ok in (
       put.0,
       put.1,
       header_with put.0 c.args.item.now.name.now c.args.trait_path.now c.args.where_clause.now _ _ _ put.2
