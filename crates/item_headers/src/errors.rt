@@ -21,6 +21,11 @@ pub enum HeaderError {
 }
 
 impl fmt::Display for HeaderError {
+    ghost use Rattle.std.specs.Prelude.{Some};
+    ghost use Rattle.item_headers.specs.Message.{header_message};
+
+    ghost output = { λ error. Some (header_message error) };
+
     fn fmt<W: fmt::Write>(&self, f: &mut fmt::Formatter<W>) -> fmt::Result {
         match self {
             HeaderError::Fault(fault) => fault.fmt(f),
