@@ -24,12 +24,13 @@ TOOLS = TOP / 'rust/tools'
 # The library crates, lowest first, whose text becomes modules of the package.
 LIBRARIES = [
     'lexical', 'literal_escaper', 'pm_span', 'pm_token', 'pm_stream', 'token_buffer', 'proc_macro2', 'quoting',
-    'explain', 'layout', 'pretty_printer', 'relayout', 'declarations',
+    'explain', 'layout', 'pretty_printer', 'relayout', 'declarations', 'item_headers',
 ]
 # The crates that only a test of the package takes.
 TESTED = ['conformance']
 # The library's own tests, and the lexer once more with what compares the two, which another test of the package takes.
-OWN_TESTS = ['two_lexers', 'token_tests', 'stream_tests', 'buffer_tests', 'quoting_tests', 'declarations_tests']
+OWN_TESTS = ['two_lexers', 'token_tests', 'stream_tests', 'buffer_tests', 'quoting_tests', 'declarations_tests',
+             'item_headers_tests']
 # The programs, and the library that they share.
 PROGRAMS = ['messages', 'tokens', 'highlight', 'find_calls', 'pretty', 'rust_check', 'same', 'indent', 'outline']
 # What isn't erased: tests within the library, what is for them alone, tests of how many bytes a value takes in Rattle,

@@ -205,6 +205,24 @@
 //! assert_eq!(fault.at, 14); // before the `,` where an expression is wanted
 //! # }
 //! ```
+//!
+//! `item_headers`, with the feature of this name:
+//!
+//! ```
+//! # #[cfg(feature = "item_headers")] {
+//! use proved::declarations::parse_type_item;
+//! use proved::item_headers::impl_header;
+//! use proved::proc_macro2::{SourceMap, TokenStream};
+//! use proved::shim::alloc::Global;
+//!
+//! let mut map = SourceMap::new(Global);
+//! let stream = TokenStream::from_str("struct S<'a, T: A = B>(&'a T) where T: C;", &mut map).unwrap();
+//! let item = parse_type_item(stream.trees()).unwrap();
+//! let path = TokenStream::from_str("Clone", &mut map).unwrap();
+//! let header = impl_header(Global, &item, &path).unwrap();
+//! assert_eq!(header.to_string(), "impl < 'a , T : A > Clone for S < 'a , T > where T : C");
+//! # }
+//! ```
 #![deny(unsafe_code)]
 #![warn(missing_docs)]
 
@@ -246,6 +264,8 @@ erased! {
     relayout
     #[cfg(feature = "declarations")]
     declarations
+    #[cfg(feature = "item_headers")]
+    item_headers
 }
 
 /// The examples of the page that describes this package.

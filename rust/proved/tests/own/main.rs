@@ -5,6 +5,8 @@
 mod buffer_tests;
 #[cfg(feature = "declarations")]
 mod declarations_tests;
+#[cfg(feature = "item_headers")]
+mod item_headers_tests;
 #[cfg(feature = "quoting")]
 mod quoting_tests;
 mod shim;

@@ -63,6 +63,8 @@ pub mod test {
     from!(proved::quoting::QuoteError proved::quoting::TemplateError);
     #[cfg(feature = "declarations")]
     from!(proved::declarations::Fault);
+    #[cfg(feature = "item_headers")]
+    from!(proved::item_headers::HeaderError);
 }
 
 pub mod collections {

@@ -1,0 +1,9 @@
+use Rattle.std.proofs.Common.{length}
+use Rattle.item_headers.proofs.ListLemmas.{PutPredicates}
+use Rattle.item_headers.proofs.clauses.push_where.Given as goal
+
+abbrev pub invariant-loop-left : goal.invariant-loop-left
+invariant-loop-left l = PutPredicates l.initial.left l.left l.fn.quote l.quote l.any
+
+abbrev pub decreases-loop-left : goal.decreases-loop-left
+decreases-loop-left l = length l.left

@@ -1,0 +1,4 @@
+pub mod Lists
+pub mod Header
+pub mod Fault
+pub mod Message

@@ -1,0 +1,49 @@
+-- Lists as they are written: what stands before each element.
+use Rattle.std.specs.Prelude.{ℕ, Bool, true, false, List, [], ◌∷◌, codes}
+use Rattle.proc_macro2.specs.Building.{split, gathered}
+use Rattle.proc_macro2.specs.Forest.{Forest, nil, leaf, joined}
+use Rattle.proc_macro2.specs.Token.{Name, Mark}
+use Rattle.pm_stream.specs.declared.stream.TokenTree.{TokenTree}
+use Rattle.item_headers.specs.declared.lists.Lead.{Lead}
+use Rattle.item_headers.specs.declared.lists.Lead.TheVariants as leads
+
+-- a mark that is Alone, and a word, which stand nowhere
+abbrev pub mark : ℕ → Forest
+mark c = leaf (Mark c false) 0 0 nil
+
+abbrev pub word : List ℕ → Forest
+word name = leaf (Name false name) 0 0 nil
+
+-- the trees as they stand in a stream that they are put into
+abbrev pub put : List TokenTree → Forest
+put trees = gathered split trees
+
+-- the mark (`:` is 58) and these trees, or nothing where there are none
+abbrev pub led : ℕ → List TokenTree → Forest
+led c [] = nil
+led c (tree ∷ trees) = joined (mark c) (put (tree ∷ trees))
+
+-- what stands before the first element: `<` (60), `::<` whose first `:` (58) is Joint, or `where`
+abbrev pub first_lead : Lead → Forest
+first_lead leads.Angle = mark 60
+first_lead leads.Turbofish = leaf (Mark 58 true) 0 0 (joined (mark 58) (mark 60))
+first_lead leads.Where = word (codes "where")
+
+-- before an element, which some others stand before or none: a `,` (44) before all but the first
+abbrev pub lead_of : Bool → Lead → Forest
+lead_of true lead = mark 44
+lead_of false lead = first_lead lead
+
+-- the elements after some others or none, each after what stands before it
+abbrev pub listed_after : Bool → Lead → List Forest → Forest
+listed_after any lead [] = nil
+listed_after any lead (element ∷ elements) =
+    joined (lead_of any lead) (joined element (listed_after true lead elements))
+
+abbrev pub listed : Lead → List Forest → Forest
+listed lead elements = listed_after false lead elements
+
+-- whether there are elements, of these or before them
+abbrev pub any_of : {A : Type 0} → Bool → List A → Bool
+any_of any [] = any
+any_of any (element ∷ elements) = true

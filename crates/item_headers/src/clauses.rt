@@ -1,0 +1,161 @@
+//! Where clauses, with predicates added.
+ghost use Rattle.std.specs.Prelude.{◌≡◌, ◌∷◌, [], IfErr, IfOk, List, OnOk, false, map};
+ghost use Rattle.declarations.specs.Param.{ParamTrees, PredicateTrees, param_trees, predicate_trees};
+ghost use Rattle.item_headers.specs.Fault.{HasNoParams, HasNoPredicates, HasNotBoth, IfFault};
+ghost use Rattle.item_headers.specs.Header.{HasParams, HasPredicates, bounded, bounds_on_types, predicate_in};
+ghost use Rattle.item_headers.specs.Header.{where_with};
+ghost use Rattle.item_headers.specs.Lists.{any_of, listed, listed_after};
+ghost use Rattle.item_headers.specs.declared.lists.Lead.TheVariants as leads;
+ghost use Rattle.proc_macro2.specs.Forest.{Forest, joined};
+ghost use Rattle.proc_macro2.specs.WellSpaced.{IsWellSpaced};
+ghost use Rattle.quoting.specs.Respaced.{respaced};
+
+use crate::errors::HeaderError;
+use crate::lists::{Lead, push_lead, push_mark, push_trees};
+use declarations::{
+    Param, ParamKind, Predicate, TypeItem, after_where, parse_param, parse_predicate,
+    within_generics,
+};
+use proc_macro2::{IdentError, TokenStream, TokenTree};
+use quoting::Quote;
+use std::alloc::{AllocError, Global};
+
+/// The where clause of the item, or nothing where it has no predicates.
+///
+/// Of `struct S<T> where T: A,` it is `where T: A`, and of `struct S<T> where` nothing. A fault tells that the trees in
+/// its place aren't the where clause of an item.
+pub fn where_clause(alloc: Global, item: &TypeItem<'_>) -> Result<TokenStream, HeaderError>
+    ensures ok { IfOk result (λ stream. (predicates : List PredicateTrees)
+        × HasPredicates item.now.where_clause.now predicates × (stream ≡ respaced (where_with predicates []))) }
+    ensures fault { IfErr result (λ error. IfFault error (HasNoPredicates item.now.where_clause.now)) }
+    ensures spaced { IfOk result IsWellSpaced }
+{
+    let mut quote = Quote::new(alloc);
+    push_where(&mut quote, alloc, item.where_clause)?;
+    Ok(quote.finish()?)
+}
+
+/// The where clause of the item, and a predicate more.
+///
+/// Of `struct S<T> where T: A,` and `T: B` it is `where T: A, T: B`; of `struct S<T>` it is `where T: B`. What the
+/// predicate is isn't looked at. It fails as [`where_clause`] does.
+pub fn where_clause_with(
+    alloc: Global,
+    item: &TypeItem<'_>,
+    predicate: &TokenStream,
+) -> Result<TokenStream, HeaderError>
+    ensures ok { IfOk result (λ stream. (predicates : List PredicateTrees)
+        × HasPredicates item.now.where_clause.now predicates
+        × (stream ≡ respaced (where_with predicates (predicate.now ∷ [])))) }
+    ensures fault { IfErr result (λ error. IfFault error (HasNoPredicates item.now.where_clause.now)) }
+    ensures spaced { IfOk result IsWellSpaced }
+{
+    let mut quote = Quote::new(alloc);
+    let any = push_where(&mut quote, alloc, item.where_clause)?;
+    push_lead(&mut quote, alloc, Lead::Where, any)?;
+    let copy = predicate.clone()?;
+    quote.push_stream(copy)?;
+    Ok(quote.finish()?)
+}
+
+/// The where clause of the item, and this bound on each parameter that is a type.
+///
+/// Of `struct S<'a, T, U, const N: usize> where T: A` and `B` it is `where T: A, T: B, U: B`. A fault tells that the
+/// generic parameters or the where clause aren't those of an item. What the bound is isn't looked at.
+pub fn where_clause_with_bound(
+    alloc: Global,
+    item: &TypeItem<'_>,
+    bound: &TokenStream,
+) -> Result<TokenStream, HeaderError>
+    ensures ok { IfOk result (λ stream. (predicates : List PredicateTrees) × (params : List ParamTrees)
+        × HasPredicates item.now.where_clause.now predicates × HasParams item.now.generics.now params
+        × (stream ≡ respaced (where_with predicates (bounds_on_types bound.now params)))) }
+    ensures fault { IfErr result (λ error. IfFault error (HasNotBoth item.now.generics.now item.now.where_clause.now)) }
+    ensures spaced { IfOk result IsWellSpaced }
+{
+    let mut quote = Quote::new(alloc);
+    let any = push_where(&mut quote, alloc, item.where_clause)?;
+    push_bounds(&mut quote, alloc, item.generics, bound, any)?;
+    Ok(quote.finish()?)
+}
+
+// Puts the predicates of a where clause at the end, and answers whether there are any.
+pub(crate) fn push_where(
+    quote: &mut Quote,
+    alloc: Global,
+    where_clause: &[TokenTree],
+) -> Result<bool, HeaderError>
+    ensures ok { IfOk result (λ any. (predicates : List PredicateTrees) × HasPredicates where_clause.now predicates
+        × (quote.new ≡ joined quote.old (listed leads.Where (map predicate_in predicates)))
+        × (any ≡ any_of false predicates)) }
+    ensures fault { IfErr result (λ error. IfFault error (HasNoPredicates where_clause.now)) }
+{
+    let mut left = after_where(where_clause)?;
+    let mut any = false;
+    while !left.is_empty() {
+        let (predicate, rest) = parse_predicate(left)?;
+        push_lead(quote, alloc, Lead::Where, any)?;
+        push_predicate(quote, &predicate)?;
+        any = true;
+        left = rest;
+    }
+    Ok(any)
+}
+
+fn push_predicate(quote: &mut Quote, predicate: &Predicate<'_>) -> Result<(), AllocError>
+    ensures { OnOk result (quote.new ≡ joined quote.old (predicate_in (predicate_trees predicate.now))) }
+{
+    push_trees(quote, predicate.bounded)?;
+    push_mark(quote, ':')?;
+    push_trees(quote, predicate.bounds)?;
+    Ok(())
+}
+
+// Puts the bound on each parameter that is a type at the end, in a where clause that has some predicates or none.
+fn push_bounds(
+    quote: &mut Quote,
+    alloc: Global,
+    generics: &[TokenTree],
+    bound: &TokenStream,
+    any: bool,
+) -> Result<(), HeaderError>
+    ensures ok { OnOk result ((params : List ParamTrees) × HasParams generics.now params
+        × (quote.new ≡ joined quote.old (listed_after any leads.Where (bounds_on_types bound.now params)))) }
+    ensures fault { IfErr result (λ error. IfFault error (HasNoParams generics.now)) }
+{
+    let mut left = within_generics(generics)?;
+    let mut any_now = any;
+    while !left.is_empty() {
+        let (param, rest) = parse_param(left)?;
+        let more = push_bound(quote, alloc, &param, bound, any_now)?;
+        any_now = more;
+        left = rest;
+    }
+    Ok(())
+}
+
+// Puts the bound on a parameter at the end, if it is a type, and answers whether there are any predicates now.
+fn push_bound(
+    quote: &mut Quote,
+    alloc: Global,
+    param: &Param<'_>,
+    bound: &TokenStream,
+    any: bool,
+) -> Result<bool, IdentError>
+    ensures { IfOk result (λ more. (quote.new
+        ≡ joined quote.old (listed_after any leads.Where (bounded bound.now (param_trees param.now) [])))
+        × (more ≡ any_of any (bounded bound.now (param_trees param.now) []))) }
+{
+    match param.kind {
+        ParamKind::Lifetime => Ok(any),
+        ParamKind::Type => {
+            push_lead(quote, alloc, Lead::Where, any)?;
+            push_trees(quote, param.name)?;
+            push_mark(quote, ':')?;
+            let copy = bound.clone()?;
+            quote.push_stream(copy)?;
+            Ok(true)
+        }
+        ParamKind::Const => Ok(any),
+    }
+}

@@ -1,0 +1,83 @@
+//! The front of an `impl`.
+ghost use Rattle.std.specs.Prelude.{◌≡◌, [], IfErr, IfOk, List};
+ghost use Rattle.declarations.specs.Param.{ParamTrees, PredicateTrees};
+ghost use Rattle.item_headers.specs.Fault.{HasNoParams, HasNotBoth, IfFault};
+ghost use Rattle.item_headers.specs.Header.{HasParams, HasPredicates, front, header, where_with};
+ghost use Rattle.proc_macro2.specs.WellSpaced.{IsWellSpaced};
+ghost use Rattle.quoting.specs.Respaced.{respaced};
+
+use crate::clauses::push_where;
+use crate::errors::HeaderError;
+use crate::lists::{Lead, push_word};
+use crate::params::{Form, push_generics};
+use declarations::TypeItem;
+use proc_macro2::{TokenStream, TokenTree};
+use quoting::Quote;
+use std::alloc::Global;
+
+/// The front of an `impl` of a trait for the item's type, up to its braces.
+///
+/// Of `struct S<'a, T: A = B> where T: C { .. }` and the trait `D<T>` it is
+/// `impl<'a, T: A> D<T> for S<'a, T> where T: C`. A fault tells that the generic parameters or the where clause aren't
+/// those of an item. What the trait is isn't looked at.
+pub fn impl_header(
+    alloc: Global,
+    item: &TypeItem<'_>,
+    trait_path: &TokenStream,
+) -> Result<TokenStream, HeaderError>
+    ensures ok { IfOk result (λ stream. (params : List ParamTrees) × (predicates : List PredicateTrees)
+        × HasParams item.now.generics.now params × HasPredicates item.now.where_clause.now predicates
+        × (stream ≡ respaced (header params item.now.name.now trait_path.now (where_with predicates [])))) }
+    ensures fault { IfErr result (λ error. IfFault error (HasNotBoth item.now.generics.now item.now.where_clause.now)) }
+    ensures spaced { IfOk result IsWellSpaced }
+{
+    let mut quote = front(alloc, item, trait_path)?;
+    push_where(&mut quote, alloc, item.where_clause)?;
+    Ok(quote.finish()?)
+}
+
+/// The same with this where clause in the place of the item's, as the calls for where clauses answer it; an empty
+/// stream is no where clause.
+///
+/// Of the same item and `where T: C, T: D<T>` it is `impl<'a, T: A> D<T> for S<'a, T> where T: C, T: D<T>`. A fault
+/// tells that the generic parameters aren't those of an item. What the trait and the clause are isn't looked at.
+pub fn impl_header_where(
+    alloc: Global,
+    item: &TypeItem<'_>,
+    trait_path: &TokenStream,
+    where_clause: &TokenStream,
+) -> Result<TokenStream, HeaderError>
+    ensures ok { IfOk result (λ stream. (params : List ParamTrees) × HasParams item.now.generics.now params
+        × (stream ≡ respaced (header params item.now.name.now trait_path.now where_clause.now))) }
+    ensures fault { IfErr result (λ error. IfFault error (HasNoParams item.now.generics.now)) }
+    ensures spaced { IfOk result IsWellSpaced }
+{
+    let mut quote = front(alloc, item, trait_path)?;
+    let clause = where_clause.clone()?;
+    quote.push_stream(clause)?;
+    Ok(quote.finish()?)
+}
+
+// All before the where clause.
+fn front(alloc: Global, item: &TypeItem<'_>, trait_path: &TokenStream) -> Result<Quote, HeaderError>
+    ensures ok { IfOk result (λ quote. (params : List ParamTrees) × HasParams item.now.generics.now params
+        × (quote ≡ front params item.now.name.now trait_path.now)) }
+    ensures fault { IfErr result (λ error. IfFault error (HasNoParams item.now.generics.now)) }
+{
+    let mut quote = Quote::new(alloc);
+    push_word(&mut quote, alloc, "impl")?;
+    push_generics(
+        &mut quote,
+        alloc,
+        item.generics,
+        Lead::Angle,
+        Form::Declared,
+    )?;
+    let path = trait_path.clone()?;
+    quote.push_stream(path)?;
+    push_word(&mut quote, alloc, "for")?;
+    let name = item.name.clone()?;
+    quote.push(TokenTree::Ident(name))?;
+    push_generics(&mut quote, alloc, item.generics, Lead::Angle, Form::Named)?;
+    Ok(quote)
+}

@@ -1,0 +1,144 @@
+//! Generic parameters, without their defaults or by their names.
+ghost use Rattle.std.specs.Prelude.{◌≡◌, IfErr, IfOk, List, OnOk};
+ghost use Rattle.declarations.specs.Param.{ParamTrees, param_trees};
+ghost use Rattle.item_headers.specs.Fault.{HasNoParams, IfFault};
+ghost use Rattle.item_headers.specs.Header.{HasParams, generics, impl_generics, keyword, param_in, turbofish};
+ghost use Rattle.item_headers.specs.Header.{type_generics};
+ghost use Rattle.item_headers.specs.declared.lists.Lead.TheVariants as leads;
+ghost use Rattle.item_headers.specs.declared.params.Form.TheVariants as forms;
+ghost use Rattle.proc_macro2.specs.Forest.{joined};
+ghost use Rattle.proc_macro2.specs.WellSpaced.{IsWellSpaced};
+ghost use Rattle.quoting.specs.Respaced.{respaced};
+
+use crate::errors::HeaderError;
+use crate::lists::{Lead, push_lead, push_led, push_mark, push_trees, push_word};
+use declarations::{Param, ParamKind, TypeItem, parse_param, within_generics};
+use proc_macro2::{IdentError, TokenStream, TokenTree};
+use quoting::Quote;
+use std::alloc::Global;
+
+/// How a parameter is written.
+#[derive(Clone, Copy)]
+pub(crate) enum Form {
+    /// All but its default.
+    Declared,
+    /// Its name.
+    Named,
+}
+
+/// The generic parameters of an `impl` for the item: its own without their defaults, attributes kept, or nothing where
+/// it has none.
+///
+/// Of `struct S<'a, T: A = B, const N: usize = 3>` they are `<'a, T: A, const N: usize>`. A fault tells that the trees
+/// in their place aren't the generic parameters of an item.
+pub fn impl_generics(alloc: Global, item: &TypeItem<'_>) -> Result<TokenStream, HeaderError>
+    ensures ok { IfOk result (λ stream. (params : List ParamTrees) × HasParams item.now.generics.now params
+        × (stream ≡ respaced (impl_generics params))) }
+    ensures fault { IfErr result (λ error. IfFault error (HasNoParams item.now.generics.now)) }
+    ensures spaced { IfOk result IsWellSpaced }
+{
+    let mut quote = Quote::new(alloc);
+    push_generics(
+        &mut quote,
+        alloc,
+        item.generics,
+        Lead::Angle,
+        Form::Declared,
+    )?;
+    Ok(quote.finish()?)
+}
+
+/// The arguments of the item's type: the names of its parameters in order, or nothing where it has none.
+///
+/// Of `struct S<'a, T: A = B, const N: usize = 3>` they are `<'a, T, N>`. It fails as [`impl_generics`] does.
+pub fn type_generics(alloc: Global, item: &TypeItem<'_>) -> Result<TokenStream, HeaderError>
+    ensures ok { IfOk result (λ stream. (params : List ParamTrees) × HasParams item.now.generics.now params
+        × (stream ≡ respaced (type_generics params))) }
+    ensures fault { IfErr result (λ error. IfFault error (HasNoParams item.now.generics.now)) }
+    ensures spaced { IfOk result IsWellSpaced }
+{
+    let mut quote = Quote::new(alloc);
+    push_generics(&mut quote, alloc, item.generics, Lead::Angle, Form::Named)?;
+    Ok(quote.finish()?)
+}
+
+/// The same as an expression wants them, as `::<'a, T, N>`; nothing where the item has none. It fails as
+/// [`impl_generics`] does.
+pub fn turbofish(alloc: Global, item: &TypeItem<'_>) -> Result<TokenStream, HeaderError>
+    ensures ok { IfOk result (λ stream. (params : List ParamTrees) × HasParams item.now.generics.now params
+        × (stream ≡ respaced (turbofish params))) }
+    ensures fault { IfErr result (λ error. IfFault error (HasNoParams item.now.generics.now)) }
+    ensures spaced { IfOk result IsWellSpaced }
+{
+    let mut quote = Quote::new(alloc);
+    push_generics(
+        &mut quote,
+        alloc,
+        item.generics,
+        Lead::Turbofish,
+        Form::Named,
+    )?;
+    Ok(quote.finish()?)
+}
+
+// Puts the parameters at the end, in brackets.
+pub(crate) fn push_generics(
+    quote: &mut Quote,
+    alloc: Global,
+    trees: &[TokenTree],
+    lead: Lead,
+    form: Form,
+) -> Result<(), HeaderError>
+    ensures ok { OnOk result ((params : List ParamTrees) × HasParams trees.now params
+        × (quote.new ≡ joined quote.old (generics lead form params))) }
+    ensures fault { IfErr result (λ error. IfFault error (HasNoParams trees.now)) }
+{
+    let mut left = within_generics(trees)?;
+    let mut any = false;
+    while !left.is_empty() {
+        let (param, rest) = parse_param(left)?;
+        push_lead(quote, alloc, lead, any)?;
+        push_param(quote, alloc, &param, form)?;
+        any = true;
+        left = rest;
+    }
+    if any {
+        return Ok(push_mark(quote, '>')?);
+    }
+    Ok(())
+}
+
+fn push_param(
+    quote: &mut Quote,
+    alloc: Global,
+    param: &Param<'_>,
+    form: Form,
+) -> Result<(), IdentError>
+    ensures { OnOk result (quote.new ≡ joined quote.old (param_in form (param_trees param.now))) }
+{
+    match form {
+        Form::Declared => push_declared(quote, alloc, param),
+        Form::Named => Ok(push_trees(quote, param.name)?),
+    }
+}
+
+// Puts all of a parameter but its default at the end.
+fn push_declared(quote: &mut Quote, alloc: Global, param: &Param<'_>) -> Result<(), IdentError>
+    ensures { OnOk result (quote.new ≡ joined quote.old (param_in forms.Declared (param_trees param.now))) }
+{
+    push_trees(quote, param.attributes)?;
+    push_keyword(quote, alloc, param.kind)?;
+    push_trees(quote, param.name)?;
+    Ok(push_led(quote, param.bounds)?)
+}
+
+// Puts the keyword of a parameter at the end, if it has one.
+fn push_keyword(quote: &mut Quote, alloc: Global, kind: ParamKind) -> Result<(), IdentError>
+    ensures { OnOk result (quote.new ≡ joined quote.old (keyword kind)) }
+{
+    match kind {
+        ParamKind::Lifetime => Ok(()),
+        ParamKind::Type => Ok(()),
+        ParamKind::Const => push_word(quote, alloc, "const"),
+    }
+}

@@ -1,0 +1,59 @@
+// Made from crates/item_headers/src/errors.rt by rust/erase: change that file, not this one.
+//! Why nothing is written.
+
+use crate::declarations::Fault;
+use crate::proc_macro2::IdentError;
+use crate::quoting::QuoteError;
+use crate::shim::alloc::AllocError;
+use crate::shim::error::Error;
+use crate::shim::fmt;
+
+/// Why nothing is written.
+#[derive(Debug)]
+pub enum HeaderError {
+    /// The generic parameters or the where clause aren't as the grammar has them. The trees are counted from the
+    /// parameter or the predicate that doesn't fit, and from the front of all where the brackets or the `where` don't.
+    Fault(Fault),
+    /// A keyword or a mark couldn't be put in; for those that are written that is so where memory ran out.
+    Keyword(IdentError),
+    /// No printed text shows what was put together, or memory ran out.
+    Quote(QuoteError),
+}
+
+impl fmt::Display for HeaderError {
+    fn fmt<W: fmt::Write>(&self, f: &mut fmt::Formatter<W>) -> fmt::Result {
+        match self {
+            HeaderError::Fault(fault) => fault.fmt(f),
+            HeaderError::Keyword(error) => error.fmt(f),
+            HeaderError::Quote(error) => error.fmt(f),
+        }
+    }
+}
+
+crate::shim::display!(HeaderError);
+
+impl Error for HeaderError {}
+
+impl From<Fault> for HeaderError {
+    fn from(fault: Fault) -> HeaderError {
+        HeaderError::Fault(fault)
+    }
+}
+
+impl From<IdentError> for HeaderError {
+    fn from(error: IdentError) -> HeaderError {
+        HeaderError::Keyword(error)
+    }
+}
+
+impl From<QuoteError> for HeaderError {
+    fn from(error: QuoteError) -> HeaderError {
+        HeaderError::Quote(error)
+    }
+}
+
+impl From<AllocError> for HeaderError {
+    fn from(error: AllocError) -> HeaderError {
+        HeaderError::Quote(QuoteError::Memory(error))
+    }
+}

@@ -1,0 +1,68 @@
+// Made from crates/item_headers/src/header.rt by rust/erase: change that file, not this one.
+//! The front of an `impl`.
+
+use crate::shim::prelude::Clone;
+
+use crate::item_headers::clauses::push_where;
+use crate::item_headers::errors::HeaderError;
+use crate::item_headers::lists::{Lead, push_word};
+use crate::item_headers::params::{Form, push_generics};
+use crate::declarations::TypeItem;
+use crate::proc_macro2::{TokenStream, TokenTree};
+use crate::quoting::Quote;
+use crate::shim::alloc::Global;
+
+/// The front of an `impl` of a trait for the item's type, up to its braces.
+///
+/// Of `struct S<'a, T: A = B> where T: C { .. }` and the trait `D<T>` it is
+/// `impl<'a, T: A> D<T> for S<'a, T> where T: C`. A fault tells that the generic parameters or the where clause aren't
+/// those of an item. What the trait is isn't looked at.
+pub fn impl_header(
+    alloc: Global,
+    item: &TypeItem<'_>,
+    trait_path: &TokenStream,
+) -> Result<TokenStream, HeaderError>
+{
+    let mut quote = front(alloc, item, trait_path)?;
+    push_where(&mut quote, alloc, item.where_clause)?;
+    Ok(quote.finish()?)
+}
+
+/// The same with this where clause in the place of the item's, as the calls for where clauses answer it; an empty
+/// stream is no where clause.
+///
+/// Of the same item and `where T: C, T: D<T>` it is `impl<'a, T: A> D<T> for S<'a, T> where T: C, T: D<T>`. A fault
+/// tells that the generic parameters aren't those of an item. What the trait and the clause are isn't looked at.
+pub fn impl_header_where(
+    alloc: Global,
+    item: &TypeItem<'_>,
+    trait_path: &TokenStream,
+    where_clause: &TokenStream,
+) -> Result<TokenStream, HeaderError>
+{
+    let mut quote = front(alloc, item, trait_path)?;
+    let clause = where_clause.clone()?;
+    quote.push_stream(clause)?;
+    Ok(quote.finish()?)
+}
+
+// All before the where clause.
+fn front(alloc: Global, item: &TypeItem<'_>, trait_path: &TokenStream) -> Result<Quote, HeaderError>
+{
+    let mut quote = Quote::new(alloc);
+    push_word(&mut quote, alloc, "impl")?;
+    push_generics(
+        &mut quote,
+        alloc,
+        item.generics,
+        Lead::Angle,
+        Form::Declared,
+    )?;
+    let path = trait_path.clone()?;
+    quote.push_stream(path)?;
+    push_word(&mut quote, alloc, "for")?;
+    let name = item.name.clone()?;
+    quote.push(TokenTree::Ident(name))?;
+    push_generics(&mut quote, alloc, item.generics, Lead::Angle, Form::Named)?;
+    Ok(quote)
+}

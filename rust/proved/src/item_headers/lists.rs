@@ -1,0 +1,94 @@
+// Made from crates/item_headers/src/lists.rt by rust/erase: change that file, not this one.
+//! Words, marks and trees put into a quote, and what stands before each element of a list.
+
+use crate::shim::prelude::Clone;
+
+use crate::proc_macro2::{Ident, IdentError, Punct, Spacing, Span, TokenTree};
+use crate::quoting::Quote;
+use crate::shim::alloc::{AllocError, Global};
+
+/// What stands before the first element of a list.
+#[derive(Clone, Copy)]
+pub(crate) enum Lead {
+    /// `<`
+    Angle,
+    /// `::<`
+    Turbofish,
+    /// `where`
+    Where,
+}
+
+// Puts a mark that is Alone at the end.
+pub(crate) fn push_mark(quote: &mut Quote, character: char) -> Result<(), AllocError>
+{
+    quote.push(TokenTree::Punct(Punct::new(character, Spacing::Alone)))
+}
+
+// Puts a word at the end.
+pub(crate) fn push_word(quote: &mut Quote, alloc: Global, name: &str) -> Result<(), IdentError>
+{
+    let ident = Ident::new(alloc, name, Span::call_site())?;
+    quote.push(TokenTree::Ident(ident))?;
+    Ok(())
+}
+
+// Puts copies of these trees at the end.
+pub(crate) fn push_trees(quote: &mut Quote, trees: &[TokenTree]) -> Result<(), AllocError>
+{
+    let mut left = trees;
+    while let Some((tree, rest)) = left.split_first() {
+        let copy = tree.clone()?;
+        quote.push(copy)?;
+        left = rest;
+    }
+    Ok(())
+}
+
+// Puts `:` and copies of these trees at the end, if there are any.
+pub(crate) fn push_led(quote: &mut Quote, trees: &[TokenTree]) -> Result<(), AllocError>
+{
+    if trees.is_empty() {
+        return Ok(());
+    }
+    push_mark(quote, ':')?;
+    push_trees(quote, trees)?;
+    Ok(())
+}
+
+// Puts what stands before an element at the end: the first, or one after others.
+pub(crate) fn push_lead(
+    quote: &mut Quote,
+    alloc: Global,
+    lead: Lead,
+    any: bool,
+) -> Result<(), IdentError>
+{
+    if any {
+        return Ok(push_mark(quote, ',')?);
+    }
+    push_first_lead(quote, alloc, lead)
+}
+
+fn push_first_lead(quote: &mut Quote, alloc: Global, lead: Lead) -> Result<(), IdentError>
+{
+    match lead {
+        Lead::Angle => Ok(push_mark(quote, '<')?),
+        Lead::Turbofish => Ok(push_turbofish(quote)?),
+        Lead::Where => push_word(quote, alloc, "where"),
+    }
+}
+
+// Puts `::<` at the end.
+fn push_turbofish(quote: &mut Quote) -> Result<(), AllocError>
+{
+    push_joint_colon(quote)?;
+    push_mark(quote, ':')?;
+    push_mark(quote, '<')?;
+    Ok(())
+}
+
+// Puts a `:` that is Joint at the end.
+fn push_joint_colon(quote: &mut Quote) -> Result<(), AllocError>
+{
+    quote.push(TokenTree::Punct(Punct::new(':', Spacing::Joint)))
+}

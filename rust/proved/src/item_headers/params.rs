@@ -1,0 +1,117 @@
+// Made from crates/item_headers/src/params.rt by rust/erase: change that file, not this one.
+//! Generic parameters, without their defaults or by their names.
+
+use crate::item_headers::errors::HeaderError;
+use crate::item_headers::lists::{Lead, push_lead, push_led, push_mark, push_trees, push_word};
+use crate::declarations::{Param, ParamKind, TypeItem, parse_param, within_generics};
+use crate::proc_macro2::{IdentError, TokenStream, TokenTree};
+use crate::quoting::Quote;
+use crate::shim::alloc::Global;
+
+/// How a parameter is written.
+#[derive(Clone, Copy)]
+pub(crate) enum Form {
+    /// All but its default.
+    Declared,
+    /// Its name.
+    Named,
+}
+
+/// The generic parameters of an `impl` for the item: its own without their defaults, attributes kept, or nothing where
+/// it has none.
+///
+/// Of `struct S<'a, T: A = B, const N: usize = 3>` they are `<'a, T: A, const N: usize>`. A fault tells that the trees
+/// in their place aren't the generic parameters of an item.
+pub fn impl_generics(alloc: Global, item: &TypeItem<'_>) -> Result<TokenStream, HeaderError>
+{
+    let mut quote = Quote::new(alloc);
+    push_generics(
+        &mut quote,
+        alloc,
+        item.generics,
+        Lead::Angle,
+        Form::Declared,
+    )?;
+    Ok(quote.finish()?)
+}
+
+/// The arguments of the item's type: the names of its parameters in order, or nothing where it has none.
+///
+/// Of `struct S<'a, T: A = B, const N: usize = 3>` they are `<'a, T, N>`. It fails as [`impl_generics`] does.
+pub fn type_generics(alloc: Global, item: &TypeItem<'_>) -> Result<TokenStream, HeaderError>
+{
+    let mut quote = Quote::new(alloc);
+    push_generics(&mut quote, alloc, item.generics, Lead::Angle, Form::Named)?;
+    Ok(quote.finish()?)
+}
+
+/// The same as an expression wants them, as `::<'a, T, N>`; nothing where the item has none. It fails as
+/// [`impl_generics`] does.
+pub fn turbofish(alloc: Global, item: &TypeItem<'_>) -> Result<TokenStream, HeaderError>
+{
+    let mut quote = Quote::new(alloc);
+    push_generics(
+        &mut quote,
+        alloc,
+        item.generics,
+        Lead::Turbofish,
+        Form::Named,
+    )?;
+    Ok(quote.finish()?)
+}
+
+// Puts the parameters at the end, in brackets.
+pub(crate) fn push_generics(
+    quote: &mut Quote,
+    alloc: Global,
+    trees: &[TokenTree],
+    lead: Lead,
+    form: Form,
+) -> Result<(), HeaderError>
+{
+    let mut left = within_generics(trees)?;
+    let mut any = false;
+    while !left.is_empty() {
+        let (param, rest) = parse_param(left)?;
+        push_lead(quote, alloc, lead, any)?;
+        push_param(quote, alloc, &param, form)?;
+        any = true;
+        left = rest;
+    }
+    if any {
+        return Ok(push_mark(quote, '>')?);
+    }
+    Ok(())
+}
+
+fn push_param(
+    quote: &mut Quote,
+    alloc: Global,
+    param: &Param<'_>,
+    form: Form,
+) -> Result<(), IdentError>
+{
+    match form {
+        Form::Declared => push_declared(quote, alloc, param),
+        Form::Named => Ok(push_trees(quote, param.name)?),
+    }
+}
+
+// Puts all of a parameter but its default at the end.
+fn push_declared(quote: &mut Quote, alloc: Global, param: &Param<'_>) -> Result<(), IdentError>
+{
+    push_trees(quote, param.attributes)?;
+    push_keyword(quote, alloc, param.kind)?;
+    push_trees(quote, param.name)?;
+    Ok(push_led(quote, param.bounds)?)
+}
+
+// Puts the keyword of a parameter at the end, if it has one.
+fn push_keyword(quote: &mut Quote, alloc: Global, kind: ParamKind) -> Result<(), IdentError>
+{
+    match kind {
+        ParamKind::Lifetime => Ok(()),
+        ParamKind::Type => Ok(()),
+        ParamKind::Const => push_word(quote, alloc, "const"),
+    }
+}

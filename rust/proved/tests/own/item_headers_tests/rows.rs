@@ -1,0 +1,237 @@
+// Made from crates/item_headers_tests/src/rows.rt by rust/erase: change that file, not this one.
+
+use crate::shim::prelude::{AllocGlobal, HostRuntime, String, format};
+
+// Items, and what is written for them, as it is printed. What is printed is read again.
+use proved::declarations::{ItemKind, TypeItem, parse_item, parse_type_item, split_expression};
+use proved::item_headers::{
+    HeaderError, impl_generics, impl_header, impl_header_where, turbofish, type_generics,
+    where_clause, where_clause_with, where_clause_with_bound,
+};
+use proved::proc_macro2::{Delimiter, Group, SourceMap, TokenStream, TokenTree};
+use proved::quoting::QuoteError;
+use crate::shim::alloc::{AllocError, Global};
+use crate::shim::process::Abort;
+use crate::shim::test::Fail;
+
+/// An item, and what is printed of it for the trait `Z<'b>`, the predicate `X: Y` and the bound `Z<'b>`. A header is
+/// the front and a where clause.
+#[derive(Clone, Copy)]
+struct Row {
+    item: &'static str,
+    impl_generics: &'static str,
+    type_generics: &'static str,
+    turbofish: &'static str,
+    where_clause: &'static str,
+    with: &'static str,
+    bound: &'static str,
+    front: &'static str,
+}
+
+const ROWS: &[Row] = &[
+    Row {
+        item: "struct S;",
+        impl_generics: "",
+        type_generics: "",
+        turbofish: "",
+        where_clause: "",
+        with: "where X : Y",
+        bound: "",
+        front: "impl Z <'b > for S",
+    },
+    Row {
+        item: "struct S<>() where;",
+        impl_generics: "",
+        type_generics: "",
+        turbofish: "",
+        where_clause: "",
+        with: "where X : Y",
+        bound: "",
+        front: "impl Z <'b > for S",
+    },
+    // Defaults and the last commas are left out.
+    Row {
+        item: "struct S<'a, T: A<B>= C, const N: usize = { 3 }, U,> where T: D, { t: T }",
+        impl_generics: "< 'a , T : A < B >, const N : usize , U >",
+        type_generics: "< 'a , T , N , U >",
+        turbofish: ":: < 'a , T , N , U >",
+        where_clause: "where T : D",
+        with: "where T : D , X : Y",
+        bound: "where T : D , T : Z <'b > , U : Z <'b >",
+        front: "impl < 'a , T : A < B >, const N : usize , U > Z <'b > for S < 'a , T , N , U >",
+    },
+    // The where clause of a tuple struct stands after its fields.
+    Row {
+        item: "pub struct W<T = u8, const B: bool = true>(pub T, [T; 2]) where T: Copy + 'static, [T; 2]:;",
+        impl_generics: "< T , const B : bool >",
+        type_generics: "< T , B >",
+        turbofish: ":: < T , B >",
+        where_clause: "where T : Copy + 'static , [T ; 2] :",
+        with: "where T : Copy + 'static , [T ; 2] : , X : Y",
+        bound: "where T : Copy + 'static , [T ; 2] : , T : Z <'b >",
+        front: "impl < T , const B : bool > Z <'b > for W < T , B >",
+    },
+    // Attributes are kept.
+    Row {
+        item: "enum E<#[a] 'a: 'b + 'c, 'b, r#fn> { A(&'a r#fn) }",
+        impl_generics: "< # [a] 'a : 'b + 'c , 'b , r#fn >",
+        type_generics: "< 'a , 'b , r#fn >",
+        turbofish: ":: < 'a , 'b , r#fn >",
+        where_clause: "",
+        with: "where X : Y",
+        bound: "where r#fn : Z <'b >",
+        front: "impl < # [a] 'a : 'b + 'c , 'b , r#fn > Z <'b > for E < 'a , 'b , r#fn >",
+    },
+    Row {
+        item: "union U<T: for<'a> Fn(&'a u8) -> Vec<T>> where for<'b> [T; { 1 }]: A + 'b, Vec<T>: B<C, D> {}",
+        impl_generics: "< T : for <'a > Fn (&'a u8) -> Vec < T >>",
+        type_generics: "< T >",
+        turbofish: ":: < T >",
+        where_clause: "where for <'b > [T ; { 1 }] : A + 'b , Vec < T >: B < C , D >",
+        with: "where for <'b > [T ; { 1 }] : A + 'b , Vec < T >: B < C , D > , X : Y",
+        bound: "where for <'b > [T ; { 1 }] : A + 'b , Vec < T >: B < C , D > , T : Z <'b >",
+        front: "impl < T : for <'a > Fn (&'a u8) -> Vec < T >> Z <'b > for U < T >",
+    },
+];
+
+fn check_printed(
+    rt: &(impl Abort + AllocGlobal),
+    row: Row,
+    found: Result<TokenStream, HeaderError>,
+    wanted: &str,
+) -> Result<(), Fail> {
+    let stream = found?;
+    let text = format!(in rt.alloc(); "{stream}")?;
+    assert!(text.as_str() == wanted, "of {:?}: {text:?}", row.item);
+    Ok(())
+}
+
+fn header_text(alloc: Global, row: Row, clause: &str) -> Result<String, AllocError> {
+    if clause.is_empty() {
+        return format!(in alloc; "{}", row.front);
+    }
+    format!(in alloc; "{} {clause}", row.front)
+}
+
+fn check_parts(rt: &(impl Abort + AllocGlobal), row: Row, item: &TypeItem<'_>) -> Result<(), Fail> {
+    let alloc = rt.alloc();
+    check_printed(rt, row, impl_generics(alloc, item), row.impl_generics)?;
+    check_printed(rt, row, type_generics(alloc, item), row.type_generics)?;
+    check_printed(rt, row, turbofish(alloc, item), row.turbofish)?;
+    check_printed(rt, row, where_clause(alloc, item), row.where_clause)
+}
+
+fn check_bounds(
+    rt: &(impl Abort + AllocGlobal),
+    row: Row,
+    item: &TypeItem<'_>,
+    path: &TokenStream,
+) -> Result<(), Fail> {
+    let alloc = rt.alloc();
+    let wanted = header_text(alloc, row, row.where_clause)?;
+    check_printed(rt, row, impl_header(alloc, item, path), &wanted)?;
+    let clause = where_clause_with_bound(alloc, item, path)?;
+    let wanted = header_text(alloc, row, row.bound)?;
+    check_printed(
+        rt,
+        row,
+        impl_header_where(alloc, item, path, &clause),
+        &wanted,
+    )?;
+    check_printed(rt, row, Ok(clause), row.bound)
+}
+
+#[test]
+fn an_impl_has_the_parameters_of_its_type() -> Result<(), Fail> {
+    let rt = HostRuntime;
+    let alloc = rt.alloc();
+    let mut map = SourceMap::new(alloc);
+    let predicate = TokenStream::from_str("X: Y", &mut map)?;
+    let path = TokenStream::from_str("Z<'b>", &mut map)?;
+    for row in ROWS {
+        let stream = TokenStream::from_str(row.item, &mut map)?;
+        let item = parse_type_item(stream.trees())?;
+        check_parts(&rt, *row, &item)?;
+        check_printed(
+            &rt,
+            *row,
+            where_clause_with(alloc, &item, &predicate),
+            row.with,
+        )?;
+        check_bounds(&rt, *row, &item, &path)?;
+    }
+    Ok(())
+}
+
+// Of an item with the parameters and the where clause that are written the same is written again.
+fn check_written_again(rt: &(impl Abort + AllocGlobal), row: Row) -> Result<(), Fail> {
+    let text = format!(in rt.alloc(); "enum E {} {} {{}}", row.impl_generics, row.where_clause)?;
+    let stream = TokenStream::from_str(&text, &mut SourceMap::new(rt.alloc()))?;
+    let item = parse_type_item(stream.trees())?;
+    check_parts(rt, row, &item)
+}
+
+// With braces a header is one `impl`.
+fn check_impl(rt: &(impl Abort + AllocGlobal), row: Row, clause: &str) -> Result<(), Fail> {
+    let header = header_text(rt.alloc(), row, clause)?;
+    let text = format!(in rt.alloc(); "{header} {{}}")?;
+    let stream = TokenStream::from_str(&text, &mut SourceMap::new(rt.alloc()))?;
+    let item = parse_item(stream.trees())?;
+    assert!(item.kind == ItemKind::Impl && item.body().is_some(),
+        "{text}"
+    );
+    Ok(())
+}
+
+fn check_expression(rt: &(impl Abort + AllocGlobal), row: Row) -> Result<(), Fail> {
+    let text = format!(in rt.alloc(); "S {}::new()", row.turbofish)?;
+    let stream = TokenStream::from_str(&text, &mut SourceMap::new(rt.alloc()))?;
+    let (_, rest) = split_expression(stream.trees())?;
+    assert!(rest.is_empty(), "{text:?} is no expression");
+    Ok(())
+}
+
+#[test]
+fn what_is_written_is_read_as_it_was_meant() -> Result<(), Fail> {
+    let rt = HostRuntime;
+    for row in ROWS {
+        check_written_again(&rt, *row)?;
+        check_impl(&rt, *row, row.where_clause)?;
+        check_impl(&rt, *row, row.bound)?;
+        check_expression(&rt, *row)?;
+    }
+    Ok(())
+}
+
+#[test]
+fn parts_that_are_no_parameters_are_a_fault() -> Result<(), Fail> {
+    let rt = HostRuntime;
+    let alloc = rt.alloc();
+    let stream = TokenStream::from_str("struct S<T>(T) where T: A;", &mut SourceMap::new(alloc))?;
+    let mut item = parse_type_item(stream.trees())?;
+    item.generics = item.where_clause;
+    assert!(matches!(impl_generics(alloc, &item), Err(HeaderError::Fault(_))),
+        "no brackets"
+    );
+    let text = TokenStream::from_str("where T", &mut SourceMap::new(alloc))?;
+    item.where_clause = text.trees();
+    assert!(matches!(where_clause(alloc, &item), Err(HeaderError::Fault(_))),
+        "no bounds"
+    );
+    Ok(())
+}
+
+#[test]
+fn a_group_without_delimiters_has_no_printed_text() -> Result<(), Fail> {
+    let rt = HostRuntime;
+    let alloc = rt.alloc();
+    let stream = TokenStream::from_str("struct S;", &mut SourceMap::new(alloc))?;
+    let item = parse_type_item(stream.trees())?;
+    let group = Group::new(Delimiter::None, TokenStream::new(alloc));
+    let path = TokenStream::from_tree(alloc, TokenTree::Group(group))?;
+    let found = impl_header(alloc, &item, &path);
+    assert!(matches!(found, Err(HeaderError::Quote(QuoteError::NoneGroup))),
+        "a path in a group"
+    );
+    Ok(())
+}
