@@ -226,7 +226,8 @@ if has proc-macro2-1 && has unicode-ident-1; then
     told() {
         local example=$1
         shift
-        ! in_copy "example/$example" test --offline --quiet --features wrong --test wrong > "$room/seen" 2>&1 || return 1
+        local build=(test --offline --quiet --features wrong --test wrong)
+        ! in_copy "example/$example" "${build[@]}" > "$room/seen" 2>&1 || return 1
         while [ $# -gt 0 ]; do
             if ! grep -A 1 "^error: $1" "$room/seen" | grep -q -- "--> wrong/$example.rs:$2$"; then
                 cat "$room/seen"

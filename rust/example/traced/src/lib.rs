@@ -1,5 +1,5 @@
-//! An attribute that wraps a function's body, over `proved-bridge`, which needs neither syn nor quote. What the function
-//! is comes from the proved `parse_item`; all of its tokens but the braces stay as they are.
+//! An attribute that wraps a function's body, over `proved-bridge`, which needs neither syn nor quote. What the
+//! function is comes from the proved `parse_item`; all of its tokens but the braces stay as they are.
 use proved_bridge::proved::declarations::{compile_error, parse_item, AnyItem, Fault, ItemKind};
 use proved_bridge::proved::proc_macro2::{Delimiter, Group, Ident, Literal, SourceMap, Span, TokenStream, TokenTree};
 use proved_bridge::proved::quoting::{Hole, Quote};

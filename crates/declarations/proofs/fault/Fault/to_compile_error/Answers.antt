@@ -13,4 +13,5 @@ returns-in-Some c =
 pub returns-in-None : goal.returns-in-None
 returns-in-None c =
     rw c.in-None.is (subst (λ text. IfOk c.compile_error-in-None.result (λ stream. stream
-    ≡ forest (compile_error text nowhere))) early_chars (rw c.call_site.ensures.value at c.compile_error-in-None.ensures))
+    ≡ forest (compile_error text nowhere))) early_chars
+    (rw c.call_site.ensures.value at c.compile_error-in-None.ensures))
