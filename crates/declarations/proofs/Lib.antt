@@ -14,3 +14,4 @@ pub mod FileLemmas
 pub mod ParamLemmas
 pub mod AttributeLemmas
 pub mod ListLemmas
+pub mod CompileErrorLemmas

@@ -18,3 +18,4 @@ pub mod File
 pub mod Param
 pub mod Attribute
 pub mod List
+pub mod CompileError

@@ -23,6 +23,7 @@ mod header;
 mod item;
 mod keyword;
 mod list;
+mod message;
 mod parts;
 mod place;
 mod signs;
@@ -42,6 +43,7 @@ pub use generics::{
 pub use item::{Body, Fields, TypeItem, parse_type_item};
 pub use keyword::is_keyword;
 pub use list::{FieldList, VariantList};
+pub use message::compile_error;
 pub use parts::{
     split_attributes, split_bounds, split_expression, split_field, split_fields, split_generics,
     split_inner_attributes, split_item, split_tuple_field, split_tuple_fields, split_type,

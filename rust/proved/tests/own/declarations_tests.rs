@@ -6,6 +6,8 @@ mod any_items;
 #[cfg(test)]
 mod attributes;
 #[cfg(test)]
+mod compile_errors;
+#[cfg(test)]
 mod files;
 #[cfg(test)]
 mod generics;

@@ -1,0 +1,33 @@
+-- The call of `compile_error!` that tells a fault.
+use Rattle.std.specs.Prelude.{ℕ, List, [], ◌∷◌, Option, Some, None, codes, false}
+use Rattle.pm_span.specs.Extent.{Extent, nowhere}
+use Rattle.pm_token.specs.Escaped.{string_text}
+use Rattle.pm_token.specs.declared.delimiters.Delimiter.TheVariants.{Brace}
+use Rattle.pm_token.specs.declared.marks.Spacing.{Spacing}
+use Rattle.pm_token.specs.declared.marks.Spacing.TheVariants.{Joint, Alone}
+use Rattle.pm_stream.specs.Trees.{forest}
+use Rattle.pm_stream.specs.declared.stream.TokenTree.{TokenTree}
+use Rattle.pm_stream.specs.declared.stream.TokenTree.TheVariants.{Group, Ident, Punct, Literal}
+
+-- where a fault is told: at its tree, or at no place where more trees are missing
+abbrev pub told_at : Option Extent → Extent
+told_at None = nowhere
+told_at (Some extent) = extent
+
+-- `:` (58) and `!` (33), and an identifier
+abbrev pub mark : ℕ → Spacing → Extent → TokenTree
+mark character spacing span = Punct (record { mark = character; spacing = spacing; span = span })
+
+abbrev pub word : List ℕ → Extent → TokenTree
+word text span = Ident (record { name = text; raw = false; span = span })
+
+-- the braces of these trees
+abbrev pub braces : List TokenTree → Extent → TokenTree
+braces trees span = Group (record { delimiter = Brace; stream = forest trees; span = span })
+
+-- `::core::compile_error! { "text" }`, each tree with this span
+abbrev pub compile_error : List ℕ → Extent → List TokenTree
+compile_error text span =
+    mark 58 Joint span ∷ mark 58 Alone span ∷ word (codes "core") span ∷ mark 58 Joint span ∷ mark 58 Alone span
+    ∷ word (codes "compile_error") span ∷ mark 33 Alone span
+    ∷ braces (Literal (record { text = string_text text; span = span }) ∷ []) span ∷ []

@@ -1,0 +1,55 @@
+//! How a fault is told to the compiler.
+ghost use Rattle.std.specs.Prelude.{◌≡◌, IfOk};
+ghost use Rattle.std.specs.Str.{chars};
+ghost use Rattle.pm_stream.specs.Trees.{forest};
+ghost use Rattle.declarations.specs.CompileError.{compile_error, told_at};
+ghost use Rattle.declarations.specs.Fault.{fault_text};
+
+use crate::fault::Fault;
+use pm_span::Span;
+use pm_stream::{Group, TokenStream, TokenTree};
+use pm_token::parts::{ident, punct, string_literal};
+use pm_token::{Delimiter, Spacing};
+use std::alloc::{AllocError, Global};
+
+impl Fault {
+    /// The code that makes the compiler tell the fault: `::core::compile_error! { "not expected here" }`.
+    ///
+    /// The text is that of Display. Each tree has the fault's span, which where more trees are missing is the call
+    /// site. Fails where memory runs out.
+    pub fn to_compile_error(&self, alloc: Global) -> Result<TokenStream, AllocError>
+        ensures { IfOk result (λ stream.
+            stream ≡ forest (compile_error (fault_text self.now.span) (told_at self.now.span))) }
+    {
+        match self.span {
+            Some(span) => compile_error(alloc, "not expected here", span),
+            None => compile_error(alloc, "the declaration ends too early", Span::call_site()),
+        }
+    }
+}
+
+/// The code that makes the compiler tell this text: `::core::compile_error! { "text" }`, each tree with this span.
+///
+/// So a macro refuses what it can't use at the token that is wrong. Fails where memory runs out.
+pub fn compile_error(alloc: Global, text: &str, span: Span) -> Result<TokenStream, AllocError>
+    ensures { IfOk result (λ stream. stream ≡ forest (compile_error (chars text.now) span)) }
+{
+    let core = ident(alloc, "core", false, span)?;
+    let name = ident(alloc, "compile_error", false, span)?;
+    let text = TokenTree::Literal(string_literal(alloc, text, span)?);
+    let mut braces = Group::new(Delimiter::Brace, TokenStream::from_tree(alloc, text)?);
+    braces.set_span(span);
+    TokenStream::from_trees(
+        alloc,
+        [
+            TokenTree::Punct(punct(':', Spacing::Joint, span)),
+            TokenTree::Punct(punct(':', Spacing::Alone, span)),
+            TokenTree::Ident(core),
+            TokenTree::Punct(punct(':', Spacing::Joint, span)),
+            TokenTree::Punct(punct(':', Spacing::Alone, span)),
+            TokenTree::Ident(name),
+            TokenTree::Punct(punct('!', Spacing::Alone, span)),
+            TokenTree::Group(braces),
+        ],
+    )
+}
