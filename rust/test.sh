@@ -219,15 +219,16 @@ END
 
 if has proc-macro2-1 && has unicode-ident-1; then
     try "the bridge over the public crate" bridge test --offline --quiet --all-features
-    # A derive over the bridge: its own test, and the line and column at which it tells a fault.
+    # A derive over the bridge: its own test, and the lines and columns at which it tells faults.
     told() {
         ! in_copy example/names test --offline --quiet --features wrong --test wrong > "$room/seen" 2>&1 || return 1
-        grep -A 1 '^error: a variant has a name alone' "$room/seen" | grep -q -- '--> wrong/names.rs:7:10$' && return
+        grep -A 1 '^error: a variant has a name alone' "$room/seen" | grep -q -- '--> wrong/names.rs:7:10$' &&
+            grep -A 1 '^error: a name is a literal' "$room/seen" | grep -q -- '--> wrong/names.rs:12:6$' && return
         cat "$room/seen"
         return 1
     }
     try "the example of a derive over the bridge and the public crate" in_copy example/names test --offline --quiet
-    try "its error stands at its user's token" told
+    try "its errors stand at its user's tokens" told
 else
     skip "the bridge over the public crate, and its example: no proc-macro2 or unicode-ident"
 fi

@@ -1,6 +1,9 @@
-//! A derive over `proved-bridge`, which needs neither syn nor quote: templates come from the proved functions, over
-//! whichever `proc-macro2` the project has.
-use proved_bridge::proved::proc_macro2::{Delimiter, Literal, SourceMap, Span, TokenStream, TokenTree};
+//! A derive over `proved-bridge`, which needs neither syn nor quote: the parts of the item and templates come from the
+//! proved functions, over whichever `proc-macro2` the project has.
+use proved_bridge::proved::declarations::{
+    compile_error, parse_type_item, AttributeArgs, Attributes, Body, Fault, Fields, Variant, VariantList,
+};
+use proved_bridge::proved::proc_macro2::{Group, Literal, SourceMap, Span, TokenStream, TokenTree};
 use proved_bridge::proved::quoting::{Hole, Quote};
 use proved_bridge::proved::shim::alloc::Global;
 use proved_bridge::proved::shim::clone::Clone as _;
@@ -14,11 +17,24 @@ const CODE: &str = "
         }
     }";
 
-/// What is wrong with an item, and where.
-type Fault = (&'static str, Span);
+/// The code that tells what is wrong with an item, where it is wrong.
+struct Refusal(TokenStream);
 
-/// Gives an enum the function `name`, which answers the name of a value's variant. No variant has fields.
-#[proc_macro_derive(Names)]
+impl From<Fault> for Refusal {
+    fn from(fault: Fault) -> Refusal {
+        let Ok(told) = fault.to_compile_error(Global);
+        Refusal(told)
+    }
+}
+
+fn refused<T>(what: &str, span: Span) -> Result<T, Refusal> {
+    let Ok(told) = compile_error(Global, what, span);
+    Err(Refusal(told))
+}
+
+/// Gives an enum the function `name`, which answers the name of a value's variant, or the text of its attribute
+/// `#[name = "text"]`. No variant has fields.
+#[proc_macro_derive(Names, attributes(name))]
 pub fn derive_names(item: proc_macro::TokenStream) -> proc_macro::TokenStream {
     let mut spans = Spans::new();
     expanded(&item.into(), &mut spans).expect("both sides have these tokens").into()
@@ -26,55 +42,51 @@ pub fn derive_names(item: proc_macro::TokenStream) -> proc_macro::TokenStream {
 
 fn expanded(item: &proc_macro2::TokenStream, spans: &mut Spans) -> Result<proc_macro2::TokenStream, NoToken> {
     let item = to_proved(item, spans)?;
-    from_proved(&names(&item).unwrap_or_else(refusal), spans)
+    from_proved(&names(&item).unwrap_or_else(|refusal| refusal.0), spans)
 }
 
 /// The code for an item.
-fn names(item: &TokenStream) -> Result<TokenStream, Fault> {
-    let [.., TokenTree::Ident(keyword), name, TokenTree::Group(body)] = item.trees() else {
-        return Err(("names are for enums without parameters", Span::call_site()));
+fn names(item: &TokenStream) -> Result<TokenStream, Refusal> {
+    let item = parse_type_item(item.trees())?;
+    let Body::Enum(body) = item.body else {
+        return refused("names are for enums", item.keyword.span());
     };
-    if !keyword.eq_str("enum") || body.delimiter() != Delimiter::Brace {
-        return Err(("names are for enums without parameters", name.span()));
+    if !item.generics.is_empty() {
+        return refused("names are for enums without parameters", item.name.span());
     }
-    let (variants, texts) = variants(body.stream_ref())?;
-    let name = stream(name);
+    let (variants, texts) = variants(body)?;
+    let Ok(name) = item.name.clone();
+    let name = stream(TokenTree::Ident(name));
     let holes = [Hole::one("name", &name), Hole::each("variant", &variants), Hole::each("text", &texts)];
     Ok(filled(CODE, &holes))
 }
 
 /// The name of each variant, and the text of it.
-fn variants(body: &TokenStream) -> Result<(Vec<TokenStream>, Vec<TokenStream>), Fault> {
+fn variants(body: &Group) -> Result<(Vec<TokenStream>, Vec<TokenStream>), Refusal> {
     let (mut names, mut texts) = (Vec::new(), Vec::new());
-    for variant in body.trees().split(|tree| matches!(tree, TokenTree::Punct(mark) if mark.as_char() == ',')) {
-        let mut left = variant;
-        while let [TokenTree::Punct(_), TokenTree::Group(_attribute), rest @ ..] = left {
-            left = rest;
+    for variant in VariantList::new(body) {
+        let variant = variant?;
+        if let Fields::Named(fields) | Fields::Tuple(fields) = variant.fields {
+            return refused("a variant has a name alone", fields.span());
         }
-        match left {
-            [] => {}
-            [name @ TokenTree::Ident(ident)] => {
-                names.push(stream(name));
-                let Ok(text) = Literal::string(Global, &ident.to_string());
-                texts.push(stream(&TokenTree::Literal(text)));
-            }
-            [.., wrong] => return Err(("a variant has a name alone", wrong.span())),
-        }
+        texts.push(stream(TokenTree::Literal(text(&variant)?)));
+        let Ok(name) = variant.name.clone();
+        names.push(stream(TokenTree::Ident(name)));
     }
     Ok((names, texts))
 }
 
-/// The code that tells a fault where it stands.
-fn refusal((what, span): Fault) -> TokenStream {
-    let Ok(text) = Literal::string(Global, what);
-    let told = filled("compile_error! { #text }", &[Hole::one("text", &stream(&TokenTree::Literal(text)))]);
-    let mut out = TokenStream::new(Global);
-    for tree in told.trees() {
-        let Ok(mut tree) = tree.clone();
-        tree.set_span(span);
-        let Ok(()) = out.extend_trees([tree]);
+/// The text of a variant: that of its attribute, or its name.
+fn text(variant: &Variant) -> Result<Literal, Refusal> {
+    for attribute in Attributes::new(variant.attributes).filter(|attribute| attribute.is("name")) {
+        let AttributeArgs::Value([TokenTree::Literal(text)]) = attribute.args() else {
+            return refused("a name is a literal, as in `#[name = \"red\"]`", attribute.group.span());
+        };
+        let Ok(text) = text.clone();
+        return Ok(text);
     }
-    out
+    let Ok(text) = Literal::string(Global, &variant.name.to_string());
+    Ok(text)
 }
 
 /// A template with its holes filled: a stream that comes back from its printed text.
@@ -86,8 +98,7 @@ fn filled(template: &str, holes: &[Hole]) -> TokenStream {
     filled
 }
 
-fn stream(tree: &TokenTree) -> TokenStream {
-    let Ok(tree) = tree.clone();
+fn stream(tree: TokenTree) -> TokenStream {
     let Ok(stream) = TokenStream::from_tree(Global, tree);
     stream
 }

@@ -8,10 +8,11 @@ pub(crate) enum Color {
     /// And so has this.
     #[allow(non_camel_case_types)]
     r#fn,
+    #[name = "sky"]
     Blue,
 }
 
 #[test]
 fn a_value_has_the_name_of_its_variant() {
-    assert_eq!([Color::Red, Color::r#fn, Color::Blue].map(|color| color.name()), ["Red", "r#fn", "Blue"]);
+    assert_eq!([Color::Red, Color::r#fn, Color::Blue].map(|color| color.name()), ["Red", "r#fn", "sky"]);
 }
