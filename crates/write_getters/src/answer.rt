@@ -1,46 +1,104 @@
 //! What the program answers for a text.
-ghost use Rattle.std.specs.Prelude.{OnOk};
+ghost use Rattle.std.specs.Prelude.{◌≡◌, List, MatchOption, None, OnOk, Some};
+ghost use Rattle.std.specs.Io.KnownBytes.{Appends};
+ghost use Rattle.std.specs.Prelude.{flat_map};
 ghost use Rattle.std.specs.Str.{chars};
-ghost use Rattle.write_getters.specs.Answer.{Parses, WritesCode};
+ghost use Rattle.proc_macro2.specs.Forest.{Forest};
+ghost use Rattle.write_getters.specs.Answer.{IsItemCode, IsStructCode, Writes, WritesFile, line_of, named_fields};
 
 use crate::errors::WriteError;
-use crate::fields::struct_of;
 use crate::getters::getters;
+use crate::templates::{GENERIC, PLAIN, Templates};
+use declarations::{
+    AnyItem, Body, FieldList, Fields, ItemKind, parse_type_item, split_any_item,
+    split_inner_attributes,
+};
 use messages::Failure;
-use proc_macro2::{SourceMap, TokenStream, TokenTree};
+use proc_macro2::{Group, SourceMap, TokenStream, TokenTree};
 use std::alloc::Global;
 use std::io::Write;
 
-/// Writes a line with the getters of each struct of the text, in order.
-///
-/// After an error a beginning of what is to be written stands, nothing after a fault of the text. Structs in groups are
+/// Writes a line with the getters of each struct of the text that has named fields, in order. Items in groups are
 /// passed over.
+///
+/// After an error a beginning of what is to be written stands, nothing where the text doesn't parse.
 pub fn print_getters<W: Write>(alloc: Global, text: &str, writer: &mut W) -> Result<(), WriteError>
-    ensures { OnOk result (Parses (chars text.now) × WritesCode (W.contents writer.old) (W.contents writer.new)) }
+    ensures { OnOk result (Writes (chars PLAIN.now) (chars GENERIC.now) (chars text.now) (W.contents writer.old)
+        (W.contents writer.new)) }
 {
     let mut map = SourceMap::new(alloc);
     match TokenStream::from_str(text, &mut map) {
-        Ok(stream) => {
-            print_structs(alloc, stream.trees(), writer)?;
-            Ok(())
-        }
+        Ok(stream) => match print_file(alloc, stream.trees(), writer) {
+            Ok(()) => Ok(()),
+            Err(error) => Err(error.placed(&map)),
+        },
         Err(error) => Err(WriteError::from(Failure::unparsed(error, &map))),
     }
 }
 
-// Writes a line with the getters of each struct among these trees.
-fn print_structs<W: Write>(
+// Writes a line with the getters of each struct among the items of a file.
+fn print_file<W: Write>(
     alloc: Global,
     trees: &[TokenTree],
     writer: &mut W,
 ) -> Result<(), WriteError>
-    ensures { OnOk result (WritesCode (W.contents writer.old) (W.contents writer.new)) }
+    ensures { OnOk result (WritesFile (chars PLAIN.now) (chars GENERIC.now) trees.now (W.contents writer.old)
+        (W.contents writer.new)) }
 {
-    for three in trees.windows(3) {
-        if let Some(item) = struct_of(three) {
-            let code = getters(alloc, &item)?;
-            writeln!(writer, "{code}")?;
-        }
+    let templates = Templates::new(alloc)?;
+    let (_, items) = split_inner_attributes(trees)?;
+    let mut left = items;
+    while !left.is_empty() {
+        let (item, rest) = split_any_item(left)?;
+        print_item(alloc, &templates, &item, writer)?;
+        left = rest;
     }
     Ok(())
+}
+
+// Writes the line of an item, if it is a struct with named fields.
+fn print_item<W: Write>(
+    alloc: Global,
+    templates: &Templates,
+    item: &AnyItem<'_>,
+    writer: &mut W,
+) -> Result<(), WriteError>
+    ensures { OnOk result ((all : List Forest) × IsItemCode templates.now item.now.kind item.now.trees.now all
+        × Appends (W.contents writer.old) (W.contents writer.new) (flat_map line_of all)) }
+{
+    match item.kind {
+        ItemKind::Struct => print_struct(alloc, templates, item.trees, writer),
+        _ => Ok(()),
+    }
+}
+
+// Writes a line with the getters of the struct, if it has named fields.
+fn print_struct<W: Write>(
+    alloc: Global,
+    templates: &Templates,
+    trees: &[TokenTree],
+    writer: &mut W,
+) -> Result<(), WriteError>
+    ensures { OnOk result ((all : List Forest) × IsStructCode templates.now trees.now all
+        × Appends (W.contents writer.old) (W.contents writer.new) (flat_map line_of all)) }
+{
+    let item = parse_type_item(trees)?;
+    match named_fields(&item.body) {
+        Some(group) => {
+            let code = getters(alloc, templates, &item, FieldList::named(group))?;
+            writeln!(writer, "{code}")?;
+            Ok(())
+        }
+        None => Ok(()),
+    }
+}
+
+// The braces around the named fields of a struct.
+fn named_fields<'a>(body: &Body<'a>) -> Option<&'a Group>
+    ensures { MatchOption result (named_fields body.now ≡ None) (λ group. named_fields body.now ≡ Some group.now) }
+{
+    match body {
+        Body::Struct(Fields::Named(group)) => Some(group),
+        Body::Struct(Fields::Tuple(_) | Fields::Unit) | Body::Enum(_) | Body::Union(_) => None,
+    }
 }

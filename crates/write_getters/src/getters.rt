@@ -1,85 +1,95 @@
 //! The getters of a struct.
-ghost use Rattle.std.specs.Prelude.{◌≡◌, IfOk};
-ghost use Rattle.proc_macro2.specs.Forest.{Forest};
-ghost use Rattle.proc_macro2.specs.WellSpaced.{IsWellSpaced};
-ghost use Rattle.quoting.specs.Respaced.{respaced};
+ghost use Rattle.std.specs.Prelude.{◌≡◌, [], IfOk, List, map, true};
+ghost use Rattle.declarations.specs.List.{IsFieldOf, Lists};
+ghost use Rattle.declarations.specs.declared.field.Field.{Field as FieldValue};
 ghost use Rattle.write_getters.specs.Answer.{IsFaithful};
-ghost use Rattle.write_getters.specs.Impl.{impl_of};
+ghost use Rattle.write_getters.specs.Fields.{chosen, name_of, type_of};
+ghost use Rattle.write_getters.specs.Getters.{IsCodeOf};
 
-use crate::code::Code;
+use crate::copies::{add, copied};
 use crate::errors::WriteError;
-use crate::fields::{Field, Struct, first_field};
-use proc_macro2::{Delimiter, Group, Ident, Punct, Spacing, Span, TokenStream, TokenTree, laws};
-use quoting::Quote;
-use std::alloc::Global;
+use crate::fields::{has_several_bounds, is_skipped};
+use crate::parameters::parameters;
+use crate::templates::Templates;
+use declarations::{Field, FieldList, TypeItem};
+use proc_macro2::{Delimiter, Group, TokenStream, TokenTree, laws};
+use quoting::{Hole, Quote};
+use std::alloc::{AllocError, Global};
 
-/// The `impl` of a struct, with a getter for each of its fields. It comes back from its printed text.
+/// What the getters of a struct are written with, in order.
+#[derive(Drop)]
+struct FieldStreams {
+    /// The names of the fields.
+    names: Vec<TokenStream>,
+    /// Their types, as they stand after `&`.
+    kinds: Vec<TokenStream>,
+}
+
+/// The `impl` of a struct, with a getter for each of these fields that isn't left out: the template, filled. It comes
+/// back from its printed text.
 ///
-/// Fails with `Quote` where no spacing of its marks would, and where memory runs out. Of
-/// `struct P { x: u32 }` it is `impl P { pub fn x (& self) -> & u32 { & self . x } }`.
-pub fn getters(alloc: Global, item: &Struct<'_>) -> Result<TokenStream, WriteError>
+/// Of `struct P { x: u32 }` it is `impl P { pub fn x (& self) -> & u32 { & self . x } }`. Fails with `Declared` where
+/// a field or a generic parameter has a fault, and where memory runs out.
+pub fn getters(
+    alloc: Global,
+    templates: &Templates,
+    item: &TypeItem<'_>,
+    fields: FieldList<'_>,
+) -> Result<TokenStream, WriteError>
+    requires { fields.named ≡ true }
     ensures back { IfOk result IsFaithful }
-    ensures methods { IfOk result (λ code. (methods : Forest)
-        × (code ≡ impl_of item.now.name.now methods)) }
+    ensures code { IfOk result (IsCodeOf templates.now item.now fields.entry.left.now) }
 {
-    let mut methods = Code::new(alloc);
-    let mut left = item.body;
-    while let Some((field, after)) = first_field(left) {
-        push_getter(alloc, &field, &mut methods)?;
-        left = after;
-    }
-    let code = impl_of(alloc, item.name, methods.finish()?)?;
+    let chosen = chosen(alloc, fields)?;
+    let parameters = parameters(alloc, item.generics)?;
+    let name = TokenStream::from_tree(alloc, TokenTree::Ident(item.name.clone()?))?;
+    let bounds = copied(alloc, item.where_clause)?;
+    let holes = [
+        Hole::each("parameter", parameters.declared.as_slice()),
+        Hole::one("name", &name),
+        Hole::each("argument", parameters.arguments.as_slice()),
+        Hole::one("bounds", &bounds),
+        Hole::each("field", chosen.names.as_slice()),
+        Hole::each("kind", chosen.kinds.as_slice()),
+    ];
+    let mut quote = Quote::new(alloc);
+    quote.fill(templates.of(item.generics), &holes)?;
+    let code = quote.finish()?;
     // What every stream is, and the law of those that are well spaced.
     let _trees = code.trees();
     laws::printed_comes_back();
     Ok(code)
 }
 
-// The `impl` of the struct of this name, with these methods. It is well spaced.
-fn impl_of(alloc: Global, name: &Ident, methods: TokenStream) -> Result<TokenStream, WriteError>
-    ensures spaced { IfOk result IsWellSpaced }
-    ensures shape { IfOk result (λ code. code ≡ impl_of name.now (respaced methods)) }
+// The names and types of the fields that have a getter.
+fn chosen(alloc: Global, fields: FieldList<'_>) -> Result<FieldStreams, WriteError>
+    requires { fields.named ≡ true }
+    ensures { IfOk result (λ getters. (all : List FieldValue) × Lists (IsFieldOf true) fields.entry.left.now all []
+        × (getters.names.items ≡ map name_of (chosen all)) × (getters.kinds.items ≡ map type_of (chosen all))) }
 {
-    let keyword = Ident::new(alloc, "impl", Span::call_site())?;
-    let mut code = Quote::new(alloc);
-    code.push(TokenTree::Ident(keyword))?;
-    code.push(TokenTree::Ident(name.clone()?))?;
-    code.push(TokenTree::Group(Group::new(Delimiter::Brace, methods)))?;
-    Ok(code.finish()?)
-}
-
-// Puts the getter of a field at the end: `pub fn x (& self) -> & u32 { & self . x }`.
-fn push_getter(alloc: Global, field: &Field<'_>, code: &mut Code) -> Result<(), WriteError> {
-    let mut receiver = Code::new(alloc);
-    receiver.mark(Punct::new('&', Spacing::Alone))?;
-    receiver.word("self")?;
-
-    let mut body = Code::new(alloc);
-    body.mark(Punct::new('&', Spacing::Alone))?;
-    body.word("self")?;
-    body.mark(Punct::new('.', Spacing::Alone))?;
-    body.name(field.name)?;
-
-    code.word("pub")?;
-    code.word("fn")?;
-    code.name(field.name)?;
-    code.group(Delimiter::Parenthesis, &receiver)?;
-    code.mark(Punct::new('-', Spacing::Joint))?;
-    code.mark(Punct::new('>', Spacing::Alone))?;
-    code.mark(Punct::new('&', Spacing::Alone))?;
-    push_type(alloc, field, code)?;
-    code.group(Delimiter::Brace, &body)?;
-    Ok(())
-}
-
-// Puts the type of a field at the end, as it stands after `&`.
-fn push_type(alloc: Global, field: &Field<'_>, code: &mut Code) -> Result<(), WriteError> {
-    if !field.has_several_bounds() {
-        code.trees(field.kind)?;
-        return Ok(());
+    let mut names = Vec::new(alloc);
+    let mut kinds = Vec::new(alloc);
+    for field in fields {
+        let field = field?;
+        if let Some(name) = field.name {
+            if !is_skipped(&field) {
+                let name = TokenStream::from_tree(alloc, TokenTree::Ident(name.clone()?))?;
+                add(&mut names, name)?;
+                add(&mut kinds, kind(alloc, &field)?)?;
+            }
+        }
     }
-    let mut bounds = Code::new(alloc);
-    bounds.trees(field.kind)?;
-    code.group(Delimiter::Parenthesis, &bounds)?;
-    Ok(())
+    Ok(FieldStreams { names, kinds })
+}
+
+// The type of a field, as it stands after `&`.
+fn kind(alloc: Global, field: &Field<'_>) -> Result<TokenStream, AllocError>
+    ensures { IfOk result (λ stream. stream ≡ type_of field.now) }
+{
+    let kind = copied(alloc, field.field_type)?;
+    if !has_several_bounds(field) {
+        return Ok(kind);
+    }
+    let group = Group::new(Delimiter::Parenthesis, kind);
+    TokenStream::from_tree(alloc, TokenTree::Group(group))
 }

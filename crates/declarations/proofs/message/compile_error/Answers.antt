@@ -16,14 +16,15 @@ ident-requires-2 c = subst (λ name. IsBuiltToken (Name false name)) (sym compil
 
 pub returns : goal.returns
 returns c =
+    let span = c.args.span in
     all_put _ array_steps array_into_iter_items split _ _ c.from_trees.result drained (λ it is. is.0)
-    (built (chars c.args.text.now) c.args.span _ _ _ _ _ c.in_ok-core.core c.in_ok-name.name c.set_span.new.self
+    (built (chars c.args.text.now) span _ _ _ _ _ c.in_ok-core.core c.in_ok-name.name c.set_span.new.self
     c.punct.ensures c.punct-2.ensures
-    (c.in_ok-core.ensures.ok ∙ ap (λ n. record { name = n; raw = false; span = c.args.span }) core_chars)
+    (c.in_ok-core.ensures.ok ∙ ap (λ n. record { name = n; raw = false; span = span }) core_chars)
     c.punct-3.ensures c.punct-4.ensures
-    (c.in_ok-name.ensures.ok ∙ ap (λ n. record { name = n; raw = false; span = c.args.span }) compile_error_chars)
+    (c.in_ok-name.ensures.ok ∙ ap (λ n. record { name = n; raw = false; span = span }) compile_error_chars)
     c.punct-5.ensures
-    (built_braces (chars c.args.text.now) c.args.span c.in_ok-string_literal.field-0 c.in_ok-from_tree.field-0
+    (built_braces (chars c.args.text.now) span c.in_ok-string_literal.field-0 c.in_ok-from_tree.field-0
     c.new-braces.result c.set_span.new.self c.in_ok-string_literal.ensures.ok c.in_ok-from_tree.ensures.ok
     c.new-braces.ensures c.set_span.ensures))
     c.from_trees.ensures.ok

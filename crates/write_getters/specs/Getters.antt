@@ -1,0 +1,42 @@
+-- The getters of a struct: a template, filled.
+use Rattle.std.specs.Prelude.{◌≡◌, ℕ, List, [], ◌∷◌, Ok, codes, map, true}
+use Rattle.std.specs.Str.{chars}
+use Rattle.proc_macro2.specs.Forest.{Forest}
+use Rattle.proc_macro2.specs.Trees.{alone}
+use Rattle.proc_macro2.specs.declared.TokenTree.{TokenTree}
+use Rattle.proc_macro2.specs.declared.TokenTree.TheVariants.{Ident}
+use Rattle.declarations.specs.List.{IsFieldOf, Lists}
+use Rattle.declarations.specs.Param.{ParamTrees}
+use Rattle.declarations.specs.declared.field.Field.{Field}
+use Rattle.declarations.specs.declared.item.TypeItem.{TypeItem}
+use Rattle.quoting.specs.Filled.{filled}
+use Rattle.quoting.specs.Holes.{Filling, Named, One, Each}
+use Rattle.quoting.specs.Respaced.{respaced}
+use Rattle.write_getters.specs.Copies.{copied}
+use Rattle.write_getters.specs.Fields.{chosen, name_of, type_of}
+use Rattle.write_getters.specs.Parameters.{AreParamsOf, argument, parameter}
+use Rattle.write_getters.specs.Templates.{template_for}
+use Rattle.write_getters.specs.declared.templates.Templates.{Templates}
+
+abbrev pub hole : List ℕ → Filling → Named
+hole name filling = record { name = name; filling = filling }
+
+-- what the holes of a template stand for
+abbrev pub holes_of : TypeItem → List ParamTrees → List Field → List Named
+holes_of item params fields =
+    hole (codes "parameter") (Each (map parameter params))
+    ∷ hole (codes "name") (One (alone (Ident item.name.now)))
+    ∷ hole (codes "argument") (Each (map argument params))
+    ∷ hole (codes "bounds") (One (copied item.where_clause.now))
+    ∷ hole (codes "field") (Each (map name_of fields))
+    ∷ hole (codes "kind") (Each (map type_of fields)) ∷ []
+
+-- the code of a struct whose braces hold these trees: a getter for each field that is chosen, in order, and no other
+pub record IsCodeOf (templates : Templates) (item : TypeItem) (trees : List TokenTree) (code : Forest) : Type 0 where
+  pub fields : List Field
+  pub lists : Lists (IsFieldOf true) trees fields []
+  pub params : List ParamTrees
+  pub are_params : AreParamsOf item.generics.now params
+  pub stream : Forest
+  pub fills : filled (holes_of item params (chosen fields)) (template_for item.generics.now templates) ≡ Ok stream
+  pub is : code ≡ respaced stream

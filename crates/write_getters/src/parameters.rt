@@ -1,0 +1,80 @@
+//! The generic parameters of a struct, as an `impl` declares and names them.
+ghost use Rattle.std.specs.Prelude.{◌≡◌, IfOk, List, OnOk, map};
+ghost use Rattle.declarations.specs.Param.{ParamTrees, param_trees};
+ghost use Rattle.proc_macro2.specs.Forest.{joined};
+ghost use Rattle.write_getters.specs.Copies.{copied};
+ghost use Rattle.write_getters.specs.Parameters.{AreParamsOf, after_colon, argument, keyword, parameter};
+
+use crate::copies::{add, copied, put, put_copies};
+use crate::errors::WriteError;
+use declarations::{Param, ParamKind, parse_param, within_generics};
+use proc_macro2::{Ident, Punct, Spacing, Span, TokenStream, TokenTree};
+use std::alloc::{AllocError, Global};
+
+/// The generic parameters of a struct, in order.
+#[derive(Drop)]
+pub struct ParameterStreams {
+    /// Each as it is declared, without its default: `'a`, `T: A`, `const N: usize`.
+    pub declared: Vec<TokenStream>,
+    /// Each as an argument: `'a`, `T`, `N`.
+    pub arguments: Vec<TokenStream>,
+}
+
+/// What an `impl` has for the generic parameters of a struct, given in their brackets.
+///
+/// Of `<'a, T: A = B>` these are `'a` and `T: A`, and the arguments `'a` and `T`. Fails with `Declared` where one of
+/// them has a fault, and where memory runs out.
+pub fn parameters(alloc: Global, generics: &[TokenTree]) -> Result<ParameterStreams, WriteError>
+    ensures { IfOk result (λ parameters. (all : List ParamTrees) × AreParamsOf generics.now all
+        × (parameters.declared.items ≡ map parameter all) × (parameters.arguments.items ≡ map argument all)) }
+{
+    let mut declared = Vec::new(alloc);
+    let mut arguments = Vec::new(alloc);
+    let mut left = within_generics(generics)?;
+    while !left.is_empty() {
+        let (param, rest) = parse_param(left)?;
+        add(&mut declared, parameter(alloc, &param)?)?;
+        add(&mut arguments, copied(alloc, param.name)?)?;
+        left = rest;
+    }
+    Ok(ParameterStreams {
+        declared,
+        arguments,
+    })
+}
+
+// A parameter as it is declared, without its default.
+fn parameter(alloc: Global, param: &Param<'_>) -> Result<TokenStream, WriteError>
+    ensures { IfOk result (λ stream. stream ≡ parameter (param_trees param.now)) }
+{
+    let mut stream = copied(alloc, param.attributes)?;
+    put_keyword(alloc, &mut stream, param.kind)?;
+    put_copies(&mut stream, param.name)?;
+    put_bounds(&mut stream, param.bounds)?;
+    Ok(stream)
+}
+
+// Puts the keyword at the end with which a parameter of this kind is declared, if there is one.
+fn put_keyword(alloc: Global, stream: &mut TokenStream, kind: ParamKind) -> Result<(), WriteError>
+    ensures { OnOk result (stream.new ≡ joined stream.old (copied (keyword kind))) }
+{
+    match kind {
+        ParamKind::Lifetime | ParamKind::Type => Ok(()),
+        ParamKind::Const => {
+            let word = Ident::new(alloc, "const", Span::call_site())?;
+            put(stream, TokenTree::Ident(word))?;
+            Ok(())
+        }
+    }
+}
+
+// Puts `:` and copies of these bounds at the end, if there are some.
+fn put_bounds(stream: &mut TokenStream, bounds: &[TokenTree]) -> Result<(), AllocError>
+    ensures { OnOk result (stream.new ≡ joined stream.old (copied (after_colon bounds.now))) }
+{
+    if bounds.is_empty() {
+        return Ok(());
+    }
+    put(stream, TokenTree::Punct(Punct::new(':', Spacing::Alone)))?;
+    put_copies(stream, bounds)
+}
