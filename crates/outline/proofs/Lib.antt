@@ -2,5 +2,6 @@ mod FilesLemmas
 mod JsonLemmas
 mod LineLemmas
 mod OutlineLemmas
+mod OnlyLemmas
 mod PlaceLemmas
 mod TagLemmas

@@ -64,3 +64,9 @@ pub record Lists (form : Form) (path text : List ℕ) (lines : List (List ℕ)) 
   pub outline : Outline
   pub are : IsTreesOutline trees outline
   pub each : lines ≡ lines_of form path text (entries_of outline)
+
+-- the text parses, to trees that are no file of items
+pub record IsUnlisted (text : List ℕ) : Type 0 where
+  pub trees : List TokenTree
+  pub parses : ParsesTo first text (forest trees)
+  pub never : (outline : Outline) → IsTreesOutline trees outline → ⊥

@@ -113,6 +113,12 @@ pub record Opens (depth : ℕ) (item : AnyItem) (entry : Given) (inside : Items)
   pub is : seen entry ≡ entry_of depth item.kind (option_copied item.name) entry.header.now
   pub holds : AreInside (body_of item.kind item.trees.now) inside.left.now
 
+-- it has none: it doesn't begin with attributes, or holds no items where some should be
+abbrev pub NeverOpens : AnyItem → Type 0
+NeverOpens it =
+    (attributes header items : List TokenTree) → Reads AreAttributes it.trees.now attributes header
+    → AreInside (body_of it.kind it.trees.now) items → ⊥
+
 -- ---- where it stands
 
 -- where the first tree stands

@@ -5,7 +5,7 @@ ghost use Rattle.std.specs.Str.{chars};
 ghost use Rattle.pm_span.specs.Files.{new_map, with_file};
 ghost use Rattle.pm_token.specs.Spelling.{spelling};
 ghost use Rattle.messages.specs.Parsed.{MayFail};
-ghost use Rattle.outline.specs.Answer.{Lists, lines_of, place_in, shown, through};
+ghost use Rattle.outline.specs.Answer.{IsUnlisted, Lists, lines_of, place_in, shown, through};
 ghost use Rattle.outline.specs.Line.{line_of, seen as seen_line};
 ghost use Rattle.outline.specs.Outline.{first_of, last_of, seen};
 
@@ -40,6 +40,7 @@ pub fn lines_of(
 ) -> Result<Result<Vec<String>, Unlisted>, Failure>
     ensures ok { IfOk result (λ found. IfOk found (λ lines.
         Lists form path.now (chars text.now) (mapped string_bytes lines.items))) }
+    ensures none { IfOk result (λ found. IfErr found (λ unlisted. IsUnlisted (chars text.now))) }
     ensures err { IfErr result (MayFail (chars text.now) None None) }
 {
     let mut map = SourceMap::new(alloc);

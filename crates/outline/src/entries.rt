@@ -1,11 +1,11 @@
 //! The declarations among trees.
-ghost use Rattle.std.specs.Prelude.{◌≡◌, ◌++◌, IfOk, List, OnOk, length, map, option_copied};
+ghost use Rattle.std.specs.Prelude.{◌≡◌, ◌++◌, IfErr, IfOk, List, OnOk, map, option_copied};
 ghost use Rattle.pm_stream.specs.declared.stream.TokenTree.{TokenTree as Tree};
 ghost use Rattle.declarations.specs.Forms.{AreAttributes, AreInnerAttributes};
 ghost use Rattle.declarations.specs.Reading.{Reads};
 ghost use Rattle.declarations.specs.File.{body_of};
-ghost use Rattle.outline.specs.Outline.{AreInside, IsTreesOutline, Opens, Outline, entries_of, entry_of, first_of};
-ghost use Rattle.outline.specs.Outline.{is_listed, last_of, listed, seen};
+ghost use Rattle.outline.specs.Outline.{AreInside, IsTreesOutline, NeverOpens, Opens, Outline, entries_of, entry_of};
+ghost use Rattle.outline.specs.Outline.{first_of, is_listed, last_of, listed, seen};
 
 use declarations::{AnyItem, Fault, ItemKind, Items, split_attributes, split_inner_attributes};
 use pm_span::Span;
@@ -42,8 +42,10 @@ pub fn entries<'a>(
     alloc: Global,
     trees: &'a [TokenTree],
 ) -> Result<Result<Vec<Entry<'a>>, Stop>, AllocError>
-    ensures { IfOk result (λ found. IfOk found (λ entries. (outline : Outline) × IsTreesOutline trees.now outline
+    ensures ok { IfOk result (λ found. IfOk found (λ entries. (outline : Outline) × IsTreesOutline trees.now outline
         × (map seen entries.items ≡ entries_of outline))) }
+    ensures none { IfOk result (λ found. IfErr found (λ stop. (outline : Outline) → IsTreesOutline trees.now outline
+        → ⊥)) }
 {
     let mut entries = Vec::new(alloc);
     let items = match items_of(trees) {
@@ -58,6 +60,9 @@ pub fn entries<'a>(
         let Some(mut here) = levels.pop() else {
             return Ok(Ok(entries));
         };
+        if here.left.is_empty() {
+            continue 'walk;
+        }
         let left = here.left;
         let Some(found) = here.next() else {
             continue 'walk;
@@ -100,8 +105,10 @@ fn is_listed(entry: &Entry<'_>) -> bool
 
 // The items after the inner attributes.
 fn items_of(trees: &[TokenTree]) -> Result<Items<'_>, Stop>
-    ensures { IfOk result (λ items. (inner : List Tree)
+    ensures ok { IfOk result (λ items. (inner : List Tree)
         × Reads AreInnerAttributes trees.now inner items.left.now) }
+    ensures none { IfErr result (λ stop. (inner : List Tree) → (items : List Tree)
+        → Reads AreInnerAttributes trees.now inner items → ⊥) }
 {
     match split_inner_attributes(trees) {
         Ok((_, left)) => Ok(Items { left }),
@@ -111,7 +118,8 @@ fn items_of(trees: &[TokenTree]) -> Result<Items<'_>, Stop>
 
 // The entry of an item that is in so many, and the items in it.
 fn open_item<'a>(depth: usize, item: &AnyItem<'a>) -> Result<(Entry<'a>, Items<'a>), Stop>
-    ensures { IfOk result (λ found. Opens depth item.now found.0 found.1) }
+    ensures ok { IfOk result (λ found. Opens depth item.now found.0 found.1) }
+    ensures none { IfErr result (λ stop. NeverOpens item.now) }
 {
     let entry = match entry_of(depth, item) {
         Ok(entry) => entry,
@@ -125,7 +133,9 @@ fn open_item<'a>(depth: usize, item: &AnyItem<'a>) -> Result<(Entry<'a>, Items<'
 
 // The items in an item.
 fn items_in<'a>(item: &AnyItem<'a>) -> Result<Items<'a>, Stop>
-    ensures { IfOk result (λ inside. AreInside (body_of item.now.kind item.now.trees.now) inside.left.now) }
+    ensures ok { IfOk result (λ inside. AreInside (body_of item.now.kind item.now.trees.now) inside.left.now) }
+    ensures none { IfErr result (λ stop. (items : List Tree)
+        → AreInside (body_of item.now.kind item.now.trees.now) items → ⊥) }
 {
     match item.body() {
         Some(group) => items_of(group.stream_ref().trees()),
@@ -135,9 +145,11 @@ fn items_in<'a>(item: &AnyItem<'a>) -> Result<Items<'a>, Stop>
 
 // The entry of an item that is in so many.
 fn entry_of<'a>(depth: usize, item: &AnyItem<'a>) -> Result<Entry<'a>, Stop>
-    ensures { IfOk result (λ entry. (attributes : List Tree)
+    ensures ok { IfOk result (λ entry. (attributes : List Tree)
         × Reads AreAttributes item.now.trees.now attributes entry.header.now
         × (seen entry ≡ entry_of depth item.now.kind (option_copied item.now.name) entry.header.now)) }
+    ensures none { IfErr result (λ stop. (attributes : List Tree) → (header : List Tree)
+        → Reads AreAttributes item.now.trees.now attributes header → ⊥) }
 {
     match split_attributes(item.trees) {
         Ok((_, header)) => Ok(Entry {

@@ -52,6 +52,9 @@ pub fn entries<'a>(
         let Some(mut here) = levels.pop() else {
             return Ok(Ok(entries));
         };
+        if here.left.is_empty() {
+            continue 'walk;
+        }
         let left = here.left;
         let Some(found) = here.next() else {
             continue 'walk;
