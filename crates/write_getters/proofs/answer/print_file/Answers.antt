@@ -1,11 +1,6 @@
-use Rattle.declarations.proofs.FileLemmas.{item_takes}
 use Rattle.write_getters.proofs.AnswerLemmas.{goes_all, goes_on}
 use Rattle.write_getters.proofs.CopiesLemmas.{no_trees}
 use Rattle.write_getters.proofs.answer.print_file.Goals as goal
-
-pub loop-left-smaller : goal.loop-left-smaller
-loop-left-smaller g c =
-    item_takes c.loop-left.left.now c.in_ok-item.item.trees.now c.in_ok-item.rest.now c.in_ok-item.ensures.ok
 
 pub loop-left-preserved : goal.loop-left-preserved
 loop-left-preserved g c =
