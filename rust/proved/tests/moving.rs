@@ -1,7 +1,12 @@
 //! Each call that `docs/MOVING.md` names, made once.
+#![cfg(feature = "item_headers")]
 #![cfg(feature = "token_buffer")]
 #![cfg(feature = "quoting")]
 #![cfg(feature = "pretty_printer")]
+use proved::declarations::{
+    parse_file, parse_param, parse_type_item, within_generics, Attributes, Body, ParamKind,
+};
+use proved::item_headers::{impl_generics, impl_header};
 use proved::pretty_printer::to_pretty_string;
 use proved::proc_macro2::rustc_literal_escaper::unescape_str;
 use proved::proc_macro2::{
@@ -78,6 +83,27 @@ fn calls_in_place_of_quotes_and_syns() {
     assert_eq!(keyword.text, "fn");
     let (_, after) = after.ident().unwrap();
     assert!(after.group(Delimiter::Parenthesis).is_some());
+}
+
+#[test]
+fn calls_in_place_of_syns_items() {
+    let alloc = Global;
+    let mut map = SourceMap::new(alloc);
+    let stream = TokenStream::from_str("#[a] struct S<T: A = B>(T) where T: C;", &mut map).unwrap();
+    assert_eq!(parse_file(stream.trees()).unwrap().items.count(), 1);
+    let item = parse_type_item(stream.trees()).unwrap();
+    let Body::Struct(fields) = item.body else { panic!("it is a struct") };
+    assert_eq!(fields.list().count(), 1);
+    assert!(Attributes::new(item.attributes).all(|attribute| attribute.is("a")));
+    let params = within_generics(item.generics).unwrap();
+    assert_eq!(parse_param(params).unwrap().0.kind, ParamKind::Type);
+
+    let path = TokenStream::from_str("Clone", &mut map).unwrap();
+    assert_eq!(impl_generics(alloc, &item).unwrap().to_string(), "< T : A >");
+    let header = impl_header(alloc, &item, &path).unwrap();
+    assert_eq!(header.to_string(), "impl < T : A > Clone for S < T > where T : C");
+    let Ok(told) = parse_type_item(path.trees()).unwrap_err().to_compile_error(alloc);
+    assert_eq!(told.to_string(), ":: core :: compile_error ! { \"not expected here\" }");
 }
 
 #[test]
