@@ -1,5 +1,6 @@
 -- The generic parameters of a struct, as far as they are collected.
-use Rattle.std.proofs.Common.{◌≡◌, ◌<◌, refl, sym, ◌∙◌, ap, subst, List, [], ◌∷◌, ◌++◌, length, map, append_assoc, append-nil}
+use Rattle.std.proofs.Common.{◌≡◌, ◌<◌, refl, sym, ◌∙◌, ap, subst, List, [], ◌∷◌, ◌++◌, length, map}
+use Rattle.std.proofs.Common.{append_assoc, append-nil}
 use Rattle.std.proofs.Common.{Result, Ok, Err, OnOk, ◌⊎◌, inl, inr, arith, codes, false}
 use Rattle.std.proofs.lemmas.List.{map-append}
 use Rattle.std.specs.Str.{chars}
@@ -70,7 +71,8 @@ pub keyword_put : (old new : Forest) (kind : ParamKind) (word : Name) → kind �
     → new ≡ joined old (copied (keyword kind))
 keyword_put old new kind word is is_word put =
     subst (λ k. new ≡ joined old (copied (keyword k))) (sym is)
-    (put ∙ ap (λ w. joined old (split (Ident w))) is_word ∙ ap (joined old) (sym (copied_one (Ident (record { name = codes "const"; raw = false; span = nowhere })))))
+    (put ∙ ap (λ w. joined old (split (Ident w))) is_word
+    ∙ ap (joined old) (sym (copied_one (Ident (record { name = codes "const"; raw = false; span = nowhere })))))
 
 pub no_keyword : (old : Forest) (kind : ParamKind) → (kind ≡ kinds.Lifetime) ⊎ (kind ≡ kinds.Type)
     → old ≡ joined old (copied (keyword kind))
