@@ -1,9 +1,8 @@
 -- The holes of a template, and the code that fills them.
-use Rattle.std.proofs.Common.{◌≡◌, refl, sym, ◌∙◌, ap, ap₂, ℕ, true, List, [], ◌∷◌, Ok, codes, map, length, ◌==◌, false}
-use Rattle.std.proofs.Common.{◌<◌, arith}
+use Rattle.std.proofs.Common.{◌≡◌, refl, sym, ◌∙◌, ap, ap₂, ℕ, true, List, [], ◌∷◌, Ok, codes, map}
 use Rattle.std.specs.Str.{chars}
 use Rattle.proc_macro2.specs.Building.{split}
-use Rattle.proc_macro2.specs.Forest.{Forest, joined, nil}
+use Rattle.proc_macro2.specs.Forest.{Forest}
 use Rattle.proc_macro2.specs.Leaf.{Name}
 use Rattle.proc_macro2.specs.Trees.{alone}
 use Rattle.proc_macro2.specs.declared.TokenTree.{TokenTree}

@@ -21,8 +21,8 @@ copied_one tree = joined_nil (split tree)
 
 -- the copies so far are put in, and one more
 pub copied_more : (trees : List TokenTree) (n : ℕ) (tree copy : TokenTree) (old now new : Forest) → n < length trees
-    → tree ≡ get_or trees n tree → copy ≡ tree → now ≡ joined old (copied (take n trees))
-    → new ≡ joined now (split copy)
+    → tree ≡ get_or trees n tree → copy ≡ tree
+    → now ≡ joined old (copied (take n trees)) → new ≡ joined now (split copy)
     → new ≡ joined old (copied (take (n + 1) trees))
 copied_more trees n tree copy old now new within is cloned so_far put =
     put ∙ ap₂ (λ f t. joined f (split t)) so_far (cloned ∙ is)

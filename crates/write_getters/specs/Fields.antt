@@ -7,7 +7,7 @@ use Rattle.proc_macro2.specs.Forest.{Forest, nil}
 use Rattle.proc_macro2.specs.Trees.{alone}
 use Rattle.proc_macro2.specs.declared.Delimiter.TheVariants.{Parenthesis}
 use Rattle.proc_macro2.specs.declared.TokenTree.{TokenTree}
-use Rattle.proc_macro2.specs.declared.TokenTree.TheVariants.{Group, Ident, Punct, Literal}
+use Rattle.proc_macro2.specs.declared.TokenTree.TheVariants.{Group, Ident, Punct}
 use Rattle.proc_macro2.specs.DocGroup.{trees_of}
 use Rattle.declarations.specs.Attribute.{Parts, after_path, attributes_in, is_word, path_of}
 use Rattle.declarations.specs.declared.field.Field.{Field}

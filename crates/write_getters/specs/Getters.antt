@@ -1,6 +1,5 @@
 -- The getters of a struct: a template, filled.
 use Rattle.std.specs.Prelude.{◌≡◌, ℕ, List, [], ◌∷◌, Ok, codes, map, true}
-use Rattle.std.specs.Str.{chars}
 use Rattle.proc_macro2.specs.Forest.{Forest}
 use Rattle.proc_macro2.specs.Trees.{alone}
 use Rattle.proc_macro2.specs.declared.TokenTree.{TokenTree}

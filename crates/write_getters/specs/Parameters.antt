@@ -1,11 +1,10 @@
 -- The generic parameters of a struct, as an `impl` has them.
 use Rattle.std.specs.Prelude.{◌≡◌, List, [], ◌∷◌, ◌++◌, codes, false}
-use Rattle.proc_macro2.specs.Leaf.{Mark, Name}
 use Rattle.proc_macro2.specs.Extent.{nowhere}
 use Rattle.proc_macro2.specs.Forest.{Forest}
 use Rattle.proc_macro2.specs.declared.Spacing.TheVariants.{Alone}
 use Rattle.proc_macro2.specs.declared.TokenTree.{TokenTree}
-use Rattle.proc_macro2.specs.declared.TokenTree.TheVariants.{Group, Ident, Punct, Literal}
+use Rattle.proc_macro2.specs.declared.TokenTree.TheVariants.{Ident, Punct}
 use Rattle.declarations.specs.Param.{IsParamAt, IsWithin, ParamTrees}
 use Rattle.declarations.specs.declared.generics.ParamKind.{ParamKind}
 use Rattle.declarations.specs.declared.generics.ParamKind.TheVariants as kinds

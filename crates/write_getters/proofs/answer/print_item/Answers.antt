@@ -1,6 +1,6 @@
 use Rattle.std.proofs.Common.{[]}
 use Rattle.std.proofs.KnownBytes.{Appends-nil}
-use Rattle.write_getters.proofs.AnswerLemmas.{no_code, struct_code}
+use Rattle.write_getters.proofs.AnswerLemmas.{no_code}
 use Rattle.write_getters.proofs.answer.print_item.Goals as goal
 
 pub returns-in_default : goal.returns-in_default

@@ -1,4 +1,4 @@
-use Rattle.std.proofs.Common.{◌∙◌, ap, refl}
+use Rattle.std.proofs.Common.{◌∙◌, ap}
 use Rattle.quoting.specs.Given.{named}
 use Rattle.proc_macro2.specs.Forest.{joined}
 use Rattle.write_getters.proofs.CodeLemmas.{all_holes, argument_chars, bounds_chars, code_of, each_hole, field_chars}
