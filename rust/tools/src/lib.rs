@@ -96,7 +96,7 @@ pub mod indent {
 }
 
 /// The program `outline`, but for its `main`.
-#[allow(dead_code, unreachable_code, unused_imports, clippy::complexity, clippy::style)]
+#[allow(dead_code, unreachable_code, unused_imports, clippy::complexity, clippy::style, clippy::suspicious)]
 pub mod outline {
     mod answer;
     mod entries;
