@@ -3,6 +3,7 @@
 use proved_bridge::proved::declarations::{
     compile_error, parse_type_item, AttributeArgs, Attributes, Body, Fault, Fields, Variant, VariantList,
 };
+use proved_bridge::proved::item_headers::{impl_generics, type_generics, where_clause, HeaderError};
 use proved_bridge::proved::proc_macro2::{Group, Literal, SourceMap, Span, TokenStream, TokenTree};
 use proved_bridge::proved::quoting::{Hole, Quote};
 use proved_bridge::proved::shim::alloc::Global;
@@ -10,7 +11,7 @@ use proved_bridge::proved::shim::clone::Clone as _;
 use proved_bridge::{from_proved, to_proved, NoToken, Spans};
 
 const CODE: &str = "
-    impl #name {
+    impl #parameters #name #arguments #clause {
         /// The name of the variant.
         pub fn name(&self) -> &'static str {
             match self { #( #name::#variant => #text ),* }
@@ -24,6 +25,18 @@ impl From<Fault> for Refusal {
     fn from(fault: Fault) -> Refusal {
         let Ok(told) = fault.to_compile_error(Global);
         Refusal(told)
+    }
+}
+
+impl From<HeaderError> for Refusal {
+    fn from(error: HeaderError) -> Refusal {
+        match error {
+            HeaderError::Fault(fault) => Refusal::from(fault),
+            HeaderError::Keyword(_) | HeaderError::Quote(_) => {
+                let Ok(told) = compile_error(Global, "its parameters can't be printed", Span::call_site());
+                Refusal(told)
+            }
+        }
     }
 }
 
@@ -51,13 +64,20 @@ fn names(item: &TokenStream) -> Result<TokenStream, Refusal> {
     let Body::Enum(body) = item.body else {
         return refused("names are for enums", item.keyword.span());
     };
-    if !item.generics.is_empty() {
-        return refused("names are for enums without parameters", item.name.span());
-    }
     let (variants, texts) = variants(body)?;
+    let parameters = impl_generics(Global, &item)?;
+    let arguments = type_generics(Global, &item)?;
+    let clause = where_clause(Global, &item)?;
     let Ok(name) = item.name.clone();
     let name = stream(TokenTree::Ident(name));
-    let holes = [Hole::one("name", &name), Hole::each("variant", &variants), Hole::each("text", &texts)];
+    let holes = [
+        Hole::one("parameters", &parameters),
+        Hole::one("name", &name),
+        Hole::one("arguments", &arguments),
+        Hole::one("clause", &clause),
+        Hole::each("variant", &variants),
+        Hole::each("text", &texts),
+    ];
     Ok(filled(CODE, &holes))
 }
 
