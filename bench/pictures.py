@@ -28,6 +28,8 @@ MESSAGES = {
 POINT = "/// A point.\n#[derive(Clone)]\npub struct Point {\n    pub x: i32, // across\n    y: i32,\n}\n"
 ONE_LINE = "impl P{fn len(&self)->f64{let sum=self.x*self.x;if sum==0{return 0.0;}sum.sqrt()}}\n"
 MACRO = "html! {\n<ul>\n{ for items(\nnames,\n) }\n</ul>\n}\n"
+SHAPES = ("pub struct Disc(f64);\n\nimpl Area for Disc {\n    fn area(&self) -> f64 {\n        PI * self.0 * self.0\n"
+          "    }\n}\n\nmod tests {\n    #[test]\n    fn no_area() {}\n}\n")
 CALLS = "fn main() {\n    // read(1) is no call\n    let all = read::<u8>(path);\n    log!(\"read(2)\", read(3));\n}\n"
 
 # The command of each picture of the gallery by its program, and the files that it reads.
@@ -37,6 +39,7 @@ COMMANDS = {
     "find_calls": ("find_calls read main.rs", {"main.rs": CALLS}),
     "same": ("same old.rs new.rs", {"old.rs": "a + b.c(1)\n", "new.rs": "a\n    + b\n    .d(1)\n"}),
     "indent": ("indent list.rs", {"list.rs": MACRO}),
+    "outline": ("outline disc.rs", {"disc.rs": SHAPES}),
     "highlight": ("highlight term point.rs", {"point.rs": POINT}),
     "list_docs": ("list_docs < point.rs", {"point.rs": POINT}),
     "write_getters": ("write_getters < point.rs", {"point.rs": POINT}),
