@@ -1,1 +1,2 @@
 pub mod ParsedLemmas
+pub mod EachLemmas

@@ -3,3 +3,5 @@ pub mod Parsed
 pub mod Message
 pub mod Words
 pub mod Input
+pub mod Each
+pub mod Json

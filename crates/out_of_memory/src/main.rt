@@ -7,6 +7,7 @@
 mod building;
 mod copies;
 mod fails;
+mod headers;
 mod literals;
 mod lookups;
 mod names;
@@ -57,6 +58,7 @@ fn run<W: Write>(
         "read" => reading::run(alloc, out, call, input),
         "copy" => copies::run(alloc, out, call, input),
         "relay" => relaying::run(alloc, out, call, input),
+        "header" => headers::run(alloc, out, call, input),
         "quote" => quotes::run(alloc, out, call),
         "unfailing" => unfailing::run(alloc, out, call, input),
         _ => Err(Fail::NoCase),

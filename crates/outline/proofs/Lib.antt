@@ -1,5 +1,4 @@
 mod FilesLemmas
-mod JsonLemmas
 mod LineLemmas
 mod OutlineLemmas
 mod OnlyLemmas

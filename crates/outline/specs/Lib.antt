@@ -1,4 +1,3 @@
-pub mod Json
 pub mod Line
 pub mod Options
 pub mod Outline

@@ -4,7 +4,7 @@ use Rattle.std.specs.Prelude.{codes, decimal, encode_utf8, min, nat_le, if◌the
 use Rattle.proc_macro2.specs.declared.LineColumn.{LineColumn}
 use Rattle.declarations.specs.declared.any_item.ItemKind.{ItemKind}
 use Rattle.declarations.specs.declared.any_item.ItemKind.TheVariants as kinds
-use Rattle.outline.specs.Json.{escaped}
+use Rattle.messages.specs.Json.{escaped}
 use Rattle.outline.specs.declared.lines.Shown.{Shown}
 use Rattle.outline.specs.declared.options.Form.{Form}
 use Rattle.outline.specs.declared.options.Form.TheVariants.{Lines, Json, Ctags}

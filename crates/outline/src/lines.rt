@@ -2,10 +2,10 @@
 ghost use Rattle.std.specs.Prelude.{◌≡◌, ◌++◌, IfOk, OnOk, option_map, string_bytes};
 ghost use Rattle.outline.specs.Line.{indent, json, line_of, plain, seen, tag, title};
 
-use crate::json::escaped;
 use crate::names::word_of;
 use crate::options::Form;
 use declarations::ItemKind;
+use messages::escaped;
 use proc_macro2::LineColumn;
 use std::alloc::{AllocError, Global};
 

@@ -18,7 +18,6 @@
 mod answer;
 mod entries;
 mod files;
-mod json;
 mod lines;
 mod names;
 mod options;

@@ -2,9 +2,11 @@
 use Rattle.std.specs.Prelude.{ℕ, ◌+◌, ◌-◌, ◌==◌, List, [], ◌∷◌, ◌++◌, codes, decimal, encode_utf8, length, nat_lt}
 use Rattle.std.specs.Prelude.{if◌then◌else◌}
 use Rattle.std.specs.Str.{chars, encode_utf8_all}
+use Rattle.messages.specs.Each.{each}
+use Rattle.messages.specs.Json.{escaped}
 use Rattle.rust_check.specs.Colours.{Codes, plain, terminal}
 use Rattle.rust_check.specs.Place.{first_line}
-use Rattle.rust_check.specs.Shown.{carets, each, filled, shown, times}
+use Rattle.rust_check.specs.Shown.{carets, filled, shown, times}
 use Rattle.rust_check.specs.declared.finding.Finding.{Finding}
 use Rattle.rust_check.specs.declared.options.Form.{Form}
 use Rattle.rust_check.specs.declared.options.Form.TheVariants.{Short, Long, Coloured, Json}
@@ -73,21 +75,6 @@ headline k x =
 
 abbrev pub long : Codes → List ℕ → Found → List ℕ
 long k path x = headline k x ++ excerpt k path x
-
--- a digit of a number to the base 16
-abbrev pub hex : ℕ → List ℕ
-hex n = if nat_lt n 10 then (48 + n) ∷ [] else (87 + n) ∷ []
-
--- a character in a string of JSON: `"` (34), the backslash (92) and the controls are escaped
-abbrev pub escape : ℕ → List ℕ
-escape c =
-    if c == 34 then codes "\\\""
-    else (if c == 92 then codes "\\\\"
-    else (if nat_lt c 16 then codes "\\u000" ++ hex c
-    else (if nat_lt c 32 then codes "\\u001" ++ hex (c - 16) else encode_utf8 c)))
-
-abbrev pub escaped : List ℕ → List ℕ
-escaped text = each escape (chars text)
 
 -- an object of JSON on a line: the file and what is wrong, and then where
 abbrev pub json_what : List ℕ → Found → List ℕ

@@ -1,14 +1,9 @@
 -- How a line is shown on a terminal, and in which columns.
 use Rattle.std.specs.Prelude.{ℕ, zero, suc, false, ◌==◌, ◌||◌, List, [], ◌∷◌, ◌++◌, Option, Some, None, codes}
-use Rattle.std.specs.Prelude.{encode_utf8, length}
-use Rattle.std.specs.Prelude.{if◌then◌else◌}
+use Rattle.std.specs.Prelude.{encode_utf8, length, if◌then◌else◌}
 use Rattle.unicode_width.specs.Width.{char_width}
+use Rattle.messages.specs.Each.{each}
 use Rattle.rust_check.specs.Hidden.{is_hidden}
-
--- what each character gives, one after the other
-abbrev pub each : (ℕ → List ℕ) → List ℕ → List ℕ
-each give [] = []
-each give (c ∷ text) = give c ++ each give text
 
 -- so many times the text
 abbrev pub times : ℕ → List ℕ → List ℕ

@@ -11,7 +11,6 @@ mod ends;
 mod files;
 mod finding;
 mod hidden;
-mod json;
 mod name_forms;
 mod names;
 mod options;

@@ -1,7 +1,8 @@
 //! How a line is shown on a terminal, and in which columns.
 ghost use Rattle.std.specs.Prelude.{◌≡◌, ◌++◌, IfOk, OnOk, codes, string_bytes};
 ghost use Rattle.std.specs.Str.{chars};
-ghost use Rattle.rust_check.specs.Shown.{carets, columns, each, filled, shown, times};
+ghost use Rattle.messages.specs.Each.{each};
+ghost use Rattle.rust_check.specs.Shown.{carets, columns, filled, shown, times};
 
 use crate::hidden::is_hidden;
 use std::alloc::{AllocError, Global};

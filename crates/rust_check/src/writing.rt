@@ -7,10 +7,10 @@ ghost use Rattle.rust_check.specs.Message.{seen, short};
 
 use crate::colours::Colours;
 use crate::finding::{Finding, Place};
-use crate::json::escaped;
 use crate::options::Form;
 use crate::place::{byte_count, first_line};
 use crate::shown::{shown_line, spaces, underline};
+use messages::escaped;
 use std::alloc::Global;
 use std::io;
 use std::io::Write;

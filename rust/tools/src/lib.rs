@@ -65,7 +65,6 @@ pub mod rust_check {
     pub mod files;
     mod finding;
     mod hidden;
-    mod json;
     mod name_forms;
     mod names;
     pub mod options;
@@ -101,7 +100,6 @@ pub mod outline {
     mod answer;
     mod entries;
     pub mod files;
-    mod json;
     mod lines;
     mod names;
     pub mod options;

@@ -3,10 +3,10 @@
 
 use proved::shim::prelude::String;
 
-use crate::outline::json::escaped;
 use crate::outline::names::word_of;
 use crate::outline::options::Form;
 use proved::declarations::ItemKind;
+use crate::messages::escaped;
 use proved::proc_macro2::LineColumn;
 use proved::shim::alloc::{AllocError, Global};
 

@@ -5,10 +5,10 @@ use proved::shim::prelude::format;
 
 use crate::rust_check::colours::Colours;
 use crate::rust_check::finding::{Finding, Place};
-use crate::rust_check::json::escaped;
 use crate::rust_check::options::Form;
 use crate::rust_check::place::{byte_count, first_line};
 use crate::rust_check::shown::{shown_line, spaces, underline};
+use crate::messages::escaped;
 use proved::shim::alloc::Global;
 use proved::shim::io;
 use proved::shim::io::Write;

@@ -1,6 +1,6 @@
 use Rattle.std.proofs.Common.{◌∙◌, ◌++◌, ap, string_bytes}
 use Rattle.rust_check.specs.Shown.{columns, times}
-use Rattle.rust_check.proofs.ShownLemmas.{each_end, each_one}
+use Rattle.messages.proofs.EachLemmas.{each_end, each_one}
 use Rattle.rust_check.proofs.shown.push_filled.Goals as goal
 
 pub loop-c-preserved : goal.loop-c-preserved

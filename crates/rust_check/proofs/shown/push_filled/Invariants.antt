@@ -1,7 +1,7 @@
 use Rattle.std.proofs.Common.{string_bytes}
 use Rattle.std.specs.Str.Iter.{chars_rest}
 use Rattle.rust_check.specs.Shown.{columns, times}
-use Rattle.rust_check.proofs.ShownLemmas.{IsEach}
+use Rattle.messages.proofs.EachLemmas.{IsEach}
 use Rattle.rust_check.proofs.shown.push_filled.Given as goal
 
 abbrev pub invariant-loop-c : goal.invariant-loop-c

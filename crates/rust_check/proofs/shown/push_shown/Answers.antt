@@ -1,5 +1,5 @@
 use Rattle.rust_check.specs.Shown.{shown}
-use Rattle.rust_check.proofs.ShownLemmas.{each_end, each_one}
+use Rattle.messages.proofs.EachLemmas.{each_end, each_one}
 use Rattle.rust_check.proofs.shown.push_shown.Goals as goal
 
 pub loop-c-preserved : goal.loop-c-preserved

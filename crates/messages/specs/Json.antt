@@ -1,11 +1,7 @@
 -- Texts in JSON.
 use Rattle.std.specs.Prelude.{ℕ, ◌+◌, ◌-◌, ◌==◌, List, [], ◌∷◌, ◌++◌, codes, encode_utf8, nat_lt, if◌then◌else◌}
 use Rattle.std.specs.Str.{chars}
-
--- what each character gives, one after the other
-abbrev pub each : (ℕ → List ℕ) → List ℕ → List ℕ
-each give [] = []
-each give (c ∷ text) = give c ++ each give text
+use Rattle.messages.specs.Each.{each}
 
 -- a digit of a number to the base 16
 abbrev pub hex : ℕ → List ℕ

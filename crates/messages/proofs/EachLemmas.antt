@@ -1,10 +1,10 @@
--- A text in JSON, one character after the other.
+-- A text that is written one character after the other.
 use Rattle.std.proofs.Common.{◌≡◌, ◌∙◌, ◌++◌, ℕ, List, [], ◌∷◌, refl, sym, ap, append_assoc, append-nil, encode_utf8}
 use Rattle.std.proofs.Common.{length}
 use Rattle.std.specs.Str.{chars, IsUtf8}
 use Rattle.std.proofs.lemmas.List.{nil_from_length}
 use Rattle.std.proofs.lemmas.Str.{chars-nil, chars_past_char, IsUtf8-past_char}
-use Rattle.outline.specs.Json.{each}
+use Rattle.messages.specs.Each.{each}
 
 -- with what is left to come, it is all
 pub record IsEach (give : ℕ → List ℕ) (text rest old out : List ℕ) : Type 0 where

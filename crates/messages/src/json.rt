@@ -1,12 +1,12 @@
-// Made from crates/outline/src/json.rt by rust/erase: change that file, not this one.
 //! Texts in JSON.
+ghost use Rattle.std.specs.Prelude.{◌≡◌, ◌∷◌, ◌++◌, ◌<◌, [], IfOk, OnOk, string_bytes};
+ghost use Rattle.messages.specs.Json.{escape, escaped, hex};
 
-use proved::shim::prelude::String;
-
-use proved::shim::alloc::{AllocError, Global};
+use std::alloc::{AllocError, Global};
 
 /// The text as it stands in a string of JSON.
 pub fn escaped(alloc: Global, text: &str) -> Result<String, AllocError>
+    ensures { IfOk result (λ out. string_bytes out ≡ escaped text.now) }
 {
     let mut out = String::new(alloc);
     for c in text.chars() {
@@ -17,6 +17,7 @@ pub fn escaped(alloc: Global, text: &str) -> Result<String, AllocError>
 
 // Appends a character: a quote, a backslash and the controls are escaped.
 fn push_escaped(out: &mut String, c: char) -> Result<(), AllocError>
+    ensures { OnOk result (string_bytes out.new ≡ string_bytes out.old ++ escape c) }
 {
     match c {
         '"' => out.push_str("\\\""),
@@ -29,6 +30,8 @@ fn push_escaped(out: &mut String, c: char) -> Result<(), AllocError>
 
 // Appends what begins the escape of a control, and its last digit.
 fn push_control(out: &mut String, front: &str, digit: u8) -> Result<(), AllocError>
+    requires { digit < 16 }
+    ensures { OnOk result (string_bytes out.new ≡ string_bytes out.old ++ (front.now ++ hex digit)) }
 {
     out.push_str(front)?;
     out.push(hex(digit))
@@ -36,6 +39,8 @@ fn push_control(out: &mut String, front: &str, digit: u8) -> Result<(), AllocErr
 
 // A digit of a number to the base 16.
 fn hex(digit: u8) -> char
+    requires { digit < 16 }
+    ensures { result ∷ [] ≡ hex digit }
 {
     if digit < 10 {
         (b'0' + digit) as char

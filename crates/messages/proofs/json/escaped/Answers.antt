@@ -1,7 +1,7 @@
 use Rattle.std.proofs.Common.{◌∙◌, ◌++◌, ap}
-use Rattle.outline.specs.Json.{escape, escaped}
-use Rattle.outline.proofs.JsonLemmas.{each_end, each_one}
-use Rattle.outline.proofs.json.escaped.Goals as goal
+use Rattle.messages.specs.Json.{escape, escaped}
+use Rattle.messages.proofs.EachLemmas.{each_end, each_one}
+use Rattle.messages.proofs.json.escaped.Goals as goal
 
 pub loop-c-preserved : goal.loop-c-preserved
 loop-c-preserved c =

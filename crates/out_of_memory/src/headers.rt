@@ -1,0 +1,43 @@
+//! Headers of impls, and errors told to the compiler.
+
+use crate::fails::Fail;
+use crate::watched::{begin, end};
+use declarations::{compile_error, parse_type_item};
+use item_headers::{impl_header, where_clause_with_bound};
+use proc_macro2::{SourceMap, Span, TokenStream};
+use std::alloc::Global;
+use std::fmt::Debug;
+use std::io::Write;
+
+/// Writes the header of an impl for the item of the text, its where clause with a bound, or the text as an error.
+pub fn run<W: Write>(alloc: Global, out: &mut W, call: &str, text: &str) -> Result<(), Fail> {
+    let mut map = SourceMap::new(alloc);
+    let stream = TokenStream::from_str(text, &mut map)?;
+    let path = TokenStream::from_str("Clone", &mut map)?;
+    let Ok(item) = parse_type_item(stream.trees()) else {
+        return Err(Fail::NoCase);
+    };
+    for _ in 0..2 {
+        begin(out)?;
+        match call {
+            "impl_header" => print(out, impl_header(alloc, &item, &path))?,
+            "where_clause_with_bound" => print(out, where_clause_with_bound(alloc, &item, &path))?,
+            "compile_error" => print(out, compile_error(alloc, text, Span::call_site()))?,
+            _ => return Err(Fail::NoCase),
+        }
+    }
+    Ok(())
+}
+
+// Writes the line after a call, and the text of its stream or its error.
+fn print<W: Write, E: Debug + Drop>(
+    out: &mut W,
+    answer: Result<TokenStream, E>,
+) -> Result<(), Fail> {
+    end(out)?;
+    match answer {
+        Ok(stream) => writeln!(out, "{stream}")?,
+        Err(error) => writeln!(out, "{error:?}")?,
+    }
+    Ok(())
+}
