@@ -4,9 +4,11 @@
 #![cfg(feature = "quoting")]
 #![cfg(feature = "pretty_printer")]
 use proved::declarations::{
-    parse_file, parse_param, parse_type_item, within_generics, Attributes, Body, ParamKind,
+    compile_error, parse_file, parse_param, parse_type_item, within_generics, Attributes, Body, ParamKind,
 };
-use proved::item_headers::{impl_generics, impl_header};
+use proved::item_headers::{
+    impl_generics, impl_header, impl_header_where, type_generics, where_clause, where_clause_with_bound,
+};
 use proved::pretty_printer::to_pretty_string;
 use proved::proc_macro2::rustc_literal_escaper::unescape_str;
 use proved::proc_macro2::{
@@ -102,6 +104,13 @@ fn calls_in_place_of_syns_items() {
     assert_eq!(impl_generics(alloc, &item).unwrap().to_string(), "< T : A >");
     let header = impl_header(alloc, &item, &path).unwrap();
     assert_eq!(header.to_string(), "impl < T : A > Clone for S < T > where T : C");
+    assert_eq!(type_generics(alloc, &item).unwrap().to_string(), "< T >");
+    assert_eq!(where_clause(alloc, &item).unwrap().to_string(), "where T : C");
+    let clause = where_clause_with_bound(alloc, &item, &path).unwrap();
+    let header = impl_header_where(alloc, &item, &path, &clause).unwrap();
+    assert_eq!(header.to_string(), "impl < T : A > Clone for S < T > where T : C , T : Clone");
+    let Ok(told) = compile_error(alloc, "a", item.name.span());
+    assert_eq!(told.to_string(), ":: core :: compile_error ! { \"a\" }");
     let Ok(told) = parse_type_item(path.trees()).unwrap_err().to_compile_error(alloc);
     assert_eq!(told.to_string(), ":: core :: compile_error ! { \"not expected here\" }");
 }

@@ -1,20 +1,25 @@
 //! An attribute that wraps a function's body, over `proved-bridge`, which needs neither syn nor quote. What the
 //! function is comes from the proved `parse_item`; all of its tokens but the braces stay as they are.
-use proved_bridge::proved::declarations::{compile_error, parse_item, AnyItem, Fault, ItemKind};
+use proved_bridge::proved::declarations::{
+    compile_error, parse_item, split_inner_attributes, AnyItem, Fault, ItemKind,
+};
 use proved_bridge::proved::proc_macro2::{Delimiter, Group, Ident, Literal, SourceMap, Span, TokenStream, TokenTree};
 use proved_bridge::proved::quoting::{Hole, Quote};
-use proved_bridge::proved::shim::alloc::Global;
+use proved_bridge::proved::shim::alloc::{AllocError, Global};
 use proved_bridge::proved::shim::clone::Clone as _;
 use proved_bridge::{from_proved, to_proved, NoToken, Spans};
 
-/// What stands before the statements of the body. The guard speaks however the body is left.
+/// What stands between the inner attributes of the body and its statements, which see none of its names. The guard
+/// speaks however the body is left.
 const PROLOGUE: &str = "
-    struct Left;
-    impl ::core::ops::Drop for Left {
-        fn drop(&mut self) { #log(#text, false) }
-    }
     #log(#text, true);
-    let _left = Left;";
+    let #guard = {
+        struct Left;
+        impl ::core::ops::Drop for Left {
+            fn drop(&mut self) { #log(#text, false) }
+        }
+        Left
+    };";
 
 /// The code that tells what is wrong, where it is wrong.
 struct Refusal(TokenStream);
@@ -45,17 +50,18 @@ fn expanded(
     spans: &mut Spans,
 ) -> Result<proc_macro2::TokenStream, NoToken> {
     let (log, item) = (to_proved(log, spans)?, to_proved(item, spans)?);
-    from_proved(&wrapped(&log, &item).unwrap_or_else(|refusal| refusal.0), spans)
+    let own = spans.place(proc_macro2::Span::mixed_site());
+    from_proved(&wrapped(&log, &item, own).unwrap_or_else(|refusal| refusal.0), spans)
 }
 
-/// The function with its new body.
-fn wrapped(log: &TokenStream, item: &TokenStream) -> Result<TokenStream, Refusal> {
+/// The function with its new body, whose variable has the macro's own span.
+fn wrapped(log: &TokenStream, item: &TokenStream, own: Span) -> Result<TokenStream, Refusal> {
     let item = parse_item(item.trees())?;
     let (name, head, body) = function(&item)?;
-    let mut statements = prologue(log, name)?;
-    let (Ok(inside), Ok(mut whole)) = (body.stream(), copied(head));
-    let Ok(()) = statements.extend_streams([inside]);
-    let mut braces = Group::new(Delimiter::Brace, statements);
+    let (attributes, statements) = split_inner_attributes(body.stream_ref().trees())?;
+    let (Ok(mut inside), Ok(statements), Ok(mut whole)) = (copied(attributes), copied(statements), copied(head));
+    let Ok(()) = inside.extend_streams([prologue(log, name, own)?, statements]);
+    let mut braces = Group::new(Delimiter::Brace, inside);
     braces.set_span(body.span());
     let Ok(()) = whole.extend_trees([TokenTree::Group(braces)]);
     Ok(whole)
@@ -71,17 +77,19 @@ fn function<'a>(item: &AnyItem<'a>) -> Result<(&'a Ident, &'a [TokenTree], &'a G
 }
 
 /// The prologue of the function of this name.
-fn prologue(log: &TokenStream, name: &Ident) -> Result<TokenStream, Refusal> {
+fn prologue(log: &TokenStream, name: &Ident, own: Span) -> Result<TokenStream, Refusal> {
     let Ok(text) = Literal::string(Global, &name.to_string());
     let Ok(text) = TokenStream::from_tree(Global, TokenTree::Literal(text));
+    let guard = Ident::new(Global, "_guard", own).expect("it is a name");
+    let Ok(guard) = TokenStream::from_tree(Global, TokenTree::Ident(guard));
     let mut quote = Quote::new(Global);
-    let holes = [Hole::one("log", log), Hole::one("text", &text)];
+    let holes = [Hole::one("log", log), Hole::one("text", &text), Hole::one("guard", &guard)];
     quote.parse(PROLOGUE, &mut SourceMap::new(Global), &holes).expect("each hole is filled");
     let span = log.trees().first().map_or_else(Span::call_site, TokenTree::span);
     quote.finish().map_err(|_| refusal("this can't be written as the name of a function", span))
 }
 
-fn copied(trees: &[TokenTree]) -> Result<TokenStream, proved_bridge::proved::shim::alloc::AllocError> {
+fn copied(trees: &[TokenTree]) -> Result<TokenStream, AllocError> {
     let mut copy = TokenStream::new(Global);
     for tree in trees {
         copy.extend_trees([tree.clone()?])?;

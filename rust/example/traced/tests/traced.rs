@@ -41,6 +41,25 @@ fn each_function_says_when_it_begins_and_when_it_is_left() {
     assert_eq!(seen, [around(&twice), around(&half)].concat());
 }
 
+enum Side {
+    Left,
+    Right,
+}
+
+#[traced(log)]
+fn is_left(side: &Side, _guard: u8) -> bool {
+    #![allow(dead_code)]
+    //! The body has attributes, and names as the prologue.
+    use Side::*;
+    matches!(side, Left) && _guard > 1
+}
+
+#[test]
+fn names_of_the_body_stay_its_own() {
+    assert_eq!([is_left(&Side::Left, 2), is_left(&Side::Right, 2)], [true, false]);
+    assert_eq!(SEEN.take(), [("is_left", true), ("is_left", false)].repeat(2));
+}
+
 #[test]
 fn a_raw_name_is_told_as_it_is_written() {
     assert_eq!(r#fn(), [1, 2]);
