@@ -1,18 +1,33 @@
 -- The path of an attribute.
 use Rattle.std.proofs.Common.{◌≡◌, ◌≤◌, refl, sym, ◌∙◌, ap, suc, Bool, true, false, List, [], ◌∷◌, length, drop}
-use Rattle.std.proofs.Common.{arith}
+use Rattle.std.proofs.Common.{◌==◌, arith, if◌then◌else◌, subst}
 use Rattle.std.specs.List.{prefix_len}
+use Rattle.std.proofs.lemmas.Bool.{eqb-true}
 use Rattle.pm_stream.specs.DocGroup.{trees_of}
 use Rattle.pm_stream.specs.Forest.{Forest}
 use Rattle.pm_stream.specs.Trees.{forest}
+use Rattle.pm_stream.specs.declared.stream.Group.{Group as Grouped}
 use Rattle.pm_stream.specs.declared.stream.TokenTree.{TokenTree}
+use Rattle.pm_stream.specs.declared.stream.TokenTree.TheVariants.{Group}
 use Rattle.pm_stream.proofs.DocLemmas.{trees_of-forest}
-use Rattle.declarations.specs.Attribute.{goes_on}
+use Rattle.declarations.specs.Attribute.{goes_on, has_no_delimiters, seen_through}
 
 -- the trees in a group
 pub held_trees : (trees : List TokenTree) (stream held : Forest) → forest trees ≡ stream → stream ≡ held
     → trees_of held ≡ trees
 held_trees trees stream held whole same = ap trees_of (sym same ∙ sym whole) ∙ trees_of-forest trees
+
+-- a group without delimiters that is all of the trees is seen through
+pub through_group : (trees rest inner : List TokenTree) (tree : TokenTree) (g : Grouped) → trees ≡ tree ∷ rest
+    → tree ≡ Group g → true ≡ (length rest == 0) → true ≡ has_no_delimiters g.delimiter → trees_of g.stream ≡ inner
+    → inner ≡ seen_through trees
+through_group trees [] inner tree g whole is empty none held =
+    let all : trees ≡ Group g ∷ [] = whole ∙ ap (λ t. t ∷ []) is in
+    subst (λ ts. inner ≡ seen_through ts) (sym all)
+    (subst (λ b. inner ≡ (if b then trees_of g.stream else Group g ∷ [])) none (sym held))
+through_group trees (next ∷ rest) inner tree g whole is empty none held =
+    let no : suc (length rest) ≡ 0 = eqb-true (suc (length rest)) 0 (sym empty) in
+    absurd (omega arith)
 
 within_cons : (b : Bool) (tree : TokenTree) (trees : List TokenTree) → goes_on tree ≡ b
     → prefix_len goes_on trees ≤ length trees → prefix_len goes_on (tree ∷ trees) ≤ length (tree ∷ trees)

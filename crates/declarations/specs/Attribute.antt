@@ -1,13 +1,13 @@
 -- Attributes, one at a time.
 use Rattle.std.specs.Prelude.{◌≡◌, ℕ, ◌==◌, ◌<◌, ◌&&◌, Bool, true, false, not, List, [], ◌∷◌, ◌++◌, nat_eq}
-use Rattle.std.specs.Prelude.{drop, if◌then◌else◌, length, take_while}
+use Rattle.std.specs.Prelude.{Option, drop, if◌then◌else◌, length, take_while}
 use Rattle.std.specs.List.{prefix_len}
 use Rattle.std.specs.Cmp.Lexicographic.{pointwise}
-use Rattle.pm_token.specs.Leaf.{Mark}
+use Rattle.pm_token.specs.Leaf.{Mark, Text}
 use Rattle.pm_token.specs.Spelling.{name_text}
 use Rattle.pm_token.specs.declared.delimiters.Delimiter.{Delimiter}
 use Rattle.pm_token.specs.declared.delimiters.Delimiter.TheVariants as delimiters
-use Rattle.pm_stream.specs.DocGroup.{trees_of}
+use Rattle.pm_stream.specs.DocGroup.{doc_in, trees_of}
 use Rattle.pm_stream.specs.declared.stream.Group.{Group as Grouped}
 use Rattle.pm_stream.specs.declared.stream.TokenTree.{TokenTree}
 use Rattle.pm_stream.specs.declared.stream.TokenTree.TheVariants.{Group, Ident, Punct, Literal}
@@ -55,12 +55,21 @@ IsAttributeAt trees attribute rest = trees ≡ attribute_trees (parts_of attribu
 
 -- ---- what stands in its brackets
 
-abbrev pub inside : Attribute → List TokenTree
-inside attribute = trees_of attribute.group.now.stream
-
 abbrev pub has_no_delimiters : Delimiter → Bool
 has_no_delimiters delimiters.None = true
 has_no_delimiters _ = false
+
+-- the trees, or those in a group without delimiters that is all of them, as a macro by example passes an attribute
+abbrev pub seen_through : List TokenTree → List TokenTree
+seen_through (Group g ∷ []) = if has_no_delimiters g.delimiter then trees_of g.stream else Group g ∷ []
+seen_through trees = trees
+
+abbrev pub inside : Attribute → List TokenTree
+inside attribute = seen_through (trees_of attribute.group.now.stream)
+
+-- the literal, where this is `doc`, `=` Alone and that literal
+abbrev pub doc_of : Attribute → Option Text
+doc_of attribute = doc_in delimiters.Bracket (inside attribute)
 
 -- a path may go on with the tree: it isn't `=` (61), nor a group with delimiters
 abbrev pub goes_on : TokenTree → Bool

@@ -4,17 +4,16 @@ ghost use Rattle.std.specs.Prelude.{option_copied};
 ghost use Rattle.std.specs.List.{prefix_len};
 ghost use Rattle.pm_token.specs.Leaf.{Mark};
 ghost use Rattle.pm_token.specs.Spelling.{spelled};
-ghost use Rattle.pm_stream.specs.DocGroup.{doc_of};
 ghost use Rattle.pm_stream.specs.declared.stream.Group.{Group as Grouped};
 ghost use Rattle.pm_stream.specs.declared.stream.TokenTree.{TokenTree as Tree};
 ghost use Rattle.pm_stream.specs.declared.stream.TokenTree.TheVariants as trees_are;
-ghost use Rattle.declarations.specs.Attribute.{AreArgs, IsAttributeAt, after_path, attributes_in, goes_on};
+ghost use Rattle.declarations.specs.Attribute.{AreArgs, IsAttributeAt, after_path, attributes_in, doc_of, goes_on};
 ghost use Rattle.declarations.specs.Attribute.{has_no_delimiters, inside, is_bracket, is_inner, is_outer, is_word};
-ghost use Rattle.declarations.specs.Attribute.{parts_of, path_of};
+ghost use Rattle.declarations.specs.Attribute.{parts_of, path_of, seen_through};
 
 use crate::item::split_group;
 use pm_stream::{Group, TokenTree};
-use pm_token::{Delimiter, Literal, Punct};
+use pm_token::{Delimiter, Literal, Punct, Spacing};
 
 /// An attribute, as `#[derive(Clone)]` or `#![no_std]`. A doc comment is one too.
 #[derive(Clone, Copy, Debug)]
@@ -160,14 +159,15 @@ impl<'a> Attribute<'a> {
         self.marks.len() == 2
     }
 
-    /// Its path: the trees in the brackets before the first `=` or group with delimiters.
+    /// Its path: the trees in the brackets before the first `=` or group with delimiters. Where all that stands there is
+    /// a group without delimiters, as a macro by example passes an attribute, what it holds counts in its place.
     ///
     /// Of `#[rustfmt::skip]` it is `rustfmt::skip`, of `#[doc = "a"]` `doc`, and of `#[unsafe(no_mangle)]` `unsafe`.
     pub fn path(&self) -> &'a [TokenTree]
         ensures { result.now ≡ path_of (inside self.now) }
     {
-        let inside = self.group.stream_ref().trees();
-        let (path, _) = inside.split_at(path_len(inside));
+        let trees = self.inside();
+        let (path, _) = trees.split_at(path_len(trees));
         path
     }
 
@@ -175,8 +175,8 @@ impl<'a> Attribute<'a> {
     pub fn args(&self) -> AttributeArgs<'a>
         ensures { AreArgs (after_path (inside self.now)) result }
     {
-        let inside = self.group.stream_ref().trees();
-        let (_, rest) = inside.split_at(path_len(inside));
+        let trees = self.inside();
+        let (_, rest) = trees.split_at(path_len(trees));
         args_of(rest)
     }
 
@@ -192,9 +192,37 @@ impl<'a> Attribute<'a> {
 
     /// The literal of a doc comment, or of `#[doc = "text"]`, and `None` of every other attribute.
     pub fn doc(&self) -> Option<&'a Literal>
-        ensures { option_copied result ≡ doc_of self.now.group.now }
+        ensures { option_copied result ≡ doc_of self.now }
     {
-        self.group.doc()
+        match self.inside() {
+            [
+                TokenTree::Ident(name),
+                TokenTree::Punct(mark),
+                TokenTree::Literal(text),
+            ] if name.eq_str("doc") && mark.as_char() == '=' && mark.spacing() == Spacing::Alone =>
+                { Some(text) }
+            _ => None,
+        }
+    }
+
+    // The trees in its brackets, or in the one group without delimiters that stands there.
+    fn inside(&self) -> &'a [TokenTree]
+        ensures { result.now ≡ inside self.now }
+    {
+        seen_through(self.group.stream_ref().trees())
+    }
+}
+
+// The trees, or those in a group without delimiters that is all of them.
+fn seen_through(trees: &[TokenTree]) -> &[TokenTree]
+    ensures { result.now ≡ seen_through trees.now }
+{
+    match trees.split_first() {
+        Some((TokenTree::Group(group), rest))
+            if rest.is_empty() && has_no_delimiters(group.delimiter()) => {
+            group.stream_ref().trees()
+        }
+        _ => trees,
     }
 }
 

@@ -1,6 +1,6 @@
 // Attributes, and what stands in their brackets.
 use declarations::{AttributeArgs, Attributes};
-use proc_macro2::{SourceMap, TokenStream};
+use proc_macro2::{Delimiter, Group, Punct, SourceMap, Spacing, TokenStream, TokenTree};
 use std::process::Abort;
 use std::test::Fail;
 
@@ -30,7 +30,17 @@ fn check(
     left: usize,
 ) -> Result<(), Fail> {
     let stream = TokenStream::from_str(text, &mut SourceMap::new(rt.alloc()))?;
-    let mut attributes = Attributes::new(stream.trees());
+    check_trees(rt, stream.trees(), text, rows, left)
+}
+
+fn check_trees(
+    rt: &(impl Abort + AllocGlobal),
+    trees: &[TokenTree],
+    text: &str,
+    rows: &[(usize, Args, bool, bool)],
+    left: usize,
+) -> Result<(), Fail> {
+    let mut attributes = Attributes::new(trees);
     for (path, args, inner, doc) in rows {
         match attributes.next() {
             Some(attribute) => {
@@ -90,4 +100,29 @@ fn a_word_is_a_whole_path(rt: HostRuntime) -> Result<(), Fail> {
     }
     assert_eq!(rt; found, 2);
     Ok(())
+}
+
+// The same of an outer attribute whose brackets have this text in a group without delimiters.
+fn check_unseen(
+    rt: &(impl Abort + AllocGlobal),
+    text: &str,
+    row: (usize, Args, bool, bool),
+) -> Result<(), Fail> {
+    let inside = TokenStream::from_str(text, &mut SourceMap::new(rt.alloc()))?;
+    let unseen = TokenTree::Group(Group::new(Delimiter::None, inside));
+    let brackets = Group::new(
+        Delimiter::Bracket,
+        TokenStream::from_tree(rt.alloc(), unseen)?,
+    );
+    let hash = TokenTree::Punct(Punct::new('#', Spacing::Alone));
+    let stream = TokenStream::from_trees(rt.alloc(), [hash, TokenTree::Group(brackets)])?;
+    check_trees(rt, stream.trees(), text, &[row], 0)
+}
+
+#[test]
+fn a_group_without_delimiters_in_the_brackets_is_seen_through(rt: HostRuntime) -> Result<(), Fail> {
+    check_unseen(&rt, "test", (1, Args::Nothing, false, false))?;
+    check_unseen(&rt, "a::b(c, d)", (4, Args::Group(3), false, false))?;
+    check_unseen(&rt, "doc = \"x\"", (1, Args::Value(1), false, true))?;
+    check_unseen(&rt, "", (0, Args::Nothing, false, false))
 }

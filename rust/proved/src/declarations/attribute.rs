@@ -3,7 +3,7 @@
 
 use crate::declarations::item::split_group;
 use crate::pm_stream::{Group, TokenTree};
-use crate::pm_token::{Delimiter, Literal, Punct};
+use crate::pm_token::{Delimiter, Literal, Punct, Spacing};
 
 /// An attribute, as `#[derive(Clone)]` or `#![no_std]`. A doc comment is one too.
 #[derive(Clone, Copy, Debug)]
@@ -129,21 +129,22 @@ impl<'a> Attribute<'a> {
         self.marks.len() == 2
     }
 
-    /// Its path: the trees in the brackets before the first `=` or group with delimiters.
+    /// Its path: the trees in the brackets before the first `=` or group with delimiters. Where all that stands there is
+    /// a group without delimiters, as a macro by example passes an attribute, what it holds counts in its place.
     ///
     /// Of `#[rustfmt::skip]` it is `rustfmt::skip`, of `#[doc = "a"]` `doc`, and of `#[unsafe(no_mangle)]` `unsafe`.
     pub fn path(&self) -> &'a [TokenTree]
     {
-        let inside = self.group.stream_ref().trees();
-        let (path, _) = inside.split_at(path_len(inside));
+        let trees = self.inside();
+        let (path, _) = trees.split_at(path_len(trees));
         path
     }
 
     /// What follows its path.
     pub fn args(&self) -> AttributeArgs<'a>
     {
-        let inside = self.group.stream_ref().trees();
-        let (_, rest) = inside.split_at(path_len(inside));
+        let trees = self.inside();
+        let (_, rest) = trees.split_at(path_len(trees));
         args_of(rest)
     }
 
@@ -159,7 +160,33 @@ impl<'a> Attribute<'a> {
     /// The literal of a doc comment, or of `#[doc = "text"]`, and `None` of every other attribute.
     pub fn doc(&self) -> Option<&'a Literal>
     {
-        self.group.doc()
+        match self.inside() {
+            [
+                TokenTree::Ident(name),
+                TokenTree::Punct(mark),
+                TokenTree::Literal(text),
+            ] if name.eq_str("doc") && mark.as_char() == '=' && mark.spacing() == Spacing::Alone =>
+                { Some(text) }
+            _ => None,
+        }
+    }
+
+    // The trees in its brackets, or in the one group without delimiters that stands there.
+    fn inside(&self) -> &'a [TokenTree]
+    {
+        seen_through(self.group.stream_ref().trees())
+    }
+}
+
+// The trees, or those in a group without delimiters that is all of them.
+fn seen_through(trees: &[TokenTree]) -> &[TokenTree]
+{
+    match trees.split_first() {
+        Some((TokenTree::Group(group), rest))
+            if rest.is_empty() && has_no_delimiters(group.delimiter()) => {
+            group.stream_ref().trees()
+        }
+        _ => trees,
     }
 }
 
