@@ -28,6 +28,7 @@ pub mod AnswerLemmas
 pub mod PieceFacts
 pub mod QuickLemmas
 pub mod QuickLiteralLemmas
+pub mod QuickStringLemmas
 pub mod QuickCommentLemmas
 pub mod WalkLemmas
 mod Examples

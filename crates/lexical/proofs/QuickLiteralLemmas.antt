@@ -1,36 +1,30 @@
 -- What a few bytes tell of a literal between quotes.
-use Rattle.std.proofs.Common.{◌-◌, ◌≤◌, ◌≡◌, ℕ, ◌+◌, ◌<◌, Bool, true, not, ◌&&◌, inl, inr, List, [], ◌∷◌, ◌++◌, Some}
-use Rattle.std.proofs.Common.{length, get_or, take, drop, nat_lt, refl, sym, ap, ap₂, ◌∙◌, subst, arith, append_assoc}
-use Rattle.std.proofs.Common.{drop-cons, length-append, ltb-true, suc}
-use Rattle.std.specs.Prelude.{map}
-use Rattle.std.specs.List.{list_all, concat}
+use Rattle.std.proofs.Common.{◌-◌, ◌≤◌, ◌≡◌, ℕ, ◌<◌, Bool, true, not, ◌&&◌, inl, inr, List, [], ◌∷◌, ◌++◌}
+use Rattle.std.proofs.Common.{length, get_or, take, drop, nat_lt, refl, sym, ap, ap₂, ◌∙◌, subst, arith}
+use Rattle.std.proofs.Common.{length-append, ltb-true, suc}
+use Rattle.std.specs.List.{list_all}
 use Rattle.std.specs.Str.{chars, IsAscii, IsUtf8}
 use Rattle.std.proofs.lemmas.Bool.{and_parts, and_from, lt-ltb, not-true}
-use Rattle.std.proofs.lemmas.List.{get_or-drop, take_at, drop_at, take-append-drop}
-use Rattle.std.proofs.lemmas.List.Folds.{list_all-append}
-use Rattle.memchr.specs.Find.{IsFirstByte, is_byte3}
+use Rattle.std.proofs.lemmas.List.{take_at, drop_at}
 use Rattle.lexical.specs.Ascii.{all_ascii}
 use Rattle.lexical.specs.Class.{is_ident_start}
-use Rattle.lexical.specs.Finder.{while_front}
-use Rattle.lexical.specs.Form.{Each, Form}
+use Rattle.lexical.specs.Form.{Form}
 use Rattle.lexical.specs.Found.{IsPieceAt, LendsText, kind_of}
 use Rattle.lexical.specs.Literal.{Literal}
 use Rattle.lexical.specs.Piece.{IsPiece}
 use Rattle.lexical.specs.Quick.{IsAsciiAt}
-use Rattle.lexical.specs.Quoted.{Str, StringUnit, close, is_one_of, is_string_plain, letters}
+use Rattle.lexical.specs.Quoted.{close, is_one_of, letters}
 use Rattle.lexical.specs.Rule.{Stands}
 use Rattle.lexical.specs.SingleQuoted.{Character, is_char_plain}
 use Rattle.lexical.specs.declared.piece.Piece.{Piece}
 use Rattle.lexical.specs.declared.piece.PieceKind.TheVariants as kinds
 use Rattle.lexical.specs.declared.quoted.StringKind.TheVariants as strings
-use Rattle.lexical.proofs.FinderLemmas.{finds_run}
-use Rattle.lexical.proofs.QuickLemmas.{at_other, front_of_run, low_fails}
+use Rattle.lexical.proofs.QuickLemmas.{at_other, low_fails}
 use Rattle.lexical.proofs.QuotedLemmas.{no_name}
-use Rattle.lexical.proofs.SearchLemmas.{found_end, plain_allowed}
 use Rattle.lexical.proofs.TextLemmas.{front_len}
 
 -- ASCII before a rest
-ascii_at : (A : Form) (text p rest : List ℕ) (n : ℕ) → text ≡ p ++ rest → n ≡ length p → all_ascii p ≡ true
+pub ascii_at : (A : Form) (text p rest : List ℕ) (n : ℕ) → text ≡ p ++ rest → n ≡ length p → all_ascii p ≡ true
     → A p (chars rest) → IsAsciiAt A text n
 ascii_at A text p rest n whole size ascii stands =
     let front : take n text ≡ p = ap (take n) whole ∙ take_at p rest n (sym size) in
@@ -46,7 +40,7 @@ abbrev pub ends : ℕ → Bool
 ends c = nat_lt c 128 && not (is_ident_start c)
 
 -- a quote that closes, with no suffix
-closes : (quote : ℕ) (rest : List ℕ) → ends (get_or rest 0 32) ≡ true
+pub closes : (quote : ℕ) (rest : List ℕ) → ends (get_or rest 0 32) ≡ true
     → Stands (close (quote ∷ [])) (quote ∷ []) (chars rest)
 closes quote rest ended =
     let parts = and_parts _ _ ended in
@@ -127,47 +121,7 @@ escaped_read (a ∷ (b ∷ (c ∷ (d ∷ rest)))) front slash back low letter en
     (subst (λ x. IsAsciiAt Character (39 ∷ (x ∷ (c ∷ (39 ∷ rest)))) 4) (sym slash)
     (character_escaped c rest low letter ended))
 
--- ---- strings
-
--- characters that are each a unit
-abbrev singles : List ℕ → List (List ℕ)
-singles = map (λ c. c ∷ [])
-
-concat_singles : (cs : List ℕ) → concat (singles cs) ≡ cs
-concat_singles [] = refl
-concat_singles (c ∷ cs) = ap (λ xs. c ∷ xs) (concat_singles cs)
-
-each_single : (cs r : List ℕ) → list_all is_string_plain cs ≡ true → Each StringUnit (singles cs) r
-each_single [] r all = tt
-each_single (c ∷ cs) r all = let parts = and_parts _ _ all in (inl (c, refl, parts.0), each_single cs r parts.1)
-
-string_at : (inside rest : List ℕ) → all_ascii inside ≡ true → list_all is_string_plain inside ≡ true
-    → ends (get_or rest 0 32) ≡ true → (text : List ℕ) → text ≡ 34 ∷ (inside ++ (34 ∷ rest))
-    → IsAsciiAt Str text (length inside + 2)
-unfolding Str
-string_at inside rest ascii plain ended text whole =
-    let p = 34 ∷ (inside ++ (34 ∷ [])) in
-    ascii_at Str text p rest (length inside + 2)
-    (whole ∙ ap (λ xs. 34 ∷ xs) (sym (append_assoc inside (34 ∷ []) rest)))
-    (omega (arith, length-append inside (34 ∷ [])))
-    (and_from _ _ refl (list_all-append _ inside (34 ∷ []) ∙ and_from _ _ ascii refl))
-    (record {
-      front = 34 ∷ [];
-      back = inside ++ (34 ∷ []);
-      whole = refl;
-      first = refl;
-      second = record {
-        front = inside;
-        back = 34 ∷ [];
-        whole = refl;
-        first = record {
-          units = singles inside;
-          whole = sym (concat_singles inside);
-          each = each_single inside _ plain;
-        };
-        second = closes 34 rest ended;
-      };
-    })
+-- ---- bytes that pass
 
 pub ascii_all : (bs : List ℕ) → IsAscii bs → all_ascii bs ≡ true
 ascii_all [] low = refl
@@ -178,34 +132,7 @@ pub all_same : (test other : ℕ → Bool) → ((c : ℕ) → test c ≡ other c
 all_same test other same [] = refl
 all_same test other same (c ∷ cs) = ap₂ (λ x y. x && y) (same c) (all_same test other same cs)
 
--- by the bytes of the text: `inside` follows its first byte
-pub string_read : (text inside : List ℕ) (k : ℕ) → get_or text 0 32 ≡ 34 → inside ≡ drop 1 text
-    → IsFirstByte (is_byte3 34 92 13) inside (Some k) → get_or inside k 0 ≡ 34 → IsAscii (take k inside)
-    → ends (get_or inside (k + 1) 32) ≡ true → IsAsciiAt Str text (k + 2)
-string_read [] inside k front is found hit ascii ended = absurd (omega (arith, front))
-string_read (a ∷ text) inside k front is found hit ascii ended =
-    let test : ℕ → Bool = λ b. not (is_byte3 34 92 13 b) in
-    let size : length (while_front test inside) ≡ k = found_end (is_byte3 34 92 13) inside (Some k) found in
-    let run = front_of_run test inside k (sym size) in
-    let all : list_all is_string_plain (take k inside) ≡ true =
-    all_same is_string_plain test (plain_allowed strings.Plain) (take k inside)
-    ∙ (ap (list_all test) run.0 ∙ ((finds_run test).sound inside).1.each) in
-    let next : suc k ≡ k + 1 = omega arith in
-    let split : inside ≡ take k inside ++ (34 ∷ drop (k + 1) inside) =
-    sym (take-append-drop k inside)
-    ∙ ap (λ xs. take k inside ++ xs) (drop-cons inside k 0 found.0.high ∙ ap₂ (λ c m. c ∷ drop m inside) hit next) in
-    let count : length (take k inside) ≡ k = ap length run.0 ∙ size in
-    subst (λ n. IsAsciiAt Str (a ∷ text) n) (ap (λ n. n + 2) count)
-    (string_at (take k inside) (drop (k + 1) inside) (ascii_all (take k inside) ascii) all
-    (ap ends (get_or-drop (k + 1) inside 0 32 ∙ ap (λ i. get_or inside i 32) (omega arith)) ∙ ended)
-    (a ∷ text) (ap₂ (λ x xs. x ∷ xs) front (sym is ∙ split)))
-
--- ---- as pieces
-
-pub string_piece : (first : Bool) (text : List ℕ) (n : ℕ) → IsAsciiAt Str text n
-    → IsAsciiAt (λ p r. IsPiece first (kind_of kinds.Literal p) p r) text n
-unfolding Literal
-string_piece first text n at = at_other _ _ text n (λ p r h. (refl, inl (inl (inl (inl h))))) at
+-- ---- as a piece
 
 pub character_piece : (first : Bool) (text : List ℕ) (n : ℕ) → IsAsciiAt Character text n
     → IsAsciiAt (λ p r. IsPiece first (kind_of kinds.Literal p) p r) text n

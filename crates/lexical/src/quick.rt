@@ -5,13 +5,14 @@
 
 ghost use Rattle.std.specs.Prelude.{◌≡◌, ◌==◌, ◌&&◌, ◌||◌, Bool, IfSome, false, get_or, nat_lt, not};
 ghost use Rattle.std.specs.Str.{chars};
-ghost use Rattle.lexical.specs.Character.{dot, double_quote};
+ghost use Rattle.lexical.specs.Character.{dot, double_quote, line_feed};
 ghost use Rattle.lexical.specs.Class.{is_ident_continue, is_ident_start};
 ghost use Rattle.lexical.specs.Found.{IsPieceAt};
 ghost use Rattle.lexical.specs.Mark.{bars_quote};
 ghost use Rattle.lexical.specs.Number.{Number};
 ghost use Rattle.lexical.specs.Quick.{IsAsciiAt, Line, UnbarredName};
-ghost use Rattle.lexical.specs.Quoted.{Str};
+ghost use Rattle.lexical.specs.Quoted.{Str, is_one_of, letters};
+ghost use Rattle.lexical.specs.declared.quoted.StringKind.TheVariants.{Plain};
 ghost use Rattle.lexical.specs.SingleQuoted.{Character};
 
 use crate::bytes::{Class, count_ascii, holds_ascii};
@@ -147,7 +148,17 @@ fn wide_character(text: &str) -> Option<Piece<'_>>
     })
 }
 
-/// How many bytes the string has that stands at the front, of ASCII with neither a backslash nor a CR.
+/// Whether the byte makes a unit of a string with the backslash before it: a letter, or a LF.
+#[inline(always)]
+fn ends_escape(byte: u8) -> bool
+    ensures { result ≡ (nat_lt byte 128 && ((byte == line_feed) || is_one_of (letters Plain) byte)) }
+{
+    byte.is_ascii() && (byte == b'\n' || is_letter(byte as char, StringKind::Plain))
+}
+
+/// How many bytes the string has that stands at the front, of ASCII with no CR, whose escapes are of two bytes each.
+///
+/// The search for what ends it goes on after each escape: the string is searched once.
 #[inline(always)]
 fn string_size(text: &str) -> Option<usize>
     ensures { IfSome result (IsAsciiAt Str text.now) }
@@ -157,7 +168,14 @@ fn string_size(text: &str) -> Option<usize>
         return None;
     }
     let inside = &bytes[1..];
-    let size = memchr3(b'"', b'\\', b'\r', inside)?;
+    let mut size = memchr3(b'"', b'\\', b'\r', inside)?;
+    while inside[size] == b'\\' {
+        if !ends_escape(byte_at(inside, size + 1)) {
+            return None;
+        }
+        size += 2;
+        size += memchr3(b'"', b'\\', b'\r', &inside[size..])?;
+    }
     if inside[size] == b'"'
         && inside[..size].is_ascii()
         && ends_literal(byte_at(inside, size + 1))

@@ -129,7 +129,16 @@ fn wide_character(text: &str) -> Option<Piece<'_>>
     })
 }
 
-/// How many bytes the string has that stands at the front, of ASCII with neither a backslash nor a CR.
+/// Whether the byte makes a unit of a string with the backslash before it: a letter, or a LF.
+#[inline(always)]
+fn ends_escape(byte: u8) -> bool
+{
+    byte.is_ascii() && (byte == b'\n' || is_letter(byte as char, StringKind::Plain))
+}
+
+/// How many bytes the string has that stands at the front, of ASCII with no CR, whose escapes are of two bytes each.
+///
+/// The search for what ends it goes on after each escape, so every byte is looked at once.
 #[inline(always)]
 fn string_size(text: &str) -> Option<usize>
 {
@@ -138,7 +147,14 @@ fn string_size(text: &str) -> Option<usize>
         return None;
     }
     let inside = &bytes[1..];
-    let size = memchr3(b'"', b'\\', b'\r', inside)?;
+    let mut size = memchr3(b'"', b'\\', b'\r', inside)?;
+    while inside[size] == b'\\' {
+        if !ends_escape(byte_at(inside, size + 1)) {
+            return None;
+        }
+        size += 2;
+        size += memchr3(b'"', b'\\', b'\r', &inside[size..])?;
+    }
     if inside[size] == b'"'
         && inside[..size].is_ascii()
         && ends_literal(byte_at(inside, size + 1))

@@ -2,7 +2,8 @@ use Rattle.std.proofs.Common.{drop, subst}
 use Rattle.lexical.specs.Quick.{IsAsciiAt, UnbarredName}
 use Rattle.lexical.proofs.QuickLemmas.{ascii_piece}
 use Rattle.lexical.proofs.QuickLemmas.{quote_at, quote_cut, front_byte}
-use Rattle.lexical.proofs.QuickLiteralLemmas.{character_piece, string_piece}
+use Rattle.lexical.proofs.QuickLiteralLemmas.{character_piece}
+use Rattle.lexical.proofs.QuickStringLemmas.{string_piece}
 use Rattle.lexical.proofs.quick.quick_quoted.Goals as goal
 
 pub range_from-requires : goal.range_from-requires
