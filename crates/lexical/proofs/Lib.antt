@@ -27,6 +27,7 @@ pub mod PieceLemmas
 pub mod AnswerLemmas
 pub mod PieceFacts
 pub mod QuickLemmas
+pub mod QuickNumberLemmas
 pub mod QuickLiteralLemmas
 pub mod QuickStringLemmas
 pub mod QuickCommentLemmas

@@ -54,7 +54,7 @@ ascii_rest : (text : List ℕ) (n : ℕ) → IsUtf8 text → n ≤ length text �
     → IsUtf8 (drop n text)
 ascii_rest text n utf8 within ascii = IsUtf8-drop text n utf8 (ascii_cut text n utf8 within ascii)
 
-ascii_split : (text : List ℕ) (n : ℕ) → all_ascii (take n text) ≡ true → chars text ≡ take n text ++ chars (drop n text)
+pub ascii_split : (text : List ℕ) (n : ℕ) → all_ascii (take n text) ≡ true → chars text ≡ take n text ++ chars (drop n text)
 ascii_split text n ascii =
     let bytes = is_ascii (take n text) ascii in
     ap chars (sym (take-append-drop n text))
@@ -90,7 +90,7 @@ pub at_other : (A B : Form) (text : List ℕ) (n : ℕ) → ((p r : List ℕ) �
 at_other A B text n to at = record { within = at.within; ascii = at.ascii; stands = to _ _ at.stands }
 
 -- one byte of ASCII
-one_ascii : (A : Form) (text : List ℕ) (c : ℕ) → 0 < length text → get_or text 0 0 ≡ c → c < 128
+pub one_ascii : (A : Form) (text : List ℕ) (c : ℕ) → 0 < length text → get_or text 0 0 ≡ c → c < 128
     → A (c ∷ []) (chars (drop 1 text)) → IsAsciiAt A text 1
 one_ascii A [] c some e low stands = absurd (omega (arith, some))
 one_ascii A (b ∷ text) c some e low stands = record {
@@ -132,7 +132,7 @@ low_fails test (b ∷ text) low fails =
 pub get_after : (text : List ℕ) (n : ℕ) → get_or (drop n text) 0 32 ≡ get_or text n 32
 get_after text n = get_or-drop n text 0 32 ∙ ap (λ i. get_or text i 32) (omega arith)
 
-next_fails : (test : ℕ → Bool) (text : List ℕ) (n : ℕ) → get_or text n 32 < 128 → test (get_or text n 32) ≡ false
+pub next_fails : (test : ℕ → Bool) (text : List ℕ) (n : ℕ) → get_or text n 32 < 128 → test (get_or text n 32) ≡ false
     → first_passes test (chars (drop n text)) ≡ false
 next_fails test text n low fails =
     low_fails test (drop n text) (omega (arith, get_after text n, low)) (ap test (get_after text n) ∙ fails)
@@ -262,7 +262,7 @@ front_of_run test text n size =
     )
 
 -- the characters of the run
-run_passes : (class : Class) (text : List ℕ) (n : ℕ) → n ≡ length (while_front (ascii_in class) text)
+pub run_passes : (class : Class) (text : List ℕ) (n : ℕ) → n ≡ length (while_front (ascii_in class) text)
     → list_all (ascii_in class) (take n text) ≡ true
 run_passes class text n size =
     ap (list_all (ascii_in class)) (front_of_run (ascii_in class) text n size).0
@@ -274,7 +274,7 @@ get_fails : (class : Class) (text : List ℕ) → is_in class 32 ≡ false → f
 get_fails class [] space stops low = space
 get_fails class (b ∷ text) space stops low = sym (ap (λ x. x && is_in class b) (lt-ltb b 128 low)) ∙ stops
 
-run_stops : (class : Class) (text : List ℕ) (n : ℕ) → n ≡ length (while_front (ascii_in class) text)
+pub run_stops : (class : Class) (text : List ℕ) (n : ℕ) → n ≡ length (while_front (ascii_in class) text)
     → is_in class 32 ≡ false → get_or text n 32 < 128 → is_in class (get_or text n 32) ≡ false
 run_stops class text n size space low =
     ap (is_in class) (sym (get_after text n))
@@ -284,7 +284,7 @@ run_stops class text n size space low =
     (omega (arith, low, get_after text n))
 
 -- a run that begins with a character of the class
-run_cons : (class : Class) (text : List ℕ) (n : ℕ) → n ≡ length (while_front (ascii_in class) text)
+pub run_cons : (class : Class) (text : List ℕ) (n : ℕ) → n ≡ length (while_front (ascii_in class) text)
     → ascii_in class (get_or text 0 32) ≡ true → ascii_in class 32 ≡ false
     → (more : List ℕ) × (take n text ≡ get_or text 0 32 ∷ more)
 run_cons class [] n size on space = absurd (both_ways _ space on)
@@ -374,7 +374,7 @@ name_piece_at first text name n is at =
 
 -- ---- numbers
 
-exponent_continues : (c : ℕ) → is_exponent_letter c ≡ true → is_ident_continue c ≡ true
+pub exponent_continues : (c : ℕ) → is_exponent_letter c ≡ true → is_ident_continue c ≡ true
 unfolding unicode_ident
 exponent_continues c h = elim (or_cases _ _ h) [
   | inl small ↦ ap is_ident_continue (eqb-true c 101 small)
@@ -387,7 +387,7 @@ one_none test [] fails = refl
 one_none test (c ∷ text) fails = cond-false _ _ _ fails
 
 -- digits make no float where neither a dot nor an exponent follows
-no_tail : (r : List ℕ) → first_passes (λ d. d == 46) r ≡ false → first_passes is_exponent_letter r ≡ false
+pub no_tail : (r : List ℕ) → first_passes (λ d. d == 46) r ≡ false → first_passes is_exponent_letter r ≡ false
     → find float_tail r ≡ None
 no_tail r dot_fails letter_fails =
     let none_of_dot : find fraction r ≡ None =
@@ -396,7 +396,7 @@ no_tail r dot_fails letter_fails =
     then_lacks exponent end r (then_lacks (One is_exponent_letter) _ r (one_none is_exponent_letter r letter_fails)) in
     rw (find_either, none_of_dot) none_of_letter
 
-clear_float : Clear float
+pub clear_float : Clear float
 clear_float = assumption
 
 number_at : (text : List ℕ) (n : ℕ) → ascii_in classes.Digit (get_or text 0 32) ≡ true

@@ -1,5 +1,5 @@
 -- What a few bytes tell.
-use Rattle.std.specs.Prelude.{ℕ, ◌≤◌, Bool, false, not, ◌||◌, ◌==◌, cond, List, IsTrue, IsFalse, length, nat_lt}
+use Rattle.std.specs.Prelude.{ℕ, ◌≤◌, Bool, false, not, ◌||◌, ◌==◌, cond, List, ◌++◌, IsTrue, IsFalse, length, nat_lt}
 use Rattle.std.specs.Prelude.{take, drop}
 use Rattle.std.specs.List.{list_all}
 use Rattle.std.specs.Str.{chars}
@@ -8,7 +8,9 @@ use Rattle.lexical.specs.Character.{carriage_return, line_feed}
 use Rattle.lexical.specs.Form.{Form}
 use Rattle.lexical.specs.Identifier.{Identifier}
 use Rattle.lexical.specs.Mark.{bars_quote}
+use Rattle.lexical.specs.Number.{end, is_exponent_letter}
 use Rattle.lexical.specs.PieceFinder.{piece_start}
+use Rattle.lexical.specs.Rule.{Stands}
 use Rattle.lexical.specs.Text.{first_passes}
 use Rattle.lexical.specs.declared.class.PieceStart.{PieceStart}
 use Rattle.lexical.specs.declared.class.PieceStart.TheVariants as starts
@@ -34,3 +36,7 @@ is_line_plain c = not ((c == line_feed) || (c == carriage_return))
 -- the rest of a line, without the LF that ends it, where no CR stands in it
 abbrev pub Line : Form
 Line p r = IsTrue (list_all is_line_plain p) × IsFalse (first_passes (λ c. not (c == line_feed)) r)
+
+-- what ends a number, and begins with no exponent
+abbrev pub NumberEnd : Form
+NumberEnd p r = Stands end p r × IsFalse (first_passes is_exponent_letter (p ++ r))

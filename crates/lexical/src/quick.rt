@@ -3,14 +3,14 @@
 //! Most pieces of a source are of ASCII and end before ASCII, and so are found among the bytes, with no character
 //! decoded. Where the bytes tell nothing, [`piece_at`](crate::piece_at) reads the piece by its characters.
 
-ghost use Rattle.std.specs.Prelude.{◌≡◌, ◌==◌, ◌&&◌, ◌||◌, Bool, IfSome, false, get_or, nat_lt, not};
+ghost use Rattle.std.specs.Prelude.{◌≡◌, ◌<◌, ◌==◌, ◌&&◌, ◌||◌, Bool, IfSome, false, get_or, nat_lt, not};
 ghost use Rattle.std.specs.Str.{chars};
 ghost use Rattle.lexical.specs.Character.{dot, double_quote, line_feed};
 ghost use Rattle.lexical.specs.Class.{is_ident_continue, is_ident_start};
 ghost use Rattle.lexical.specs.Found.{IsPieceAt};
 ghost use Rattle.lexical.specs.Mark.{bars_quote};
 ghost use Rattle.lexical.specs.Number.{Number};
-ghost use Rattle.lexical.specs.Quick.{IsAsciiAt, Line, UnbarredName};
+ghost use Rattle.lexical.specs.Quick.{IsAsciiAt, Line, NumberEnd, UnbarredName};
 ghost use Rattle.lexical.specs.Quoted.{Str, is_one_of, letters};
 ghost use Rattle.lexical.specs.declared.quoted.StringKind.TheVariants.{Plain};
 ghost use Rattle.lexical.specs.SingleQuoted.{Character};
@@ -84,6 +84,58 @@ fn number_size(text: &str) -> Option<usize>
     } else {
         None
     }
+}
+
+/// Whether a number that the byte follows ends there, and has no suffix.
+#[inline(always)]
+fn ends_digits(byte: u8) -> bool
+    ensures { result ≡ (nat_lt byte 128 && not (is_ident_continue byte)) }
+{
+    byte.is_ascii() && !holds_ascii(Class::IdentifierContinue, byte)
+}
+
+/// How many bytes the suffix of a number has that stands at the front, before ASCII, and begins with no exponent.
+#[inline(always)]
+fn suffix_size(bytes: &[u8]) -> Option<usize>
+    ensures end { IfSome result (IsAsciiAt NumberEnd bytes.now) }
+    ensures ascii { IfSome result (λ size. get_or bytes.now 0 32 < 128) }
+{
+    let first = byte_at(bytes, 0);
+    if holds_ascii(Class::ExponentLetter, first) {
+        return None;
+    }
+    if !holds_ascii(Class::IdentifierStart, first) {
+        return if ends_digits(first) { Some(0) } else { None };
+    }
+    let size = count_ascii(bytes, Class::IdentifierContinue);
+    if byte_at(bytes, size).is_ascii() {
+        Some(size)
+    } else {
+        None
+    }
+}
+
+/// How many bytes the float has that stands at the front, with a dot and no exponent.
+#[inline(always)]
+fn float_size(text: &str) -> Option<usize>
+    ensures { IfSome result (IsAsciiAt Number text.now) }
+{
+    let bytes = text.as_bytes();
+    if !holds_ascii(Class::Digit, byte_at(bytes, 0)) {
+        return None;
+    }
+    let digits = count_ascii(bytes, Class::DigitOrUnderscore);
+    if byte_at(bytes, digits) != b'.' {
+        return None;
+    }
+    let after = &bytes[digits + 1..];
+    let next = byte_at(after, 0);
+    if !next.is_ascii() || holds_ascii(Class::BarsDot, next) {
+        return None;
+    }
+    let fraction = count_ascii(after, Class::DigitOrUnderscore);
+    let suffix = suffix_size(&after[fraction..])?;
+    Some(digits + 1 + fraction + suffix)
 }
 
 /// Whether a literal between quotes that the byte follows ends there, with no suffix.
@@ -283,7 +335,8 @@ pub fn quick(text: &str) -> Option<Piece<'_>>
     }
 }
 
-/// The literal between quotes, lone quote or line comment at the front, where a few bytes tell it. `None` says nothing.
+/// The float, literal between quotes, lone quote or line comment at the front, where a few bytes tell it. `None` says
+/// nothing.
 ///
 /// It stands apart from [`quick`], which is compiled into the loops over pieces.
 #[inline(always)]
@@ -295,6 +348,7 @@ pub fn quick_quoted(text: &str) -> Option<Piece<'_>>
         return None;
     }
     match byte_start(bytes[0]) {
+        PieceStart::Digit => Some(ascii(PieceKind::Literal, float_size(text)?)),
         PieceStart::DoubleQuote => Some(ascii(PieceKind::Literal, string_size(text)?)),
         PieceStart::Quote => {
             if let Some(size) = character_size(text) {

@@ -70,6 +70,54 @@ fn number_size(text: &str) -> Option<usize>
     }
 }
 
+/// Whether a number that the byte follows ends there, and has no suffix.
+#[inline(always)]
+fn ends_digits(byte: u8) -> bool
+{
+    byte.is_ascii() && !holds_ascii(Class::IdentifierContinue, byte)
+}
+
+/// How many bytes the suffix of a number has that stands at the front, before ASCII, and begins with no exponent.
+#[inline(always)]
+fn suffix_size(bytes: &[u8]) -> Option<usize>
+{
+    let first = byte_at(bytes, 0);
+    if holds_ascii(Class::ExponentLetter, first) {
+        return None;
+    }
+    if !holds_ascii(Class::IdentifierStart, first) {
+        return if ends_digits(first) { Some(0) } else { None };
+    }
+    let size = count_ascii(bytes, Class::IdentifierContinue);
+    if byte_at(bytes, size).is_ascii() {
+        Some(size)
+    } else {
+        None
+    }
+}
+
+/// How many bytes the float has that stands at the front, with a dot and no exponent.
+#[inline(always)]
+fn float_size(text: &str) -> Option<usize>
+{
+    let bytes = text.as_bytes();
+    if !holds_ascii(Class::Digit, byte_at(bytes, 0)) {
+        return None;
+    }
+    let digits = count_ascii(bytes, Class::DigitOrUnderscore);
+    if byte_at(bytes, digits) != b'.' {
+        return None;
+    }
+    let after = &bytes[digits + 1..];
+    let next = byte_at(after, 0);
+    if !next.is_ascii() || holds_ascii(Class::BarsDot, next) {
+        return None;
+    }
+    let fraction = count_ascii(after, Class::DigitOrUnderscore);
+    let suffix = suffix_size(&after[fraction..])?;
+    Some(digits + 1 + fraction + suffix)
+}
+
 /// Whether a literal between quotes that the byte follows ends there, with no suffix.
 #[inline(always)]
 fn ends_literal(byte: u8) -> bool
@@ -138,7 +186,7 @@ fn ends_escape(byte: u8) -> bool
 
 /// How many bytes the string has that stands at the front, of ASCII with no CR, whose escapes are of two bytes each.
 ///
-/// The search for what ends it goes on after each escape, so every byte is looked at once.
+/// The search for what ends it goes on after each escape: the string is searched once.
 #[inline(always)]
 fn string_size(text: &str) -> Option<usize>
 {
@@ -256,7 +304,8 @@ pub fn quick(text: &str) -> Option<Piece<'_>>
     }
 }
 
-/// The literal between quotes, lone quote or line comment at the front, where a few bytes tell it. `None` says nothing.
+/// The float, literal between quotes, lone quote or line comment at the front, where a few bytes tell it. `None` says
+/// nothing.
 ///
 /// It stands apart from [`quick`], which is compiled into the loops over pieces.
 #[inline(always)]
@@ -267,6 +316,7 @@ pub fn quick_quoted(text: &str) -> Option<Piece<'_>>
         return None;
     }
     match byte_start(bytes[0]) {
+        PieceStart::Digit => Some(ascii(PieceKind::Literal, float_size(text)?)),
         PieceStart::DoubleQuote => Some(ascii(PieceKind::Literal, string_size(text)?)),
         PieceStart::Quote => {
             if let Some(size) = character_size(text) {

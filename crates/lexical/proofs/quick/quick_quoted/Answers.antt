@@ -1,6 +1,6 @@
 use Rattle.std.proofs.Common.{drop, subst}
 use Rattle.lexical.specs.Quick.{IsAsciiAt, UnbarredName}
-use Rattle.lexical.proofs.QuickLemmas.{ascii_piece}
+use Rattle.lexical.proofs.QuickLemmas.{ascii_piece, literal_at}
 use Rattle.lexical.proofs.QuickLemmas.{quote_at, quote_cut, front_byte}
 use Rattle.lexical.proofs.QuickLiteralLemmas.{character_piece}
 use Rattle.lexical.proofs.QuickStringLemmas.{string_piece}
@@ -25,10 +25,15 @@ returns-in_ok-name_size-in-Quote c first =
     ascii_piece first _ _ _ 1 quote tt c.ascii-in-Quote.ensures.kind c.ascii-in-Quote.ensures.bytes
     c.ascii-in-Quote.ensures.chars
 
+pub returns-in_ok-float_size-in-Digit : goal.returns-in_ok-float_size-in-Digit
+returns-in_ok-float_size-in-Digit c first =
+    ascii_piece first _ _ _ _ (literal_at first _ _ c.in_ok-float_size-in-Digit.ensures) tt
+    c.ascii.ensures.kind c.ascii.ensures.bytes c.ascii.ensures.chars
+
 pub returns-in_ok-string_size-in-DoubleQuote : goal.returns-in_ok-string_size-in-DoubleQuote
 returns-in_ok-string_size-in-DoubleQuote c first =
     ascii_piece first _ _ _ _ (string_piece first _ _ c.in_ok-string_size-in-DoubleQuote.ensures) tt
-    c.ascii.ensures.kind c.ascii.ensures.bytes c.ascii.ensures.chars
+    c.ascii-in-DoubleQuote.ensures.kind c.ascii-in-DoubleQuote.ensures.bytes c.ascii-in-DoubleQuote.ensures.chars
 
 pub returns-in-Some : goal.returns-in-Some
 returns-in-Some c first =
