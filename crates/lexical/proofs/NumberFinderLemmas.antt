@@ -28,7 +28,7 @@ finds_number = exact number clear_number
 -- ---- a number is read by how its text begins
 
 -- no float begins as the numbers of other bases do
-no_float : (text : List ℕ) → begins_any base_prefixes text ≡ true → find float text ≡ None
+pub no_float : (text : List ℕ) → begins_any base_prefixes text ≡ true → find float text ≡ None
 unfolding find
 no_float text h = begins_each (λ t. find float t ≡ None) base_prefixes text h
     (λ rest. refl, (λ rest. refl, (λ rest. refl, tt)))

@@ -3,7 +3,7 @@
 //! Most pieces of a source are of ASCII and end before ASCII, and so are found among the bytes, with no character
 //! decoded. Where the bytes tell nothing, [`piece_at`](crate::piece_at) reads the piece by its characters.
 
-ghost use Rattle.std.specs.Prelude.{◌≡◌, ◌<◌, ◌==◌, ◌&&◌, ◌||◌, Bool, IfSome, false, get_or, nat_lt, not};
+ghost use Rattle.std.specs.Prelude.{◌≡◌, ◌<◌, ◌==◌, ◌&&◌, ◌||◌, Bool, IfSome, codes, false, get_or, nat_lt, not};
 ghost use Rattle.std.specs.Str.{chars};
 ghost use Rattle.lexical.specs.Character.{dot, double_quote, line_feed};
 ghost use Rattle.lexical.specs.Class.{is_ident_continue, is_ident_start};
@@ -15,7 +15,7 @@ ghost use Rattle.lexical.specs.Quoted.{Str, is_one_of, letters};
 ghost use Rattle.lexical.specs.declared.quoted.StringKind.TheVariants.{Plain};
 ghost use Rattle.lexical.specs.SingleQuoted.{Character};
 
-use crate::bytes::{Class, count_ascii, holds_ascii};
+use crate::bytes::{Base, Class, count_ascii, holds_ascii};
 use crate::class::{PieceStart, byte_start};
 use crate::escapes::is_letter;
 use crate::piece::{Piece, PieceKind};
@@ -136,6 +136,63 @@ fn float_size(text: &str) -> Option<usize>
     let fraction = count_ascii(after, Class::DigitOrUnderscore);
     let suffix = suffix_size(&after[fraction..])?;
     Some(digits + 1 + fraction + suffix)
+}
+
+/// How many bytes the number of base 16 has that stands at the front, and begins with a digit after its prefix.
+#[inline(always)]
+fn hex_size(text: &str) -> Option<usize>
+    ensures { IfSome result (IsAsciiAt Number text.now) }
+{
+    let bytes = text.as_bytes();
+    if byte_at(bytes, 0) != b'0' || byte_at(bytes, 1) != b'x' {
+        return None;
+    }
+    let after = &bytes[2..];
+    if !holds_ascii(Class::DigitOf(Base::Hexadecimal), byte_at(after, 0)) {
+        return None;
+    }
+    let digits = count_ascii(after, Class::DigitOrUnderscoreOf(Base::Hexadecimal));
+    let suffix = suffix_size(&after[digits..])?;
+    Some(2 + digits + suffix)
+}
+
+/// Whether the byte begins a suffix of an integer, and neither a base nor an exponent.
+#[inline(always)]
+fn begins_suffix(byte: u8) -> bool
+    ensures { result ≡ is_one_of (codes "uif") byte }
+{
+    byte == b'u' || byte == b'i' || byte == b'f'
+}
+
+/// How many bytes the integer has that stands at the front, of digits and `_` before a suffix.
+#[inline(always)]
+fn suffixed_size(text: &str) -> Option<usize>
+    ensures { IfSome result (IsAsciiAt Number text.now) }
+{
+    let bytes = text.as_bytes();
+    if !holds_ascii(Class::Digit, byte_at(bytes, 0)) {
+        return None;
+    }
+    let digits = count_ascii(bytes, Class::DigitOrUnderscore);
+    if !begins_suffix(byte_at(bytes, digits)) {
+        return None;
+    }
+    let suffix = suffix_size(&bytes[digits..])?;
+    Some(digits + suffix)
+}
+
+/// How many bytes the number has that stands at the front, with a dot, a suffix or the prefix of base 16.
+#[inline(never)]
+fn long_number_size(text: &str) -> Option<usize>
+    ensures { IfSome result (IsAsciiAt Number text.now) }
+{
+    if let Some(size) = float_size(text) {
+        return Some(size);
+    }
+    match hex_size(text) {
+        Some(size) => Some(size),
+        None => suffixed_size(text),
+    }
 }
 
 /// Whether a literal between quotes that the byte follows ends there, with no suffix.
@@ -335,7 +392,7 @@ pub fn quick(text: &str) -> Option<Piece<'_>>
     }
 }
 
-/// The float, literal between quotes, lone quote or line comment at the front, where a few bytes tell it. `None` says
+/// The long number, literal between quotes, lone quote or line comment at the front, where a few bytes tell it. `None` says
 /// nothing.
 ///
 /// It stands apart from [`quick`], which is compiled into the loops over pieces.
@@ -348,7 +405,7 @@ pub fn quick_quoted(text: &str) -> Option<Piece<'_>>
         return None;
     }
     match byte_start(bytes[0]) {
-        PieceStart::Digit => Some(ascii(PieceKind::Literal, float_size(text)?)),
+        PieceStart::Digit => Some(ascii(PieceKind::Literal, long_number_size(text)?)),
         PieceStart::DoubleQuote => Some(ascii(PieceKind::Literal, string_size(text)?)),
         PieceStart::Quote => {
             if let Some(size) = character_size(text) {

@@ -4,7 +4,7 @@
 //! Most pieces of a source are of ASCII and end before ASCII, and so are found among the bytes, with no character
 //! decoded. Where the bytes tell nothing, [`piece_at`](crate::lexical::piece_at) reads the piece by its characters.
 
-use crate::lexical::bytes::{Class, count_ascii, holds_ascii};
+use crate::lexical::bytes::{Base, Class, count_ascii, holds_ascii};
 use crate::lexical::class::{PieceStart, byte_start};
 use crate::lexical::escapes::is_letter;
 use crate::lexical::piece::{Piece, PieceKind};
@@ -116,6 +116,59 @@ fn float_size(text: &str) -> Option<usize>
     let fraction = count_ascii(after, Class::DigitOrUnderscore);
     let suffix = suffix_size(&after[fraction..])?;
     Some(digits + 1 + fraction + suffix)
+}
+
+/// How many bytes the number of base 16 has that stands at the front, and begins with a digit after its prefix.
+#[inline(always)]
+fn hex_size(text: &str) -> Option<usize>
+{
+    let bytes = text.as_bytes();
+    if byte_at(bytes, 0) != b'0' || byte_at(bytes, 1) != b'x' {
+        return None;
+    }
+    let after = &bytes[2..];
+    if !holds_ascii(Class::DigitOf(Base::Hexadecimal), byte_at(after, 0)) {
+        return None;
+    }
+    let digits = count_ascii(after, Class::DigitOrUnderscoreOf(Base::Hexadecimal));
+    let suffix = suffix_size(&after[digits..])?;
+    Some(2 + digits + suffix)
+}
+
+/// Whether the byte begins a suffix of an integer, and neither a base nor an exponent.
+#[inline(always)]
+fn begins_suffix(byte: u8) -> bool
+{
+    byte == b'u' || byte == b'i' || byte == b'f'
+}
+
+/// How many bytes the integer has that stands at the front, of digits and `_` before a suffix.
+#[inline(always)]
+fn suffixed_size(text: &str) -> Option<usize>
+{
+    let bytes = text.as_bytes();
+    if !holds_ascii(Class::Digit, byte_at(bytes, 0)) {
+        return None;
+    }
+    let digits = count_ascii(bytes, Class::DigitOrUnderscore);
+    if !begins_suffix(byte_at(bytes, digits)) {
+        return None;
+    }
+    let suffix = suffix_size(&bytes[digits..])?;
+    Some(digits + suffix)
+}
+
+/// How many bytes the number has that stands at the front, with a dot, a suffix or the prefix of base 16.
+#[inline(never)]
+fn long_number_size(text: &str) -> Option<usize>
+{
+    if let Some(size) = float_size(text) {
+        return Some(size);
+    }
+    match hex_size(text) {
+        Some(size) => Some(size),
+        None => suffixed_size(text),
+    }
 }
 
 /// Whether a literal between quotes that the byte follows ends there, with no suffix.
@@ -304,7 +357,7 @@ pub fn quick(text: &str) -> Option<Piece<'_>>
     }
 }
 
-/// The float, literal between quotes, lone quote or line comment at the front, where a few bytes tell it. `None` says
+/// The long number, literal between quotes, lone quote or line comment at the front, where a few bytes tell it. `None` says
 /// nothing.
 ///
 /// It stands apart from [`quick`], which is compiled into the loops over pieces.
@@ -316,7 +369,7 @@ pub fn quick_quoted(text: &str) -> Option<Piece<'_>>
         return None;
     }
     match byte_start(bytes[0]) {
-        PieceStart::Digit => Some(ascii(PieceKind::Literal, float_size(text)?)),
+        PieceStart::Digit => Some(ascii(PieceKind::Literal, long_number_size(text)?)),
         PieceStart::DoubleQuote => Some(ascii(PieceKind::Literal, string_size(text)?)),
         PieceStart::Quote => {
             if let Some(size) = character_size(text) {

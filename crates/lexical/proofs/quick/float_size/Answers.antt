@@ -1,7 +1,7 @@
 use Rattle.std.proofs.Common.{◌+◌, ◌-◌, length, take, drop, ap, arith, length-drop}
 use Rattle.std.proofs.lemmas.List.{take_rest}
 use Rattle.lexical.specs.declared.bytes.Class.TheVariants as classes
-use Rattle.lexical.proofs.QuickNumberLemmas.{float_read, point_within, run_within}
+use Rattle.lexical.proofs.QuickNumberLemmas.{float_read, byte_within, run_within}
 use Rattle.lexical.proofs.quick.float_size.Goals as goal
 
 pub slice_bounds-suffix_size-count : goal.slice_bounds-suffix_size-count
@@ -17,7 +17,7 @@ overflow_add-result-2 c =
     let inside = take (length bytes - (digits + 1)) (drop (digits + 1) bytes) in
     omega (
       arith,
-      point_within bytes digits _ c.byte_at-2.ensures c.if-byte_at-ne46.false,
+      byte_within bytes digits _ 46 c.byte_at-2.ensures c.if-byte_at-ne46.false (λ e. omega (arith, e)),
       run_within classes.DigitOrUnderscore inside _ c.count_ascii-fraction.ensures,
       ap length (take_rest bytes (digits + 1)),
       length-drop (digits + 1) bytes,
@@ -31,7 +31,7 @@ overflow_add-result-3 c =
     let inside = take (length bytes - (digits + 1)) (drop (digits + 1) bytes) in
     omega (
       arith,
-      point_within bytes digits _ c.byte_at-2.ensures c.if-byte_at-ne46.false,
+      byte_within bytes digits _ 46 c.byte_at-2.ensures c.if-byte_at-ne46.false (λ e. omega (arith, e)),
       run_within classes.DigitOrUnderscore inside _ c.count_ascii-fraction.ensures,
       c.in_ok-suffix.ensures.end.within,
       ap length (take_rest inside fraction),

@@ -25,9 +25,9 @@ returns-in_ok-name_size-in-Quote c first =
     ascii_piece first _ _ _ 1 quote tt c.ascii-in-Quote.ensures.kind c.ascii-in-Quote.ensures.bytes
     c.ascii-in-Quote.ensures.chars
 
-pub returns-in_ok-float_size-in-Digit : goal.returns-in_ok-float_size-in-Digit
-returns-in_ok-float_size-in-Digit c first =
-    ascii_piece first _ _ _ _ (literal_at first _ _ c.in_ok-float_size-in-Digit.ensures) tt
+pub returns-in_ok-long_number_size-in-Digit : goal.returns-in_ok-long_number_size-in-Digit
+returns-in_ok-long_number_size-in-Digit c first =
+    ascii_piece first _ _ _ _ (literal_at first _ _ c.in_ok-long_number_size-in-Digit.ensures) tt
     c.ascii.ensures.kind c.ascii.ensures.bytes c.ascii.ensures.chars
 
 pub returns-in_ok-string_size-in-DoubleQuote : goal.returns-in_ok-string_size-in-DoubleQuote
