@@ -4,7 +4,7 @@ use Rattle.std.proofs.Common.{Option, Some, None, refl, sym, ap, ap₂, subst, �
 use Rattle.std.specs.Borrow.{Bor}
 use Rattle.std.specs.Option.{unwrap_or, option_copied, MatchOption}
 use Rattle.std.specs.List.Sorted.{IsNonDecreasingBy}
-use Rattle.std.proofs.lemmas.List.{get_or_read}
+use Rattle.std.proofs.lemmas.List.{get_or_read, get_or_default}
 use Rattle.pm_span.specs.Extent.{Extent, nowhere}
 use Rattle.pm_span.specs.FileInfo.{MappedText}
 use Rattle.pm_span.specs.Files.{Files, positions, IsFile, Holds}
@@ -199,6 +199,29 @@ get_or_before xs (suc n) x d some bound e =
     let i : suc n - 1 ≡ n = omega arith in
     get_or_read xs n x (omega arith) (e ∙ ap (λ j. get_or xs j x) i) d
 
+-- the last file, where it begins at or before the position
+pub last_found :
+    {map : Files} {files slice : List MappedText} {last : MappedText} (limit position : ℕ) → slice ≡ files
+    → record { texts = texts_of files; limit = limit } ≡ map → AreConsecutive 1 files → 0 < length slice
+    → last ≡ get_or slice (length slice - 1) last → last.lo ≤ position → IsFileOf map position (length files) last
+last_found {map} {files} {slice} {last} limit position same view consecutive some is begins =
+    let at : last ≡ get_or files (length files - 1) last =
+    is ∙ ap (λ xs. get_or xs (length xs - 1) last) same in
+    let few : 0 < length files = omega (arith, ap length same) in
+    let last_begins : (d : MappedText) → (get_or files (length files - 1) d).lo ≤ position =
+    λ d. omega (
+      arith,
+      begins,
+      ap (λ file. file.lo) at,
+      ap (λ file. file.lo) (get_or_default files (length files - 1) d last (omega arith)),
+    ) in
+    let here = file_found limit files (length files) position file_0 consecutive (omega arith)
+    (λ j e less. omega (arith, rising 1 files consecutive j (length files - 1) e (omega arith) (omega arith), last_begins e))
+    (λ j e le less. absurd (omega arith)) in
+    subst (λ m. IsFileOf m position (length files) last) view
+    (subst (λ f. IsFileOf (record { texts = texts_of files; limit = limit }) position (length files) f)
+    (sym (get_or_before files (length files) last file_0 (λ none. omega (arith, none)) (omega arith) at)) here)
+
 -- the file that the search answers
 pub found_none :
     {map : Files} {p q number : ℕ} {file : Option (Bor MappedText)} → p ≡ q → file ≡ None
@@ -233,21 +256,25 @@ holds_at {map} {number} {file} span found ordered = (
       omega (arith, held.to, ap length same.0, same.1),
 )
 
--- the file of the number that was found, where the position is held
-pub file_held :
-    {map : Files} (limit : ℕ) (files : List MappedText) (position number : ℕ) (file d : MappedText)
-    → record { texts = texts_of files; limit = limit } ≡ map → AreConsecutive 1 files
-    → IsFileOf map position number file
-    → Holds map (record { lo = position; hi = position }) → (number ≡ 0 → ⊥)
-    → ((number - 1 < length files) × ((get_or files (number - 1) d).text ≡ file.text)
-    × ((get_or files (number - 1) d).lo ≡ file.lo))
-    × (position ≤ file.lo + length file.text)
-file_held limit files position number file d view consecutive found held some =
-    let within = (holds_at (record { lo = position; hi = position }) found (omega arith)).1 held in (
-      file_at limit files position number file d consecutive
-          (subst (λ m. IsFileOf m position number file) (sym view) found)
-          within some,
-      within,
+abbrev mapped : List ℕ → ℕ → MappedText
+mapped text lo = record { text = text; lo = lo }
+
+-- the file of the number that was found, where the span is held
+pub file_there :
+    {map : Files} {position number : ℕ} {file : MappedText} (limit : ℕ) (files : List MappedText) (span : Extent)
+    → position ≡ span.lo → record { texts = texts_of files; limit = limit } ≡ map → AreConsecutive 1 files
+    → IsFileOf map position number file → span.lo ≤ span.hi → Holds map span → (number ≡ 0 → ⊥)
+    → (number - 1 < length files)
+    × ((here : MappedText) → here ≡ get_or files (number - 1) here → IsFileOf map span.lo number here)
+file_there {map} {position} {number} {file} limit files span lo view consecutive there ordered held some =
+    let found : IsFileOf map span.lo number file = subst (λ p. IsFileOf map p number file) lo there in
+    let within = (holds_at span found ordered).1 held in
+    let at : (d : MappedText) → (number - 1 < length files) × ((get_or files (number - 1) d).text ≡ file.text)
+    × ((get_or files (number - 1) d).lo ≡ file.lo) =
+    λ d. file_at limit files span.lo number file d consecutive
+    (subst (λ m. IsFileOf m span.lo number file) (sym view) found) (omega (arith, within)) some in (
+      (at file).0,
+      λ here is. subst (IsFileOf map span.lo number) (sym (is ∙ ap₂ mapped (at here).1 (at here).2)) found,
     )
 
 -- what holds of the file that was found holds of any file of the map that has the span

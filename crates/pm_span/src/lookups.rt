@@ -64,10 +64,7 @@ impl Span {
         ensures value { HasBytes map.old self result }
         ensures kept { map.new ≡ map.old }
     {
-        let (lo, hi) = self.bounds();
-        let start = map.byte_offset(lo);
-        let end = map.byte_offset(hi);
-        start..end
+        map.byte_range(self)
     }
 
     /// The text of the span (`source-text`), in a map that holds it; `None` for 0..0 alone.
@@ -84,33 +81,7 @@ impl Span {
         ensures nowhere { self ≡ nowhere → result ≡ Ok None }
         ensures kept { map.new ≡ map.old }
     {
-        let bytes = self.byte_range(map);
-        match self.text_of(bytes, map) {
-            None => Ok(None),
-            Some(text) => Ok(Some(String::from_str(map.allocator(), text)?)),
-        }
-    }
-
-    /// The text of the span, which takes these bytes of its file.
-    fn text_of(self, bytes: Range<usize>, map: &SourceMap) -> Option<&str>
-        requires held { Holds map.now self }
-        requires bytes { HasBytes map.now self bytes }
-        ensures found { MatchOption result (self ≡ nowhere) (λ _. self ≢ nowhere) }
-        ensures value { IfSome result (λ text. HasText map.now self (chars text.now)) }
-        ensures text { IfSome result (λ text. IsTextOf map.now self (chars text.now)) }
-    {
-        let (lo, hi) = self.bounds();
-        let (_, file) = map.file_of(lo);
-        let file = file?;
-        let from = OffsetPair {
-            chars: lo - file.lo(),
-            bytes: bytes.start,
-        };
-        let to = OffsetPair {
-            chars: hi - file.lo(),
-            bytes: bytes.end,
-        };
-        Some(file.text_between(from, to))
+        map.source_text(self)
     }
 
     /// The text of the span (`source-text`), in a map that holds it; `None` for 0..0 alone.

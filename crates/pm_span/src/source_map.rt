@@ -1,18 +1,21 @@
 //! The map of the texts that were read.
 ghost use Rattle.std.specs.Prelude.{◌≡◌, ◌≤◌, ◌↔◌, ◌+◌, ◌^◌, ◌<◌, [], length, IfSome, IsTrue, OnOk, OnErr, SomeIff};
-ghost use Rattle.std.specs.Prelude.{MatchOption};
+ghost use Rattle.std.specs.Prelude.{MatchOption, IfOk, None, Ok, ◌≢◌};
 ghost use Rattle.std.specs.Option.{unwrap_or, option_copied};
 ghost use Rattle.std.specs.Str.{chars};
+ghost use Rattle.std.specs.String.{string_bytes};
+ghost use Rattle.pm_span.specs.Extent.{nowhere};
 ghost use Rattle.pm_span.specs.Files.{Files, next_lo, Fits, Holds, new_map, with_file};
-ghost use Rattle.pm_span.specs.Lookup.{StartsAt, HasBytesBefore};
+ghost use Rattle.pm_span.specs.Lookup.{StartsAt, HasBytes, HasText, IsTextOf};
 ghost use Rattle.pm_span.specs.Consecutive.{file_0, IsFileOf};
 
-use crate::file_info::FileInfo;
+use crate::file_info::{FileInfo, OffsetPair};
 use crate::location::LineColumn;
 use crate::spans::Span;
 use crate::text::has_fewer_chars;
 use std::alloc::{AllocError, Global};
 use std::marker::Model;
+use std::ops::Range;
 
 /// The texts that were read, each a file at positions of its own.
 ///
@@ -94,6 +97,12 @@ impl SourceMap {
         ensures found { IsFileOf self.now position result.0 (unwrap_or (option_copied result.1) file_0) }
         ensures number { MatchOption result.1 (result.0 ≡ 0) (λ _. 0 < result.0) }
     {
+        // Files are asked most when they were just read.
+        if let Some(last) = self.files.last() {
+            if last.lo() <= position {
+                return (self.files.len(), Some(last));
+            }
+        }
         let number = self.files.partition_point(|file| file.lo() <= position);
         if number == 0 {
             (number, None)
@@ -125,18 +134,56 @@ impl SourceMap {
         }
     }
 
-    /// The bytes before a position of the map in its file, which may keep what it found.
-    pub(crate) fn byte_offset(&mut self, position: u32) -> usize
-        requires { Holds self.old (record { lo = position; hi = position }) }
-        ensures value { HasBytesBefore self.old position result }
+    /// The bytes that a span of the map takes in its file, which may keep what it found.
+    pub(crate) fn byte_range(&mut self, span: Span) -> Range<usize>
+        requires { Holds self.old span }
+        ensures value { HasBytes self.old span result }
         ensures kept { self.new ≡ self.old }
     {
-        let (number, _) = self.file_of(position);
+        let (lo, hi) = span.bounds();
+        let (number, _) = self.file_of(lo);
         if number == 0 {
-            return 0;
+            return 0..0;
         }
+        // The span's end lies in the same file.
         let file = &mut self.files[number - 1];
-        file.find_byte_offset(position - file.lo())
+        let file_lo = file.lo();
+        let start = file.find_byte_offset(lo - file_lo);
+        let end = file.find_byte_offset(hi - file_lo);
+        start..end
+    }
+
+    /// A copy of the text of a span of the map, whose file may keep what it found; `None` for 0..0 alone.
+    pub(crate) fn source_text(&mut self, span: Span) -> Result<Option<String>, AllocError>
+        requires { Holds self.old span }
+        ensures found { IfOk result (λ copy. MatchOption copy (span ≡ nowhere) (λ _. span ≢ nowhere)) }
+        ensures value { IfOk result (λ copy.
+            IfSome copy (λ text. HasText self.old span (chars (string_bytes text)))) }
+        ensures text { IfOk result (λ copy.
+            IfSome copy (λ text. IsTextOf self.old span (chars (string_bytes text)))) }
+        ensures nowhere { span ≡ nowhere → result ≡ Ok None }
+        ensures kept { self.new ≡ self.old }
+    {
+        let alloc = self.alloc;
+        let (lo, hi) = span.bounds();
+        let (number, _) = self.file_of(lo);
+        if number == 0 {
+            return Ok(None);
+        }
+        let source = &mut self.files[number - 1];
+        let file_lo = source.lo();
+        let start = lo - file_lo;
+        let from = OffsetPair {
+            chars: start,
+            bytes: source.find_byte_offset(start),
+        };
+        let end = hi - file_lo;
+        let to = OffsetPair {
+            chars: end,
+            bytes: source.find_byte_offset(end),
+        };
+        let text = String::from_str(alloc, source.text_between(from, to))?;
+        Ok(Some(text))
     }
 
     /// Where the file of this text would begin, if it fits.

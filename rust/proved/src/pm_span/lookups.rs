@@ -52,10 +52,7 @@ impl Span {
     /// later look-ups there are short. Where there is no memory for that, the answer is the same.
     pub fn byte_range(self, map: &mut SourceMap) -> Range<usize>
     {
-        let (lo, hi) = self.bounds();
-        let start = map.byte_offset(lo);
-        let end = map.byte_offset(hi);
-        start..end
+        map.byte_range(self)
     }
 
     /// The text of the span (`source-text`), in a map that holds it; `None` for 0..0 alone.
@@ -64,28 +61,7 @@ impl Span {
     /// there is no memory for the copy.
     pub fn source_text(self, map: &mut SourceMap) -> Result<Option<String>, AllocError>
     {
-        let bytes = self.byte_range(map);
-        match self.text_of(bytes, map) {
-            None => Ok(None),
-            Some(text) => Ok(Some(String::from_str(map.allocator(), text)?)),
-        }
-    }
-
-    /// The text of the span, which takes these bytes of its file.
-    fn text_of(self, bytes: Range<usize>, map: &SourceMap) -> Option<&str>
-    {
-        let (lo, hi) = self.bounds();
-        let (_, file) = map.file_of(lo);
-        let file = file?;
-        let from = OffsetPair {
-            chars: lo - file.lo(),
-            bytes: bytes.start,
-        };
-        let to = OffsetPair {
-            chars: hi - file.lo(),
-            bytes: bytes.end,
-        };
-        Some(file.text_between(from, to))
+        map.source_text(self)
     }
 
     /// The text of the span (`source-text`), in a map that holds it; `None` for 0..0 alone.

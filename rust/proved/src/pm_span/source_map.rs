@@ -1,13 +1,14 @@
 // Made from crates/pm_span/src/source_map.rt by rust/erase: change that file, not this one.
 //! The map of the texts that were read.
 
-use crate::shim::prelude::Vec;
+use crate::shim::prelude::{String, Vec};
 
-use crate::pm_span::file_info::FileInfo;
+use crate::pm_span::file_info::{FileInfo, OffsetPair};
 use crate::pm_span::location::LineColumn;
 use crate::pm_span::spans::Span;
 use crate::pm_span::text::has_fewer_chars;
 use crate::shim::alloc::{AllocError, Global};
+use crate::shim::ops::Range;
 
 /// The texts that were read, each a file at positions of its own.
 ///
@@ -68,6 +69,12 @@ impl SourceMap {
     /// The last file that begins at or before the position, and its number before it; `None` for file 0.
     pub(crate) fn file_of(&self, position: u32) -> (usize, Option<&FileInfo>)
     {
+        // Files are asked most when they were just read.
+        if let Some(last) = self.files.last() {
+            if last.lo() <= position {
+                return (self.files.len(), Some(last));
+            }
+        }
         let number = self.files.partition_point(|file| file.lo() <= position);
         if number == 0 {
             (number, None)
@@ -95,15 +102,45 @@ impl SourceMap {
         }
     }
 
-    /// The bytes before a position of the map in its file, which may keep what it found.
-    pub(crate) fn byte_offset(&mut self, position: u32) -> usize
+    /// The bytes that a span of the map takes in its file, which may keep what it found.
+    pub(crate) fn byte_range(&mut self, span: Span) -> Range<usize>
     {
-        let (number, _) = self.file_of(position);
+        let (lo, hi) = span.bounds();
+        let (number, _) = self.file_of(lo);
         if number == 0 {
-            return 0;
+            return 0..0;
         }
+        // The span's end lies in the same file.
         let file = &mut self.files[number - 1];
-        file.find_byte_offset(position - file.lo())
+        let file_lo = file.lo();
+        let start = file.find_byte_offset(lo - file_lo);
+        let end = file.find_byte_offset(hi - file_lo);
+        start..end
+    }
+
+    /// A copy of the text of a span of the map, whose file may keep what it found; `None` for 0..0 alone.
+    pub(crate) fn source_text(&mut self, span: Span) -> Result<Option<String>, AllocError>
+    {
+        let alloc = self.alloc;
+        let (lo, hi) = span.bounds();
+        let (number, _) = self.file_of(lo);
+        if number == 0 {
+            return Ok(None);
+        }
+        let source = &mut self.files[number - 1];
+        let file_lo = source.lo();
+        let start = lo - file_lo;
+        let from = OffsetPair {
+            chars: start,
+            bytes: source.find_byte_offset(start),
+        };
+        let end = hi - file_lo;
+        let to = OffsetPair {
+            chars: end,
+            bytes: source.find_byte_offset(end),
+        };
+        let text = String::from_str(alloc, source.text_between(from, to))?;
+        Ok(Some(text))
     }
 
     /// Where the file of this text would begin, if it fits.
