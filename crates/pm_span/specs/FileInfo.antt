@@ -64,9 +64,12 @@ pub record AreNonAsciiBounds (text : List ℕ) (end : ℕ) (bounds : List Offset
 
 -- what a file that begins at lo keeps beside its text
 pub record IsKept (text : List ℕ) (lo hi : ℕ) (line_starts : List ℕ) (non_ascii_bounds : List OffsetPair)
-    (byte_offsets : List (ℕ × ℕ)) (used : OffsetPair) : Type 0 where
+    (byte_offsets : List (ℕ × ℕ)) (used around_from around_to found : OffsetPair) : Type 0 where
   pub ends : hi ≡ lo + length text
   pub lines : line_starts ≡ after_line_feeds text
   pub bounds : AreNonAsciiBounds text (length text) non_ascii_bounds
   pub known : All (λ entry. IsByteOffset text entry.0 entry.1) byte_offsets
   pub last_used : IsByteOffset text used.chars used.bytes
+  pub around_before : IsByteOffset text around_from.chars around_from.bytes
+  pub around_after : IsByteOffset text around_to.chars around_to.bytes
+  pub last_found : IsByteOffset text found.chars found.bytes

@@ -1,4 +1,4 @@
-ghost use Rattle.std.specs.Prelude.{◌≡◌, ◌+◌, ◌^◌, ◌<◌, ◌≤◌, List, ℕ, length, IfOk, OnOk};
+ghost use Rattle.std.specs.Prelude.{◌≡◌, ◌+◌, ◌^◌, ◌<◌, ◌≤◌, List, ℕ, length, IfOk, IfSome, OnOk};
 ghost use Rattle.std.specs.Str.{chars};
 ghost use Rattle.pm_span.specs.FileInfo.{MappedText, IsLineAt, IsByteOffset, after_line_feeds};
 ghost use Rattle.pm_span.specs.FileInfo.{IsNonAsciiLine, AreNonAsciiBounds};
@@ -8,13 +8,14 @@ use crate::location::LineColumn;
 use crate::text::{char_count, skip_chars, skip_chars_back, split_line};
 use std::alloc::{AllocError, Global};
 use std::collections::BTreeMap;
+use std::fmt;
 use std::marker::Model;
 
 /// So many characters may be walked again each time. An offset that was found by more is kept.
 const SHORT_WALK: u32 = 32;
 
 /// A file of a source map: its text, the positions that it takes, and where its lines begin.
-#[derive(Debug, Drop)]
+#[derive(Drop)]
 pub(crate) struct FileInfo {
     text: String,
     /// The position before its first character.
@@ -29,6 +30,10 @@ pub(crate) struct FileInfo {
     byte_offsets: BTreeMap<u32, usize>,
     /// The known offset that was used last.
     used: OffsetPair,
+    /// Of where lines that aren't ASCII begin and end, those on both sides of the offset that was found last.
+    around: (OffsetPair, OffsetPair),
+    /// The offset that was found last.
+    found: OffsetPair,
 }
 
 /// One offset of a text, in characters and in bytes.
@@ -48,7 +53,22 @@ impl Model for FileInfo {
     ghost view = { λ file. record { text = chars (string_bytes file.text); lo = file.lo } };
 
     ghost invariant = { λ file. IsKept (chars (string_bytes file.text)) file.lo file.hi file.line_starts.items
-        file.non_ascii_bounds.items file.byte_offsets.entries file.used };
+        file.non_ascii_bounds.items file.byte_offsets.entries file.used file.around.0 file.around.1 file.found };
+}
+
+/// Shows the fields that tell one file from another, and not those that only make look-ups short.
+impl fmt::Debug for FileInfo {
+    fn fmt<W: fmt::Write>(&self, f: &mut fmt::Formatter<W>) -> fmt::Result {
+        let mut debug = f.debug_struct("FileInfo");
+        debug.field("text", &self.text);
+        debug.field("lo", &self.lo);
+        debug.field("hi", &self.hi);
+        debug.field("line_starts", &self.line_starts);
+        debug.field("non_ascii_bounds", &self.non_ascii_bounds);
+        debug.field("byte_offsets", &self.byte_offsets);
+        debug.field("used", &self.used);
+        debug.finish()
+    }
 }
 
 /// What one pass over a text finds.
@@ -127,6 +147,7 @@ impl FileInfo {
         ensures ok { IfOk result (λ file. file ≡ record { text = chars text.now; lo = lo }) }
     {
         let lines = find_lines(alloc, text)?;
+        let start = OffsetPair { chars: 0, bytes: 0 };
         Ok(FileInfo {
             text: String::from_str(alloc, text)?,
             lo,
@@ -134,7 +155,9 @@ impl FileInfo {
             line_starts: lines.starts,
             non_ascii_bounds: lines.non_ascii_bounds,
             byte_offsets: BTreeMap::new(alloc),
-            used: OffsetPair { chars: 0, bytes: 0 },
+            used: start,
+            around: (start, start),
+            found: start,
         })
     }
 
@@ -204,6 +227,20 @@ impl FileInfo {
         (before, after)
     }
 
+    /// The same, without a search where those of the offset found last stand around this one too.
+    fn known_around(&self, char_offset: u32) -> (OffsetPair, OffsetPair)
+        requires { char_offset ≤ length self.now.text }
+        ensures before { IsByteOffset self.now.text result.0.chars result.0.bytes × (result.0.chars ≤ char_offset) }
+        ensures after { IsByteOffset self.now.text result.1.chars result.1.bytes × (char_offset ≤ result.1.chars) }
+    {
+        let (start, end) = self.around;
+        if start.chars <= char_offset && char_offset < end.chars {
+            (start, end)
+        } else {
+            self.bounds_around(char_offset)
+        }
+    }
+
     /// The last known offset that isn't after this one, from `start` on.
     fn known_before(&self, char_offset: u32, start: OffsetPair) -> OffsetPair
         requires known { IsByteOffset self.now.text start.chars start.bytes }
@@ -236,13 +273,16 @@ impl FileInfo {
         }
     }
 
-    /// A known offset to walk from to this one: the one used last if it is near, else the nearer one of those on
-    /// both sides. Where all around the offset is ASCII, it is known itself.
-    fn nearest_known(&self, char_offset: u32) -> OffsetPair
-        requires { char_offset ≤ length self.now.text }
+    /// A known offset to walk from to this one, between two that stand around it: the one used last if it is near,
+    /// else the nearer one of those on both sides. Where all around the offset is ASCII, it is known itself.
+    fn nearest_known(&self, char_offset: u32, start: OffsetPair, end: OffsetPair) -> OffsetPair
+        requires within { char_offset ≤ length self.now.text }
+        requires start { IsByteOffset self.now.text start.chars start.bytes }
+        requires end { IsByteOffset self.now.text end.chars end.bytes }
+        requires after_start { start.chars ≤ char_offset }
+        requires before_end { char_offset ≤ end.chars }
         ensures { IsByteOffset self.now.text result.chars result.bytes }
     {
-        let (start, end) = self.bounds_around(char_offset);
         if end.bytes - start.bytes == (end.chars - start.chars) as usize {
             return OffsetPair {
                 chars: char_offset,
@@ -261,12 +301,28 @@ impl FileInfo {
         }
     }
 
+    /// The known offset, or the one that was found last where that is nearer to this one.
+    fn nearer(&self, known: OffsetPair, char_offset: u32) -> OffsetPair
+        requires { IsByteOffset self.now.text known.chars known.bytes }
+        ensures { IsByteOffset self.now.text result.chars result.bytes }
+    {
+        let found = self.found;
+        if char_offset.abs_diff(found.chars) < char_offset.abs_diff(known.chars) {
+            found
+        } else {
+            known
+        }
+    }
+
     /// The bytes before an offset of the text, counted on or back from a known one.
     fn count_from(&self, known: OffsetPair, char_offset: u32) -> usize
         requires known { IsByteOffset self.now.text known.chars known.bytes }
         requires within { char_offset ≤ length self.now.text }
         ensures { result ≡ byte_offset self.now.text char_offset }
     {
+        if char_offset == known.chars {
+            return known.bytes;
+        }
         let text = self.text.as_str();
         if char_offset < known.chars {
             let front = skip_chars_back(&text[..known.bytes], (known.chars - char_offset) as usize);
@@ -277,12 +333,29 @@ impl FileInfo {
         }
     }
 
+    /// The bytes before an offset that stands between the same bounds as the one found last, if all is ASCII there.
+    fn ascii_offset(&self, char_offset: u32) -> Option<usize>
+        ensures { IfSome result (λ bytes. IsByteOffset self.now.text char_offset bytes) }
+    {
+        let (start, end) = self.around;
+        if char_offset < start.chars || end.chars <= char_offset {
+            return None;
+        }
+        let chars = end.chars - start.chars;
+        if end.bytes - start.bytes == chars as usize {
+            Some(start.bytes + (char_offset - start.chars) as usize)
+        } else {
+            None
+        }
+    }
+
     /// An offset of the text in characters as one in bytes.
     pub(crate) fn byte_offset(&self, char_offset: u32) -> usize
         requires { char_offset ≤ length self.now.text }
         ensures { result ≡ byte_offset self.now.text char_offset }
     {
-        self.count_from(self.nearest_known(char_offset), char_offset)
+        let (start, end) = self.bounds_around(char_offset);
+        self.count_from(self.nearest_known(char_offset, start, end), char_offset)
     }
 
     /// The same, and the offset becomes a known one if the walk to it was long and there is memory.
@@ -291,8 +364,21 @@ impl FileInfo {
         ensures value { result ≡ byte_offset self.old.text char_offset }
         ensures kept { self.new ≡ self.old }
     {
-        let known = self.nearest_known(char_offset);
-        let bytes = self.count_from(known, char_offset);
+        if let Some(bytes) = self.ascii_offset(char_offset) {
+            self.used = OffsetPair {
+                chars: char_offset,
+                bytes,
+            };
+            return bytes;
+        }
+        let (start, end) = self.known_around(char_offset);
+        let known = self.nearest_known(char_offset, start, end);
+        let bytes = self.count_from(self.nearer(known, char_offset), char_offset);
+        self.around = (start, end);
+        self.found = OffsetPair {
+            chars: char_offset,
+            bytes,
+        };
         if char_offset.abs_diff(known.chars) > SHORT_WALK {
             let _ = self.byte_offsets.insert(char_offset, bytes);
             self.used = OffsetPair {

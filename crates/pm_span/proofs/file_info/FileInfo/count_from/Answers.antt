@@ -1,4 +1,4 @@
-use Rattle.std.proofs.Common.{◌≡◌, ◌+◌, ◌-◌, ◌∙◌, length, take, length-drop, ap, arith}
+use Rattle.std.proofs.Common.{◌≡◌, ◌+◌, ◌-◌, ◌∙◌, length, take, length-drop, ap, sym, arith}
 use Rattle.std.specs.Str.{chars}
 use Rattle.std.proofs.lemmas.List.{length-take-le}
 use Rattle.pm_span.specs.CharOffset.{byte_offset}
@@ -49,8 +49,8 @@ left c =
 pub overflow_sub-result : goal.overflow_sub-result
 overflow_sub-result c = omega (arith, left c)
 
-pub returns-then-char_offset-known : goal.returns-then-char_offset-known
-returns-then-char_offset-known c =
+pub returns-then-char_offset-known-2 : goal.returns-then-char_offset-known-2
+returns-then-char_offset-known-2 c =
     let text : chars c.as_str-text.result.now ≡ c.args.self.now.text = ap chars c.as_str-text.ensures.value
     ∙ ap (λ file. file.text) c.self.view_is in
     let known = c.requires.known in
@@ -61,5 +61,9 @@ returns-then-char_offset-known c =
     c.args.known.chars c.args.char_offset (c.args.known.chars - c.args.char_offset) c.skip_chars_back-front.utf8
     front known.within (omega arith) c.skip_chars_back-front.ensures.value
 
-pub returns-else-char_offset-known : goal.returns-else-char_offset-known
-returns-else-char_offset-known c = omega (arith, left c)
+pub returns-else-char_offset-known-2 : goal.returns-else-char_offset-known-2
+returns-else-char_offset-known-2 c = omega (arith, left c)
+
+pub returns-then-char_offset-known : goal.returns-then-char_offset-known
+returns-then-char_offset-known c =
+    c.requires.known.value ∙ ap (byte_offset c.args.self.now.text) (sym c.if-char_offset-known.true)

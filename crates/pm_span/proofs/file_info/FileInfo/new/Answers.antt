@@ -16,4 +16,7 @@ invariant_of-result c =
           lines.ensures.bounds;
       known = subst (All (λ entry. IsByteOffset text entry.0 entry.1)) (sym c.new.ensures.empty) (All-nil _);
       last_used = record { within = omega arith; value = refl };
+      around_before = record { within = omega arith; value = refl };
+      around_after = record { within = omega arith; value = refl };
+      last_found = record { within = omega arith; value = refl };
     })
