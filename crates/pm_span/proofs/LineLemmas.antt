@@ -1,11 +1,11 @@
 -- Lemmas on the offsets after line feeds: they give the line and the column of an offset.
 use Rattle.std.proofs.Common.{◌≡◌, ℕ, zero, suc, ◌+◌, ◌-◌, ◌<◌, ◌≤◌, Bool, true, false, cond, not, List, [], ◌∷◌, ◌++◌}
-use Rattle.std.proofs.Common.{length, get_or, take, drop, reverse, refl, sym, ap, ap₂, leb, ◌∙◌, arith, length-append}
+use Rattle.std.proofs.Common.{length, get_or, take, drop, reverse, refl, sym, ap, ap₂, ◌∙◌, arith, length-append}
 use Rattle.std.proofs.Common.{length-drop, append-nil, inl, inr}
 use Rattle.std.specs.Prelude.{count_by, take_while}
 use Rattle.std.specs.List.{All}
-use Rattle.std.specs.List.Sorted.{IsNonDecreasing, IsPartitionPoint}
-use Rattle.std.proofs.lemmas.Bool.{cases_lt, leb-true, leb-false}
+use Rattle.std.specs.List.Sorted.{IsNonDecreasing}
+use Rattle.std.proofs.lemmas.Bool.{cases_lt}
 use Rattle.std.proofs.lemmas.List.{length-take-le, take_more, reverse-append, get_or_append_left, get_or-append-add}
 use Rattle.std.proofs.lemmas.List.{get_or_push, length_push, take-append-drop}
 use Rattle.std.proofs.lemmas.List.Elements.{All-nil, All-cons, All-weaker}
@@ -218,13 +218,12 @@ pair_of l c = record { line = l; column = c }
 -- where n line starts stand at or before the offset, the line and the column are counted from the last of them
 pub line_column_found :
     (text : List ℕ) (k n start : ℕ) → k ≤ length text → n ≤ length (after_line_feeds text)
-    → IsPartitionPoint (λ y. leb y k ≡ true) (λ y. leb y k ≡ false) (after_line_feeds text) n
+    → ((j : ℕ) → j < n → get_or (after_line_feeds text) j 0 ≤ k)
+    → ((j : ℕ) → n ≤ j → j < length (after_line_feeds text) → k < get_or (after_line_feeds text) j 0)
     → start ≡ get_or (0 ∷ after_line_feeds text) n 0
     → (start ≤ k) × (line_column text k ≡ record { line = n + 1; column = k - start })
-line_column_found text k n start within bound point is =
-    let counts : count_by is_line_feed (take k text) ≡ n =
-    line_feeds_before text k n within bound (λ j less. leb-true _ _ (point.0 j 0 (omega arith) less))
-    (λ j le less. leb-false _ _ (point.1 j 0 le less)) in
+line_column_found text k n start within bound below above is =
+    let counts : count_by is_line_feed (take k text) ≡ n = line_feeds_before text k n within bound below above in
     let front = after_line_feeds (take k text) in
     let rest = after_line_feeds_from k (drop k text) in
     let size : length front ≡ n = length-after_line_feeds_from 0 (take k text) ∙ counts in

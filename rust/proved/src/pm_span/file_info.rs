@@ -11,6 +11,12 @@ use crate::shim::fmt;
 /// So many characters may be walked again each time. An offset that was found by more is kept.
 const SHORT_WALK: u32 = 32;
 
+/// So many characters are a block.
+const BLOCK: u32 = 128;
+
+/// So many lines are searched without blocks.
+const FEW_LINES: usize = 16;
+
 /// A file of a source map: its text, the positions that it takes, and where its lines begin.
 pub(crate) struct FileInfo {
     text: String,
@@ -30,6 +36,8 @@ pub(crate) struct FileInfo {
     around: (OffsetPair, OffsetPair),
     /// The offset that was found last.
     found: OffsetPair,
+    /// For each block of characters how many lines begin up to its start; none where lines are few.
+    line_blocks: Vec<u32>,
 }
 
 /// One offset of a text, in characters and in bytes.
@@ -114,11 +122,52 @@ fn push_bounds(
     Ok(())
 }
 
+/// How many of the line starts stand at or before the start of each block, and of the two past the end.
+fn count_by_blocks(alloc: Global, starts: &[u32], count: u32) -> Result<Vec<u32>, AllocError> {
+    let mut blocks = Vec::new(alloc);
+    if starts.len() <= FEW_LINES {
+        return Ok(blocks);
+    }
+    let mut lines = 0;
+    let mut block_start = 0u32;
+    for _ in 0..count / BLOCK + 2 {
+        while lines < starts.len() && starts[lines] <= block_start {
+            lines += 1;
+        }
+        blocks.push(lines.min(u32::MAX as usize) as u32)?;
+        block_start = block_start.saturating_add(BLOCK);
+    }
+    Ok(blocks)
+}
+
+/// How many of the offsets, which ascend, are at most this one. The first `from` are, and those from `to` on are not,
+/// where the advice is right; else all are searched.
+fn count_up_to(offsets: &[u32], char_offset: u32, from: usize, to: usize) -> usize
+{
+    if !stands_between(offsets, char_offset, from, to) {
+        return offsets.partition_point(|offset| *offset <= char_offset);
+    }
+    from + offsets[from..to].partition_point(|offset| *offset <= char_offset)
+}
+
+/// Whether the first `from` of the offsets, which ascend, are at most this one, and those from `to` on are not.
+fn stands_between(offsets: &[u32], char_offset: u32, from: usize, to: usize) -> bool
+{
+    if to < from || offsets.len() < to {
+        return false;
+    }
+    if 0 < from && char_offset < offsets[from - 1] {
+        return false;
+    }
+    to == offsets.len() || char_offset < offsets[to]
+}
+
 impl FileInfo {
     /// The file of this text that begins at `lo`; refused if a growth is.
     pub(crate) fn new(alloc: Global, text: &str, lo: u32) -> Result<FileInfo, AllocError>
     {
         let lines = find_lines(alloc, text)?;
+        let line_blocks = count_by_blocks(alloc, &lines.starts, lines.count)?;
         let start = OffsetPair { chars: 0, bytes: 0 };
         Ok(FileInfo {
             text: String::from_str(alloc, text)?,
@@ -130,6 +179,7 @@ impl FileInfo {
             used: start,
             around: (start, start),
             found: start,
+            line_blocks,
         })
     }
 
@@ -145,12 +195,20 @@ impl FileInfo {
         self.hi
     }
 
+    /// Between how many line starts that of an offset is to be sought first: those of its block. It is only advice.
+    fn lines_near(&self, char_offset: u32) -> (usize, usize) {
+        let block = (char_offset / BLOCK) as usize;
+        match (self.line_blocks.get(block), self.line_blocks.get(block + 1)) {
+            (Some(from), Some(to)) => (*from as usize, *to as usize),
+            _ => (0, self.line_starts.len()),
+        }
+    }
+
     /// How many line feeds stand before an offset of the text, and where its line begins, in characters.
     fn line_at(&self, char_offset: u32) -> (usize, u32)
     {
-        let line_feeds = self
-            .line_starts
-            .partition_point(|start| *start <= char_offset);
+        let (from, to) = self.lines_near(char_offset);
+        let line_feeds = count_up_to(&self.line_starts, char_offset, from, to);
         let line_start = if line_feeds == 0 {
             0
         } else {
