@@ -154,6 +154,22 @@ impl Ident {
         }
     }
 
+    /// The name, without `r#`.
+    #[inline(always)]
+    pub(crate) fn name(&self) -> &str
+        ensures { chars result.now ≡ self.now.name }
+    {
+        self.name.as_str()
+    }
+
+    /// Whether it is raw.
+    #[inline(always)]
+    pub(crate) fn is_raw(&self) -> bool
+        ensures { result ≡ self.now.raw }
+    {
+        self.name.is_raw()
+    }
+
     /// Where it stands. Proofs learn by it what every identifier is (`built`).
     pub fn span(&self) -> Span
         ensures value { result ≡ self.now.span }

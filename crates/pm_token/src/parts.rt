@@ -25,6 +25,22 @@ pub fn ident(alloc: Global, name: &str, raw: bool, span: Span) -> Result<Ident, 
     Ident::from_parts(alloc, name, raw, span)
 }
 
+/// The name of the identifier, without `r#` even if it is raw. It is lent, and nothing is copied.
+#[inline(always)]
+pub fn name_of(ident: &Ident) -> &str
+    ensures { chars result.now ≡ ident.now.name }
+{
+    ident.name()
+}
+
+/// Whether the identifier is raw.
+#[inline(always)]
+pub fn is_raw(ident: &Ident) -> bool
+    ensures { result ≡ ident.now.raw }
+{
+    ident.is_raw()
+}
+
 /// The mark of this character.
 pub fn punct(mark: char, spacing: Spacing, span: Span) -> Punct
     requires { IsTrue (is_mark mark) }
