@@ -22,7 +22,7 @@ use Rattle.lexical.proofs.TextLemmas.{all_pass, ascii_bytes, begins_splits, is_a
 pub all_white : (cs : List ℕ) → list_all ascii_white cs ≡ true → list_all is_white cs ≡ true
 all_white = all_pass _ _ (λ c is. (and_parts _ _ is).1)
 
-white_ascii : (cs : List ℕ) → list_all ascii_white cs ≡ true → all_ascii cs ≡ true
+pub white_ascii : (cs : List ℕ) → list_all ascii_white cs ≡ true → all_ascii cs ≡ true
 white_ascii = all_pass _ _ (λ c is. (and_parts _ _ is).0)
 
 -- more bytes that are white follow the first

@@ -1,8 +1,10 @@
 -- The pieces of a text, one after the other.
-use Rattle.std.specs.Prelude.{◌≡◌, ◌+◌, ◌<◌, ◌++◌, false, length}
+use Rattle.std.specs.Prelude.{◌≡◌, ◌+◌, ◌<◌, ◌++◌, ◌&&◌, ◌==◌, List, ℕ, false, length}
 use Rattle.std.specs.Str.{chars, IsUtf8}
+use Rattle.lexical.specs.Form.{Run}
 use Rattle.lexical.specs.Found.{kind_of, LendsText}
 use Rattle.lexical.specs.Piece.{IsPiece}
+use Rattle.lexical.specs.WhiteRun.{ascii_white}
 use Rattle.lexical.specs.declared.walk.PlacedPiece.{PlacedPiece}
 use Rattle.lexical.specs.declared.walk.PieceWalk.{PieceWalk}
 
@@ -21,3 +23,12 @@ pub record IsNext (at : PieceWalk) (next : PlacedPiece) (to : PieceWalk) : Type 
   pub byte_offset : next.byte_offset ≡ at.byte_offset
   pub past : to.byte_offset ≡ at.byte_offset + length next.text.now
   pub behind : to.at_front ≡ false
+
+-- from one cursor to the other stand these white characters of ASCII, each a gap, and no other follows them
+pub record PassesWhite (at : PieceWalk) (white : List ℕ) (to : PieceWalk) : Type 0 where
+  pub joined : at.rest.now ≡ white ++ to.rest.now
+  pub whole : chars at.rest.now ≡ white ++ chars to.rest.now
+  pub stands : Run ascii_white white (chars to.rest.now)
+  pub utf8 : IsUtf8 white
+  pub past : to.byte_offset ≡ at.byte_offset + length white
+  pub behind : to.at_front ≡ (at.at_front && (length white == 0))

@@ -3,6 +3,7 @@
 ghost use Rattle.std.specs.Prelude.{◌≡◌, ◌+◌, ◌<◌, ◌^◌, length, true};
 ghost use Rattle.std.specs.Str.{IsUtf8, chars};
 
+use crate::gaps::past_white;
 use crate::lexer::piece_at;
 use crate::piece::Piece;
 
@@ -50,7 +51,7 @@ pub fn pieces(text: &str) -> PieceWalk<'_>
 impl<'a> PieceWalk<'a> {
     ghost use Rattle.std.specs.Prelude.{IfNone, IfSome};
     ghost use Rattle.lexical.specs.Piece.{HasNoPiece};
-    ghost use Rattle.lexical.specs.Walk.{IsNext};
+    ghost use Rattle.lexical.specs.Walk.{IsNext, PassesWhite};
 
     /// The piece at the front of the rest, which it then passes: its text and the new rest, joined,
     /// are the old rest.
@@ -77,6 +78,21 @@ impl<'a> PieceWalk<'a> {
             at_front: false,
         };
         Some(next)
+    }
+
+    /// Passes the white characters of ASCII at the front of the rest, each of which is a gap, and answers their text.
+    #[inline(always)]
+    pub(crate) fn pass_white(&mut self) -> &'a str
+        ensures { PassesWhite self.old result.now self.new }
+    {
+        let (rest, size) = past_white(self.rest);
+        let white = &self.rest[..size];
+        *self = PieceWalk {
+            rest,
+            byte_offset: self.byte_offset + size,
+            at_front: self.at_front & (size == 0),
+        };
+        white
     }
 
     /// What follows the pieces that it gave: the end of the text, empty once they cover all of it.

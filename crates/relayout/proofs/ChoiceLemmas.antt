@@ -249,7 +249,7 @@ chosen_becomes first choices line white (x ∷ ps) stand all feed = elim (cases_
 
 -- ---- what isn't white stays
 
-white_is_gap : (c : ℕ) → is_white c ≡ true → is_white_gap (Gap, c ∷ []) ≡ true
+pub white_is_gap : (c : ℕ) → is_white c ≡ true → is_white_gap (Gap, c ∷ []) ≡ true
 white_is_gap c white =
     not_of ((47 == c) && true) (λ both. both_ways (is_white 47) refl
     (subst (λ x. is_white x ≡ true) (sym (eqb-true 47 c (and_parts (47 == c) true both).0)) white))

@@ -1,6 +1,8 @@
 -- What is written of a text, as pieces with other white space.
 use Rattle.std.proofs.Common.{◌≡◌, ℕ, Bool, true, false, ◌==◌, List, [], ◌∷◌, ◌++◌, refl}
-use Rattle.std.proofs.Common.{sym, ap, ap₂, ◌∙◌, subst, append_assoc, append-nil, length}
+use Rattle.std.proofs.Common.{sym, ap, ap₂, ◌∙◌, ◌&&◌, inl, subst, arith, append_assoc, append-nil, length}
+use Rattle.std.specs.List.{list_all}
+use Rattle.std.proofs.lemmas.Bool.{and_parts, false_from_ne_true}
 use Rattle.std.specs.Str.{chars, IsUtf8, encode_utf8_all}
 use Rattle.std.proofs.lemmas.Bool.{both_ways, eqb-true, cond-true}
 use Rattle.std.proofs.lemmas.Bool.{cond-false}
@@ -9,12 +11,15 @@ use Rattle.std.proofs.lemmas.Str.{chars-nil, encodes-chars, encodes_same, IsUtf8
 use Rattle.std.specs.Prelude.{String, string_bytes}
 use Rattle.lexical.specs.Cover.{onto, StandBefore, IsCover}
 use Rattle.lexical.specs.Found.{kind_of}
-use Rattle.lexical.specs.Piece.{Piece, IsPiece, HasNoPiece}
-use Rattle.lexical.specs.Walk.{IsNext}
+use Rattle.lexical.specs.Piece.{Piece, IsPiece, HasNoPiece, Gap}
+use Rattle.lexical.specs.Walk.{IsNext, PassesWhite}
+use Rattle.lexical.specs.WhiteRun.{ascii_white}
+use Rattle.lexical.specs.Class.{is_white}
 use Rattle.lexical.specs.declared.walk.PlacedPiece.{PlacedPiece}
 use Rattle.lexical.specs.declared.walk.PieceWalk.{PieceWalk}
 use Rattle.lexical.proofs.PieceFacts.{piece_not_empty}
 use Rattle.lexical.proofs.PieceLemmas.{one_piece}
+use Rattle.relayout.proofs.ChoiceLemmas.{white_is_gap}
 use Rattle.relayout.specs.Relayout.{is_line}
 use Rattle.relayout.specs.Written.{choices_left, is_white_gap, next_choice, placed, white_text, written}
 use Rattle.relayout.specs.declared.white.White.{White}
@@ -130,6 +135,63 @@ goes_white source choices left line from at next to out is white so = record {
         ap (λ t. out ++ t) (sym (cond-true (is_white_gap piece) _ _ white)) ∙ before.3,
       );
 }
+
+-- a white character is a piece: the first piece of each cover, and no other's
+past_one : (first : Bool) (c : ℕ) (rest : List ℕ) → is_white c ≡ true → Cover first (c ∷ rest) → Cover false rest
+past_one first c rest white cover = by_pieces cover.pieces cover.whole cover.stand
+  where
+    by_pieces : (ps : List Piece) → c ∷ rest ≡ onto ps [] → StandBefore first ps [] → Cover false rest
+    by_pieces [] e stand = let clash : c ∷ rest ≡ [] = e in absurd (cc)
+    by_pieces (x ∷ ps) e stand =
+        let same = one_piece first Gap x.0 (c ∷ []) x.1 rest (onto ps []) (inl (c, refl, white)) stand.0 e in
+        record { pieces = ps; whole = same.2; stand = stand.1 }
+
+goes_one : (source : List ℕ) (choices left : List White) (line : Bool) (from : List ℕ) (first : Bool) (c : ℕ)
+    (rest out : List ℕ) → is_white c ≡ true → Goes source choices left line from (c ∷ rest) first out
+    → Goes source choices left line from rest false out
+goes_one source choices left line from first c rest out white so = record {
+  white = so.white ++ (c ∷ []);
+  since = so.since ∙ sym (append_assoc so.white (c ∷ []) rest);
+  only = λ cover. past_one first c rest white (so.only cover);
+  all = λ ps e stand.
+      let before = so.all ((Gap, c ∷ []) ∷ ps) (ap (λ r. c ∷ r) e) ((inl (c, refl, white)), stand) in (
+        before.0,
+        before.1,
+        before.2,
+        ap (λ t. out ++ t) (sym (cond-true (is_white_gap (Gap, c ∷ [])) _ _ (white_is_gap c white))) ∙ before.3,
+      );
+}
+
+-- `first` says that nothing was passed, as long as that is so
+still_first : (first : Bool) → (first && true) ≡ first
+still_first true = refl
+still_first false = refl
+
+first_passed : (first : Bool) (c : ℕ) (white : List ℕ) → (first && (length (c ∷ white) == 0)) ≡ false
+first_passed true c white =
+    false_from_ne_true _ (λ e. let clash : length (c ∷ white) ≡ 0 = eqb-true _ 0 e in omega arith)
+first_passed false c white = refl
+
+goes_many : (source : List ℕ) (choices left : List White) (line : Bool) (from : List ℕ) (first : Bool) (white : List ℕ)
+    (rest out : List ℕ) → list_all ascii_white white ≡ true
+    → Goes source choices left line from (white ++ rest) first out
+    → Goes source choices left line from rest (first && (length white == 0)) out
+goes_many source choices left line from first [] rest out each so =
+    subst (λ b. Goes source choices left line from rest b out) (sym (still_first first)) so
+goes_many source choices left line from first (c ∷ white) rest out each so =
+    let parts = and_parts _ _ each in
+    let one = goes_one source choices left line from first c (white ++ rest) out (and_parts _ _ parts.0).1 so in
+    subst (λ b. Goes source choices left line from rest b out) (sym (first_passed first c white))
+    (goes_many source choices left line from false white rest out parts.1 one)
+
+-- white characters of ASCII, passed at once
+pub goes_run : (source : List ℕ) (choices left : List White) (line : Bool) (from : List ℕ) (at : PieceWalk)
+    (white : List ℕ) (to : PieceWalk) (out : List ℕ) → PassesWhite at white to
+    → Goes source choices left line from (chars at.rest.now) at.at_front out
+    → Goes source choices left line from (chars to.rest.now) to.at_front out
+goes_run source choices left line from at white to out passes so =
+    rw passes.behind (goes_many source choices left line from at.at_front white (chars to.rest.now) out
+    passes.stands.each (rw passes.whole at so))
 
 -- a piece that is none
 pub goes_piece : (source : List ℕ) (choices left after : List White) (line now : Bool) (from run : List ℕ)

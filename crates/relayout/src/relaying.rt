@@ -8,7 +8,7 @@ ghost use Rattle.relayout.specs.Written.{choices_left, is_white_gap, next_choice
 
 use crate::errors::RelayoutError;
 use crate::white::{White, push_white};
-use lexical::parts::{before, begins};
+use lexical::parts::{before, begins, pass_white};
 use lexical::{PieceKind, PlacedPiece, pieces};
 use pm_token::parts::TextBuilder;
 use std::alloc::{AllocError, Global};
@@ -32,10 +32,14 @@ pub fn relayout(alloc: Global, text: &str, choices: &[White]) -> Result<String, 
     let mut left = choices;
     let mut line = false;
     let mut from = text;
-    let mut here = text;
     let mut walk = pieces(text);
+    // White characters of ASCII are passed over all at once. One past ASCII is given as a piece.
+    pass_white(&mut walk);
+    let mut here = walk.rest();
     while let Some(next) = walk.next_piece() {
         let run = before(from, here);
+        let behind = walk.rest();
+        pass_white(&mut walk);
         here = walk.rest();
         if is_white(next) {
             continue;
@@ -43,7 +47,7 @@ pub fn relayout(alloc: Global, text: &str, choices: &[White]) -> Result<String, 
         left = push_run(&mut out, left, line, run)?;
         out.push_text(next.text)?;
         line = is_line(next);
-        from = here;
+        from = behind;
     }
     if !here.is_empty() {
         return Err(RelayoutError::NoPiece);

@@ -1,7 +1,7 @@
 use Rattle.std.proofs.Common.{◌≡◌, ◌∙◌, ◌∷◌, ◌++◌, [], List, ℕ, refl, sym, ap}
 use Rattle.std.specs.Str.{chars}
 use Rattle.relayout.proofs.ChoiceLemmas.{relaid_cover}
-use Rattle.relayout.proofs.RelaidLemmas.{cover_none, goes_all, goes_piece, goes_start, goes_white, no_chars, some_chars}
+use Rattle.relayout.proofs.RelaidLemmas.{cover_none, goes_all, goes_piece, goes_run, goes_start, goes_white, no_chars, some_chars}
 use Rattle.relayout.proofs.RelaidLemmas.{string_chars}
 use Rattle.relayout.proofs.TokenLemmas.{keeps_tokens}
 use Rattle.relayout.proofs.relaying.relayout.Goals as goal
@@ -9,33 +9,39 @@ use Rattle.relayout.proofs.relaying.relayout.Goals as goal
 pub loop-next-init : goal.loop-next-init
 loop-next-init c = record {
   from_text = c.utf8.text;
-  here_text = c.utf8.text;
-  same = sym c.pieces-walk.ensures.rest;
-  goes = rw (c.pieces-walk.ensures.rest, c.pieces-walk.ensures.front)
-      (goes_start (chars c.args.text.now) c.args.choices.now c.in_ok-out.out c.in_ok-out.ensures);
+  here_text = c.rest-here.utf8;
+  same = c.rest-here.ensures.rest;
+  goes = goes_run _ _ _ _ _ c.pieces-walk.result c.pass_white.result.now c.pass_white.new.walk c.in_ok-out.out
+      c.pass_white.ensures
+      (rw (c.pieces-walk.ensures.rest, c.pieces-walk.ensures.front)
+      (goes_start (chars c.args.text.now) c.args.choices.now c.in_ok-out.out c.in_ok-out.ensures));
 }
 
 pub loop-next-preserved-then-is_white : goal.loop-next-preserved-then-is_white
 loop-next-preserved-then-is_white c = record {
   from_text = c.loop-next.invariant.from_text;
-  here_text = c.rest-here.utf8;
-  same = c.rest-here.ensures.rest;
-  goes = goes_white _ _ _ _ _ c.loop-next.walk c.in-Some.next c.next_piece.new.self c.loop-next.out
-      c.in-Some.ensures.found (sym c.is_white.ensures ∙ c.if-is_white.true) c.loop-next.invariant.goes;
+  here_text = c.rest-here-in-Some.utf8;
+  same = c.rest-here-in-Some.ensures.rest;
+  goes = goes_run _ _ _ _ _ c.next_piece.new.self c.pass_white-in-Some.result.now c.pass_white-in-Some.new.walk
+      c.loop-next.out c.pass_white-in-Some.ensures
+      (goes_white _ _ _ _ _ c.loop-next.walk c.in-Some.next c.next_piece.new.self c.loop-next.out
+      c.in-Some.ensures.found (sym c.is_white.ensures ∙ c.if-is_white.true) c.loop-next.invariant.goes);
 }
 
 pub loop-next-preserved : goal.loop-next-preserved
 loop-next-preserved c = record {
-  from_text = c.rest-here.utf8;
-  here_text = c.rest-here.utf8;
-  same = c.rest-here.ensures.rest;
-  goes = rw c.rest-here.ensures.rest
+  from_text = c.rest-behind.utf8;
+  here_text = c.rest-here-in-Some.utf8;
+  same = c.rest-here-in-Some.ensures.rest;
+  goes = goes_run _ _ _ _ _ c.next_piece.new.self c.pass_white-in-Some.result.now c.pass_white-in-Some.new.walk
+      c.push_text.new.self c.pass_white-in-Some.ensures
+      (rw c.rest-behind.ensures.rest
       (goes_piece _ _ c.loop-next.left.now c.in_ok-left.left.now c.loop-next.line c.is_line-line.result
       (chars c.loop-next.from.now) (chars c.before-run.result.now) c.loop-next.walk c.in-Some.next
       c.next_piece.new.self c.loop-next.out c.push_run.new.out c.push_text.new.self c.in-Some.ensures.found
       (sym c.is_white.ensures ∙ c.if-is_white.false) c.loop-next.invariant.goes
       (λ front e. c.before-run.ensures front (e ∙ ap (λ r. front ++ chars r) (sym c.loop-next.invariant.same)))
-      c.in_ok-left.ensures.0 c.in_ok-left.ensures.1 c.in_ok-push_text.ensures.ok c.is_line-line.ensures);
+      c.in_ok-left.ensures.0 c.in_ok-left.ensures.1 c.in_ok-push_text.ensures.ok c.is_line-line.ensures));
 }
 
 pub returns-then-not-is_empty-clause-no_piece : goal.returns-then-not-is_empty-clause-no_piece
