@@ -54,7 +54,8 @@ ascii_rest : (text : List ℕ) (n : ℕ) → IsUtf8 text → n ≤ length text �
     → IsUtf8 (drop n text)
 ascii_rest text n utf8 within ascii = IsUtf8-drop text n utf8 (ascii_cut text n utf8 within ascii)
 
-pub ascii_split : (text : List ℕ) (n : ℕ) → all_ascii (take n text) ≡ true → chars text ≡ take n text ++ chars (drop n text)
+pub ascii_split : (text : List ℕ) (n : ℕ) → all_ascii (take n text) ≡ true
+    → chars text ≡ take n text ++ chars (drop n text)
 ascii_split text n ascii =
     let bytes = is_ascii (take n text) ascii in
     ap chars (sym (take-append-drop n text))

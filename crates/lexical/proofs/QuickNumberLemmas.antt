@@ -17,9 +17,11 @@ use Rattle.lexical.specs.Bytes.{ascii_in, is_in}
 use Rattle.lexical.specs.Class.{is_ident_start, is_ident_continue}
 use Rattle.lexical.specs.Finder.{while_front}
 use Rattle.lexical.specs.Form.{Form, HasNone, Then}
-use Rattle.lexical.specs.Number.{Number, bars_dot, digits, dot, end, exponent, is_digit_or_underscore, is_exponent_letter}
+use Rattle.lexical.specs.Number.{Number, bars_dot, digits, dot, end, exponent, is_digit_or_underscore}
+use Rattle.lexical.specs.Number.{is_exponent_letter}
 use Rattle.lexical.specs.Number.{float, float_tail, fraction, number}
-use Rattle.lexical.specs.Number.{base_digits, base_prefixes, digits_in, integer, is_digit_or_underscore_in, is_underscore}
+use Rattle.lexical.specs.Number.{base_digits, base_prefixes, digits_in, integer, is_digit_or_underscore_in}
+use Rattle.lexical.specs.Number.{is_underscore}
 use Rattle.lexical.specs.Quick.{IsAsciiAt, NumberEnd}
 use Rattle.lexical.specs.Rule as rules
 use Rattle.lexical.specs.Rule.{find, One, Run, Stands, perhaps}
@@ -326,7 +328,8 @@ hex_at : (text after : List ℕ) (n k : ℕ) → get_or text 0 32 ≡ 48 → get
 hex_at text after n k zero sign is starts size ended last =
     let prefix = prefix_at text zero sign in
     let begins : begins_any base_prefixes (chars text) ≡ true =
-    ap (begins_any base_prefixes) (ascii_split text 2 prefix.ascii ∙ ap (λ p. p ++ chars (drop 2 text)) prefix.stands) in
+    ap (begins_any base_prefixes) (ascii_split text 2 prefix.ascii
+    ∙ ap (λ p. p ++ chars (drop 2 text)) prefix.stands) in
     let all = subst (λ t. IsAsciiAt (Stands (digits_in 16)) t n) is
     (digits_at after n starts size (omega (arith, last, get_after after n))) in
     integer_at text (2 + n) k (no_float (chars text) begins)

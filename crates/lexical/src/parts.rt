@@ -15,8 +15,8 @@ use crate::walk::PieceWalk;
 
 /// Passes the white characters of ASCII at the front of what a walk has left, and answers their text.
 ///
-/// Each of them is a gap, which the walk would give by itself: a loop that asks nothing of such gaps takes less time so.
-/// Where none stands the text is empty, and nothing changes. Of two spaces and `a` it answers the two spaces.
+/// Each of them is a gap, which the walk would give by itself. A loop that asks nothing of such gaps takes less time
+/// so. Where none stands the text is empty, and nothing changes. Of two spaces and `a` it answers the two spaces.
 #[inline(always)]
 pub fn pass_white<'a>(walk: &mut PieceWalk<'a>) -> &'a str
     ensures { PassesWhite walk.old result.now walk.new }

@@ -59,13 +59,13 @@ impl<'a> PieceWalk<'a> {
     /// It answers `None` where no piece stands, as [`piece_at`](crate::piece_at) says, and then
     /// changes nothing: at the end of the text, or where what follows begins no piece.
     /// Of `+ "a` it gives the mark and the gap, and then `None`, with the rest `"a`.
-    // In its callers' loops a piece is left in registers, where a call would write it to memory and back.
     #[inline(always)]
     pub fn next_piece(&mut self) -> Option<PlacedPiece<'a>>
         ensures found { IfSome result (λ next. IsNext self.old next self.new) }
         ensures none { IfNone result (HasNoPiece self.old.at_front (chars self.old.rest.now)) }
         ensures unchanged { IfNone result (self.new ≡ self.old) }
     {
+        // In its callers' loops a piece is left in registers, where a call would write it to memory and back.
         let piece = piece_at(self.rest, self.at_front)?;
         let next = PlacedPiece {
             piece,

@@ -216,7 +216,11 @@ last_found {map} {files} {slice} {last} limit position same view consecutive som
       ap (λ file. file.lo) (get_or_default files (length files - 1) d last (omega arith)),
     ) in
     let here = file_found limit files (length files) position file_0 consecutive (omega arith)
-    (λ j e less. omega (arith, rising 1 files consecutive j (length files - 1) e (omega arith) (omega arith), last_begins e))
+    (λ j e less. omega (
+      arith,
+      rising 1 files consecutive j (length files - 1) e (omega arith) (omega arith),
+      last_begins e,
+    ))
     (λ j e le less. absurd (omega arith)) in
     subst (λ m. IsFileOf m position (length files) last) view
     (subst (λ f. IsFileOf (record { texts = texts_of files; limit = limit }) position (length files) f)

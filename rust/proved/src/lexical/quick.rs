@@ -357,8 +357,8 @@ pub fn quick(text: &str) -> Option<Piece<'_>>
     }
 }
 
-/// The long number, literal between quotes, lone quote or line comment at the front, where a few bytes tell it. `None` says
-/// nothing.
+/// The long number, literal between quotes, lone quote or line comment at the front, where a few bytes tell it. `None`
+/// says nothing.
 ///
 /// It stands apart from [`quick`], which is compiled into the loops over pieces.
 #[inline(always)]

@@ -1,6 +1,7 @@
 // Made from crates/lexical/src/walk.rt by rust/erase: change that file, not this one.
 //! All pieces of a text, one after the other.
 
+use crate::lexical::gaps::past_white;
 use crate::lexical::lexer::piece_at;
 use crate::lexical::piece::Piece;
 
@@ -46,10 +47,10 @@ impl<'a> PieceWalk<'a> {
     /// It answers `None` where no piece stands, as [`piece_at`](crate::lexical::piece_at) says, and then
     /// changes nothing: at the end of the text, or where what follows begins no piece.
     /// Of `+ "a` it gives the mark and the gap, and then `None`, with the rest `"a`.
-    // In its callers' loops a piece is left in registers, where a call would write it to memory and back.
     #[inline(always)]
     pub fn next_piece(&mut self) -> Option<PlacedPiece<'a>>
     {
+        // In its callers' loops a piece is left in registers, where a call would write it to memory and back.
         let piece = piece_at(self.rest, self.at_front)?;
         let next = PlacedPiece {
             piece,
@@ -62,6 +63,20 @@ impl<'a> PieceWalk<'a> {
             at_front: false,
         };
         Some(next)
+    }
+
+    /// Passes the white characters of ASCII at the front of the rest, each of which is a gap, and answers their text.
+    #[inline(always)]
+    pub(crate) fn pass_white(&mut self) -> &'a str
+    {
+        let (rest, size) = past_white(self.rest);
+        let white = &self.rest[..size];
+        *self = PieceWalk {
+            rest,
+            byte_offset: self.byte_offset + size,
+            at_front: self.at_front & (size == 0),
+        };
+        white
     }
 
     /// What follows the pieces that it gave: the end of the text, empty once they cover all of it.

@@ -104,6 +104,20 @@ impl Ident {
         }
     }
 
+    /// The name, without `r#`.
+    #[inline(always)]
+    pub(crate) fn name(&self) -> &str
+    {
+        self.name.as_str()
+    }
+
+    /// Whether it is raw.
+    #[inline(always)]
+    pub(crate) fn is_raw(&self) -> bool
+    {
+        self.name.is_raw()
+    }
+
     /// Where it stands. Proofs learn by it what every identifier is (`built`).
     pub fn span(&self) -> Span
     {

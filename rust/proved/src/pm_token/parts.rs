@@ -17,6 +17,20 @@ pub fn ident(alloc: Global, name: &str, raw: bool, span: Span) -> Result<Ident, 
     Ident::from_parts(alloc, name, raw, span)
 }
 
+/// The name of the identifier, without `r#` even if it is raw. It is lent, and nothing is copied.
+#[inline(always)]
+pub fn name_of(ident: &Ident) -> &str
+{
+    ident.name()
+}
+
+/// Whether the identifier is raw.
+#[inline(always)]
+pub fn is_raw(ident: &Ident) -> bool
+{
+    ident.is_raw()
+}
+
 /// The mark of this character.
 pub fn punct(mark: char, spacing: Spacing, span: Span) -> Punct
 {

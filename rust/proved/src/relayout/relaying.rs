@@ -5,7 +5,7 @@ use crate::shim::prelude::String;
 
 use crate::relayout::errors::RelayoutError;
 use crate::relayout::white::{White, push_white};
-use crate::lexical::parts::{before, begins};
+use crate::lexical::parts::{before, begins, pass_white};
 use crate::lexical::{PieceKind, PlacedPiece, pieces};
 use crate::pm_token::parts::TextBuilder;
 use crate::shim::alloc::{AllocError, Global};
@@ -27,10 +27,14 @@ pub fn relayout(alloc: Global, text: &str, choices: &[White]) -> Result<String, 
     let mut left = choices;
     let mut line = false;
     let mut from = text;
-    let mut here = text;
     let mut walk = pieces(text);
+    // White characters of ASCII are passed over all at once. One past ASCII is given as a piece.
+    pass_white(&mut walk);
+    let mut here = walk.rest();
     while let Some(next) = walk.next_piece() {
         let run = before(from, here);
+        let behind = walk.rest();
+        pass_white(&mut walk);
         here = walk.rest();
         if is_white(next) {
             continue;
@@ -38,7 +42,7 @@ pub fn relayout(alloc: Global, text: &str, choices: &[White]) -> Result<String, 
         left = push_run(&mut out, left, line, run)?;
         out.push_text(next.text)?;
         line = is_line(next);
-        from = here;
+        from = behind;
     }
     if !here.is_empty() {
         return Err(RelayoutError::NoPiece);

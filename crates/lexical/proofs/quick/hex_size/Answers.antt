@@ -17,7 +17,8 @@ pub overflow_add-result : goal.overflow_add-result
 overflow_add-result c =
     let bytes = c.as_bytes-bytes.result.now in
     let inside = take (length bytes - 2) (drop 2 bytes) in
-    let sign = byte_within bytes 1 _ 120 c.byte_at-else-byte_at-ne48.ensures c.if-byte_at-ne120.false (λ e. omega (arith, e)) in
+    let sign = byte_within bytes 1 _ 120 c.byte_at-else-byte_at-ne48.ensures c.if-byte_at-ne120.false
+    (λ e. omega (arith, e)) in
     omega (
       arith,
       sign,
@@ -31,7 +32,8 @@ overflow_add-result-2 c =
     let bytes = c.as_bytes-bytes.result.now in
     let digits = c.count_ascii-digits.result in
     let inside = take (length bytes - 2) (drop 2 bytes) in
-    let sign = byte_within bytes 1 _ 120 c.byte_at-else-byte_at-ne48.ensures c.if-byte_at-ne120.false (λ e. omega (arith, e)) in
+    let sign = byte_within bytes 1 _ 120 c.byte_at-else-byte_at-ne48.ensures c.if-byte_at-ne120.false
+    (λ e. omega (arith, e)) in
     omega (
       arith,
       sign,

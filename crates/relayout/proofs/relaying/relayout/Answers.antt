@@ -1,7 +1,8 @@
 use Rattle.std.proofs.Common.{◌≡◌, ◌∙◌, ◌∷◌, ◌++◌, [], List, ℕ, refl, sym, ap}
 use Rattle.std.specs.Str.{chars}
 use Rattle.relayout.proofs.ChoiceLemmas.{relaid_cover}
-use Rattle.relayout.proofs.RelaidLemmas.{cover_none, goes_all, goes_piece, goes_run, goes_start, goes_white, no_chars, some_chars}
+use Rattle.relayout.proofs.RelaidLemmas.{cover_none, goes_all, goes_piece, goes_run, goes_start, goes_white}
+use Rattle.relayout.proofs.RelaidLemmas.{no_chars, some_chars}
 use Rattle.relayout.proofs.RelaidLemmas.{string_chars}
 use Rattle.relayout.proofs.TokenLemmas.{keeps_tokens}
 use Rattle.relayout.proofs.relaying.relayout.Goals as goal

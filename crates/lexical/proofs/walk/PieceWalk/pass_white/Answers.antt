@@ -14,8 +14,13 @@ invariant_of-self-clause-room c =
     let white = c.past_white-size.ensures.passed in
     let same = white_bytes c.args.self.now.rest.now c.past_white-size.result.0.now c.past_white-size.result.1
     (IsUtf8-had _ c.args.self.now.text) c.past_white-size.ensures.utf8 white in
-    omega (arith, c.args.self.now.room, white.chars, ap length same,
-    length-append white.front c.past_white-size.result.0.now)
+    omega (
+      arith,
+      c.args.self.now.room,
+      white.chars,
+      ap length same,
+      length-append white.front c.past_white-size.result.0.now,
+    )
 
 pub returns : goal.returns
 returns c =

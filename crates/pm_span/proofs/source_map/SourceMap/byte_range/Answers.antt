@@ -10,7 +10,8 @@ range_of j k = record { start = j; end = k }
 
 pub index_mut-file-requires : goal.index_mut-file-requires
 index_mut-file-requires c =
-    let there = (file_there c.self.inside.limit c.self.inside.files.items c.args.span (ap (λ p. p.0) c.bounds-lo.ensures.value)
+    let there = (file_there c.self.inside.limit c.self.inside.files.items c.args.span
+    (ap (λ p. p.0) c.bounds-lo.ensures.value)
     c.self.view_is c.self.invariant.consecutive c.file_of-number.ensures.found c.bounds-lo.ensures.ordered c.requires
     c.if-number-eq0.false) in
     omega (arith, there.0)
@@ -29,13 +30,16 @@ returns-then-number-eq0-clause-value c = λ text lo file from to.
 
 pub overflow_sub-lo : goal.overflow_sub-lo
 overflow_sub-lo c =
-    let found = (file_there c.self.inside.limit c.self.inside.files.items c.args.span (ap (λ p. p.0) c.bounds-lo.ensures.value)
+    let found = (file_there c.self.inside.limit c.self.inside.files.items c.args.span
+    (ap (λ p. p.0) c.bounds-lo.ensures.value)
     c.self.view_is c.self.invariant.consecutive c.file_of-number.ensures.found c.bounds-lo.ensures.ordered c.requires
-    c.if-number-eq0.false).1 c.index_mut-file.result.now c.index_mut-file.ensures.value in omega (arith, c.lo-file_lo.ensures, found.begins, ap (λ p. p.0) c.bounds-lo.ensures.value)
+    c.if-number-eq0.false).1 c.index_mut-file.result.now c.index_mut-file.ensures.value in
+    omega (arith, c.lo-file_lo.ensures, found.begins, ap (λ p. p.0) c.bounds-lo.ensures.value)
 
 pub find_byte_offset-start-requires : goal.find_byte_offset-start-requires
 find_byte_offset-start-requires c =
-    let found = (file_there c.self.inside.limit c.self.inside.files.items c.args.span (ap (λ p. p.0) c.bounds-lo.ensures.value)
+    let found = (file_there c.self.inside.limit c.self.inside.files.items c.args.span
+    (ap (λ p. p.0) c.bounds-lo.ensures.value)
     c.self.view_is c.self.invariant.consecutive c.file_of-number.ensures.found c.bounds-lo.ensures.ordered c.requires
     c.if-number-eq0.false).1 c.index_mut-file.result.now c.index_mut-file.ensures.value in
     let ordered = c.bounds-lo.ensures.ordered in
@@ -44,14 +48,22 @@ find_byte_offset-start-requires c =
 
 pub overflow_sub-hi : goal.overflow_sub-hi
 overflow_sub-hi c =
-    let found = (file_there c.self.inside.limit c.self.inside.files.items c.args.span (ap (λ p. p.0) c.bounds-lo.ensures.value)
+    let found = (file_there c.self.inside.limit c.self.inside.files.items c.args.span
+    (ap (λ p. p.0) c.bounds-lo.ensures.value)
     c.self.view_is c.self.invariant.consecutive c.file_of-number.ensures.found c.bounds-lo.ensures.ordered c.requires
     c.if-number-eq0.false).1 c.index_mut-file.result.now c.index_mut-file.ensures.value in
-    omega (arith, c.lo-file_lo.ensures, found.begins, c.bounds-lo.ensures.ordered, ap (λ p. p.1) c.bounds-lo.ensures.value)
+    omega (
+      arith,
+      c.lo-file_lo.ensures,
+      found.begins,
+      c.bounds-lo.ensures.ordered,
+      ap (λ p. p.1) c.bounds-lo.ensures.value,
+    )
 
 pub find_byte_offset-end-requires : goal.find_byte_offset-end-requires
 find_byte_offset-end-requires c =
-    let found = (file_there c.self.inside.limit c.self.inside.files.items c.args.span (ap (λ p. p.0) c.bounds-lo.ensures.value)
+    let found = (file_there c.self.inside.limit c.self.inside.files.items c.args.span
+    (ap (λ p. p.0) c.bounds-lo.ensures.value)
     c.self.view_is c.self.invariant.consecutive c.file_of-number.ensures.found c.bounds-lo.ensures.ordered c.requires
     c.if-number-eq0.false).1 c.index_mut-file.result.now c.index_mut-file.ensures.value in
     let within = (holds_at c.args.span found c.bounds-lo.ensures.ordered).1 c.requires in
@@ -65,7 +77,8 @@ find_byte_offset-end-requires c =
 
 pub returns-clause-value : goal.returns-clause-value
 returns-clause-value c = λ text lo file from to.
-    let found = (file_there c.self.inside.limit c.self.inside.files.items c.args.span (ap (λ p. p.0) c.bounds-lo.ensures.value)
+    let found = (file_there c.self.inside.limit c.self.inside.files.items c.args.span
+    (ap (λ p. p.0) c.bounds-lo.ensures.value)
     c.self.view_is c.self.invariant.consecutive c.file_of-number.ensures.found c.bounds-lo.ensures.ordered c.requires
     c.if-number-eq0.false).1 c.index_mut-file.result.now c.index_mut-file.ensures.value in
     let first = ap (λ p. p.0) c.bounds-lo.ensures.value in

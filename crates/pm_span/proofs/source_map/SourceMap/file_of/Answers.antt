@@ -1,4 +1,5 @@
-use Rattle.std.proofs.Common.{◌≡◌, ◌≤◌, ℕ, List, ◌∷◌, length, get_or, leb, true, false, vec_len, ◌∙◌, sym, ap, subst, arith, rules}
+use Rattle.std.proofs.Common.{◌≡◌, ◌≤◌, ℕ, List, ◌∷◌, length, get_or, leb, true, false, vec_len}
+use Rattle.std.proofs.Common.{◌∙◌, sym, ap, subst, arith, rules}
 use Rattle.std.specs.List.Sorted.{IsPartitionedBy, IsPartitionPoint}
 use Rattle.std.proofs.lemmas.Bool.{leb-true, leb-false}
 use Rattle.std.proofs.lemmas.List.Sorted.{IsPartitionPoint-from_clause, IsPartitionedBy-leb}
@@ -39,7 +40,8 @@ returns-then-lo-position-clause-found c =
 pub returns-then-number-eq0-clause-found : goal.returns-then-number-eq0-clause-found
 returns-then-number-eq0-clause-found c =
     found c.args.self.now c.self.inside.files.items c.deref-2.result.now c.self.inside.limit c.args.position
-    c.partition_point-number.result file_0 c.self.view_is c.deref-2.ensures.value c.self.invariant.consecutive
+    c.partition_point-number.result file_0 c.self.view_is c.deref-2.ensures.value
+    c.self.invariant.consecutive
     c.partition_point-number.ensures.bound
     (λ k. IsPartitionPoint-from_clause (λ f. leb f.lo c.args.position) _ _
     c.partition_point-number.ensures.partitioned k (λ a r f q. search rules))
@@ -50,7 +52,8 @@ returns-else-number-eq0-clause-found c =
     let bound : c.partition_point-number.result ≤ length c.self.inside.files.items
     = omega (arith, c.partition_point-number.ensures.bound, ap length c.deref-2.ensures.value) in
     found c.args.self.now c.self.inside.files.items c.deref-2.result.now c.self.inside.limit c.args.position
-    c.partition_point-number.result c.index.result.now c.self.view_is c.deref-2.ensures.value c.self.invariant.consecutive
+    c.partition_point-number.result c.index.result.now c.self.view_is c.deref-2.ensures.value
+    c.self.invariant.consecutive
     c.partition_point-number.ensures.bound
     (λ k. IsPartitionPoint-from_clause (λ f. leb f.lo c.args.position) _ _
     c.partition_point-number.ensures.partitioned k (λ a r f q. search rules))

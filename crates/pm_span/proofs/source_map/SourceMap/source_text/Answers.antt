@@ -18,14 +18,16 @@ returns-then-number-eq0-clause-found c =
 
 pub index_mut-source-requires : goal.index_mut-source-requires
 index_mut-source-requires c =
-    let there = (file_there c.self.inside.limit c.self.inside.files.items c.args.span (ap (λ p. p.0) c.bounds-lo.ensures.value)
+    let there = (file_there c.self.inside.limit c.self.inside.files.items c.args.span
+    (ap (λ p. p.0) c.bounds-lo.ensures.value)
     c.self.view_is c.self.invariant.consecutive c.file_of-number.ensures.found c.bounds-lo.ensures.ordered c.requires
     c.if-number-eq0.false) in
     omega (arith, there.0)
 
 pub overflow_sub-start : goal.overflow_sub-start
 overflow_sub-start c =
-    let found = (file_there c.self.inside.limit c.self.inside.files.items c.args.span (ap (λ p. p.0) c.bounds-lo.ensures.value)
+    let found = (file_there c.self.inside.limit c.self.inside.files.items c.args.span
+    (ap (λ p. p.0) c.bounds-lo.ensures.value)
     c.self.view_is c.self.invariant.consecutive c.file_of-number.ensures.found c.bounds-lo.ensures.ordered c.requires
     c.if-number-eq0.false).1 c.index_mut-source.result.now c.index_mut-source.ensures.value in
     let lo = ap (λ p. p.0) c.bounds-lo.ensures.value in
@@ -33,7 +35,8 @@ overflow_sub-start c =
 
 pub find_byte_offset-requires : goal.find_byte_offset-requires
 find_byte_offset-requires c =
-    let found = (file_there c.self.inside.limit c.self.inside.files.items c.args.span (ap (λ p. p.0) c.bounds-lo.ensures.value)
+    let found = (file_there c.self.inside.limit c.self.inside.files.items c.args.span
+    (ap (λ p. p.0) c.bounds-lo.ensures.value)
     c.self.view_is c.self.invariant.consecutive c.file_of-number.ensures.found c.bounds-lo.ensures.ordered c.requires
     c.if-number-eq0.false).1 c.index_mut-source.result.now c.index_mut-source.ensures.value in
     let lo = ap (λ p. p.0) c.bounds-lo.ensures.value in
@@ -42,7 +45,8 @@ find_byte_offset-requires c =
 
 pub overflow_sub-end : goal.overflow_sub-end
 overflow_sub-end c =
-    let found = (file_there c.self.inside.limit c.self.inside.files.items c.args.span (ap (λ p. p.0) c.bounds-lo.ensures.value)
+    let found = (file_there c.self.inside.limit c.self.inside.files.items c.args.span
+    (ap (λ p. p.0) c.bounds-lo.ensures.value)
     c.self.view_is c.self.invariant.consecutive c.file_of-number.ensures.found c.bounds-lo.ensures.ordered c.requires
     c.if-number-eq0.false).1 c.index_mut-source.result.now c.index_mut-source.ensures.value in
     let hi = ap (λ p. p.1) c.bounds-lo.ensures.value in
@@ -50,7 +54,8 @@ overflow_sub-end c =
 
 pub find_byte_offset-requires-2 : goal.find_byte_offset-requires-2
 find_byte_offset-requires-2 c =
-    let found = (file_there c.self.inside.limit c.self.inside.files.items c.args.span (ap (λ p. p.0) c.bounds-lo.ensures.value)
+    let found = (file_there c.self.inside.limit c.self.inside.files.items c.args.span
+    (ap (λ p. p.0) c.bounds-lo.ensures.value)
     c.self.view_is c.self.invariant.consecutive c.file_of-number.ensures.found c.bounds-lo.ensures.ordered c.requires
     c.if-number-eq0.false).1 c.index_mut-source.result.now c.index_mut-source.ensures.value in
     let hi = ap (λ p. p.1) c.bounds-lo.ensures.value in
@@ -65,7 +70,8 @@ find_byte_offset-requires-2 c =
 
 pub text_between-requires-clause-from : goal.text_between-requires-clause-from
 text_between-requires-clause-from c =
-    let found = (file_there c.self.inside.limit c.self.inside.files.items c.args.span (ap (λ p. p.0) c.bounds-lo.ensures.value)
+    let found = (file_there c.self.inside.limit c.self.inside.files.items c.args.span
+    (ap (λ p. p.0) c.bounds-lo.ensures.value)
     c.self.view_is c.self.invariant.consecutive c.file_of-number.ensures.found c.bounds-lo.ensures.ordered c.requires
     c.if-number-eq0.false).1 c.index_mut-source.result.now c.index_mut-source.ensures.value in
     let lo = ap (λ p. p.0) c.bounds-lo.ensures.value in
@@ -86,7 +92,8 @@ text_between-requires-clause-from c =
 
 pub text_between-requires-clause-to : goal.text_between-requires-clause-to
 text_between-requires-clause-to c =
-    let found = (file_there c.self.inside.limit c.self.inside.files.items c.args.span (ap (λ p. p.0) c.bounds-lo.ensures.value)
+    let found = (file_there c.self.inside.limit c.self.inside.files.items c.args.span
+    (ap (λ p. p.0) c.bounds-lo.ensures.value)
     c.self.view_is c.self.invariant.consecutive c.file_of-number.ensures.found c.bounds-lo.ensures.ordered c.requires
     c.if-number-eq0.false).1 c.index_mut-source.result.now c.index_mut-source.ensures.value in
     let hi = ap (λ p. p.1) c.bounds-lo.ensures.value in
@@ -101,21 +108,24 @@ text_between-requires-clause-to c =
 
 pub returns-in_err-text-clause-nowhere : goal.returns-in_err-text-clause-nowhere
 returns-in_err-text-clause-nowhere c =
-    let found = (file_there c.self.inside.limit c.self.inside.files.items c.args.span (ap (λ p. p.0) c.bounds-lo.ensures.value)
+    let found = (file_there c.self.inside.limit c.self.inside.files.items c.args.span
+    (ap (λ p. p.0) c.bounds-lo.ensures.value)
     c.self.view_is c.self.invariant.consecutive c.file_of-number.ensures.found c.bounds-lo.ensures.ordered c.requires
     c.if-number-eq0.false).1 c.index_mut-source.result.now c.index_mut-source.ensures.value in
     λ none. absurd (past_file_0 c.args.span found (omega (arith, c.if-number-eq0.false)) none)
 
 pub returns-clause-found : goal.returns-clause-found
 returns-clause-found c =
-    let found = (file_there c.self.inside.limit c.self.inside.files.items c.args.span (ap (λ p. p.0) c.bounds-lo.ensures.value)
+    let found = (file_there c.self.inside.limit c.self.inside.files.items c.args.span
+    (ap (λ p. p.0) c.bounds-lo.ensures.value)
     c.self.view_is c.self.invariant.consecutive c.file_of-number.ensures.found c.bounds-lo.ensures.ordered c.requires
     c.if-number-eq0.false).1 c.index_mut-source.result.now c.index_mut-source.ensures.value in
     past_file_0 c.args.span found (omega (arith, c.if-number-eq0.false))
 
 pub returns-clause-nowhere : goal.returns-clause-nowhere
 returns-clause-nowhere c =
-    let found = (file_there c.self.inside.limit c.self.inside.files.items c.args.span (ap (λ p. p.0) c.bounds-lo.ensures.value)
+    let found = (file_there c.self.inside.limit c.self.inside.files.items c.args.span
+    (ap (λ p. p.0) c.bounds-lo.ensures.value)
     c.self.view_is c.self.invariant.consecutive c.file_of-number.ensures.found c.bounds-lo.ensures.ordered c.requires
     c.if-number-eq0.false).1 c.index_mut-source.result.now c.index_mut-source.ensures.value in
     λ none. absurd (past_file_0 c.args.span found (omega (arith, c.if-number-eq0.false)) none)
@@ -131,7 +141,8 @@ copied file other bytes text lo hi from to own kept same is e f g =
 
 pub returns-clause-value : goal.returns-clause-value
 returns-clause-value c = λ text lo file.
-    let found = (file_there c.self.inside.limit c.self.inside.files.items c.args.span (ap (λ p. p.0) c.bounds-lo.ensures.value)
+    let found = (file_there c.self.inside.limit c.self.inside.files.items c.args.span
+    (ap (λ p. p.0) c.bounds-lo.ensures.value)
     c.self.view_is c.self.invariant.consecutive c.file_of-number.ensures.found c.bounds-lo.ensures.ordered c.requires
     c.if-number-eq0.false).1 c.index_mut-source.result.now c.index_mut-source.ensures.value in
     let kept = c.find_byte_offset-2.ensures.kept ∙ c.find_byte_offset.ensures.kept in
@@ -146,7 +157,8 @@ returns-clause-value c = λ text lo file.
 
 pub returns-clause-text : goal.returns-clause-text
 returns-clause-text c =
-    let found = (file_there c.self.inside.limit c.self.inside.files.items c.args.span (ap (λ p. p.0) c.bounds-lo.ensures.value)
+    let found = (file_there c.self.inside.limit c.self.inside.files.items c.args.span
+    (ap (λ p. p.0) c.bounds-lo.ensures.value)
     c.self.view_is c.self.invariant.consecutive c.file_of-number.ensures.found c.bounds-lo.ensures.ordered c.requires
     c.if-number-eq0.false).1 c.index_mut-source.result.now c.index_mut-source.ensures.value in
     let within = (holds_at c.args.span found c.bounds-lo.ensures.ordered).1 c.requires in
