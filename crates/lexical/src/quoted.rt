@@ -79,12 +79,12 @@ fn escaped(at: Cursor<'_>, kind: StringKind) -> Option<Cursor<'_>>
 fn unit(at: Cursor<'_>, kind: StringKind) -> Option<Cursor<'_>>
     ensures { Reads (rule.unit kind) at.entry result }
 {
-    if let Some(end) = plain(at, kind) {
-        return Some(end);
+    if let Some(escape) = at.past("\\") {
+        return escaped(escape, kind);
     }
-    match at.past("\r\n") {
+    match plain(at, kind) {
         Some(end) => Some(end),
-        None => escaped(at.past("\\")?, kind),
+        None => at.past("\r\n"),
     }
 }
 
