@@ -5,7 +5,8 @@
 
 ghost use Rattle.std.specs.Prelude.{◌≡◌, ◌<◌, ◌==◌, ◌&&◌, ◌||◌, Bool, IfSome, codes, false, get_or, nat_lt, not};
 ghost use Rattle.std.specs.Str.{chars};
-ghost use Rattle.lexical.specs.Character.{dot, double_quote, line_feed};
+ghost use Rattle.memchr.specs.Find.{IsFirstByte, is_byte3};
+ghost use Rattle.lexical.specs.Character.{backslash, carriage_return, dot, double_quote, line_feed};
 ghost use Rattle.lexical.specs.Class.{is_ident_continue, is_ident_start};
 ghost use Rattle.lexical.specs.Found.{IsPieceAt};
 ghost use Rattle.lexical.specs.Mark.{bars_quote};
@@ -265,6 +266,19 @@ fn ends_escape(byte: u8) -> bool
     byte.is_ascii() && (byte == b'\n' || is_letter(byte as char, StringKind::Plain))
 }
 
+/// How many bytes stand before the first quote, backslash or CR, if there is one.
+#[inline(always)]
+fn plain_size(bytes: &[u8]) -> Option<usize>
+    ensures { IsFirstByte (is_byte3 double_quote backslash carriage_return) bytes.now result }
+{
+    // Often a quote or an escape follows at once.
+    let next = byte_at(bytes, 0);
+    if next == b'"' || next == b'\\' {
+        return Some(0);
+    }
+    memchr3(b'"', b'\\', b'\r', bytes)
+}
+
 /// How many bytes the string has that stands at the front, of ASCII with no CR, whose escapes are of two bytes each.
 ///
 /// The search for what ends it goes on after each escape: the string is searched once.
@@ -278,12 +292,16 @@ fn string_size(text: &str) -> Option<usize>
     }
     let inside = &bytes[1..];
     let mut size = memchr3(b'"', b'\\', b'\r', inside)?;
+    // What is past ASCII mostly stands before the first escape too: such a string is left at once.
+    if inside[size] == b'\\' && !inside[..size].is_ascii() {
+        return None;
+    }
     while inside[size] == b'\\' {
         if !ends_escape(byte_at(inside, size + 1)) {
             return None;
         }
         size += 2;
-        size += memchr3(b'"', b'\\', b'\r', &inside[size..])?;
+        size += plain_size(&inside[size..])?;
     }
     if inside[size] == b'"'
         && inside[..size].is_ascii()
