@@ -3,7 +3,7 @@ ghost use Rattle.std.specs.Prelude.{IfOk, OnOk};
 ghost use Rattle.std.specs.List.{All};
 ghost use Rattle.indent.specs.Indented.{KeepsLines};
 
-use lexical::parts::begins;
+use lexical::parts::{begins, pass_white};
 use lexical::{PieceKind, PlacedPiece, pieces};
 use relayout::White;
 use std::alloc::{AllocError, Global};
@@ -38,18 +38,21 @@ pub fn choices(alloc: Global, text: &str, step: Step) -> Result<Vec<White>, Allo
     let mut choices = Vec::new(alloc);
     let mut open: usize = 0;
     let mut run = Run::Nothing;
-    let mut here = text;
     let mut walk = pieces(text);
+    run = with_white(run, pass_white(&mut walk));
+    let mut here = walk.rest();
     while let Some(next) = walk.next_piece() {
         let line = here;
-        here = walk.rest();
+        // A run of white characters of ASCII is passed over all at once. One past ASCII is given as a piece.
         if is_white(next) {
             run = with_white(run, next.text);
-            continue;
+        } else {
+            push_choice(&mut choices, run, line, open, step)?;
+            run = Run::Nothing;
+            open = open_after(next, open);
         }
-        push_choice(&mut choices, run, line, open, step)?;
-        run = Run::Nothing;
-        open = open_after(next, open);
+        run = with_white(run, pass_white(&mut walk));
+        here = walk.rest();
     }
     push_choice(&mut choices, run, "", 0, step)?;
     Ok(choices)
@@ -65,7 +68,9 @@ fn is_white(next: PlacedPiece<'_>) -> bool {
 
 // The run with more white space.
 fn with_white(run: Run, more: &str) -> Run {
-    if run == Run::EndsLine || more.contains('\n') {
+    if more.is_empty() {
+        run
+    } else if run == Run::EndsLine || more.contains('\n') {
         Run::EndsLine
     } else {
         Run::WithinLine
