@@ -124,13 +124,14 @@ fn push_bounds(
 
 /// How many of the line starts stand at or before the start of each block, and of the two past the end.
 fn count_by_blocks(alloc: Global, starts: &[u32], count: u32) -> Result<Vec<u32>, AllocError> {
-    let mut blocks = Vec::new(alloc);
     if starts.len() <= FEW_LINES {
-        return Ok(blocks);
+        return Ok(Vec::new(alloc));
     }
+    let size = count / BLOCK + 2;
+    let mut blocks = Vec::with_capacity(alloc, size as usize)?;
     let mut lines = 0;
     let mut block_start = 0u32;
-    for _ in 0..count / BLOCK + 2 {
+    for _ in 0..size {
         while lines < starts.len() && starts[lines] <= block_start {
             lines += 1;
         }

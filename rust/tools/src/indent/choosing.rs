@@ -3,7 +3,7 @@
 
 use proved::shim::prelude::Vec;
 
-use proved::lexical::parts::begins;
+use proved::lexical::parts::{begins, pass_white};
 use proved::lexical::{PieceKind, PlacedPiece, pieces};
 use proved::relayout::White;
 use proved::shim::alloc::{AllocError, Global};
@@ -37,18 +37,21 @@ pub fn choices(alloc: Global, text: &str, step: Step) -> Result<Vec<White>, Allo
     let mut choices = Vec::new(alloc);
     let mut open: usize = 0;
     let mut run = Run::Nothing;
-    let mut here = text;
     let mut walk = pieces(text);
+    run = with_white(run, pass_white(&mut walk));
+    let mut here = walk.rest();
     while let Some(next) = walk.next_piece() {
         let line = here;
-        here = walk.rest();
+        // A run of white characters of ASCII is passed over all at once. One past ASCII is given as a piece.
         if is_white(next) {
             run = with_white(run, next.text);
-            continue;
+        } else {
+            push_choice(&mut choices, run, line, open, step)?;
+            run = Run::Nothing;
+            open = open_after(next, open);
         }
-        push_choice(&mut choices, run, line, open, step)?;
-        run = Run::Nothing;
-        open = open_after(next, open);
+        run = with_white(run, pass_white(&mut walk));
+        here = walk.rest();
     }
     push_choice(&mut choices, run, "", 0, step)?;
     Ok(choices)
@@ -64,7 +67,9 @@ fn is_white(next: PlacedPiece<'_>) -> bool {
 
 // The run with more white space.
 fn with_white(run: Run, more: &str) -> Run {
-    if run == Run::EndsLine || more.contains('\n') {
+    if more.is_empty() {
+        run
+    } else if run == Run::EndsLine || more.contains('\n') {
         Run::EndsLine
     } else {
         Run::WithinLine
