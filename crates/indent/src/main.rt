@@ -13,6 +13,8 @@
 
 mod answer;
 mod choosing;
+#[cfg(test)]
+mod compared;
 mod options;
 
 use answer::{is_indented, print_text};
