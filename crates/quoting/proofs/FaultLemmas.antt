@@ -1,13 +1,15 @@
 -- The search for the first fault.
-use Rattle.std.proofs.Common.{◌≡◌, ℕ, Bool, true, false, Option, Some, None, List, [], ◌∷◌}
-use Rattle.std.proofs.Common.{if◌then◌else◌, refl, ap, ◌∙◌}
+use Rattle.std.proofs.Common.{◌≡◌, ℕ, ◌&&◌, Bool, true, false, Option, Some, None, List, [], ◌∷◌}
+use Rattle.std.proofs.Common.{if◌then◌else◌, refl, sym, ap, ◌∙◌}
 use Rattle.proc_macro2.specs.Forest.{Forest, nil, leaf, group}
 use Rattle.proc_macro2.specs.InOrder.{token_tree}
 use Rattle.proc_macro2.specs.Shown.{is_shown}
+use Rattle.proc_macro2.specs.SpacedTree.{step_fits}
 use Rattle.proc_macro2.specs.Steps.{Step, Leave, steps, steps_onto}
 use Rattle.proc_macro2.specs.Token.{Token, Name, Mark, Literal}
 use Rattle.proc_macro2.specs.WellSpaced.{next_token}
 use Rattle.proc_macro2.specs.declared.Group.{Group as Grouped}
+use Rattle.pm_stream.proofs.SpacedLemmas.{left_spaced}
 use Rattle.quoting.specs.Fault.{IsFaultOf, fault_or, first_fault, may_stand, tree_fault}
 use Rattle.quoting.specs.Searched.{step_fault}
 use Rattle.quoting.specs.declared.errors.QuoteError.{QuoteError}
@@ -52,3 +54,11 @@ pub named : (f : Forest) (fault : QuoteError) → first_fault f ≡ Some fault �
 named f NoneGroup h = h
 named f LoneQuote h = h
 named f (Memory error) h = tt
+
+-- ---- whether any mark has to be mended
+
+-- one step more
+pub spaced_more : (spaced fits : Bool) (old new : List Step) (step : Step) → old ≡ step ∷ new → fits ≡ step_fits step
+    → ((spaced && fits) && left_spaced new) ≡ (spaced && left_spaced old)
+spaced_more true fits old new step first is = ap (λ b. b && left_spaced new) is ∙ sym (ap left_spaced first)
+spaced_more false fits old new step first is = refl

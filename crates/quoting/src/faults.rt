@@ -1,34 +1,36 @@
-//! What no spacing of marks can mend.
-ghost use Rattle.std.specs.Prelude.{◌≡◌, IfOk};
+//! What no spacing of marks can mend, and whether any has to be mended.
+ghost use Rattle.std.specs.Prelude.{◌≡◌, IfErr, IfOk, None};
 ghost use Rattle.proc_macro2.specs.Forest.{nil};
 ghost use Rattle.proc_macro2.specs.Leaf.{mark_token};
+ghost use Rattle.proc_macro2.specs.SpacedTree.{step_fits, tree_fits};
 ghost use Rattle.proc_macro2.specs.Steps.{step_of};
 ghost use Rattle.proc_macro2.specs.Trees.{forest};
-ghost use Rattle.proc_macro2.specs.WellSpaced.{next_token};
+ghost use Rattle.proc_macro2.specs.WellSpaced.{fits, next_token, well_spaced};
 ghost use Rattle.proc_macro2.specs.declared.TokenTree.TheVariants.{Group as GroupTree};
-ghost use Rattle.quoting.specs.Fault.{first_fault, may_stand, tree_fault};
+ghost use Rattle.quoting.specs.Fault.{IsFaultOf, first_fault, may_stand, tree_fault};
 ghost use Rattle.quoting.specs.Searched.{step_fault};
 
 use crate::errors::QuoteError;
 use proc_macro2::token_stream::{Step, Steps, may_be_joint};
-use proc_macro2::{Delimiter, Group, Punct, TokenTree};
-use std::alloc::{AllocError, Global};
+use proc_macro2::{Delimiter, Group, Punct, Spacing, TokenTree};
+use std::alloc::Global;
 
-/// The first fault in reading order, a group coming before its contents, or `None` where some spacing of the marks
-/// is well spaced. Fails where memory runs out.
-pub(crate) fn first_fault(
-    alloc: Global,
-    trees: &[TokenTree],
-) -> Result<Option<QuoteError>, AllocError>
-    ensures { IfOk result (λ fault. fault ≡ first_fault (forest trees.now)) }
+/// Whether the trees are well spaced as they are. Fails with their first fault in reading order, a group coming before
+/// its contents, and where memory runs out.
+pub(crate) fn are_well_spaced(alloc: Global, trees: &[TokenTree]) -> Result<bool, QuoteError>
+    ensures ok { IfOk result (λ spaced. (first_fault (forest trees.now) ≡ None)
+        × (spaced ≡ well_spaced (forest trees.now))) }
+    ensures fault { IfErr result (IsFaultOf (forest trees.now)) }
 {
     let mut steps = Steps::new(alloc, trees);
+    let mut spaced = true;
     while let Some(step) = steps.next()? {
         if let Some(fault) = step_fault(step) {
-            return Ok(Some(fault));
+            return Err(fault);
         }
+        spaced &= step_fits(step);
     }
-    Ok(None)
+    Ok(spaced)
 }
 
 // What is wrong with the tree that the step comes to, whatever is inside it.
@@ -68,4 +70,36 @@ fn may_stand(mark: &Punct, after: &[TokenTree]) -> bool
     ensures { result ≡ may_stand (mark_token mark.now) (next_token (forest after.now)) }
 {
     mark.as_char() != '\'' || may_be_joint('\'', after)
+}
+
+// Whether the group that the step goes into is shown, or its token is spaced as it has to be there.
+fn step_fits(step: Step<'_>) -> bool
+    ensures { result ≡ step_fits (step_of step.entry) }
+{
+    match step {
+        Step::Enter(group, _) => group.delimiter() != Delimiter::None,
+        Step::Leave(..) => true,
+        Step::Token(tree, after) => tree_fits(tree, after),
+    }
+}
+
+// Whether the tree may come before these as it is, whatever is inside it.
+fn tree_fits(tree: &TokenTree, after: &[TokenTree]) -> bool
+    ensures { result ≡ tree_fits tree.now (forest after.now) }
+{
+    match tree {
+        TokenTree::Group(group) => group.delimiter() != Delimiter::None,
+        TokenTree::Punct(mark) => mark_fits(mark, after),
+        TokenTree::Ident(_) | TokenTree::Literal(_) => true,
+    }
+}
+
+// Whether the mark may come before these trees with the spacing that it has.
+fn mark_fits(mark: &Punct, after: &[TokenTree]) -> bool
+    ensures { result ≡ fits (mark_token mark.now) (next_token (forest after.now)) }
+{
+    match mark.spacing() {
+        Spacing::Joint => may_be_joint(mark.as_char(), after),
+        Spacing::Alone => mark.as_char() != '\'',
+    }
 }

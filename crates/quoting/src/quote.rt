@@ -8,7 +8,7 @@ ghost use Rattle.quoting.specs.Fault.{IsFaultOf, first_fault};
 ghost use Rattle.quoting.specs.Respaced.{respaced};
 
 use crate::errors::QuoteError;
-use crate::faults::first_fault;
+use crate::faults::are_well_spaced;
 use crate::laws;
 use crate::respace::respaced;
 use proc_macro2::{TokenStream, TokenTree};
@@ -90,8 +90,9 @@ impl Quote {
         ensures hopeless { IfErr result (HopelessIfNamed self.now) }
     {
         laws::respacing();
-        if let Some(fault) = first_fault(self.alloc, self.pushed.trees())? {
-            return Err(fault);
+        // What is well spaced comes out unchanged, so its trees are shared.
+        if are_well_spaced(self.alloc, self.pushed.trees())? {
+            return Ok(self.pushed.clone()?);
         }
         Ok(respaced(self.alloc, &self.pushed)?)
     }

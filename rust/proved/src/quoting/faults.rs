@@ -1,25 +1,24 @@
 // Made from crates/quoting/src/faults.rt by rust/erase: change that file, not this one.
-//! What no spacing of marks can mend.
+//! What no spacing of marks can mend, and whether any has to be mended.
 
 use crate::quoting::errors::QuoteError;
 use crate::proc_macro2::token_stream::{Step, Steps, may_be_joint};
-use crate::proc_macro2::{Delimiter, Group, Punct, TokenTree};
-use crate::shim::alloc::{AllocError, Global};
+use crate::proc_macro2::{Delimiter, Group, Punct, Spacing, TokenTree};
+use crate::shim::alloc::Global;
 
-/// The first fault in reading order, a group coming before its contents, or `None` where some spacing of the marks
-/// is well spaced. Fails where memory runs out.
-pub(crate) fn first_fault(
-    alloc: Global,
-    trees: &[TokenTree],
-) -> Result<Option<QuoteError>, AllocError>
+/// Whether the trees are well spaced as they are. Fails with their first fault in reading order, a group coming before
+/// its contents, and where memory runs out.
+pub(crate) fn are_well_spaced(alloc: Global, trees: &[TokenTree]) -> Result<bool, QuoteError>
 {
     let mut steps = Steps::new(alloc, trees);
+    let mut spaced = true;
     while let Some(step) = steps.next()? {
         if let Some(fault) = step_fault(step) {
-            return Ok(Some(fault));
+            return Err(fault);
         }
+        spaced &= step_fits(step);
     }
-    Ok(None)
+    Ok(spaced)
 }
 
 // What is wrong with the tree that the step comes to, whatever is inside it.
@@ -55,4 +54,33 @@ fn tree_fault(tree: &TokenTree, after: &[TokenTree]) -> Option<QuoteError>
 fn may_stand(mark: &Punct, after: &[TokenTree]) -> bool
 {
     mark.as_char() != '\'' || may_be_joint('\'', after)
+}
+
+// Whether the group that the step goes into is shown, or its token is spaced as it has to be there.
+fn step_fits(step: Step<'_>) -> bool
+{
+    match step {
+        Step::Enter(group, _) => group.delimiter() != Delimiter::None,
+        Step::Leave(..) => true,
+        Step::Token(tree, after) => tree_fits(tree, after),
+    }
+}
+
+// Whether the tree may come before these as it is, whatever is inside it.
+fn tree_fits(tree: &TokenTree, after: &[TokenTree]) -> bool
+{
+    match tree {
+        TokenTree::Group(group) => group.delimiter() != Delimiter::None,
+        TokenTree::Punct(mark) => mark_fits(mark, after),
+        TokenTree::Ident(_) | TokenTree::Literal(_) => true,
+    }
+}
+
+// Whether the mark may come before these trees with the spacing that it has.
+fn mark_fits(mark: &Punct, after: &[TokenTree]) -> bool
+{
+    match mark.spacing() {
+        Spacing::Joint => may_be_joint(mark.as_char(), after),
+        Spacing::Alone => mark.as_char() != '\'',
+    }
 }

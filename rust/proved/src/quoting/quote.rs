@@ -1,8 +1,10 @@
 // Made from crates/quoting/src/quote.rt by rust/erase: change that file, not this one.
 //! The builder.
 
+use crate::shim::prelude::Clone;
+
 use crate::quoting::errors::QuoteError;
-use crate::quoting::faults::first_fault;
+use crate::quoting::faults::are_well_spaced;
 use crate::quoting::laws;
 use crate::quoting::respace::respaced;
 use crate::proc_macro2::{TokenStream, TokenTree};
@@ -60,8 +62,9 @@ impl Quote {
         // A named fault is the first, and no choice of spacings is well spaced.
     {
         laws::respacing();
-        if let Some(fault) = first_fault(self.alloc, self.pushed.trees())? {
-            return Err(fault);
+        // What is well spaced comes out unchanged, so its trees are shared.
+        if are_well_spaced(self.alloc, self.pushed.trees())? {
+            return Ok(self.pushed.clone()?);
         }
         Ok(respaced(self.alloc, &self.pushed)?)
     }
