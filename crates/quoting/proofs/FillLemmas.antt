@@ -123,25 +123,19 @@ group_fault given (suc depth) g fault rest h =
 
 -- ---- the state of the walk
 
--- the outcome of all is what came out, followed by that of what is left, whose trees may be put into streams
-pub record IsUpTo (given : Giving) (depth : ℕ) (all out : Forest) (left : List TokenTree) : Type 0 where
-  pub so_far : filled_by given depth 0 all ≡ followed (Ok out) (filled_by given depth 0 (forest left))
+-- the outcome of all after what was there is what is there, followed by the outcome of what is left, whose trees may be
+-- put into streams
+pub record IsUpTo (given : Giving) (depth : ℕ) (was all out : Forest) (left : List TokenTree) : Type 0 where
+  pub so_far :
+      followed (Ok was) (filled_by given depth 0 all) ≡ followed (Ok out) (filled_by given depth 0 (forest left))
   pub inside : All GoesInside left
 
-pub begun : (given : Giving) (depth : ℕ) (all out : Forest) (left : List TokenTree) → out ≡ nil → forest left ≡ all
-    → All GoesInside left → IsUpTo given depth all out left
-begun given depth all out left none whole inside = record {
-  so_far =
-      sym (ap₂ (λ f g. followed (Ok f) (filled_by given depth 0 g)) none whole
-      ∙ followed_nil (filled_by given depth 0 all));
-  inside = inside;
-}
-
-pub step : (given : Giving) (depth n : ℕ) (all out new part : Forest) (t : TokenTree) (left after rest : List TokenTree)
-    → IsUpTo given depth all out left → left ≡ t ∷ after → rest ≡ drop n after
+pub step : (given : Giving) (depth n : ℕ) (old all out new part : Forest) (t : TokenTree)
+    (left after rest : List TokenTree)
+    → IsUpTo given depth old all out left → left ≡ t ∷ after → rest ≡ drop n after
     → filled_by given depth 0 (before t (forest after)) ≡ followed (Ok part) (filled_by given depth n (forest after))
-    → new ≡ joined out part → IsUpTo given depth all new rest
-step given depth n all out new part t left after rest was whole drops one put = record {
+    → new ≡ joined out part → IsUpTo given depth old all new rest
+step given depth n old all out new part t left after rest was whole drops one put = record {
   so_far =
       was.so_far
       ∙ (ap (λ ts. followed (Ok out) (filled_by given depth 0 (forest ts))) whole
@@ -162,48 +156,73 @@ apart_inside true (Ident i) inside = inside
 apart_inside true (Punct p) inside = inside
 apart_inside true (Literal l) inside = inside
 
-pub copy_inside : (given : Giving) (depth : ℕ) (all out : Forest) (t copy : TokenTree) (left after : List TokenTree)
-    → IsUpTo given depth all out left → left ≡ t ∷ after → copy ≡ apart_before (forest after) t → GoesInside copy
-copy_inside given depth all out t copy left after was whole cloned =
+pub copy_inside : (given : Giving) (depth : ℕ) (old all out : Forest) (t copy : TokenTree)
+    (left after : List TokenTree)
+    → IsUpTo given depth old all out left → left ≡ t ∷ after → copy ≡ apart_before (forest after) t → GoesInside copy
+copy_inside given depth old all out t copy left after was whole cloned =
     subst GoesInside (sym cloned)
     (apart_inside (has_meaning (forest after)) t (subst (All GoesInside) whole was.inside 0 t (omega arith)))
 
 -- a token that begins nothing
-pub token_step : (given : Giving) (depth : ℕ) (all out new : Forest) (t copy : TokenTree) (left after : List TokenTree)
-    → IsUpTo given depth all out left → left ≡ t ∷ after → ((g : Grouped) → t ≡ Group g → ⊥)
+pub token_step : (given : Giving) (depth : ℕ) (old all out new : Forest) (t copy : TokenTree)
+    (left after : List TokenTree)
+    → IsUpTo given depth old all out left → left ≡ t ∷ after → ((g : Grouped) → t ≡ Group g → ⊥)
     → None ≡ interpolation_of t (forest after)
-    → copy ≡ apart_before (forest after) t → new ≡ joined out (alone copy) → IsUpTo given depth all new after
-token_step given depth all out new t copy left after was whole other none cloned put =
-    step given depth 0 all out new (alone (apart_before (forest after) t)) t left after after was whole refl
+    → copy ≡ apart_before (forest after) t → new ≡ joined out (alone copy) → IsUpTo given depth old all new after
+token_step given depth old all out new t copy left after was whole other none cloned put =
+    step given depth 0 old all out new (alone (apart_before (forest after) t)) t left after after was whole refl
     (token_alone given depth t (forest after) other (sym none)) (put ∙ ap (λ u. joined out (alone u)) cloned)
 
 -- a group
-pub group_step : (given : Giving) (depth : ℕ) (all out new inside : Forest) (t : TokenTree) (g filled : Grouped)
+pub group_step : (given : Giving) (depth : ℕ) (old all out new inside : Forest) (t : TokenTree) (g filled : Grouped)
     (left after : List TokenTree)
-    → IsUpTo given depth all out left → left ≡ t ∷ after → t ≡ Group g → inside_at given depth g ≡ Ok inside
-    → filled ≡ record g { stream = inside } → new ≡ joined out (alone (Group filled)) → IsUpTo given depth all new after
-group_step given depth all out new inside t g filled left after was whole is fills regrouped put =
-    step given depth 0 all out new (group g.delimiter g.span.lo g.span.hi inside nil) t left after after was whole refl
+    → IsUpTo given depth old all out left → left ≡ t ∷ after → t ≡ Group g → inside_at given depth g ≡ Ok inside
+    → filled ≡ record g { stream = inside } → new ≡ joined out (alone (Group filled))
+    → IsUpTo given depth old all new after
+group_step given depth old all out new inside t g filled left after was whole is fills regrouped put =
+    step given depth 0 old all out new (group g.delimiter g.span.lo g.span.hi inside nil) t left after after was whole
+    refl
     (ap (λ u. filled_by given depth 0 (before u (forest after))) is
     ∙ group_filled given depth g inside (forest after) fills)
     (put ∙ ap (λ u. joined out (alone (Group u))) regrouped)
 
 -- what has a meaning
-pub found_step : (given : Giving) (depth : ℕ) (all out new part : Forest) (t : TokenTree) (found : Interpolation)
+pub found_step : (given : Giving) (depth : ℕ) (old all out new part : Forest) (t : TokenTree) (found : Interpolation)
     (left after rest : List TokenTree)
-    → IsUpTo given depth all out left → left ≡ t ∷ after → Some found ≡ interpolation_of t (forest after)
+    → IsUpTo given depth old all out left → left ≡ t ∷ after → Some found ≡ interpolation_of t (forest after)
     → rest ≡ drop (taken (Some found)) after → given depth found ≡ Ok part → new ≡ joined out part
-    → IsUpTo given depth all new rest
-found_step given depth all out new part t found left after rest was whole is drops gives put =
-    step given depth (taken (Some found)) all out new part t left after rest was whole drops
+    → IsUpTo given depth old all new rest
+found_step given depth old all out new part t found left after rest was whole is drops gives put =
+    step given depth (taken (Some found)) old all out new part t left after rest was whole drops
     (begins_some given depth t (forest after) found (sym is)
     ∙ ap (λ o. followed o (filled_by given depth (taken (Some found)) (forest after))) gives)
     put
 
-pub ended : (given : Giving) (depth : ℕ) (all out : Forest) (left : List TokenTree) → IsUpTo given depth all out left
-    → length left ≡ 0 → filled_by given depth 0 all ≡ Ok out
-ended given depth all out [] was none = was.so_far ∙ ap Ok (joined_nil out)
-ended given depth all out (t ∷ left) was none = absurd (omega (arith, none))
+pub ended : (given : Giving) (depth : ℕ) (old all out : Forest) (left : List TokenTree)
+    → IsUpTo given depth old all out left → length left ≡ 0 → followed (Ok old) (filled_by given depth 0 all) ≡ Ok out
+ended given depth old all out [] was none = was.so_far ∙ ap Ok (joined_nil out)
+ended given depth old all out (t ∷ left) was none = absurd (omega (arith, none))
+
+-- what comes after a stream is there where both are
+pub followed_by : (old new : Forest) (o : Outcome) → followed (Ok old) o ≡ Ok new
+    → (part : Forest) × (o ≡ Ok part) × (new ≡ joined old part)
+followed_by old new (Ok part) h = (part, refl, cc)
+followed_by old new (Err fault) h = absurd (cc)
+
+pub follows_fault : (old : Forest) (o : Outcome) (fault : TemplateError) → followed (Ok old) o ≡ Err fault
+    → o ≡ Err fault
+follows_fault old (Ok part) fault h = absurd (cc)
+follows_fault old (Err other) fault h = h
+
+-- what has a meaning and comes after the trees
+pub found_onto : (given : Giving) (depth : ℕ) (old all out new : Forest) (t : TokenTree) (found : Interpolation)
+    (left after rest : List TokenTree)
+    → IsUpTo given depth old all out left → left ≡ t ∷ after → Some found ≡ interpolation_of t (forest after)
+    → rest ≡ drop (taken (Some found)) after → followed (Ok out) (given depth found) ≡ Ok new
+    → IsUpTo given depth old all new rest
+found_onto given depth old all out new t found left after rest was whole is drops put =
+    let p = followed_by out new (given depth found) put in
+    found_step given depth old all out new p.0 t found left after rest was whole is drops p.1 p.2
 
 -- what comes in the place of a name
 pub gives_name : (holes : List Hole) (turn : Option ℕ) (depth : ℕ) (name : HoleName)

@@ -6,6 +6,7 @@ mod PartLemmas
 mod RespacedListLemmas
 mod PushLemmas
 mod Examples
+mod DraftLemmas
 mod FillLemmas
 mod TurnLemmas
 mod NameLemmas

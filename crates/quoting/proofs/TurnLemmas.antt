@@ -1,7 +1,7 @@
 -- Turns that are counted, and of which the first are filled.
 use Rattle.std.proofs.Common.{◌≡◌, Bor, ℕ, zero, suc, ◌+◌, ◌-◌, ◌<◌, ◌==◌, Bool, true, false, if◌then◌else◌}
 use Rattle.std.proofs.Common.{Option, Some, None, is_some, Ok, Err, List, [], ◌∷◌, length}
-use Rattle.std.proofs.Common.{refl, sym, ap, ap₂, subst, ◌∙◌, arith}
+use Rattle.std.proofs.Common.{refl, sym, ap, subst, ◌∙◌, arith}
 use Rattle.proc_macro2.specs.Extent.{Extent}
 use Rattle.proc_macro2.specs.Forest.{Forest, nil, leaf, group, joined}
 use Rattle.proc_macro2.specs.declared.ParseError.{ParseError}
@@ -28,7 +28,7 @@ use Rattle.quoting.specs.declared.interpolation.Repetition.{Repetition}
 use Rattle.quoting.proofs.SearchLemmas as search
 use Rattle.quoting.proofs.SearchLemmas.{found}
 use Rattle.quoting.proofs.PartLemmas.{joined_assoc, joined_nil}
-use Rattle.quoting.proofs.FillLemmas.{followed_more, followed_nil}
+use Rattle.quoting.proofs.FillLemmas.{followed_more}
 
 -- ---- turns that are counted
 
@@ -68,12 +68,11 @@ left_turns-steps holes f = left_turns-onto holes f []
 abbrev pub TurnsOn : (ℕ → Outcome) → Forest → Outcome → Forest → ℕ → ℕ → Type 0
 TurnsOn given between all out turn end = all ≡ followed (Ok out) (turns_from given between turn (end - turn))
 
-pub turns_begun : (given : ℕ → Outcome) (between : Forest) (out : Forest) (end : ℕ) → out ≡ nil
-    → TurnsOn given between (turns_from given between 0 end) out 0 end
-turns_begun given between out end none =
-    let all : end - 0 ≡ end = omega arith in
-    sym (ap₂ (λ f n. followed (Ok f) (turns_from given between 0 n)) none all
-    ∙ followed_nil (turns_from given between 0 end))
+pub turns_begun : (given : ℕ → Outcome) (between out : Forest) (end : ℕ)
+    → TurnsOn given between (followed (Ok out) (turns_from given between 0 end)) out 0 end
+turns_begun given between out end =
+    let all : end ≡ end - 0 = omega arith in
+    ap (λ n. followed (Ok out) (turns_from given between 0 n)) all
 
 one_more : (turn end : ℕ) → turn < end → end - turn ≡ suc (end - suc turn)
 one_more turn end within = omega (arith, within)

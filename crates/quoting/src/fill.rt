@@ -1,16 +1,17 @@
 //! Templates whose holes are filled.
 //!
 //! Groups nest no deeper in a template than a limit, so that the functions may call themselves for them.
-ghost use Rattle.std.specs.Prelude.{◌≡◌, IfErr, IfOk, Ok, Err, OnOk};
+ghost use Rattle.std.specs.Prelude.{◌≡◌, All, IfErr, IfOk, Ok, Err, OnOk};
 ghost use Rattle.proc_macro2.specs.Forest.{joined};
-ghost use Rattle.proc_macro2.specs.Trees.{forest};
-ghost use Rattle.quoting.specs.Filled.{before_turn, has_meaning, filled_by};
+ghost use Rattle.proc_macro2.specs.Trees.{forest, GoesInside};
+ghost use Rattle.quoting.specs.Filled.{before_turn, followed, has_meaning, filled_by};
 ghost use Rattle.quoting.specs.Given.{UnlessMemory, apart_before, gives, inside_at, repeats_of, separator_of};
 
+use crate::draft::Draft;
 use crate::errors::TemplateError;
 use crate::holes::Hole;
 use crate::interpolation::{FoundInterpolation, Repetition, interpolation_at};
-use crate::respace::{put, regrouped, spaced};
+use crate::respace::{regrouped, spaced};
 use crate::turns::{checked, turns_of};
 use proc_macro2::{Group, Punct, Spacing, TokenStream, TokenTree};
 use std::alloc::{AllocError, Global};
@@ -29,30 +30,51 @@ pub(crate) fn filled(
     ensures fault { IfErr result (λ fault.
         UnlessMemory fault (filled_by (gives holes.now turn) depth 0 template.now ≡ Err fault)) }
 {
-    let mut out = TokenStream::new(alloc);
-    let mut left = template.trees();
+    let trees = template.trees();
+    let mut draft = Draft::new(alloc, trees.len());
+    fill_onto(alloc, &mut draft, trees, holes, turn, depth)?;
+    Ok(draft.finish()?)
+}
+
+// Puts the trees with the holes filled after those of the draft, as `filled` does.
+#[cycle(filled)]
+fn fill_onto(
+    alloc: Global,
+    draft: &mut Draft,
+    template: &[TokenTree],
+    holes: &[Hole<'_>],
+    turn: Option<usize>,
+    depth: usize,
+) -> Result<(), TemplateError>
+    requires { All GoesInside template.now }
+    ensures ok { OnOk result (followed (Ok draft.old)
+        (filled_by (gives holes.now turn) depth 0 (forest template.now)) ≡ Ok draft.new) }
+    ensures fault { IfErr result (λ fault.
+        UnlessMemory fault (filled_by (gives holes.now turn) depth 0 (forest template.now) ≡ Err fault)) }
+{
+    let mut left = template;
     while let Some((tree, after)) = left.split_first() {
         match interpolation_at(tree, after) {
             None => {
                 if let TokenTree::Group(group) = tree {
                     let inside = filled_inside(alloc, group, holes, turn, depth)?;
-                    put(&mut out, TokenTree::Group(regrouped(group, inside)))?;
+                    draft.put(TokenTree::Group(regrouped(group, inside)))?;
                 } else {
-                    put(&mut out, apart_before(tree, after)?)?;
+                    draft.put(apart_before(tree, after)?)?;
                 }
                 left = after;
             }
             Some(FoundInterpolation::Names(name, rest)) => {
-                append(&mut out, name.put_in(holes, turn)?)?;
+                draft.append(name.put_in(holes, turn)?)?;
                 left = rest;
             }
             Some(FoundInterpolation::Repeats(repetition, rest)) => {
-                append(&mut out, repeated(alloc, &repetition, holes, turn, depth)?)?;
+                repeat_onto(alloc, draft, &repetition, holes, turn, depth)?;
                 left = rest;
             }
         }
     }
-    Ok(out)
+    Ok(())
 }
 
 // A copy of the tree before these, a mark Alone where what comes first there has a meaning.
@@ -97,16 +119,19 @@ fn filled_inside(
     filled(alloc, group.stream_ref(), holes, turn, inner)
 }
 
-// The turns of a repetition, with the separator between them. That it names no list comes before what is wrong inside.
+// Puts the turns of a repetition after the trees of the draft, with the separator between them. That it names no list
+// comes before what is wrong inside.
 #[cycle(filled)]
-fn repeated(
+fn repeat_onto(
     alloc: Global,
+    draft: &mut Draft,
     repetition: &Repetition<'_>,
     holes: &[Hole<'_>],
     turn: Option<usize>,
     depth: usize,
-) -> Result<TokenStream, TemplateError>
-    ensures ok { IfOk result (λ stream. gives holes.now turn depth (repeats_of repetition.now) ≡ Ok stream) }
+) -> Result<(), TemplateError>
+    ensures ok { OnOk result (followed (Ok draft.old)
+        (gives holes.now turn depth (repeats_of repetition.now)) ≡ Ok draft.new) }
     ensures fault { IfErr result (λ fault.
         UnlessMemory fault (gives holes.now turn depth (repeats_of repetition.now) ≡ Err fault)) }
 {
@@ -122,32 +147,19 @@ fn repeated(
         return Err(TemplateError::NoList(body.span()));
     };
     checked(trees, holes, inner, turns)?;
-    let mut out = TokenStream::new(alloc);
     for turn in 0..turns {
-        separate(&mut out, repetition.separator, turn)?;
-        let part = filled(alloc, body.stream_ref(), holes, Some(turn), inner)?;
-        append(&mut out, part)?;
+        separate(draft, repetition.separator, turn)?;
+        fill_onto(alloc, draft, trees, holes, Some(turn), inner)?;
     }
-    Ok(out)
+    Ok(())
 }
 
 // Puts the separator at the end, Alone, before a turn that is not the first.
-fn separate(
-    stream: &mut TokenStream,
-    separator: Option<&Punct>,
-    turn: usize,
-) -> Result<(), AllocError>
-    ensures { OnOk result (stream.new ≡ joined stream.old (before_turn (separator_of separator.entry) turn)) }
+fn separate(draft: &mut Draft, separator: Option<&Punct>, turn: usize) -> Result<(), AllocError>
+    ensures { OnOk result (draft.new ≡ joined draft.old (before_turn (separator_of separator.entry) turn)) }
 {
     match separator {
-        Some(mark) if turn > 0 => put(stream, TokenTree::Punct(spaced(mark, Spacing::Alone))),
+        Some(mark) if turn > 0 => draft.put(TokenTree::Punct(spaced(mark, Spacing::Alone))),
         _ => Ok(()),
     }
-}
-
-// Puts the trees of the second stream after those of the first.
-fn append(stream: &mut TokenStream, more: TokenStream) -> Result<(), AllocError>
-    ensures { OnOk result (stream.new ≡ joined stream.old more) }
-{
-    stream.extend_streams([more])
 }

@@ -88,13 +88,13 @@ impl<'a> HoleName<'a> {
     }
 
     // The stream that comes in its place: in a turn of a repetition also that of a list.
-    pub(crate) fn put_in(
+    pub(crate) fn put_in<'h>(
         &self,
-        holes: &[Hole<'_>],
+        holes: &[Hole<'h>],
         turn: Option<usize>,
-    ) -> Result<TokenStream, TemplateError>
+    ) -> Result<&'h TokenStream, TemplateError>
         ensures ok { IfOk result (λ stream.
-            put_in turn (span_of self.now) (filling_of (named_all holes.now) (text_of self.now)) ≡ Ok stream) }
+            put_in turn (span_of self.now) (filling_of (named_all holes.now) (text_of self.now)) ≡ Ok stream.now) }
         ensures fault { IfErr result (λ fault. UnlessMemory fault
             (put_in turn (span_of self.now) (filling_of (named_all holes.now) (text_of self.now)) ≡ Err fault)) }
     {
@@ -111,6 +111,6 @@ impl<'a> HoleName<'a> {
                 stream
             }
         };
-        Ok(stream.clone()?)
+        Ok(stream)
     }
 }

@@ -188,7 +188,7 @@ fn copied(alloc: Global, trees: &[TokenTree]) -> Result<TokenStream, AllocError>
 }
 
 // Puts a tree of a stream at the end of another.
-pub(crate) fn put(stream: &mut TokenStream, tree: TokenTree) -> Result<(), AllocError>
+fn put(stream: &mut TokenStream, tree: TokenTree) -> Result<(), AllocError>
     requires { GoesInside tree }
     ensures { OnOk result (stream.new ≡ joined stream.old (alone tree)) }
 {

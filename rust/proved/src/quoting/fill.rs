@@ -5,10 +5,11 @@
 
 use crate::shim::prelude::Clone;
 
+use crate::quoting::draft::Draft;
 use crate::quoting::errors::TemplateError;
 use crate::quoting::holes::Hole;
 use crate::quoting::interpolation::{FoundInterpolation, Repetition, interpolation_at};
-use crate::quoting::respace::{put, regrouped, spaced};
+use crate::quoting::respace::{regrouped, spaced};
 use crate::quoting::turns::{checked, turns_of};
 use crate::proc_macro2::{Group, Punct, Spacing, TokenStream, TokenTree};
 use crate::shim::alloc::{AllocError, Global};
@@ -23,30 +24,45 @@ pub(crate) fn filled(
     depth: usize,
 ) -> Result<TokenStream, TemplateError>
 {
-    let mut out = TokenStream::new(alloc);
-    let mut left = template.trees();
+    let trees = template.trees();
+    let mut draft = Draft::new(alloc, trees.len());
+    fill_onto(alloc, &mut draft, trees, holes, turn, depth)?;
+    Ok(draft.finish()?)
+}
+
+// Puts the trees with the holes filled after those of the draft, as `filled` does.
+fn fill_onto(
+    alloc: Global,
+    draft: &mut Draft,
+    template: &[TokenTree],
+    holes: &[Hole<'_>],
+    turn: Option<usize>,
+    depth: usize,
+) -> Result<(), TemplateError>
+{
+    let mut left = template;
     while let Some((tree, after)) = left.split_first() {
         match interpolation_at(tree, after) {
             None => {
                 if let TokenTree::Group(group) = tree {
                     let inside = filled_inside(alloc, group, holes, turn, depth)?;
-                    put(&mut out, TokenTree::Group(regrouped(group, inside)))?;
+                    draft.put(TokenTree::Group(regrouped(group, inside)))?;
                 } else {
-                    put(&mut out, apart_before(tree, after)?)?;
+                    draft.put(apart_before(tree, after)?)?;
                 }
                 left = after;
             }
             Some(FoundInterpolation::Names(name, rest)) => {
-                append(&mut out, name.put_in(holes, turn)?)?;
+                draft.append(name.put_in(holes, turn)?)?;
                 left = rest;
             }
             Some(FoundInterpolation::Repeats(repetition, rest)) => {
-                append(&mut out, repeated(alloc, &repetition, holes, turn, depth)?)?;
+                repeat_onto(alloc, draft, &repetition, holes, turn, depth)?;
                 left = rest;
             }
         }
     }
-    Ok(out)
+    Ok(())
 }
 
 // A copy of the tree before these, a mark Alone where what comes first there has a meaning.
@@ -85,14 +101,16 @@ fn filled_inside(
     filled(alloc, group.stream_ref(), holes, turn, inner)
 }
 
-// The turns of a repetition, with the separator between them. That it names no list comes before what is wrong inside.
-fn repeated(
+// Puts the turns of a repetition after the trees of the draft, with the separator between them. That it names no list
+// comes before what is wrong inside.
+fn repeat_onto(
     alloc: Global,
+    draft: &mut Draft,
     repetition: &Repetition<'_>,
     holes: &[Hole<'_>],
     turn: Option<usize>,
     depth: usize,
-) -> Result<TokenStream, TemplateError>
+) -> Result<(), TemplateError>
 {
     let body = repetition.body;
     if turn.is_some() {
@@ -106,30 +124,18 @@ fn repeated(
         return Err(TemplateError::NoList(body.span()));
     };
     checked(trees, holes, inner, turns)?;
-    let mut out = TokenStream::new(alloc);
     for turn in 0..turns {
-        separate(&mut out, repetition.separator, turn)?;
-        let part = filled(alloc, body.stream_ref(), holes, Some(turn), inner)?;
-        append(&mut out, part)?;
+        separate(draft, repetition.separator, turn)?;
+        fill_onto(alloc, draft, trees, holes, Some(turn), inner)?;
     }
-    Ok(out)
+    Ok(())
 }
 
 // Puts the separator at the end, Alone, before a turn that is not the first.
-fn separate(
-    stream: &mut TokenStream,
-    separator: Option<&Punct>,
-    turn: usize,
-) -> Result<(), AllocError>
+fn separate(draft: &mut Draft, separator: Option<&Punct>, turn: usize) -> Result<(), AllocError>
 {
     match separator {
-        Some(mark) if turn > 0 => put(stream, TokenTree::Punct(spaced(mark, Spacing::Alone))),
+        Some(mark) if turn > 0 => draft.put(TokenTree::Punct(spaced(mark, Spacing::Alone))),
         _ => Ok(()),
     }
-}
-
-// Puts the trees of the second stream after those of the first.
-fn append(stream: &mut TokenStream, more: TokenStream) -> Result<(), AllocError>
-{
-    stream.extend_streams([more])
 }

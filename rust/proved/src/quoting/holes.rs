@@ -1,8 +1,6 @@
 // Made from crates/quoting/src/holes.rt by rust/erase: change that file, not this one.
 //! What the holes of a template stand for.
 
-use crate::shim::prelude::Clone;
-
 use crate::quoting::errors::TemplateError;
 use crate::proc_macro2::{Ident, Literal, Span, TokenStream};
 
@@ -80,11 +78,11 @@ impl<'a> HoleName<'a> {
     }
 
     // The stream that comes in its place: in a turn of a repetition also that of a list.
-    pub(crate) fn put_in(
+    pub(crate) fn put_in<'h>(
         &self,
-        holes: &[Hole<'_>],
+        holes: &[Hole<'h>],
         turn: Option<usize>,
-    ) -> Result<TokenStream, TemplateError>
+    ) -> Result<&'h TokenStream, TemplateError>
     {
         let stream = match self.filling(holes) {
             None => return Err(TemplateError::NoHole(self.span())),
@@ -99,6 +97,6 @@ impl<'a> HoleName<'a> {
                 stream
             }
         };
-        Ok(stream.clone()?)
+        Ok(stream)
     }
 }

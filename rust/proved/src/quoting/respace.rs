@@ -144,7 +144,7 @@ fn copied(alloc: Global, trees: &[TokenTree]) -> Result<TokenStream, AllocError>
 }
 
 // Puts a tree of a stream at the end of another.
-pub(crate) fn put(stream: &mut TokenStream, tree: TokenTree) -> Result<(), AllocError>
+fn put(stream: &mut TokenStream, tree: TokenTree) -> Result<(), AllocError>
 {
     laws::trees_stand_whole();
     stream.extend_trees([tree])

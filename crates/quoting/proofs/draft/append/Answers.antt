@@ -2,7 +2,7 @@ use Rattle.std.proofs.Common.{refl}
 use Rattle.std.specs.Array.Iter.{array_into_iter_items, array_steps}
 use Rattle.quoting.proofs.ArrayLemmas.{drained}
 use Rattle.quoting.proofs.PushLemmas.{put_one}
-use Rattle.quoting.proofs.fill.append.Goals as goal
+use Rattle.quoting.proofs.draft.append.Goals as goal
 
 pub returns : goal.returns
 returns c =

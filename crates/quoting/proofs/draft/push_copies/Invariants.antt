@@ -1,0 +1,8 @@
+use Rattle.std.proofs.Common.{◌≡◌, take}
+use Rattle.proc_macro2.specs.Forest.{joined}
+use Rattle.proc_macro2.specs.Trees.{forest}
+use Rattle.quoting.proofs.draft.push_copies.Given as goal
+
+abbrev pub invariant-loop-tree : goal.invariant-loop-tree
+invariant-loop-tree l =
+    forest l.list.items ≡ joined (forest l.fn.list.items) (forest (take l.tree-index l.trees))

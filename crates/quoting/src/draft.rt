@@ -1,0 +1,147 @@
+//! Trees that are put together.
+ghost use Rattle.std.specs.Prelude.{◌≡◌, IfOk, OnOk};
+ghost use Rattle.proc_macro2.specs.Forest.{IsBuilt, joined, nil};
+ghost use Rattle.proc_macro2.specs.Size.{is_nil};
+ghost use Rattle.proc_macro2.specs.Trees.{alone, forest, GoesInside};
+
+use pm_stream::parts;
+use proc_macro2::{TokenStream, TokenTree};
+use std::alloc::{AllocError, Global};
+use std::marker::Model;
+
+/// Trees that are to become a stream. It is seen as these trees, in order.
+///
+/// They stand in a list that becomes a stream as it is. The stream that comes first is copied into it only where
+/// others follow: where it stays alone it is shared.
+#[derive(Drop)]
+pub(crate) struct Draft {
+    alloc: Global,
+    // The stream that came first, or none once its trees stand in the list.
+    first: TokenStream,
+    trees: Vec<TokenTree>,
+    // For how many trees the list has room at first, besides those of the first stream.
+    room: usize,
+}
+
+impl Model for Draft {
+    ghost use Rattle.proc_macro2.specs.Codec.{coded_forest};
+    ghost use Rattle.proc_macro2.specs.Forest.{Forest, IsBuilt, joined};
+    ghost use Rattle.proc_macro2.specs.Trees.{forest};
+
+    ghost Value = { Forest };
+
+    ghost coded = { coded_forest };
+
+    ghost view = { λ draft. joined draft.first (forest draft.trees.items) };
+
+    ghost invariant = { λ draft. IsBuilt (forest draft.trees.items) };
+}
+
+impl Draft {
+    /// No trees. It takes no memory.
+    pub(crate) fn new(alloc: Global, room: usize) -> Draft
+        ensures { result ≡ nil }
+    {
+        Draft {
+            alloc,
+            first: TokenStream::new(alloc),
+            trees: Vec::new(alloc),
+            room,
+        }
+    }
+
+    /// Puts the tree at the end.
+    #[inline(always)]
+    pub(crate) fn put(&mut self, tree: TokenTree) -> Result<(), AllocError>
+        requires { GoesInside tree }
+        ensures { OnOk result (self.new ≡ joined self.old (alone tree)) }
+    {
+        // It computes nothing: proofs learn what is true of every tree.
+        tree.span();
+        self.open()?;
+        self.trees.push(tree)?;
+        Ok(())
+    }
+
+    /// Puts the trees of the stream at the end.
+    pub(crate) fn append(&mut self, stream: &TokenStream) -> Result<(), AllocError>
+        ensures { OnOk result (self.new ≡ joined self.old stream.now) }
+    {
+        if stream.is_empty() {
+            return Ok(());
+        }
+        if self.is_empty() {
+            self.first = stream.clone()?;
+            return Ok(());
+        }
+        self.open()?;
+        push_copies(&mut self.trees, stream.trees())
+    }
+
+    // Whether there are no trees.
+    fn is_empty(&self) -> bool
+        ensures { result ≡ is_nil self.now }
+    {
+        self.first.is_empty() && self.trees.is_empty()
+    }
+
+    // Makes the list ready for trees that come at the end.
+    #[inline(always)]
+    fn open(&mut self) -> Result<(), AllocError>
+        ensures { OnOk result (self.new ≡ self.old) }
+    {
+        if self.trees.is_empty() {
+            self.trees = opened(self.alloc, &self.first, self.room)?;
+            self.first = TokenStream::new(self.alloc);
+        }
+        Ok(())
+    }
+
+    /// The stream of the trees.
+    pub(crate) fn finish(self) -> Result<TokenStream, AllocError>
+        ensures { IfOk result (λ stream. stream ≡ self) }
+    {
+        let Draft {
+            alloc,
+            first,
+            trees,
+            ..
+        } = self;
+        let mut stream = first;
+        append(&mut stream, parts::stream(alloc, trees)?)?;
+        Ok(stream)
+    }
+}
+
+// A list of copies of the stream's trees, with room for so many more.
+#[inline(never)]
+fn opened(alloc: Global, first: &TokenStream, room: usize) -> Result<Vec<TokenTree>, AllocError>
+    ensures ok { IfOk result (λ list. forest list.items ≡ first.now) }
+    ensures built { IfOk result (λ list. IsBuilt (forest list.items)) }
+{
+    let trees = first.trees();
+    let mut list = Vec::with_capacity(alloc, room.saturating_add(trees.len()))?;
+    push_copies(&mut list, trees)?;
+    Ok(list)
+}
+
+// Puts copies of the trees at the end of the list. Groups share what is inside them.
+fn push_copies(list: &mut Vec<TokenTree>, trees: &[TokenTree]) -> Result<(), AllocError>
+    requires list { IsBuilt (forest list.old.items) }
+    requires trees { IsBuilt (forest trees.now) }
+    ensures ok { OnOk result (forest list.new.items ≡ joined (forest list.old.items) (forest trees.now)) }
+    ensures built { IsBuilt (forest list.new.items) }
+{
+    list.reserve(trees.len())?;
+    for tree in trees {
+        list.push(tree.clone()?)?;
+    }
+    Ok(())
+}
+
+// Puts the trees of the second stream after those of the first.
+fn append(stream: &mut TokenStream, more: TokenStream) -> Result<(), AllocError>
+    ensures { OnOk result (stream.new ≡ joined stream.old more) }
+{
+    stream.extend_streams([more])
+}

@@ -1,0 +1,116 @@
+// Made from crates/quoting/src/draft.rt by rust/erase: change that file, not this one.
+//! Trees that are put together.
+
+use crate::shim::prelude::{Clone, Vec};
+
+use crate::pm_stream::parts;
+use crate::proc_macro2::{TokenStream, TokenTree};
+use crate::shim::alloc::{AllocError, Global};
+
+/// Trees that are to become a stream. It is seen as these trees, in order.
+///
+/// They stand in a list that becomes a stream as it is. The stream that comes first is copied into it only where
+/// others follow: where it stays alone it is shared.
+pub(crate) struct Draft {
+    alloc: Global,
+    // The stream that came first, or none once its trees stand in the list.
+    first: TokenStream,
+    trees: Vec<TokenTree>,
+    // For how many trees the list has room at first, besides those of the first stream.
+    room: usize,
+}
+
+impl Draft {
+    /// No trees. It takes no memory.
+    pub(crate) fn new(alloc: Global, room: usize) -> Draft
+    {
+        Draft {
+            alloc,
+            first: TokenStream::new(alloc),
+            trees: Vec::new(alloc),
+            room,
+        }
+    }
+
+    /// Puts the tree at the end.
+    #[inline(always)]
+    pub(crate) fn put(&mut self, tree: TokenTree) -> Result<(), AllocError>
+    {
+        // It computes nothing: proofs learn what is true of every tree.
+        tree.span();
+        self.open()?;
+        self.trees.push(tree)?;
+        Ok(())
+    }
+
+    /// Puts the trees of the stream at the end.
+    pub(crate) fn append(&mut self, stream: &TokenStream) -> Result<(), AllocError>
+    {
+        if stream.is_empty() {
+            return Ok(());
+        }
+        if self.is_empty() {
+            self.first = stream.clone()?;
+            return Ok(());
+        }
+        self.open()?;
+        push_copies(&mut self.trees, stream.trees())
+    }
+
+    // Whether there are no trees.
+    fn is_empty(&self) -> bool
+    {
+        self.first.is_empty() && self.trees.is_empty()
+    }
+
+    // Makes the list ready for trees that come at the end.
+    #[inline(always)]
+    fn open(&mut self) -> Result<(), AllocError>
+    {
+        if self.trees.is_empty() {
+            self.trees = opened(self.alloc, &self.first, self.room)?;
+            self.first = TokenStream::new(self.alloc);
+        }
+        Ok(())
+    }
+
+    /// The stream of the trees.
+    pub(crate) fn finish(self) -> Result<TokenStream, AllocError>
+    {
+        let Draft {
+            alloc,
+            first,
+            trees,
+            ..
+        } = self;
+        let mut stream = first;
+        append(&mut stream, parts::stream(alloc, trees)?)?;
+        Ok(stream)
+    }
+}
+
+// A list of copies of the stream's trees, with room for so many more.
+#[inline(never)]
+fn opened(alloc: Global, first: &TokenStream, room: usize) -> Result<Vec<TokenTree>, AllocError>
+{
+    let trees = first.trees();
+    let mut list = Vec::with_capacity(alloc, room.saturating_add(trees.len()))?;
+    push_copies(&mut list, trees)?;
+    Ok(list)
+}
+
+// Puts copies of the trees at the end of the list. Groups share what is inside them.
+fn push_copies(list: &mut Vec<TokenTree>, trees: &[TokenTree]) -> Result<(), AllocError>
+{
+    list.reserve(trees.len())?;
+    for tree in trees {
+        list.push(tree.clone()?)?;
+    }
+    Ok(())
+}
+
+// Puts the trees of the second stream after those of the first.
+fn append(stream: &mut TokenStream, more: TokenStream) -> Result<(), AllocError>
+{
+    stream.extend_streams([more])
+}
