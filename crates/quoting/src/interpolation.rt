@@ -6,7 +6,7 @@ ghost use Rattle.std.specs.Str.{chars};
 ghost use Rattle.proc_macro2.specs.Trees.{forest};
 ghost use Rattle.proc_macro2.specs.declared.TokenTree.TheVariants.{Group as GroupTree};
 ghost use Rattle.quoting.specs.Given.{begun_as, named_by, repeats, rest_of, interpolation_of, tree_is_mark, tree_name};
-ghost use Rattle.quoting.specs.Interpolation.{taken};
+ghost use Rattle.quoting.specs.Interpolation.{after_hash, taken};
 
 use crate::holes::HoleName;
 use proc_macro2::{Delimiter, Group, Punct, TokenTree};
@@ -28,6 +28,7 @@ pub(crate) struct Repetition<'a> {
 }
 
 // What the tree begins before these. `None` where it stands for itself.
+#[inline(always)]
 pub(crate) fn interpolation_at<'a>(
     tree: &TokenTree,
     after: &'a [TokenTree],
@@ -38,6 +39,15 @@ pub(crate) fn interpolation_at<'a>(
     if !is_mark(tree, '#') {
         return None;
     }
+    begun(after)
+}
+
+// What a `#` before these trees begins.
+#[inline(never)]
+fn begun(after: &[TokenTree]) -> Option<FoundInterpolation<'_>>
+    ensures found { begun_as result ≡ after_hash (forest after.now) }
+    ensures rest { IfSome result (λ found. rest_of found ≡ drop (taken (begun_as result)) after.now) }
+{
     let (first, rest) = after.split_first()?;
     if let TokenTree::Group(body) = first {
         return repetition_of(body, rest);
@@ -91,6 +101,7 @@ fn all_digits(text: &str) -> bool
 }
 
 // Whether the tree is this mark, Joint or Alone.
+#[inline(always)]
 fn is_mark(tree: &TokenTree, mark: char) -> bool
     ensures { result ≡ tree_is_mark mark tree.now }
 {

@@ -21,6 +21,7 @@ pub(crate) struct Repetition<'a> {
 }
 
 // What the tree begins before these. `None` where it stands for itself.
+#[inline(always)]
 pub(crate) fn interpolation_at<'a>(
     tree: &TokenTree,
     after: &'a [TokenTree],
@@ -29,6 +30,13 @@ pub(crate) fn interpolation_at<'a>(
     if !is_mark(tree, '#') {
         return None;
     }
+    begun(after)
+}
+
+// What a `#` before these trees begins.
+#[inline(never)]
+fn begun(after: &[TokenTree]) -> Option<FoundInterpolation<'_>>
+{
     let (first, rest) = after.split_first()?;
     if let TokenTree::Group(body) = first {
         return repetition_of(body, rest);
@@ -77,6 +85,7 @@ fn all_digits(text: &str) -> bool
 }
 
 // Whether the tree is this mark, Joint or Alone.
+#[inline(always)]
 fn is_mark(tree: &TokenTree, mark: char) -> bool
 {
     match tree {
