@@ -1,10 +1,12 @@
 -- Gaps that are chosen, and their spaces.
 use Rattle.std.specs.Prelude.{◌-◌, if◌then◌else◌}
-use Rattle.std.proofs.Common.{◌≡◌, ◌≤◌, ℕ, suc, Bool, true, false, ◌++◌, List, Some, refl, ap, arith, codes}
+use Rattle.std.proofs.Common.{◌≡◌, ◌≤◌, ℕ, suc, Bool, true, false, [], ◌∷◌, ◌++◌, List, Some, refl, ap, arith, codes, zero, ◌<◌, get_or}
 use Rattle.std.specs.Str.{chars}
+use Rattle.std.proofs.lemmas.Str.{chars-IsAscii}
+use Rattle.lexical.specs.Text.{first_passes}
 use Rattle.pm_stream.specs.Events.{Event}
 use Rattle.layout.specs.Layout.{is_joint}
-use Rattle.layout.specs.Writing.{fitting, spaces}
+use Rattle.layout.specs.Writing.{fitting, front_char, spaces}
 use Rattle.layout.specs.declared.gaps.Gap.{Gap}
 use Rattle.layout.specs.declared.gaps.Gap.TheVariants.{Nothing, Space, Line, Blank}
 
@@ -29,3 +31,18 @@ pub eight_first : (n : ℕ) → 8 ≤ n → spaces n ≡ codes "        " ++ spa
 eight_first n many =
     let e : n ≡ suc (suc (suc (suc (suc (suc (suc (suc (n - 8)))))))) = omega (arith, many) in
     ap spaces e
+
+-- a test of a text's first character
+pub front_passes : (passes : ℕ → Bool) (c : ℕ) (text : List ℕ) → Some c ≡ front_char text
+    → passes c ≡ first_passes passes text
+front_passes passes c [] e = cc
+front_passes passes c (d ∷ text) e = cc
+
+spaces_ascii : (n i : ℕ) → get_or (spaces n) i 0 < 128
+spaces_ascii zero i = omega arith
+spaces_ascii (suc n) zero = omega arith
+spaces_ascii (suc n) (suc i) = spaces_ascii n i
+
+-- spaces are their bytes
+pub spaces_chars : (n : ℕ) → chars (spaces n) ≡ spaces n
+spaces_chars n = chars-IsAscii (spaces n) (spaces_ascii n)

@@ -1,23 +1,16 @@
 -- A layout that is written step by step.
 use Rattle.std.specs.Prelude.{not, ◌&&◌, ◌==◌}
 use Rattle.std.proofs.Common.{◌≡◌, ℕ, Bool, true, false, List, [], ◌∷◌, ◌++◌, Option, Some, None}
-use Rattle.std.proofs.Common.{refl, sym, ap, ap₂, ◌∙◌, subst, zero, suc, append_assoc, append-nil, OnOk, arith}
+use Rattle.std.proofs.Common.{refl, sym, ap, ◌∙◌, subst, zero, suc, append_assoc}
 use Rattle.std.proofs.Common.{MatchOption}
-use Rattle.std.specs.Prelude.{Result, Ok, Err, encode_utf8, is_ok, String, string_bytes}
+use Rattle.std.specs.Prelude.{String, string_bytes}
 use Rattle.std.specs.Str.{chars, encode_utf8_all}
-use Rattle.std.proofs.lemmas.Str.{IsUtf8-string_bytes, chars-encodes, encodes-chars, encodes_same}
+use Rattle.std.proofs.lemmas.Str.{IsUtf8-string_bytes, encodes-chars, encodes_same}
 use Rattle.std.specs.Prelude.{if◌then◌else◌}
 use Rattle.std.proofs.lemmas.Bool.{and_from, and_left, and_right, and_parts, both_ways, or_left, or_right}
 use Rattle.std.proofs.lemmas.Bool.{not_from_false}
 use Rattle.lexical.specs.Token as tokens
 use Rattle.lexical.specs.Token.{Token, Name, Mark, token_text}
-use Rattle.pm_token.specs.Built.{IsBuiltToken}
-use Rattle.pm_token.specs.Text.{IsText}
-use Rattle.pm_token.specs.declared.delimiters.Delimiter.{Delimiter}
-use Rattle.pm_token.specs.declared.delimiters.Delimiter.TheVariants as delimiters
-use Rattle.pm_token.specs.declared.delimiters.Delimiter.TheVariants.{Parenthesis, Brace, Bracket}
-use Rattle.pm_stream.specs.Delimited.{opening, closing}
-use Rattle.proc_macro2.proofs.BuiltLemmas.{printed_text}
 use Rattle.lexical.specs.Class.{is_white}
 use Rattle.pm_stream.specs.Events.{Event, One, Opens, Closes}
 use Rattle.pm_stream.specs.Forest.{Forest, nil, leaf, group, flat_onto, flattening}
@@ -215,45 +208,6 @@ leads_last stream done now before last left h none text =
     begins (Some b) = refl
 
 -- ---- what the calls write
-
--- a text was put into an empty one
-pub set_text : {E : Type 0} (r : Result (Unit {0}) E) (new old text front : List ℕ) → old ≡ []
-    → new ≡ (if is_ok r then old ++ text else old) → chars text ≡ front → OnOk r (chars new ≡ front)
-set_text (Ok v) new old text front none e is = ap chars e ∙ (ap (λ x. chars (x ++ text)) none ∙ is)
-set_text (Err v) new old text front none e is = tt
-
-pub set_written : {E : Type 0} (r : Result (Unit {0}) E) (new old text : List ℕ) → old ≡ [] → IsText text
-    → OnOk r (new ≡ old ++ encode_utf8_all text) → OnOk r (chars new ≡ text)
-set_written (Ok v) new old text none is e =
-    ap chars e ∙ (ap (λ x. chars (x ++ encode_utf8_all text)) none ∙ chars-encodes text is)
-set_written (Err v) new old text none is e = tt
-
--- and of one character
-pub set_pushed : {E : Type 0} (r : Result (Unit {0}) E) (new old : List ℕ) (c d : ℕ) → old ≡ [] → IsText (d ∷ [])
-    → c ≡ d → new ≡ (if is_ok r then old ++ encode_utf8 c else old) → OnOk r (chars new ≡ d ∷ [])
-set_pushed (Ok v) new old c d none is same e =
-    ap chars (e ∙ (ap₂ (λ x y. x ++ encode_utf8 y) none same ∙ sym (append-nil (encode_utf8 d))))
-    ∙ chars-encodes (d ∷ []) is
-set_pushed (Err v) new old c d none is same e = tt
-
-pub opening_chars : (d : Delimiter) → chars (opening d) ≡ opening d
-unfolding chars
-opening_chars Parenthesis = refl
-opening_chars Brace = refl
-opening_chars Bracket = refl
-opening_chars delimiters.None = refl
-
-pub closing_chars : (d : Delimiter) → chars (closing d) ≡ closing d
-unfolding chars
-closing_chars Parenthesis = refl
-closing_chars Brace = refl
-closing_chars Bracket = refl
-closing_chars delimiters.None = refl
-
--- a token is a text
-pub token_is_text : (token : Token) → IsBuiltToken token → IsText (token_text token)
-token_is_text token built =
-    subst (IsText) (append-nil (token_text token)) (printed_text (leaf token 0 0 nil) (built, omega arith, tt))
 
 -- what a text is, once it is a string
 pub string_chars : {Z : Type 0} (s : String Z) (text : List ℕ) → string_bytes s ≡ encode_utf8_all text

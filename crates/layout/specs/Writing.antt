@@ -96,6 +96,16 @@ fitting (Some before) chosen text range =
     if is_joint before then Nothing
     else (if goes_on before text && not (is_plain before && range) then some chosen else chosen)
 
+-- what a delimiter is written as, if it has a mark
+abbrev pub option_list : Option ℕ → List ℕ
+option_list None = []
+option_list (Some c) = c ∷ []
+
+-- the first character of a text
+abbrev pub front_char : List ℕ → Option ℕ
+front_char [] = None
+front_char (c ∷ text) = Some c
+
 -- ---- what holds of it
 
 -- the text reads back to the stream, up to spans, wherever it stands

@@ -1,21 +1,22 @@
 //! Gaps of white space, and who chooses them.
-ghost use Rattle.std.specs.Prelude.{◌≡◌, ◌++◌, OnOk, ⊤};
+ghost use Rattle.std.specs.Prelude.{◌≡◌, ◌<◌, ◌++◌, OnOk, ⊤};
 ghost use Rattle.std.specs.Str.{chars};
 ghost use Rattle.std.specs.Char.{is_ascii_digit};
 ghost use Rattle.lexical.specs.Text.{first_passes};
-ghost use Rattle.layout.specs.Writing.{before_of, event_of, fitting, gap_text, is_dot_token, is_joint_dot};
-ghost use Rattle.layout.specs.Writing.{spaces, steps_range};
+ghost use Rattle.layout.specs.Writing.{before_of, event_of, fitting, front_char, gap_text, is_dot_token, is_joint_dot};
+ghost use Rattle.layout.specs.Writing.{spaces, steps_range, tree_event};
 ghost use Rattle.layout.specs.Written.{Choice, choice_of};
-ghost use Rattle.layout.specs.Layout.{goes_on, is_joint, is_plain, parts_literal, parts_name};
+ghost use Rattle.layout.specs.Layout.{event_text, goes_on, is_joint, is_plain, parts_literal, parts_name};
 ghost use Rattle.std.specs.List.{list_all};
 ghost use Rattle.lexical.specs.Class.{is_ident_continue};
 ghost use Rattle.pm_stream.specs.Trees.{forest};
 ghost use Rattle.pm_stream.specs.WellSpaced.{next_token};
 ghost use Rattle.pm_stream.specs.Steps.{step_of};
 
+use crate::writing::{closer, opener};
 use pm_stream::{Step, TokenTree};
 use pm_token::Spacing;
-use pm_token::parts::TextBuilder;
+use pm_token::parts::{TextBuilder, is_raw, name_of};
 use std::alloc::AllocError;
 
 /// White space between two tokens.
@@ -55,8 +56,9 @@ pub trait Chooser {
 
 // The gap that is written where this one is chosen: none after a Joint mark, and a space where none is chosen and
 // the text that comes with the next step would go on with what stands before it.
-pub(crate) fn fitting(before: Option<Step<'_>>, chosen: Gap, text: &str, next: Step<'_>) -> Gap
-    ensures { result ≡ fitting (before_of before.entry) chosen (chars text.now) (steps_range (step_of next.entry)) }
+pub(crate) fn fitting(before: Option<Step<'_>>, chosen: Gap, next: Step<'_>) -> Gap
+    ensures { result ≡ fitting (before_of before.entry) chosen (event_text (event_of (step_of next.entry)))
+        (steps_range (step_of next.entry)) }
 {
     let Some(step) = before else {
         return chosen;
@@ -67,7 +69,7 @@ pub(crate) fn fitting(before: Option<Step<'_>>, chosen: Gap, text: &str, next: S
     let Gap::Nothing = chosen else {
         return chosen;
     };
-    if goes_on(step, text) && !(is_plain(step) && begins_range(next)) {
+    if goes_on(step, next) && !(is_plain(step) && begins_range(next)) {
         return Gap::Space;
     }
     Gap::Nothing
@@ -130,18 +132,45 @@ fn is_joint(step: Step<'_>) -> bool
     }
 }
 
-// Whether the text would go on with the token that the step is past.
-fn goes_on(step: Step<'_>, text: &str) -> bool
-    ensures { result ≡ goes_on (event_of (step_of step.entry)) (chars text.now) }
+// Whether what the next step writes would go on with the token that the step is past.
+fn goes_on(step: Step<'_>, next: Step<'_>) -> bool
+    ensures { result ≡ goes_on (event_of (step_of step.entry)) (event_text (event_of (step_of next.entry))) }
 {
-    let Some(first) = text.chars().next() else {
+    let Step::Token(tree, _) = step else {
         return false;
     };
+    let Some(first) = first_of(next) else {
+        return false;
+    };
+    match tree {
+        TokenTree::Group(_) => false,
+        TokenTree::Ident(_) => parts_name(first),
+        TokenTree::Punct(_) => lexical::is_mark(first),
+        TokenTree::Literal(literal) => parts_literal(literal.text(), first),
+    }
+}
+
+// The first character that the step writes.
+fn first_of(step: Step<'_>) -> Option<char>
+    ensures { result ≡ front_char (event_text (event_of (step_of step.entry))) }
+{
     match step {
-        Step::Token(TokenTree::Ident(_), _) => parts_name(first),
-        Step::Token(TokenTree::Punct(_), _) => lexical::is_mark(first),
-        Step::Token(TokenTree::Literal(literal), _) => parts_literal(literal.text(), first),
-        _ => false,
+        Step::Enter(group, _) => opener(group.delimiter()),
+        Step::Leave(group, _) => closer(group.delimiter()),
+        Step::Token(tree, _) => first_of_tree(tree),
+    }
+}
+
+// And that of a token, or of a group's opener.
+fn first_of_tree(tree: &TokenTree) -> Option<char>
+    ensures { result ≡ front_char (event_text (tree_event tree.now)) }
+{
+    match tree {
+        TokenTree::Group(group) => opener(group.delimiter()),
+        TokenTree::Ident(ident) if is_raw(ident) => Some('r'),
+        TokenTree::Ident(ident) => name_of(ident).chars().next(),
+        TokenTree::Punct(punct) => Some(punct.as_char()),
+        TokenTree::Literal(literal) => literal.text().chars().next(),
     }
 }
 
@@ -201,17 +230,22 @@ fn push_spaces(text: &mut TextBuilder, count: usize) -> Result<(), AllocError>
         text.push_text("        ")?;
         left -= 8;
     }
-    push_few_spaces(text, left)
+    text.push_text(few_spaces(left))
 }
 
-// The same, one by one.
-fn push_few_spaces(text: &mut TextBuilder, count: usize) -> Result<(), AllocError>
-    ensures { OnOk result (text.new ≡ text.old ++ spaces count) }
+// Less than eight spaces.
+fn few_spaces(count: usize) -> &'static str
+    requires { count < 8 }
+    ensures { result.now ≡ spaces count }
 {
-    let mut left = count;
-    while left > 0 {
-        text.push(' ')?;
-        left -= 1;
+    match count {
+        0 => "",
+        1 => " ",
+        2 => "  ",
+        3 => "   ",
+        4 => "    ",
+        5 => "     ",
+        6 => "      ",
+        _ => "       ",
     }
-    Ok(())
 }

@@ -1,19 +1,21 @@
 //! Writes a stream with chosen gaps.
-ghost use Rattle.std.specs.Prelude.{◌≡◌, ◌↔◌, [], Err, IfErr, IfOk, OnOk, string_bytes};
+ghost use Rattle.std.specs.Prelude.{◌≡◌, ◌↔◌, ◌++◌, Err, IfErr, IfOk, OnOk, string_bytes};
 ghost use Rattle.std.specs.Str.{chars};
+ghost use Rattle.lexical.specs.Token.{token_text};
+ghost use Rattle.pm_token.specs.Leaf.{name_token};
 ghost use Rattle.pm_stream.specs.Delimited.{closing, opening};
 ghost use Rattle.pm_stream.specs.Steps.{step_of};
 ghost use Rattle.pm_stream.specs.WellSpaced.{IsWellSpaced};
 ghost use Rattle.layout.specs.Layout.{IsLayout, event_text};
-ghost use Rattle.layout.specs.Writing.{IsNoWrite, ReadsBack, event_of, tree_event};
+ghost use Rattle.layout.specs.Writing.{IsNoWrite, ReadsBack, event_of, front_char, option_list, tree_event};
 ghost use Rattle.layout.specs.Written.{IsWritten, Writes, depth_at, depth_past};
 ghost use Rattle.layout.specs.declared.errors.LayoutError.TheVariants.{NotWellSpaced};
 
 use crate::errors::LayoutError;
 use crate::gaps::{Chooser, Place, fitting, push_gap};
 use pm_stream::{Step, TokenStream, TokenTree};
-use pm_token::Delimiter;
-use pm_token::parts::TextBuilder;
+use pm_token::parts::{TextBuilder, is_raw, name_of};
+use pm_token::{Delimiter, Ident};
 use std::alloc::{AllocError, Global};
 use std::io::Write;
 
@@ -55,7 +57,6 @@ fn laid_out<C: Chooser>(
     ensures layout { IfOk result (λ text. IsLayout stream.now (chars (string_bytes text))) }
 {
     let mut text = TextBuilder::with_room(alloc, 0)?;
-    let mut front = String::new(alloc);
     let mut steps = stream.steps();
     let mut before = None;
     let mut depth: usize = 0;
@@ -66,9 +67,8 @@ fn laid_out<C: Chooser>(
             depth: depth_at(depth, step),
         };
         let chosen = chooser.gap(place);
-        set_front(&mut front, step)?;
-        push_gap(&mut text, fitting(before, chosen, front.as_str(), step))?;
-        text.push_text(front.as_str())?;
+        push_gap(&mut text, fitting(before, chosen, step))?;
+        push_step(&mut text, step)?;
         depth = depth_past(depth, step);
         before = Some(step);
     }
@@ -103,58 +103,73 @@ fn depth_past(depth: usize, step: Step<'_>) -> usize
     }
 }
 
-// Makes the text that of the token, opener or closer.
-fn set_front(text: &mut String, step: Step<'_>) -> Result<(), AllocError>
-    ensures { OnOk result (chars (string_bytes text.new) ≡ event_text (event_of (step_of step.entry))) }
+// Writes the token, opener or closer.
+fn push_step(text: &mut TextBuilder, step: Step<'_>) -> Result<(), AllocError>
+    ensures { OnOk result (text.new ≡ text.old ++ event_text (event_of (step_of step.entry))) }
 {
-    text.clear();
     match step {
-        Step::Enter(group, _) => text.push_str(opener(group.delimiter())),
-        Step::Leave(group, _) => text.push_str(closer(group.delimiter())),
-        Step::Token(tree, _) => set_tree(text, tree),
+        Step::Enter(group, _) => push_mark(text, opener(group.delimiter())),
+        Step::Leave(group, _) => push_mark(text, closer(group.delimiter())),
+        Step::Token(tree, _) => push_tree(text, tree),
     }
 }
 
-// Makes the empty text that of the token, or of the group's opener.
-fn set_tree(text: &mut String, tree: &TokenTree) -> Result<(), AllocError>
-    requires { string_bytes text.now ≡ [] }
-    ensures { OnOk result (chars (string_bytes text.new) ≡ event_text (tree_event tree.now)) }
+// Writes the token, or the group's opener. What a token owns is copied from where it stands.
+fn push_tree(text: &mut TextBuilder, tree: &TokenTree) -> Result<(), AllocError>
+    ensures { OnOk result (text.new ≡ text.old ++ event_text (tree_event tree.now)) }
 {
     match tree {
-        TokenTree::Group(group) => text.push_str(opener(group.delimiter())),
-        TokenTree::Ident(ident) => {
-            // It computes nothing: proofs learn that the identifier is a token's text.
-            ident.span();
-            write!(text, "{ident}")
-        }
-        TokenTree::Punct(punct) => {
-            // Nor does this.
-            punct.span();
-            text.push(punct.as_char())
-        }
-        TokenTree::Literal(literal) => text.push_str(literal.text()),
+        TokenTree::Group(group) => push_mark(text, opener(group.delimiter())),
+        TokenTree::Ident(ident) => push_name(text, ident),
+        TokenTree::Punct(punct) => text.push(punct.as_char()),
+        TokenTree::Literal(literal) => text.push_text(literal.text()),
     }
 }
 
-fn opener(delimiter: Delimiter) -> &'static str
-    ensures { result.now ≡ opening delimiter }
+// Writes the identifier.
+fn push_name(text: &mut TextBuilder, ident: &Ident) -> Result<(), AllocError>
+    ensures { OnOk result (text.new ≡ text.old ++ token_text (name_token ident.now)) }
 {
-    match delimiter {
-        Delimiter::Parenthesis => "(",
-        Delimiter::Brace => "{",
-        Delimiter::Bracket => "[",
-        Delimiter::None => "",
+    if is_raw(ident) {
+        text.push('r')?;
+        text.push('#')?;
+    }
+    text.push_text(name_of(ident))
+}
+
+// Writes the mark of a delimiter, if it has one.
+fn push_mark(text: &mut TextBuilder, mark: Option<char>) -> Result<(), AllocError>
+    ensures { OnOk result (text.new ≡ text.old ++ option_list mark) }
+{
+    match mark {
+        Some(mark) => text.push(mark),
+        None => Ok(()),
     }
 }
 
-fn closer(delimiter: Delimiter) -> &'static str
-    ensures { result.now ≡ closing delimiter }
+// The mark that opens a group.
+pub(crate) fn opener(delimiter: Delimiter) -> Option<char>
+    ensures text { option_list result ≡ opening delimiter }
+    ensures first { result ≡ front_char (opening delimiter) }
 {
     match delimiter {
-        Delimiter::Parenthesis => ")",
-        Delimiter::Brace => "}",
-        Delimiter::Bracket => "]",
-        Delimiter::None => "",
+        Delimiter::Parenthesis => Some('('),
+        Delimiter::Brace => Some('{'),
+        Delimiter::Bracket => Some('['),
+        Delimiter::None => None,
+    }
+}
+
+// And that closes it.
+pub(crate) fn closer(delimiter: Delimiter) -> Option<char>
+    ensures text { option_list result ≡ closing delimiter }
+    ensures first { result ≡ front_char (closing delimiter) }
+{
+    match delimiter {
+        Delimiter::Parenthesis => Some(')'),
+        Delimiter::Brace => Some('}'),
+        Delimiter::Bracket => Some(']'),
+        Delimiter::None => None,
     }
 }
 

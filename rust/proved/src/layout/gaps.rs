@@ -1,9 +1,10 @@
 // Made from crates/layout/src/gaps.rt by rust/erase: change that file, not this one.
 //! Gaps of white space, and who chooses them.
 
+use crate::layout::writing::{closer, opener};
 use crate::pm_stream::{Step, TokenTree};
 use crate::pm_token::Spacing;
-use crate::pm_token::parts::TextBuilder;
+use crate::pm_token::parts::{TextBuilder, is_raw, name_of};
 use crate::shim::alloc::AllocError;
 
 /// White space between two tokens.
@@ -41,7 +42,7 @@ pub trait Chooser {
 
 // The gap that is written where this one is chosen: none after a Joint mark, and a space where none is chosen and
 // the text that comes with the next step would go on with what stands before it.
-pub(crate) fn fitting(before: Option<Step<'_>>, chosen: Gap, text: &str, next: Step<'_>) -> Gap
+pub(crate) fn fitting(before: Option<Step<'_>>, chosen: Gap, next: Step<'_>) -> Gap
 {
     let Some(step) = before else {
         return chosen;
@@ -52,7 +53,7 @@ pub(crate) fn fitting(before: Option<Step<'_>>, chosen: Gap, text: &str, next: S
     let Gap::Nothing = chosen else {
         return chosen;
     };
-    if goes_on(step, text) && !(is_plain(step) && begins_range(next)) {
+    if goes_on(step, next) && !(is_plain(step) && begins_range(next)) {
         return Gap::Space;
     }
     Gap::Nothing
@@ -109,17 +110,42 @@ fn is_joint(step: Step<'_>) -> bool
     }
 }
 
-// Whether the text would go on with the token that the step is past.
-fn goes_on(step: Step<'_>, text: &str) -> bool
+// Whether what the next step writes would go on with the token that the step is past.
+fn goes_on(step: Step<'_>, next: Step<'_>) -> bool
 {
-    let Some(first) = text.chars().next() else {
+    let Step::Token(tree, _) = step else {
         return false;
     };
+    let Some(first) = first_of(next) else {
+        return false;
+    };
+    match tree {
+        TokenTree::Group(_) => false,
+        TokenTree::Ident(_) => parts_name(first),
+        TokenTree::Punct(_) => crate::lexical::is_mark(first),
+        TokenTree::Literal(literal) => parts_literal(literal.text(), first),
+    }
+}
+
+// The first character that the step writes.
+fn first_of(step: Step<'_>) -> Option<char>
+{
     match step {
-        Step::Token(TokenTree::Ident(_), _) => parts_name(first),
-        Step::Token(TokenTree::Punct(_), _) => crate::lexical::is_mark(first),
-        Step::Token(TokenTree::Literal(literal), _) => parts_literal(literal.text(), first),
-        _ => false,
+        Step::Enter(group, _) => opener(group.delimiter()),
+        Step::Leave(group, _) => closer(group.delimiter()),
+        Step::Token(tree, _) => first_of_tree(tree),
+    }
+}
+
+// And that of a token, or of a group's opener.
+fn first_of_tree(tree: &TokenTree) -> Option<char>
+{
+    match tree {
+        TokenTree::Group(group) => opener(group.delimiter()),
+        TokenTree::Ident(ident) if is_raw(ident) => Some('r'),
+        TokenTree::Ident(ident) => name_of(ident).chars().next(),
+        TokenTree::Punct(punct) => Some(punct.as_char()),
+        TokenTree::Literal(literal) => literal.text().chars().next(),
     }
 }
 
@@ -174,16 +200,20 @@ fn push_spaces(text: &mut TextBuilder, count: usize) -> Result<(), AllocError>
         text.push_text("        ")?;
         left -= 8;
     }
-    push_few_spaces(text, left)
+    text.push_text(few_spaces(left))
 }
 
-// The same, one by one.
-fn push_few_spaces(text: &mut TextBuilder, count: usize) -> Result<(), AllocError>
+// Less than eight spaces.
+fn few_spaces(count: usize) -> &'static str
 {
-    let mut left = count;
-    while left > 0 {
-        text.push(' ')?;
-        left -= 1;
+    match count {
+        0 => "",
+        1 => " ",
+        2 => "  ",
+        3 => "   ",
+        4 => "    ",
+        5 => "     ",
+        6 => "      ",
+        _ => "       ",
     }
-    Ok(())
 }

@@ -6,8 +6,8 @@ use crate::shim::prelude::String;
 use crate::layout::errors::LayoutError;
 use crate::layout::gaps::{Chooser, Place, fitting, push_gap};
 use crate::pm_stream::{Step, TokenStream, TokenTree};
-use crate::pm_token::Delimiter;
-use crate::pm_token::parts::TextBuilder;
+use crate::pm_token::parts::{TextBuilder, is_raw, name_of};
+use crate::pm_token::{Delimiter, Ident};
 use crate::shim::alloc::{AllocError, Global};
 use crate::shim::io::Write;
 
@@ -40,7 +40,6 @@ fn laid_out<C: Chooser>(
 ) -> Result<String, AllocError>
 {
     let mut text = TextBuilder::with_room(alloc, 0)?;
-    let mut front = String::new(alloc);
     let mut steps = stream.steps();
     let mut before = None;
     let mut depth: usize = 0;
@@ -51,9 +50,8 @@ fn laid_out<C: Chooser>(
             depth: depth_at(depth, step),
         };
         let chosen = chooser.gap(place);
-        set_front(&mut front, step)?;
-        push_gap(&mut text, fitting(before, chosen, front.as_str(), step))?;
-        text.push_text(front.as_str())?;
+        push_gap(&mut text, fitting(before, chosen, step))?;
+        push_step(&mut text, step)?;
         depth = depth_past(depth, step);
         before = Some(step);
     }
@@ -86,53 +84,65 @@ fn depth_past(depth: usize, step: Step<'_>) -> usize
     }
 }
 
-// Makes the text that of the token, opener or closer.
-fn set_front(text: &mut String, step: Step<'_>) -> Result<(), AllocError>
+// Writes the token, opener or closer.
+fn push_step(text: &mut TextBuilder, step: Step<'_>) -> Result<(), AllocError>
 {
-    text.clear();
     match step {
-        Step::Enter(group, _) => text.push_str(opener(group.delimiter())),
-        Step::Leave(group, _) => text.push_str(closer(group.delimiter())),
-        Step::Token(tree, _) => set_tree(text, tree),
+        Step::Enter(group, _) => push_mark(text, opener(group.delimiter())),
+        Step::Leave(group, _) => push_mark(text, closer(group.delimiter())),
+        Step::Token(tree, _) => push_tree(text, tree),
     }
 }
 
-// Makes the empty text that of the token, or of the group's opener.
-fn set_tree(text: &mut String, tree: &TokenTree) -> Result<(), AllocError>
+// Writes the token, or the group's opener. What a token owns is copied from where it stands.
+fn push_tree(text: &mut TextBuilder, tree: &TokenTree) -> Result<(), AllocError>
 {
     match tree {
-        TokenTree::Group(group) => text.push_str(opener(group.delimiter())),
-        TokenTree::Ident(ident) => {
-            // It computes nothing: proofs learn that the identifier is a token's text.
-            ident.span();
-            write!(text, "{ident}")
-        }
-        TokenTree::Punct(punct) => {
-            // Nor does this.
-            punct.span();
-            text.push(punct.as_char())
-        }
-        TokenTree::Literal(literal) => text.push_str(literal.text()),
+        TokenTree::Group(group) => push_mark(text, opener(group.delimiter())),
+        TokenTree::Ident(ident) => push_name(text, ident),
+        TokenTree::Punct(punct) => text.push(punct.as_char()),
+        TokenTree::Literal(literal) => text.push_text(literal.text()),
     }
 }
 
-fn opener(delimiter: Delimiter) -> &'static str
+// Writes the identifier.
+fn push_name(text: &mut TextBuilder, ident: &Ident) -> Result<(), AllocError>
 {
-    match delimiter {
-        Delimiter::Parenthesis => "(",
-        Delimiter::Brace => "{",
-        Delimiter::Bracket => "[",
-        Delimiter::None => "",
+    if is_raw(ident) {
+        text.push('r')?;
+        text.push('#')?;
+    }
+    text.push_text(name_of(ident))
+}
+
+// Writes the mark of a delimiter, if it has one.
+fn push_mark(text: &mut TextBuilder, mark: Option<char>) -> Result<(), AllocError>
+{
+    match mark {
+        Some(mark) => text.push(mark),
+        None => Ok(()),
     }
 }
 
-fn closer(delimiter: Delimiter) -> &'static str
+// The mark that opens a group.
+pub(crate) fn opener(delimiter: Delimiter) -> Option<char>
 {
     match delimiter {
-        Delimiter::Parenthesis => ")",
-        Delimiter::Brace => "}",
-        Delimiter::Bracket => "]",
-        Delimiter::None => "",
+        Delimiter::Parenthesis => Some('('),
+        Delimiter::Brace => Some('{'),
+        Delimiter::Bracket => Some('['),
+        Delimiter::None => None,
+    }
+}
+
+// And that closes it.
+pub(crate) fn closer(delimiter: Delimiter) -> Option<char>
+{
+    match delimiter {
+        Delimiter::Parenthesis => Some(')'),
+        Delimiter::Brace => Some('}'),
+        Delimiter::Bracket => Some(']'),
+        Delimiter::None => None,
     }
 }
 

@@ -1,9 +1,8 @@
 use Rattle.std.proofs.Common.{◌++◌, length, refl, sym, ap, ◌∙◌, subst, arith, Some}
-use Rattle.std.specs.Str.{chars}
 use Rattle.pm_stream.specs.Steps.{step_of}
 use Rattle.pm_stream.proofs.StepLemmas.{taken}
-use Rattle.layout.specs.Layout.{IsLayout}
-use Rattle.layout.specs.Writing.{before_of, event_of, fitting, gap_text, step_before, steps_range}
+use Rattle.layout.specs.Layout.{IsLayout, event_text}
+use Rattle.layout.specs.Writing.{before_of, event_of, gap_text, step_before}
 use Rattle.layout.proofs.WritingLemmas.{events_left, leads_start, leads_next, leads_last, none_taken, string_chars}
 use Rattle.layout.proofs.WrittenLemmas.{writes_first, writes_next, writes_last}
 use Rattle.layout.proofs.writing.laid_out.Goals as goal
@@ -19,23 +18,20 @@ loop-steps-smaller g c = omega (arith, ap length (taken _ _ _ _ c.in-Some.is c.i
 
 pub loop-steps-preserved : goal.loop-steps-preserved
 loop-steps-preserved g c =
-    let front = chars c.as_str-in-Some.result.now in
-    let same = ap chars (c.as_str.ensures.value ∙ sym c.as_str-in-Some.ensures.value) in
     let step = step_of c.in-Some.step in
+    let front = event_text (event_of step) in
     let left = taken _ _ _ _ c.in-Some.is c.in_ok-step.ensures.ok in
-    let front_is = ap chars c.as_str-in-Some.ensures.value ∙ c.in_ok-set_front.ensures in
     let text =
-    c.in_ok-push_text.ensures.ok
+    c.in_ok-push_step.ensures
     ∙ ap (λ x. x ++ front) (c.in_ok-push_gap.ensures
-    ∙ ap (λ x. c.loop-steps.text ++ gap_text x) (c.fitting.ensures
-    ∙ ap (λ x. fitting (before_of c.loop-steps.before) c.gap-chosen.result x (steps_range step)) same)) in (
-      leads_next c.args.stream.now c.loop-steps.text c.push_text.new.self front (before_of c.loop-steps.before)
+    ∙ ap (λ x. c.loop-steps.text ++ gap_text x) c.fitting.ensures) in (
+      leads_next c.args.stream.now c.loop-steps.text c.push_step.new.text front (before_of c.loop-steps.before)
           (Some (event_of step)) c.gap-chosen.result step c.loop-steps.steps c.next.new.self c.loop-steps.invariant.0
-          left (rw c.in-Some.is at c.in_ok-step.ensures.siblings) refl front_is text,
+          left (rw c.in-Some.is at c.in_ok-step.ensures.siblings) refl refl text,
       rw c.depth_past-depth.ensures (writes_next g.C.Chooser.gap_gives _ c.loop-steps.chooser c.gap-chosen.new.self
-          c.args.stream.now c.loop-steps.text c.push_text.new.self (step_before c.loop-steps.before) c.loop-steps.depth
+          c.args.stream.now c.loop-steps.text c.push_step.new.text (step_before c.loop-steps.before) c.loop-steps.depth
           step c.loop-steps.steps c.next.new.self c.gap-chosen.result c.loop-steps.invariant.1 left
-          (rw c.depth_at.ensures at c.gap-chosen.ensures) (rw front_is at text)),
+          (rw c.depth_at.ensures at c.gap-chosen.ensures) text),
     )
 
 pub returns-clause-layout : goal.returns-clause-layout
