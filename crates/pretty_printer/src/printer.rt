@@ -80,9 +80,8 @@ pub struct Printer<'a> {
     top: usize,
     top_groups: usize,
     next_group: usize,
-    /// For indexes, and for writing names.
+    /// For indexes.
     opens: Vec<usize>,
-    text: String,
     /// The list that is written, and those around it.
     list: Frame,
     outer: Vec<Frame>,
@@ -126,8 +125,7 @@ impl<'a> Printer<'a> {
         let mut atoms = Vec::new(alloc);
         let mut groups = Vec::new(alloc);
         let mut opens = Vec::new(alloc);
-        let mut text = String::new(alloc);
-        push_list(&mut atoms, &mut groups, &mut text, stream.trees())?;
+        push_list(&mut atoms, &mut groups, stream.trees())?;
         let top = atoms.len();
         let top_groups = groups.len();
         assign_roles(&mut atoms, &mut opens, 0, top)?;
@@ -139,7 +137,6 @@ impl<'a> Printer<'a> {
             top_groups,
             next_group: 0,
             opens,
-            text,
             list: unwritten(NO_GROUP, 0, top, Style::Lines),
             outer: Vec::new(alloc),
             column: 0,
@@ -212,12 +209,7 @@ impl<'a> Printer<'a> {
     // Reads the list of a group.
     fn read_group(&mut self, group: Unread<'a>) -> Result<(), AllocError> {
         let first = self.atoms.len();
-        push_list(
-            &mut self.atoms,
-            &mut self.groups,
-            &mut self.text,
-            group.trees,
-        )?;
+        push_list(&mut self.atoms, &mut self.groups, group.trees)?;
         let end = self.atoms.len();
         let block = self.atom(group.index).is_brace();
         assign_roles(&mut self.atoms, &mut self.opens, first, end)?;

@@ -74,10 +74,16 @@ fn ends_statement(own: &Atom, next: &Atom, signs_only: bool) -> bool {
     own.role == Role::Semicolon || own.role == Role::Attribute && signs_only
 }
 
-/// Whether a space looks well before the atom of this index and role, which isn't the first of its list.
-pub fn wants_space(atoms: &[Atom], first: usize, index: usize, role: Role) -> bool {
-    let previous = before(atoms, first, index);
-    let next = atom(atoms, index);
+/// Whether a space looks well before the atom of this index, which is to have this role, and which isn't the first of
+/// its list.
+pub fn wants_space(
+    atoms: &[Atom],
+    first: usize,
+    index: usize,
+    previous: &Atom,
+    next: &Atom,
+    role: Role,
+) -> bool {
     if previous.glued {
         return false;
     }

@@ -3,7 +3,8 @@
 
 use crate::shim::prelude::{String, Vec};
 
-use crate::proc_macro2::{Delimiter, Punct, Spacing, TokenTree};
+use crate::pm_token::parts::{is_raw, name_of};
+use crate::proc_macro2::{Delimiter, Ident, Punct, Spacing, TokenTree};
 use crate::shim::alloc::AllocError;
 
 /// What an atom is.
@@ -131,36 +132,36 @@ pub enum Break {
     Line(usize),
 }
 
-/// A word, an operator or a group.
+/// A word, an operator or a group. Its fields stand in the order of their sizes, so that none is padded.
 #[derive(Clone, Copy)]
 pub struct Atom {
-    pub kind: Kind,
-    pub role: Role,
     /// How many tokens it has. A group counts as its opener.
     pub tokens: usize,
-    /// Whether its last mark is Joint, so that no gap may follow.
-    pub glued: bool,
-    /// Whether a space stands before it, where its list is on one line.
-    pub spaced: bool,
     /// How many characters it has, where a group is on one line.
     pub width: usize,
-    /// Whether it needs several lines.
-    pub tall: bool,
     /// The characters before it in its list, where the list is on one line.
     pub offset: usize,
     /// How many before it in its list need several lines.
     pub tall_before: usize,
-    /// Where a part of a list begins, the index after its last atom, and whether it is on one line if it is short. Else
-    /// 0 and false.
+    /// Where a part of a list begins, the index after its last atom, and `plain`, whether it is on one line if it is
+    /// short. Else 0 and false.
     pub part_end: usize,
-    pub plain: bool,
-    pub line: Break,
     /// Of a group: the indexes of its first atom and after its last.
     pub first: usize,
     pub end: usize,
     /// Of a group: how many parts it has.
     pub parts: usize,
-    /// Of a group: whether it has `;` or `=>`, and whether it has `..`.
+    pub line: Break,
+    pub kind: Kind,
+    pub role: Role,
+    /// Whether its last mark is Joint, so that no gap may follow.
+    pub glued: bool,
+    /// Whether a space stands before it, where its list is on one line.
+    pub spaced: bool,
+    /// Whether it needs several lines.
+    pub tall: bool,
+    pub plain: bool,
+    /// Of a group in braces: whether it has `;` or `=>`, and whether it has `..`.
     pub statements: bool,
     pub rest: bool,
     /// Whether an `if` begins here that gives a value.
@@ -169,21 +170,21 @@ pub struct Atom {
 
 /// No atom.
 pub static NOTHING: Atom = Atom {
-    kind: Kind::Nothing,
-    role: Role::Plain,
     tokens: 0,
-    glued: false,
-    spaced: false,
     width: 0,
-    tall: false,
     offset: 0,
     tall_before: 0,
     part_end: 0,
-    plain: false,
-    line: Break::Nothing,
     first: 0,
     end: 0,
     parts: 0,
+    line: Break::Nothing,
+    kind: Kind::Nothing,
+    role: Role::Plain,
+    glued: false,
+    spaced: false,
+    tall: false,
+    plain: false,
     statements: false,
     rest: false,
     begins_branches: false,
@@ -308,11 +309,10 @@ pub struct Unread<'a> {
     pub trees: &'a [TokenTree],
 }
 
-/// The atoms of these trees, after the others, and their groups after the others. The text is for writing names.
+/// The atoms of these trees, after the others, and their groups after the others.
 pub fn push_list<'a>(
     atoms: &mut Vec<Atom>,
     groups: &mut Vec<Unread<'a>>,
-    text: &mut String,
     trees: &'a [TokenTree],
 ) -> Result<(), AllocError> {
     let mut passed: usize = 0;
@@ -334,10 +334,12 @@ pub fn push_list<'a>(
                 group_atom(group.delimiter(), inside)
             }
             TokenTree::Ident(ident) => {
-                text.clear();
-                write!(text, "{ident}")?;
-                let word = word_of(text.as_str());
-                Atom::new(Kind::Word(word), 1, false, text.as_str().chars().count())
+                let word = if is_raw(ident) {
+                    Word::Name
+                } else {
+                    word_of(name_of(ident))
+                };
+                Atom::new(Kind::Word(word), 1, false, width_of(ident))
             }
             TokenTree::Literal(literal) => {
                 let word = if literal.text().starts_with("\"") {
@@ -347,7 +349,7 @@ pub fn push_list<'a>(
                 };
                 Atom::new(Kind::Word(word), 1, false, first_line(literal.text()))
             }
-            TokenTree::Punct(punct) => mark_atom(text, punct, trees, index)?,
+            TokenTree::Punct(punct) => mark_atom(punct, trees, index),
         };
         passed = atom.tokens.saturating_sub(1);
         atoms.push(atom)?;
@@ -358,6 +360,10 @@ pub fn push_list<'a>(
 // The group of these trees.
 fn group_atom(delimiter: Delimiter, trees: &[TokenTree]) -> Atom {
     let mut atom = Atom::new(Kind::Group(delimiter), 1, false, 2);
+    // Only of braces it is asked.
+    if delimiter != Delimiter::Brace {
+        return atom;
+    }
     let mut passed: usize = 0;
     for index in 0..trees.len() {
         if passed > 0 {
@@ -377,33 +383,48 @@ fn group_atom(delimiter: Delimiter, trees: &[TokenTree]) -> Atom {
     atom
 }
 
+// How many characters an identifier has.
+fn width_of(ident: &Ident) -> usize {
+    let mut count: usize = if is_raw(ident) { 2 } else { 0 };
+    for byte in name_of(ident).as_bytes() {
+        if begins_char(*byte) {
+            count = count.saturating_add(1);
+        }
+    }
+    count
+}
+
 // How many characters stand on the first line of a text.
 fn first_line(text: &str) -> usize {
-    match text.split_once('\n') {
-        Some((line, _)) => line.chars().count(),
-        None => text.chars().count(),
+    let mut count: usize = 0;
+    for byte in text.as_bytes() {
+        if *byte == b'\n' {
+            break;
+        }
+        if begins_char(*byte) {
+            count = count.saturating_add(1);
+        }
     }
+    count
+}
+
+// Whether a character begins with this byte of a text: each has one that goes on with no other.
+fn begins_char(byte: u8) -> bool {
+    byte & 0xc0 != 0x80
 }
 
 // The lifetime or the operator that begins with this mark, which is the tree of this index.
-fn mark_atom(
-    text: &mut String,
-    punct: &Punct,
-    trees: &[TokenTree],
-    index: usize,
-) -> Result<Atom, AllocError> {
+fn mark_atom(punct: &Punct, trees: &[TokenTree], index: usize) -> Atom {
     if punct.as_char() != '\'' {
         let own = operator(punct, trees, index);
-        return Ok(Atom::new(Kind::Sign(own.sign), own.marks, own.glued, own.marks));
+        return Atom::new(Kind::Sign(own.sign), own.marks, own.glued, own.marks);
     }
     match trees.get(index.saturating_add(1)) {
         Some(TokenTree::Ident(ident)) => {
-            text.clear();
-            write!(text, "{ident}")?;
-            let width = text.as_str().chars().count().saturating_add(1);
-            Ok(Atom::new(Kind::Word(Word::Lifetime), 2, false, width))
+            let width = width_of(ident).saturating_add(1);
+            Atom::new(Kind::Word(Word::Lifetime), 2, false, width)
         }
-        _ => Ok(Atom::new(Kind::Sign(Sign::One('\'')), 1, true, 1)),
+        _ => Atom::new(Kind::Sign(Sign::One('\'')), 1, true, 1),
     }
 }
 
@@ -488,74 +509,109 @@ fn mark_at<'a>(trees: &'a [TokenTree], index: usize) -> Option<&'a Punct> {
 
 // What an identifier of this text is.
 fn word_of(text: &str) -> Word {
-    // Most names are told by their first byte.
+    // Few words begin alike, and most names are as long as none of these.
     let Some(first) = text.as_bytes().first() else {
         return Word::Name;
     };
     match *first {
-        b'a' | b'b' | b'c' | b'd' => word_to_d(text),
-        b'e' | b'f' | b'i' | b'l' => word_to_l(text),
-        b'm' | b'p' | b'r' | b's' => word_to_s(text),
-        b't' | b'u' | b'v' | b'w' | b'y' => word_to_y(text),
-        _ => Word::Name,
-    }
-}
-
-fn word_to_d(text: &str) -> Word {
-    match text {
-        "as" => Word::As,
-        "await" => Word::Await,
-        "break" => Word::Break,
-        "async" | "const" | "continue" | "dyn" => Word::Keyword,
-        "block" => Word::Fragment,
-        "debug_assert" => Word::Format2,
-        "assert_eq" | "assert_ne" => Word::Format3,
-        _ => Word::Name,
-    }
-}
-
-fn word_to_l(text: &str) -> Word {
-    match text {
-        "else" => Word::Else,
-        "enum" => Word::Enum,
-        "extern" => Word::Extern,
-        "fn" => Word::Fn,
-        "for" => Word::For,
-        "if" => Word::If,
-        "impl" => Word::Impl,
-        "in" => Word::In,
-        "let" => Word::Let,
-        "loop" => Word::Loop,
-        "expr" | "ident" | "item" | "lifetime" | "literal" => Word::Fragment,
-        "format" | "eprint" | "eprintln" => Word::Format1,
-        _ => Word::Name,
-    }
-}
-
-fn word_to_s(text: &str) -> Word {
-    match text {
-        "macro_rules" => Word::MacroRules,
-        "match" => Word::Match,
-        "mod" => Word::Mod,
-        "pub" => Word::Pub,
-        "return" => Word::Return,
-        "struct" => Word::Struct,
-        "move" | "mut" | "ref" | "static" => Word::Keyword,
-        "meta" | "pat" | "path" | "stmt" => Word::Fragment,
-        "panic" | "print" | "println" => Word::Format1,
-        _ => Word::Name,
-    }
-}
-
-fn word_to_y(text: &str) -> Word {
-    match text {
-        "trait" => Word::Trait,
-        "union" => Word::Union,
-        "where" => Word::Where,
-        "while" => Word::While,
-        "type" | "unsafe" | "use" | "yield" => Word::Keyword,
-        "tt" | "ty" | "vis" => Word::Fragment,
-        "write" | "writeln" => Word::Format2,
+        b'a' => match text {
+            "as" => Word::As,
+            "await" => Word::Await,
+            "async" => Word::Keyword,
+            "assert_eq" | "assert_ne" => Word::Format3,
+            _ => Word::Name,
+        },
+        b'b' => match text {
+            "break" => Word::Break,
+            "block" => Word::Fragment,
+            _ => Word::Name,
+        },
+        b'c' => match text {
+            "const" | "continue" => Word::Keyword,
+            _ => Word::Name,
+        },
+        b'd' => match text {
+            "dyn" => Word::Keyword,
+            "debug_assert" => Word::Format2,
+            _ => Word::Name,
+        },
+        b'e' => match text {
+            "else" => Word::Else,
+            "enum" => Word::Enum,
+            "extern" => Word::Extern,
+            "expr" => Word::Fragment,
+            "eprint" | "eprintln" => Word::Format1,
+            _ => Word::Name,
+        },
+        b'f' => match text {
+            "fn" => Word::Fn,
+            "for" => Word::For,
+            "format" => Word::Format1,
+            _ => Word::Name,
+        },
+        b'i' => match text {
+            "if" => Word::If,
+            "in" => Word::In,
+            "impl" => Word::Impl,
+            "ident" | "item" => Word::Fragment,
+            _ => Word::Name,
+        },
+        b'l' => match text {
+            "let" => Word::Let,
+            "loop" => Word::Loop,
+            "lifetime" | "literal" => Word::Fragment,
+            _ => Word::Name,
+        },
+        b'm' => match text {
+            "macro_rules" => Word::MacroRules,
+            "match" => Word::Match,
+            "mod" => Word::Mod,
+            "move" | "mut" => Word::Keyword,
+            "meta" => Word::Fragment,
+            _ => Word::Name,
+        },
+        b'p' => match text {
+            "pub" => Word::Pub,
+            "pat" | "path" => Word::Fragment,
+            "panic" | "print" | "println" => Word::Format1,
+            _ => Word::Name,
+        },
+        b'r' => match text {
+            "return" => Word::Return,
+            "ref" => Word::Keyword,
+            _ => Word::Name,
+        },
+        b's' => match text {
+            "struct" => Word::Struct,
+            "static" => Word::Keyword,
+            "stmt" => Word::Fragment,
+            _ => Word::Name,
+        },
+        b't' => match text {
+            "trait" => Word::Trait,
+            "type" => Word::Keyword,
+            "tt" | "ty" => Word::Fragment,
+            _ => Word::Name,
+        },
+        b'u' => match text {
+            "union" => Word::Union,
+            "unsafe" | "use" => Word::Keyword,
+            _ => Word::Name,
+        },
+        b'v' => match text {
+            "vis" => Word::Fragment,
+            _ => Word::Name,
+        },
+        b'w' => match text {
+            "where" => Word::Where,
+            "while" => Word::While,
+            "write" | "writeln" => Word::Format2,
+            _ => Word::Name,
+        },
+        b'y' => match text {
+            "yield" => Word::Keyword,
+            _ => Word::Name,
+        },
         _ => Word::Name,
     }
 }

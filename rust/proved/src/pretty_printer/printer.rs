@@ -1,7 +1,7 @@
 // Made from crates/pretty_printer/src/printer.rt by rust/erase: change that file, not this one.
 //! Chooses the gaps: where lines break, and how far in they begin.
 
-use crate::shim::prelude::{String, Vec};
+use crate::shim::prelude::Vec;
 
 use crate::pretty_printer::atoms::{Atom, Break, Role, Unread, Word, push_list};
 use crate::pretty_printer::lists::{atom, before, is_tall, width};
@@ -83,9 +83,8 @@ pub struct Printer<'a> {
     top: usize,
     top_groups: usize,
     next_group: usize,
-    /// For indexes, and for writing names.
+    /// For indexes.
     opens: Vec<usize>,
-    text: String,
     /// The list that is written, and those around it.
     list: Frame,
     outer: Vec<Frame>,
@@ -129,8 +128,7 @@ impl<'a> Printer<'a> {
         let mut atoms = Vec::new(alloc);
         let mut groups = Vec::new(alloc);
         let mut opens = Vec::new(alloc);
-        let mut text = String::new(alloc);
-        push_list(&mut atoms, &mut groups, &mut text, stream.trees())?;
+        push_list(&mut atoms, &mut groups, stream.trees())?;
         let top = atoms.len();
         let top_groups = groups.len();
         assign_roles(&mut atoms, &mut opens, 0, top)?;
@@ -142,7 +140,6 @@ impl<'a> Printer<'a> {
             top_groups,
             next_group: 0,
             opens,
-            text,
             list: unwritten(NO_GROUP, 0, top, Style::Lines),
             outer: Vec::new(alloc),
             column: 0,
@@ -215,12 +212,7 @@ impl<'a> Printer<'a> {
     // Reads the list of a group.
     fn read_group(&mut self, group: Unread<'a>) -> Result<(), AllocError> {
         let first = self.atoms.len();
-        push_list(
-            &mut self.atoms,
-            &mut self.groups,
-            &mut self.text,
-            group.trees,
-        )?;
+        push_list(&mut self.atoms, &mut self.groups, group.trees)?;
         let end = self.atoms.len();
         let block = self.atom(group.index).is_brace();
         assign_roles(&mut self.atoms, &mut self.opens, first, end)?;

@@ -16,7 +16,6 @@ pub fn assign_roles(
     first: usize,
     end: usize,
 ) -> Result<(), AllocError> {
-    pair_angles(atoms, opens, first, end)?;
     let mut state = State {
         in_bars: false,
         head: Head::Nothing,
@@ -24,45 +23,44 @@ pub fn assign_roles(
         depth: 0,
     };
     for index in first..end {
+        // Roles before it stand, and those after it are asked by no other: the angles may be paired as they come.
+        let open = atom(atoms.as_slice(), index);
+        if open.is_mark('<') && open.role == Role::Plain {
+            pair_angles(atoms, opens, index, end)?;
+        }
         state.take(atoms, first, end, index);
     }
     Ok(())
 }
 
-// Finds the `<` and `>` that enclose types.
+// Finds the `<` and `>` that enclose types, from this `<` on.
 fn pair_angles(
     atoms: &mut Vec<Atom>,
     opens: &mut Vec<usize>,
-    first: usize,
+    index: usize,
     end: usize,
 ) -> Result<(), AllocError> {
-    for index in first..end {
-        let open = atom(atoms.as_slice(), index);
-        if !open.is_mark('<') || open.role != Role::Plain {
-            continue;
+    opens.clear();
+    opens.push(index)?;
+    for later in index.saturating_add(1)..end {
+        let next = atom(atoms.as_slice(), later);
+        if next.is_mark('<') {
+            opens.push(later)?;
+        } else if next.is_mark('>') {
+            if let Some(matched) = opens.pop() {
+                set_role(atoms, matched, Role::Less);
+            }
+            set_role(atoms, later, Role::Greater);
+        } else if ends_types(&next) {
+            break;
         }
-        opens.clear();
-        opens.push(index)?;
-        for later in index.saturating_add(1)..end {
-            let next = atom(atoms.as_slice(), later);
-            if next.is_mark('<') {
-                opens.push(later)?;
-            } else if next.is_mark('>') {
-                if let Some(matched) = opens.pop() {
-                    set_role(atoms, matched, Role::Less);
-                }
-                set_role(atoms, later, Role::Greater);
-            } else if ends_types(&next) {
-                break;
-            }
-            if opens.is_empty() {
-                break;
-            }
+        if opens.is_empty() {
+            break;
         }
-        for place in 0..opens.len() {
-            if let Some(unmatched) = opens.get(place) {
-                set_role(atoms, *unmatched, Role::Between);
-            }
+    }
+    for place in 0..opens.len() {
+        if let Some(unmatched) = opens.get(place) {
+            set_role(atoms, *unmatched, Role::Between);
         }
     }
     Ok(())
@@ -136,7 +134,7 @@ impl State {
             Kind::Sign(sign) => role = self.sign_role(sign, own.role, previous, next),
             Kind::Nothing => {}
         }
-        let spaced = index > first && wants_space(atoms.as_slice(), first, index, role);
+        let spaced = index > first && wants_space(atoms.as_slice(), first, index, previous, own, role);
         if let Some(changed) = atoms.get_mut(index) {
             changed.role = role;
             changed.spaced = spaced;
