@@ -56,6 +56,7 @@ pub trait Chooser {
 
 // The gap that is written where this one is chosen: none after a Joint mark, and a space where none is chosen and
 // the text that comes with the next step would go on with what stands before it.
+#[inline(always)]
 pub(crate) fn fitting(before: Option<Step<'_>>, chosen: Gap, next: Step<'_>) -> Gap
     ensures { result ≡ fitting (before_of before.entry) chosen (event_text (event_of (step_of next.entry)))
         (steps_range (step_of next.entry)) }
@@ -123,6 +124,7 @@ fn is_dot_next(trees: &[TokenTree]) -> bool
 }
 
 // Whether the step is past a Joint mark.
+#[inline(always)]
 fn is_joint(step: Step<'_>) -> bool
     ensures { result ≡ is_joint (event_of (step_of step.entry)) }
 {
@@ -203,6 +205,7 @@ fn begins_with_digit(text: &str) -> bool
 }
 
 // Writes the gap.
+#[inline(always)]
 pub(crate) fn push_gap(text: &mut TextBuilder, gap: Gap) -> Result<(), AllocError>
     ensures { OnOk result (text.new ≡ text.old ++ gap_text gap) }
 {

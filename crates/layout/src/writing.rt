@@ -104,6 +104,7 @@ fn depth_past(depth: usize, step: Step<'_>) -> usize
 }
 
 // Writes the token, opener or closer.
+#[inline(always)]
 fn push_step(text: &mut TextBuilder, step: Step<'_>) -> Result<(), AllocError>
     ensures { OnOk result (text.new ≡ text.old ++ event_text (event_of (step_of step.entry))) }
 {
@@ -115,6 +116,7 @@ fn push_step(text: &mut TextBuilder, step: Step<'_>) -> Result<(), AllocError>
 }
 
 // Writes the token, or the group's opener. What a token owns is copied from where it stands.
+#[inline(always)]
 fn push_tree(text: &mut TextBuilder, tree: &TokenTree) -> Result<(), AllocError>
     ensures { OnOk result (text.new ≡ text.old ++ event_text (tree_event tree.now)) }
 {
@@ -127,6 +129,7 @@ fn push_tree(text: &mut TextBuilder, tree: &TokenTree) -> Result<(), AllocError>
 }
 
 // Writes the identifier.
+#[inline(always)]
 fn push_name(text: &mut TextBuilder, ident: &Ident) -> Result<(), AllocError>
     ensures { OnOk result (text.new ≡ text.old ++ token_text (name_token ident.now)) }
 {
@@ -138,6 +141,7 @@ fn push_name(text: &mut TextBuilder, ident: &Ident) -> Result<(), AllocError>
 }
 
 // Writes the mark of a delimiter, if it has one.
+#[inline(always)]
 fn push_mark(text: &mut TextBuilder, mark: Option<char>) -> Result<(), AllocError>
     ensures { OnOk result (text.new ≡ text.old ++ option_list mark) }
 {

@@ -42,6 +42,7 @@ pub trait Chooser {
 
 // The gap that is written where this one is chosen: none after a Joint mark, and a space where none is chosen and
 // the text that comes with the next step would go on with what stands before it.
+#[inline(always)]
 pub(crate) fn fitting(before: Option<Step<'_>>, chosen: Gap, next: Step<'_>) -> Gap
 {
     let Some(step) = before else {
@@ -102,6 +103,7 @@ fn is_dot_next(trees: &[TokenTree]) -> bool
 }
 
 // Whether the step is past a Joint mark.
+#[inline(always)]
 fn is_joint(step: Step<'_>) -> bool
 {
     match step {
@@ -175,6 +177,7 @@ fn begins_with_digit(text: &str) -> bool
 }
 
 // Writes the gap.
+#[inline(always)]
 pub(crate) fn push_gap(text: &mut TextBuilder, gap: Gap) -> Result<(), AllocError>
 {
     match gap {
