@@ -116,25 +116,34 @@ impl State {
     fn take(&mut self, atoms: &mut Vec<Atom>, first: usize, end: usize, index: usize) {
         let own = atom(atoms.as_slice(), index);
         let previous = before(atoms.as_slice(), first, index);
-        let next = after(atoms.as_slice(), end, index);
-        if own.role == Role::Less {
-            self.depth = self.depth.saturating_add(1);
-        }
-        if own.role == Role::Greater {
-            self.depth = self.depth.saturating_sub(1);
-        }
         let mut begins = false;
         let mut role = own.role;
         match own.kind {
-            Kind::Word(word) => begins = self.take_word(word, previous, next),
+            Kind::Word(word) => {
+                if let Some(head) = head_of(word) {
+                    let next = after(atoms.as_slice(), end, index);
+                    begins = self.take_head(word, head, previous, next);
+                }
+            }
             Kind::Group(delimiter) => {
                 let earlier = before(atoms.as_slice(), first, index.saturating_sub(1));
+                let next = after(atoms.as_slice(), end, index);
                 role = self.group_role(delimiter, own, previous, earlier, next);
             }
-            Kind::Sign(sign) => role = self.sign_role(sign, own.role, previous, next),
+            Kind::Sign(sign) => {
+                // Only marks are angles.
+                match role {
+                    Role::Less => self.depth = self.depth.saturating_add(1),
+                    Role::Greater => self.depth = self.depth.saturating_sub(1),
+                    _ => {}
+                }
+                let next = after(atoms.as_slice(), end, index);
+                role = self.sign_role(sign, own.role, previous, next);
+            }
             Kind::Nothing => {}
         }
-        let spaced = index > first && wants_space(atoms.as_slice(), first, index, previous, own, role);
+        let spaced = index > first
+            && wants_space(atoms.as_slice(), first, index, previous, own, role);
         if let Some(changed) = atoms.get_mut(index) {
             changed.role = role;
             changed.spaced = spaced;
@@ -142,17 +151,8 @@ impl State {
         }
     }
 
-    // Whether an `if` begins that gives a value.
-    fn take_word(&mut self, word: Word, previous: &Atom, next: &Atom) -> bool {
-        let head = match word {
-            Word::Fn => Head::Fn,
-            Word::Impl => Head::Impl,
-            Word::Trait | Word::Mod | Word::Struct | Word::Enum | Word::Union | Word::Extern =>
-                Head::Item,
-            Word::For | Word::While | Word::Loop | Word::Match | Word::If => Head::Other,
-            Word::Else => Head::Else,
-            _ => return false,
-        };
+    // Whether an `if` begins that gives a value, at this word, with which `head` begins.
+    fn take_head(&mut self, word: Word, head: Head, previous: &Atom, next: &Atom) -> bool {
         let item = matches!(head, Head::Fn | Head::Impl | Head::Item);
         if word == Word::For && self.head == Head::Impl {
             return false;
@@ -298,6 +298,20 @@ impl State {
             _ => Role::Between,
         }
     }
+}
+
+// What begins with the word.
+fn head_of(word: Word) -> Option<Head> {
+    Some(match word {
+        Word::Fn => Head::Fn,
+        Word::Impl => Head::Impl,
+        Word::Trait | Word::Mod | Word::Struct | Word::Enum | Word::Union | Word::Extern => {
+            Head::Item
+        }
+        Word::For | Word::While | Word::Loop | Word::Match | Word::If => Head::Other,
+        Word::Else => Head::Else,
+        _ => return None,
+    })
 }
 
 // Of an operator that has two sides after a value.

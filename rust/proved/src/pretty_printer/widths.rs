@@ -23,21 +23,24 @@ pub fn find_parts(atoms: &mut Vec<Atom>, first: usize, end: usize, block: bool) 
     let mut plain = true;
     for index in first..end {
         let own = atom(atoms.as_slice(), index);
-        let next = after(atoms.as_slice(), end, index);
-        if own.role == Role::Less || own.role == Role::BarOpen {
-            depth = depth.saturating_add(1);
-        }
-        if own.role == Role::Greater || own.is_mark('|') && own.role == Role::BarClose {
-            depth = depth.saturating_sub(1);
+        let mut comma = false;
+        match own.role {
+            Role::Less | Role::BarOpen => depth = depth.saturating_add(1),
+            Role::Greater => depth = depth.saturating_sub(1),
+            Role::BarClose if own.is_mark('|') => depth = depth.saturating_sub(1),
+            Role::Comma => comma = depth == 0,
+            Role::After => plain = plain && after(atoms.as_slice(), end, index).role != Role::Dot,
+            _ => {}
         }
         in_where = in_where || own.is_word(Word::Where);
-        plain = plain && !in_where && !(own.role == Role::After && next.role == Role::Dot);
-        let comma = own.role == Role::Comma && depth == 0 && !(block && in_where);
-        let ends = !own.glued && (comma || block && ends_statement(&own, &next, signs_only));
+        let comma = comma && !(block && in_where);
+        let ends = !own.glued
+            && (comma
+                || block && ends_statement(own, after(atoms.as_slice(), end, index), signs_only));
         signs_only = signs_only && own.is_sign();
         if ends {
             let past = index.saturating_add(1);
-            set_part(atoms, start, past, plain);
+            set_part(atoms, start, past, plain && !in_where);
             start = past;
             count = count.saturating_add(1);
             in_where = false;
@@ -46,7 +49,7 @@ pub fn find_parts(atoms: &mut Vec<Atom>, first: usize, end: usize, block: bool) 
         }
     }
     if start < end {
-        set_part(atoms, start, end, plain);
+        set_part(atoms, start, end, plain && !in_where);
         count = count.saturating_add(1);
     }
     count
