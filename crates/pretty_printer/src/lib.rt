@@ -28,6 +28,7 @@ use quoting::{Quote, QuoteError, laws};
 use std::alloc::Global;
 
 impl<'a> Chooser for Printer<'a> {
+    #[inline(always)]
     fn gap(&mut self, place: Place<'_>) -> Gap {
         if place.after.is_none() {
             return match place.before {

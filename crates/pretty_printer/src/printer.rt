@@ -147,6 +147,7 @@ impl<'a> Printer<'a> {
     }
 
     /// The gap before the next token, opener or closer. Once memory ran out, any.
+    #[inline(always)]
     pub fn next_gap(&mut self) -> Gap {
         if self.joined > 0 {
             self.joined -= 1;
@@ -282,6 +283,7 @@ impl<'a> Printer<'a> {
     }
 
     // Writes the next atom of the list, or its end, and answers the gap before it.
+    #[inline(never)]
     fn step(&mut self) -> Result<Gap, AllocError> {
         if self.list.at >= self.list.end {
             return Ok(self.close());

@@ -20,6 +20,7 @@ use crate::quoting::{Quote, QuoteError, laws};
 use crate::shim::alloc::Global;
 
 impl<'a> Chooser for Printer<'a> {
+    #[inline(always)]
     fn gap(&mut self, place: Place<'_>) -> Gap {
         if place.after.is_none() {
             return match place.before {
