@@ -135,6 +135,7 @@ fn is_joint(step: Step<'_>) -> bool
 }
 
 // Whether what the next step writes would go on with the token that the step is past.
+#[inline(always)]
 fn goes_on(step: Step<'_>, next: Step<'_>) -> bool
     ensures { result ≡ goes_on (event_of (step_of step.entry)) (event_text (event_of (step_of next.entry))) }
 {
@@ -153,6 +154,7 @@ fn goes_on(step: Step<'_>, next: Step<'_>) -> bool
 }
 
 // The first character that the step writes.
+#[inline(always)]
 fn first_of(step: Step<'_>) -> Option<char>
     ensures { result ≡ front_char (event_text (event_of (step_of step.entry))) }
 {
@@ -164,6 +166,7 @@ fn first_of(step: Step<'_>) -> Option<char>
 }
 
 // And that of a token, or of a group's opener.
+#[inline(always)]
 fn first_of_tree(tree: &TokenTree) -> Option<char>
     ensures { result ≡ front_char (event_text (tree_event tree.now)) }
 {

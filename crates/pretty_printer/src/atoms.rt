@@ -433,6 +433,7 @@ struct Marks {
 }
 
 // The operator that begins with this mark, which is the tree of this index.
+#[inline(always)]
 fn operator(punct: &Punct, trees: &[TokenTree], index: usize) -> Marks {
     let second_index = index.saturating_add(1);
     let first = punct.as_char();

@@ -113,6 +113,7 @@ fn is_joint(step: Step<'_>) -> bool
 }
 
 // Whether what the next step writes would go on with the token that the step is past.
+#[inline(always)]
 fn goes_on(step: Step<'_>, next: Step<'_>) -> bool
 {
     let Step::Token(tree, _) = step else {
@@ -130,6 +131,7 @@ fn goes_on(step: Step<'_>, next: Step<'_>) -> bool
 }
 
 // The first character that the step writes.
+#[inline(always)]
 fn first_of(step: Step<'_>) -> Option<char>
 {
     match step {
@@ -140,6 +142,7 @@ fn first_of(step: Step<'_>) -> Option<char>
 }
 
 // And that of a token, or of a group's opener.
+#[inline(always)]
 fn first_of_tree(tree: &TokenTree) -> Option<char>
 {
     match tree {
