@@ -1,6 +1,7 @@
 -- Gaps that are chosen, and their spaces.
 use Rattle.std.specs.Prelude.{◌-◌, if◌then◌else◌}
-use Rattle.std.proofs.Common.{◌≡◌, ◌≤◌, ℕ, suc, Bool, true, false, [], ◌∷◌, ◌++◌, List, Some, refl, ap, arith, codes, zero, ◌<◌, get_or}
+use Rattle.std.proofs.Common.{◌≡◌, ◌<◌, ◌≤◌, ℕ, zero, suc, Bool, true, false, List, [], ◌∷◌, ◌++◌, Some, codes}
+use Rattle.std.proofs.Common.{refl, ap, arith, get_or}
 use Rattle.std.specs.Str.{chars}
 use Rattle.std.proofs.lemmas.Str.{chars-IsAscii}
 use Rattle.lexical.specs.Text.{first_passes}
