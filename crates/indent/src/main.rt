@@ -13,9 +13,9 @@
 
 mod answer;
 mod choosing;
-#[cfg(test)]
-mod compared;
 mod options;
+#[cfg(test)]
+mod tests;
 
 use answer::{is_indented, print_text};
 use messages::{Failure, conclude, read_text, say, words};
