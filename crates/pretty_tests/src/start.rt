@@ -1,0 +1,67 @@
+//! The code with which `pretty_printer` began, kept as it was for comparison: what it wrote, the crate writes.
+//! Its contracts are left out.
+//!
+//! Prints streams so that people read them well.
+//!
+//! [`to_pretty_string`] writes a stream's tokens on lines of 100 columns where that can be. What it writes reads
+//! back to the stream with its marks respaced, whatever its rules choose: the crate `layout` promises that of every
+//! layout.
+
+mod atoms;
+mod lists;
+mod printer;
+mod roles;
+mod widths;
+
+use layout::{Chooser, Gap, LayoutError, Place, text_with};
+use printer::Printer;
+use proc_macro2::TokenStream;
+use quoting::{Quote, QuoteError};
+use std::alloc::Global;
+
+impl<'a> Chooser for Printer<'a> {
+    fn gap(&mut self, place: Place<'_>) -> Gap {
+        if place.after.is_none() {
+            return match place.before {
+                Some(_) => Gap::Line(0),
+                None => Gap::Nothing,
+            };
+        }
+        self.next_gap()
+    }
+}
+
+/// The stream's tokens as text for people: a statement or an item a line, blocks and long lists over several lines.
+///
+/// Its marks are respaced first, as `Quote::finish` does: one that is Joint to what it can't be joined with is Alone.
+/// The text is a layout of that stream, so that it reads back to it, up to spans; a stream that is `well-spaced` is
+/// respaced to itself. Where the lines of the text break is told by no contract.
+///
+/// `NoneGroup` and `LoneQuote` tell the stream's first fault, which no spacing of its marks mends, and `Memory` that
+/// memory ran out. It takes time in proportion to the length of the text.
+///
+/// `fn f(){g(1)}` is written over three lines, the second of which is `    g(1)`.
+pub fn to_pretty_string(alloc: Global, stream: &TokenStream) -> Result<String, QuoteError> {
+    match lay_out(alloc, stream) {
+        Ok(text) => return Ok(text),
+        Err(LayoutError::Memory(error)) => return Err(QuoteError::Memory(error)),
+        Err(LayoutError::NotWellSpaced | LayoutError::Write(_)) => {}
+    }
+    let mut quote = Quote::new(alloc);
+    quote.push_stream(stream.clone()?)?;
+    let stream = quote.finish()?;
+    match lay_out(alloc, &stream) {
+        Ok(text) => Ok(text),
+        Err(LayoutError::Memory(error)) => Err(QuoteError::Memory(error)),
+        // Neither comes, and the comparison would tell: the crate writes a text of such a stream.
+        Err(LayoutError::NotWellSpaced | LayoutError::Write(_)) => Err(QuoteError::NoneGroup),
+    }
+}
+
+// The tokens of a stream as text for people, if it is well spaced.
+fn lay_out(alloc: Global, stream: &TokenStream) -> Result<String, LayoutError> {
+    let mut printer = Printer::new(alloc, stream)?;
+    let text = text_with(stream, &mut printer, alloc)?;
+    printer.finish()?;
+    Ok(text)
+}

@@ -1,0 +1,306 @@
+//! What operators and groups mean where they stand.
+//!
+//! The code of the start, kept as it was for comparison.
+use crate::start::atoms::{Atom, Kind, Role, Sign, Word};
+use crate::start::lists::{after, atom, before, set_role};
+use crate::start::widths::wants_space;
+use proc_macro2::Delimiter;
+use std::alloc::AllocError;
+
+/// Gives the atoms of a list their roles. `opens` is for indexes.
+pub fn assign_roles(
+    atoms: &mut Vec<Atom>,
+    opens: &mut Vec<usize>,
+    first: usize,
+    end: usize,
+) -> Result<(), AllocError> {
+    pair_angles(atoms, opens, first, end)?;
+    let mut state = State {
+        in_bars: false,
+        head: Head::Nothing,
+        last: Head::Nothing,
+        depth: 0,
+    };
+    for index in first..end {
+        state.take(atoms, first, end, index);
+    }
+    Ok(())
+}
+
+// Finds the `<` and `>` that enclose types.
+fn pair_angles(
+    atoms: &mut Vec<Atom>,
+    opens: &mut Vec<usize>,
+    first: usize,
+    end: usize,
+) -> Result<(), AllocError> {
+    for index in first..end {
+        let open = atom(atoms.as_slice(), index);
+        if !open.is_mark('<') || open.role != Role::Plain {
+            continue;
+        }
+        opens.clear();
+        opens.push(index)?;
+        for later in index.saturating_add(1)..end {
+            let next = atom(atoms.as_slice(), later);
+            if next.is_mark('<') {
+                opens.push(later)?;
+            } else if next.is_mark('>') {
+                if let Some(matched) = opens.pop() {
+                    set_role(atoms, matched, Role::Less);
+                }
+                set_role(atoms, later, Role::Greater);
+            } else if ends_types(&next) {
+                break;
+            }
+            if opens.is_empty() {
+                break;
+            }
+        }
+        for place in 0..opens.len() {
+            if let Some(unmatched) = opens.get(place) {
+                set_role(atoms, *unmatched, Role::Between);
+            }
+        }
+    }
+    Ok(())
+}
+
+// Whether no type goes on with the atom.
+fn ends_types(atom: &Atom) -> bool {
+    match atom.kind {
+        Kind::Word(word) => matches!(
+            word,
+            Word::String | Word::If | Word::Let | Word::Match | Word::Else
+        ),
+        Kind::Group(_) => atom.is_brace(),
+        Kind::Sign(sign) => match sign {
+            Sign::Path | Sign::Arrow => false,
+            Sign::One(mark) => !matches!(
+                mark,
+                ',' | '&' | ':' | '=' | '+' | '?' | '*' | '!' | '$' | '#' | '\''
+            ),
+            _ => true,
+        },
+        Kind::Nothing => true,
+    }
+}
+
+// What the next braces belong to.
+#[derive(Clone, Copy, PartialEq)]
+enum Head {
+    Nothing,
+    Fn,
+    Impl,
+    // Any other item.
+    Item,
+    Else,
+    // An `if` that gives a value, and its `else`.
+    Branch,
+    // `if`, `for`, `while`, `loop` or `match`.
+    Other,
+}
+
+// What was read of a list.
+#[derive(Clone, Copy)]
+struct State {
+    in_bars: bool,
+    head: Head,
+    last: Head,
+    // How many `<` are open.
+    depth: usize,
+}
+
+impl State {
+    // Gives the atom of this index its role, and says whether a space stands before it.
+    fn take(&mut self, atoms: &mut Vec<Atom>, first: usize, end: usize, index: usize) {
+        let own = atom(atoms.as_slice(), index);
+        let previous = before(atoms.as_slice(), first, index);
+        let next = after(atoms.as_slice(), end, index);
+        if own.role == Role::Less {
+            self.depth = self.depth.saturating_add(1);
+        }
+        if own.role == Role::Greater {
+            self.depth = self.depth.saturating_sub(1);
+        }
+        let mut begins = false;
+        let mut role = own.role;
+        match own.kind {
+            Kind::Word(word) => begins = self.take_word(word, previous, next),
+            Kind::Group(delimiter) => {
+                let earlier = before(atoms.as_slice(), first, index.saturating_sub(1));
+                role = self.group_role(delimiter, own, previous, earlier, next);
+            }
+            Kind::Sign(sign) => role = self.sign_role(sign, own.role, previous, next),
+            Kind::Nothing => {}
+        }
+        let spaced = index > first && wants_space(atoms.as_slice(), first, index, role);
+        if let Some(changed) = atoms.get_mut(index) {
+            changed.role = role;
+            changed.spaced = spaced;
+            changed.begins_branches = begins;
+        }
+    }
+
+    // Whether an `if` begins that gives a value.
+    fn take_word(&mut self, word: Word, previous: &Atom, next: &Atom) -> bool {
+        let head = match word {
+            Word::Fn => Head::Fn,
+            Word::Impl => Head::Impl,
+            Word::Trait | Word::Mod | Word::Struct | Word::Enum | Word::Union | Word::Extern =>
+                Head::Item,
+            Word::For | Word::While | Word::Loop | Word::Match | Word::If => Head::Other,
+            Word::Else => Head::Else,
+            _ => return false,
+        };
+        let item = matches!(head, Head::Fn | Head::Impl | Head::Item);
+        if word == Word::For && self.head == Head::Impl {
+            return false;
+        }
+        if item && (next.is_group() || self.head == Head::Fn) {
+            return false;
+        }
+        let after_sign = previous.is_sign()
+            && previous.role != Role::Greater
+            && previous.role != Role::Semicolon;
+        let inside = after_sign || previous.is_word(Word::Return) || previous.is_word(Word::Break);
+        let after_else = previous.is_word(Word::Else);
+        self.head = if word == Word::If && after_else {
+            self.last
+        } else if word == Word::Else && self.last == Head::Branch {
+            Head::Branch
+        } else if word == Word::If && inside {
+            Head::Branch
+        } else {
+            head
+        };
+        self.head == Head::Branch && word == Word::If && !after_else
+    }
+
+    fn is_in_item(&self) -> bool {
+        matches!(self.head, Head::Fn | Head::Impl | Head::Item)
+    }
+
+    fn group_role(
+        &mut self,
+        delimiter: Delimiter,
+        own: &Atom,
+        previous: &Atom,
+        earlier: &Atom,
+        next: &Atom,
+    ) -> Role {
+        if delimiter != Delimiter::Brace {
+            if previous.is_mark('$') {
+                return Role::Repeated;
+            }
+            let hash = previous.is_mark('#') || previous.is_mark('!') && earlier.is_mark('#');
+            if delimiter == Delimiter::Bracket && hash {
+                return Role::Attribute;
+            }
+            if delimiter == Delimiter::Parenthesis && !previous.is_value() {
+                return Role::Tuple;
+            }
+            return Role::Plain;
+        }
+        if previous.is_path() {
+            return Role::Use;
+        }
+        let goes_on = next.is_mark('=')
+            || next.is_mark('|')
+            || next.is_mark(':')
+            || next.is_word(Word::In);
+        if self.head != Head::Nothing && (self.is_in_item() || !goes_on) {
+            let role = if self.head == Head::Branch && !own.statements {
+                Role::Branch
+            } else {
+                Role::Block
+            };
+            self.last = self.head;
+            self.head = Head::Nothing;
+            return role;
+        }
+        if own.statements
+            || previous.role == Role::Attribute
+            || previous.is_arm()
+            || previous.is_mark('!')
+            || previous.is_mark('|')
+            || previous.is_or()
+        {
+            return Role::Block;
+        }
+        let name = previous.is_any_word() && !previous.is_keyword();
+        if name || previous.role == Role::Greater {
+            Role::Fields
+        } else {
+            Role::Expression
+        }
+    }
+
+    fn sign_role(&mut self, sign: Sign, role: Role, previous: &Atom, next: &Atom) -> Role {
+        let mark = match sign {
+            Sign::One(mark) => mark,
+            _ => ' ',
+        };
+        let comma_ends = mark == ',' && self.depth == 0 && !self.is_in_item();
+        if mark == ';' || matches!(sign, Sign::Arm) || comma_ends {
+            self.head = Head::Nothing;
+        }
+        let repeated = previous.role == Role::Repeated || previous.role == Role::Separator;
+        if repeated && matches!(mark, '*' | '+' | '?') {
+            return Role::After;
+        }
+        if repeated && matches!(mark, ',' | ';' | '|') {
+            return Role::Separator;
+        }
+        let value = previous.is_value();
+        if mark == '!' {
+            return if previous.is_mark('#') {
+                Role::Hash
+            } else if previous.is_any_word()
+                && (value && !next.is_sign() || previous.is_word(Word::MacroRules))
+            {
+                Role::Bang
+            } else {
+                Role::Before
+            };
+        }
+        if mark == '|' || matches!(sign, Sign::Or) {
+            let found = if mark == '|' && self.in_bars {
+                Role::BarClose
+            } else if value {
+                Role::Between
+            } else if mark == '|' {
+                Role::BarOpen
+            } else {
+                Role::BarClose
+            };
+            self.in_bars = found == Role::BarOpen;
+            return found;
+        }
+        if role != Role::Plain {
+            return role;
+        }
+        match sign {
+            Sign::Path => Role::Path,
+            Sign::Range => Role::Range,
+            Sign::And => side(value),
+            Sign::One(c) => match c {
+                ':' => Role::Colon,
+                ',' => Role::Comma,
+                ';' => Role::Semicolon,
+                '.' => Role::Dot,
+                '#' => Role::Hash,
+                '$' | '~' => Role::Before,
+                '?' if value => Role::After,
+                '-' | '*' | '&' | '@' | '?' => side(value),
+                _ => Role::Between,
+            },
+            _ => Role::Between,
+        }
+    }
+}
+
+// Of an operator that has two sides after a value.
+fn side(value: bool) -> Role {
+    if value { Role::Between } else { Role::Before }
+}
