@@ -4,18 +4,19 @@
 //! Most pieces of a source are of ASCII and end before ASCII, and so are found among the bytes, with no character
 //! decoded. Where the bytes tell nothing, [`piece_at`](crate::lexical::piece_at) reads the piece by its characters.
 
-use crate::lexical::bytes::{Base, Class, count_ascii, holds_ascii};
+mod numbers;
+mod quoted;
+
+use crate::lexical::bytes::{Class, count_ascii, holds_ascii};
 use crate::lexical::class::{PieceStart, byte_start};
-use crate::lexical::escapes::is_letter;
 use crate::lexical::piece::{Piece, PieceKind};
-use crate::lexical::quoted::StringKind;
-use crate::lexical::single_quotes::stands_bare;
-use crate::lexical::text::{split_first, strip};
-use crate::shim::memchr::{memchr2, memchr3};
+use crate::shim::memchr::memchr2;
+use numbers::{long_number_size, number_size};
+use quoted::{character_size, string_size, wide_character};
 
 /// The byte at the index, or a space where there is none.
 #[inline(always)]
-fn byte_at(bytes: &[u8], index: usize) -> u8
+pub fn byte_at(bytes: &[u8], index: usize) -> u8
 {
     if index < bytes.len() {
         bytes[index]
@@ -45,240 +46,6 @@ fn name_size(text: &str) -> Option<usize>
     } else {
         None
     }
-}
-
-/// Whether a number of digits alone that the byte follows ends there, and is no front of a float.
-#[inline(always)]
-fn ends_number(byte: u8) -> bool
-{
-    byte.is_ascii() && byte != b'.' && !holds_ascii(Class::IdentifierContinue, byte)
-}
-
-/// How many bytes the number has that stands at the front and is made of digits and `_` alone.
-#[inline(always)]
-fn number_size(text: &str) -> Option<usize>
-{
-    let bytes = text.as_bytes();
-    if !holds_ascii(Class::Digit, byte_at(bytes, 0)) {
-        return None;
-    }
-    let size = count_ascii(bytes, Class::DigitOrUnderscore);
-    if ends_number(byte_at(bytes, size)) {
-        Some(size)
-    } else {
-        None
-    }
-}
-
-/// Whether a number that the byte follows ends there, and has no suffix.
-#[inline(always)]
-fn ends_digits(byte: u8) -> bool
-{
-    byte.is_ascii() && !holds_ascii(Class::IdentifierContinue, byte)
-}
-
-/// How many bytes the suffix of a number has that stands at the front, before ASCII, and begins with no exponent.
-#[inline(always)]
-fn suffix_size(bytes: &[u8]) -> Option<usize>
-{
-    let first = byte_at(bytes, 0);
-    if holds_ascii(Class::ExponentLetter, first) {
-        return None;
-    }
-    if !holds_ascii(Class::IdentifierStart, first) {
-        return if ends_digits(first) { Some(0) } else { None };
-    }
-    let size = count_ascii(bytes, Class::IdentifierContinue);
-    if byte_at(bytes, size).is_ascii() {
-        Some(size)
-    } else {
-        None
-    }
-}
-
-/// How many bytes the float has that stands at the front, with a dot and no exponent.
-#[inline(always)]
-fn float_size(text: &str) -> Option<usize>
-{
-    let bytes = text.as_bytes();
-    if !holds_ascii(Class::Digit, byte_at(bytes, 0)) {
-        return None;
-    }
-    let digits = count_ascii(bytes, Class::DigitOrUnderscore);
-    if byte_at(bytes, digits) != b'.' {
-        return None;
-    }
-    let after = &bytes[digits + 1..];
-    let next = byte_at(after, 0);
-    if !next.is_ascii() || holds_ascii(Class::BarsDot, next) {
-        return None;
-    }
-    let fraction = count_ascii(after, Class::DigitOrUnderscore);
-    let suffix = suffix_size(&after[fraction..])?;
-    Some(digits + 1 + fraction + suffix)
-}
-
-/// How many bytes the number of base 16 has that stands at the front, and begins with a digit after its prefix.
-#[inline(always)]
-fn hex_size(text: &str) -> Option<usize>
-{
-    let bytes = text.as_bytes();
-    if byte_at(bytes, 0) != b'0' || byte_at(bytes, 1) != b'x' {
-        return None;
-    }
-    let after = &bytes[2..];
-    if !holds_ascii(Class::DigitOf(Base::Hexadecimal), byte_at(after, 0)) {
-        return None;
-    }
-    let digits = count_ascii(after, Class::DigitOrUnderscoreOf(Base::Hexadecimal));
-    let suffix = suffix_size(&after[digits..])?;
-    Some(2 + digits + suffix)
-}
-
-/// Whether the byte begins a suffix of an integer, and neither a base nor an exponent.
-#[inline(always)]
-fn begins_suffix(byte: u8) -> bool
-{
-    byte == b'u' || byte == b'i' || byte == b'f'
-}
-
-/// How many bytes the integer has that stands at the front, of digits and `_` before a suffix.
-#[inline(always)]
-fn suffixed_size(text: &str) -> Option<usize>
-{
-    let bytes = text.as_bytes();
-    if !holds_ascii(Class::Digit, byte_at(bytes, 0)) {
-        return None;
-    }
-    let digits = count_ascii(bytes, Class::DigitOrUnderscore);
-    if !begins_suffix(byte_at(bytes, digits)) {
-        return None;
-    }
-    let suffix = suffix_size(&bytes[digits..])?;
-    Some(digits + suffix)
-}
-
-/// How many bytes the number has that stands at the front, with a dot, a suffix or the prefix of base 16.
-#[inline(never)]
-fn long_number_size(text: &str) -> Option<usize>
-{
-    if let Some(size) = float_size(text) {
-        return Some(size);
-    }
-    match hex_size(text) {
-        Some(size) => Some(size),
-        None => suffixed_size(text),
-    }
-}
-
-/// Whether a literal between quotes that the byte follows ends there, with no suffix.
-#[inline(always)]
-fn ends_literal(byte: u8) -> bool
-{
-    byte.is_ascii() && !holds_ascii(Class::IdentifierStart, byte)
-}
-
-/// How many bytes the character has that stands at the front, between its quotes one of ASCII, or a backslash and a
-/// letter.
-#[inline(always)]
-fn character_size(text: &str) -> Option<usize>
-{
-    let bytes = text.as_bytes();
-    if byte_at(bytes, 0) != b'\'' {
-        return None;
-    }
-    let byte = byte_at(bytes, 1);
-    if byte == b'\\' {
-        let letter = byte_at(bytes, 2);
-        if letter.is_ascii()
-            && is_letter(letter as char, StringKind::Plain)
-            && byte_at(bytes, 3) == b'\''
-            && ends_literal(byte_at(bytes, 4))
-        {
-            return Some(4);
-        }
-        return None;
-    }
-    if byte.is_ascii()
-        && byte_at(bytes, 2) == b'\''
-        && stands_bare(byte as char, StringKind::Plain)
-        && ends_literal(byte_at(bytes, 3))
-    {
-        return Some(3);
-    }
-    None
-}
-
-/// The character that stands at the front, between its quotes one that stands for itself, past ASCII too.
-#[inline(never)]
-fn wide_character(text: &str) -> Option<Piece<'_>>
-{
-    let (quote, inside) = split_first(text)?;
-    let (c, after) = split_first(inside)?;
-    let rest = strip(after, "'")?;
-    if quote != '\''
-        || !stands_bare(c, StringKind::Plain)
-        || !ends_literal(byte_at(rest.as_bytes(), 0))
-    {
-        return None;
-    }
-    let size = text.len() - rest.len();
-    Some(Piece {
-        kind: PieceKind::Literal,
-        bytes: size,
-        chars: 3,
-    })
-}
-
-/// Whether the byte makes a unit of a string with the backslash before it: a letter, or a LF.
-#[inline(always)]
-fn ends_escape(byte: u8) -> bool
-{
-    byte.is_ascii() && (byte == b'\n' || is_letter(byte as char, StringKind::Plain))
-}
-
-/// How many bytes stand before the first quote, backslash or CR, if there is one.
-#[inline(always)]
-fn plain_size(bytes: &[u8]) -> Option<usize>
-{
-    // Often a quote or an escape follows at once.
-    let next = byte_at(bytes, 0);
-    if next == b'"' || next == b'\\' {
-        return Some(0);
-    }
-    memchr3(b'"', b'\\', b'\r', bytes)
-}
-
-/// How many bytes the string has that stands at the front, of ASCII with no CR, whose escapes are of two bytes each.
-///
-/// The search for what ends it goes on after each escape: the string is searched once.
-#[inline(always)]
-fn string_size(text: &str) -> Option<usize>
-{
-    let bytes = text.as_bytes();
-    if byte_at(bytes, 0) != b'"' {
-        return None;
-    }
-    let inside = &bytes[1..];
-    let mut size = memchr3(b'"', b'\\', b'\r', inside)?;
-    // What is past ASCII mostly stands before the first escape too: such a string is left at once.
-    if inside[size] == b'\\' && !inside[..size].is_ascii() {
-        return None;
-    }
-    while inside[size] == b'\\' {
-        if !ends_escape(byte_at(inside, size + 1)) {
-            return None;
-        }
-        size += 2;
-        size += plain_size(&inside[size..])?;
-    }
-    if inside[size] == b'"'
-        && inside[..size].is_ascii()
-        && ends_literal(byte_at(inside, size + 1))
-    {
-        return Some(size + 2);
-    }
-    None
 }
 
 /// How many bytes the rest of the line has, of ASCII with no CR.

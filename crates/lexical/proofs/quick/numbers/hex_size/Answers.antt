@@ -3,7 +3,7 @@ use Rattle.std.proofs.lemmas.List.{take_rest}
 use Rattle.lexical.specs.declared.bytes.Base.TheVariants as bases
 use Rattle.lexical.specs.declared.bytes.Class.TheVariants as classes
 use Rattle.lexical.proofs.QuickNumberLemmas.{hex_read, byte_within, run_within}
-use Rattle.lexical.proofs.quick.hex_size.Goals as goal
+use Rattle.lexical.proofs.quick.numbers.hex_size.Goals as goal
 
 pub slice_bounds-suffix_size-count : goal.slice_bounds-suffix_size-count
 slice_bounds-suffix_size-count c =

@@ -3,7 +3,7 @@ use Rattle.lexical.specs.Quoted.{is_one_of, letters}
 use Rattle.lexical.specs.SingleQuoted.{is_char_plain}
 use Rattle.lexical.specs.declared.quoted.StringKind.TheVariants as strings
 use Rattle.lexical.proofs.QuickLiteralLemmas.{ends, escaped_read, plain_read}
-use Rattle.lexical.proofs.quick.character_size.Goals as goal
+use Rattle.lexical.proofs.quick.quoted.character_size.Goals as goal
 
 pub returns-then-ends_literal : goal.returns-then-ends_literal
 returns-then-ends_literal c =

@@ -1,6 +1,6 @@
 use Rattle.std.proofs.Common.{get_or, ◌∙◌, refl, sym, ap}
 use Rattle.lexical.proofs.QuickLiteralLemmas.{ends, wide_fits, wide_read}
-use Rattle.lexical.proofs.quick.wide_character.Goals as goal
+use Rattle.lexical.proofs.quick.quoted.wide_character.Goals as goal
 
 pub overflow_sub-size : goal.overflow_sub-size
 overflow_sub-size c =

@@ -2,7 +2,7 @@ use Rattle.std.proofs.Common.{◌+◌, ◌-◌, length, get_or, take, drop, sym,
 use Rattle.std.proofs.lemmas.List.{take_rest}
 use Rattle.lexical.proofs.QuickLiteralLemmas.{ends}
 use Rattle.lexical.proofs.QuickStringLemmas.{ends_escape, pair_within, search_within, stretch, string_read, units_on}
-use Rattle.lexical.proofs.quick.string_size.Goals as goal
+use Rattle.lexical.proofs.quick.quoted.string_size.Goals as goal
 
 pub loop-size-init : goal.loop-size-init
 loop-size-init c = record { within = c.in_ok-size.ensures.0.high; units = stretch _ _ c.in_ok-size.ensures }

@@ -1,5 +1,5 @@
 use Rattle.lexical.proofs.QuickNumberLemmas.{name_end, plain_end}
-use Rattle.lexical.proofs.quick.suffix_size.Goals as goal
+use Rattle.lexical.proofs.quick.numbers.suffix_size.Goals as goal
 
 pub returns-then-ends_digits-clause-end : goal.returns-then-ends_digits-clause-end
 returns-then-ends_digits-clause-end c =

@@ -1,7 +1,7 @@
 use Rattle.std.proofs.Common.{sym, ◌∙◌}
 use Rattle.std.proofs.lemmas.List.{take_rest}
 use Rattle.lexical.proofs.QuickNumberLemmas.{suffixed_read}
-use Rattle.lexical.proofs.quick.suffixed_size.Goals as goal
+use Rattle.lexical.proofs.quick.numbers.suffixed_size.Goals as goal
 
 pub returns : goal.returns
 returns c =

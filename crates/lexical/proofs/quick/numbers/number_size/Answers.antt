@@ -1,5 +1,5 @@
 use Rattle.lexical.proofs.QuickLemmas.{number_read}
-use Rattle.lexical.proofs.quick.number_size.Goals as goal
+use Rattle.lexical.proofs.quick.numbers.number_size.Goals as goal
 
 pub returns-then-ends_number : goal.returns-then-ends_number
 returns-then-ends_number c = number_read _ _ c.as_bytes-bytes.ensures.value _ _ _ c.byte_at.ensures c.byte_at-2.ensures

@@ -2,7 +2,7 @@ use Rattle.std.proofs.Common.{◌+◌, ◌-◌, length, take, drop, ap, arith, l
 use Rattle.std.proofs.lemmas.List.{take_rest}
 use Rattle.lexical.specs.declared.bytes.Class.TheVariants as classes
 use Rattle.lexical.proofs.QuickNumberLemmas.{float_read, byte_within, run_within}
-use Rattle.lexical.proofs.quick.float_size.Goals as goal
+use Rattle.lexical.proofs.quick.numbers.float_size.Goals as goal
 
 pub slice_bounds-suffix_size-count : goal.slice_bounds-suffix_size-count
 slice_bounds-suffix_size-count c = run_within classes.DigitOrUnderscore _ _ c.count_ascii-fraction.ensures

@@ -1,0 +1,145 @@
+//! Numbers that a few bytes tell.
+
+ghost use Rattle.std.specs.Prelude.{◌≡◌, ◌<◌, ◌==◌, ◌&&◌, ◌||◌, IfSome, codes, get_or, nat_lt, not};
+ghost use Rattle.lexical.specs.Character.{dot};
+ghost use Rattle.lexical.specs.Class.{is_ident_continue};
+ghost use Rattle.lexical.specs.Number.{Number};
+ghost use Rattle.lexical.specs.Quick.{IsAsciiAt, NumberEnd};
+ghost use Rattle.lexical.specs.Quoted.{is_one_of};
+
+use crate::bytes::{Base, Class, count_ascii, holds_ascii};
+use crate::quick::byte_at;
+
+/// Whether a number of digits alone that the byte follows ends there, and is no front of a float.
+#[inline(always)]
+fn ends_number(byte: u8) -> bool
+    ensures { result ≡ (nat_lt byte 128 && not ((byte == dot) || is_ident_continue byte)) }
+{
+    byte.is_ascii() && byte != b'.' && !holds_ascii(Class::IdentifierContinue, byte)
+}
+
+/// How many bytes the number has that stands at the front and is made of digits and `_` alone.
+#[inline(always)]
+pub fn number_size(text: &str) -> Option<usize>
+    ensures { IfSome result (IsAsciiAt Number text.now) }
+{
+    let bytes = text.as_bytes();
+    if !holds_ascii(Class::Digit, byte_at(bytes, 0)) {
+        return None;
+    }
+    let size = count_ascii(bytes, Class::DigitOrUnderscore);
+    if ends_number(byte_at(bytes, size)) {
+        Some(size)
+    } else {
+        None
+    }
+}
+
+/// Whether a number that the byte follows ends there, and has no suffix.
+#[inline(always)]
+fn ends_digits(byte: u8) -> bool
+    ensures { result ≡ (nat_lt byte 128 && not (is_ident_continue byte)) }
+{
+    byte.is_ascii() && !holds_ascii(Class::IdentifierContinue, byte)
+}
+
+/// How many bytes the suffix of a number has that stands at the front, before ASCII, and begins with no exponent.
+#[inline(always)]
+fn suffix_size(bytes: &[u8]) -> Option<usize>
+    ensures end { IfSome result (IsAsciiAt NumberEnd bytes.now) }
+    ensures ascii { IfSome result (λ size. get_or bytes.now 0 32 < 128) }
+{
+    let first = byte_at(bytes, 0);
+    if holds_ascii(Class::ExponentLetter, first) {
+        return None;
+    }
+    if !holds_ascii(Class::IdentifierStart, first) {
+        return if ends_digits(first) { Some(0) } else { None };
+    }
+    let size = count_ascii(bytes, Class::IdentifierContinue);
+    if byte_at(bytes, size).is_ascii() {
+        Some(size)
+    } else {
+        None
+    }
+}
+
+/// How many bytes the float has that stands at the front, with a dot and no exponent.
+#[inline(always)]
+fn float_size(text: &str) -> Option<usize>
+    ensures { IfSome result (IsAsciiAt Number text.now) }
+{
+    let bytes = text.as_bytes();
+    if !holds_ascii(Class::Digit, byte_at(bytes, 0)) {
+        return None;
+    }
+    let digits = count_ascii(bytes, Class::DigitOrUnderscore);
+    if byte_at(bytes, digits) != b'.' {
+        return None;
+    }
+    let after = &bytes[digits + 1..];
+    let next = byte_at(after, 0);
+    if !next.is_ascii() || holds_ascii(Class::BarsDot, next) {
+        return None;
+    }
+    let fraction = count_ascii(after, Class::DigitOrUnderscore);
+    let suffix = suffix_size(&after[fraction..])?;
+    Some(digits + 1 + fraction + suffix)
+}
+
+/// How many bytes the number of base 16 has that stands at the front, and begins with a digit after its prefix.
+#[inline(always)]
+fn hex_size(text: &str) -> Option<usize>
+    ensures { IfSome result (IsAsciiAt Number text.now) }
+{
+    let bytes = text.as_bytes();
+    if byte_at(bytes, 0) != b'0' || byte_at(bytes, 1) != b'x' {
+        return None;
+    }
+    let after = &bytes[2..];
+    if !holds_ascii(Class::DigitOf(Base::Hexadecimal), byte_at(after, 0)) {
+        return None;
+    }
+    let digits = count_ascii(after, Class::DigitOrUnderscoreOf(Base::Hexadecimal));
+    let suffix = suffix_size(&after[digits..])?;
+    Some(2 + digits + suffix)
+}
+
+/// Whether the byte begins a suffix of an integer, and neither a base nor an exponent.
+#[inline(always)]
+fn begins_suffix(byte: u8) -> bool
+    ensures { result ≡ is_one_of (codes "uif") byte }
+{
+    byte == b'u' || byte == b'i' || byte == b'f'
+}
+
+/// How many bytes the integer has that stands at the front, of digits and `_` before a suffix.
+#[inline(always)]
+fn suffixed_size(text: &str) -> Option<usize>
+    ensures { IfSome result (IsAsciiAt Number text.now) }
+{
+    let bytes = text.as_bytes();
+    if !holds_ascii(Class::Digit, byte_at(bytes, 0)) {
+        return None;
+    }
+    let digits = count_ascii(bytes, Class::DigitOrUnderscore);
+    if !begins_suffix(byte_at(bytes, digits)) {
+        return None;
+    }
+    let suffix = suffix_size(&bytes[digits..])?;
+    Some(digits + suffix)
+}
+
+/// How many bytes the number has that stands at the front, with a dot, a suffix or the prefix of base 16.
+#[inline(never)]
+pub fn long_number_size(text: &str) -> Option<usize>
+    ensures { IfSome result (IsAsciiAt Number text.now) }
+{
+    if let Some(size) = float_size(text) {
+        return Some(size);
+    }
+    match hex_size(text) {
+        Some(size) => Some(size),
+        None => suffixed_size(text),
+    }
+}
