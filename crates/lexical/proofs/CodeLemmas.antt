@@ -1,10 +1,15 @@
 -- The code of a character, digit by digit.
 use Rattle.std.proofs.Common.{◌≡◌, ℕ, ◌+◌, ◌*◌, ◌<◌, ◌≤◌, ◌==◌, ◌&&◌, Bool, true, false, cond, nat_lt, List, [], ◌∷◌}
-use Rattle.std.proofs.Common.{length, refl, sym, ap, ◌∙◌, arith, ltb-true}
+use Rattle.std.proofs.Common.{length, refl, sym, ap, ◌∙◌, arith, ltb-true, get_or, take, drop, drop-cons, suc}
 use Rattle.std.specs.Prelude.{filter}
 use Rattle.std.specs.Char.{is_ascii_hexdigit, digit_value}
 use Rattle.std.specs.List.{fold, list_all}
 use Rattle.std.proofs.lemmas.Bool.{and_parts, agree_below_at, false_from_ne_true, lt-ltb}
+use Rattle.std.proofs.lemmas.List.{take-append-drop}
+use Rattle.std.proofs.lemmas.List.Folds.{list_all-append}
+use Rattle.std.specs.Str.{IsUtf8, chars}
+use Rattle.std.proofs.lemmas.Str.{encodes-chars}
+use Rattle.lexical.proofs.TextLemmas.{all_pass, encode_all_ascii}
 use Rattle.lexical.specs.Quoted.{hex_value, is_code, is_code_digit}
 
 -- the value with one digit more
@@ -50,6 +55,24 @@ pub digits_tail : (c : ℕ) (after rest : List ℕ) → rest ≡ c ∷ after →
     → (is_code_digit c ≡ true) × (list_all is_code_digit after ≡ true)
 digits_tail c after rest e all =
     and_parts (is_code_digit c) (list_all is_code_digit after) (ap (list_all is_code_digit) (sym e) ∙ all)
+
+-- the digits of a code are its bytes
+pub digits_bytes : (text bytes : List ℕ) → IsUtf8 text → bytes ≡ text → list_all is_code_digit (chars text) ≡ true
+    → bytes ≡ chars text
+digits_bytes text bytes utf8 same all =
+    same ∙ (sym (encodes-chars text utf8) ∙ encode_all_ascii (chars text)
+    (all_pass is_code_digit (λ c. nat_lt c 128) (λ c h. grind arith) (chars text) all))
+
+-- so many bytes of the code were read, and the next is this
+pub digits_next : (code : List ℕ) (i d : ℕ) → i < length code → list_all is_code_digit code ≡ true
+    → (drop i code ≡ get_or code i d ∷ drop (i + 1) code) × (is_code_digit (get_or code i d) ≡ true)
+digits_next code i d within all =
+    let next : suc i ≡ i + 1 = omega arith in
+    let split = drop-cons code i d within ∙ ap (λ m. get_or code i d ∷ drop m code) next in
+    let rest : list_all is_code_digit (drop i code) ≡ true =
+    (and_parts _ _ (sym (list_all-append is_code_digit (take i code) (drop i code))
+    ∙ (ap (list_all is_code_digit) (take-append-drop i code) ∙ all))).1 in
+    (split, (digits_tail (get_or code i d) (drop (i + 1) code) (drop i code) split rest).0)
 
 -- ---- no code
 

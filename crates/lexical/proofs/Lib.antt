@@ -29,6 +29,8 @@ pub mod PieceFacts
 pub mod QuickLemmas
 pub mod QuickNumberLemmas
 pub mod QuickLiteralLemmas
+pub mod QuickEscapeLemmas
+pub mod QuickSingleLemmas
 pub mod QuickStringLemmas
 pub mod QuickCommentLemmas
 pub mod WalkLemmas

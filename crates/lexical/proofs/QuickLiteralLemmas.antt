@@ -1,5 +1,5 @@
 -- What a few bytes tell of a literal between quotes.
-use Rattle.std.proofs.Common.{◌-◌, ◌≤◌, ◌≡◌, ℕ, ◌<◌, Bool, true, not, ◌&&◌, inl, inr, List, [], ◌∷◌, ◌++◌}
+use Rattle.std.proofs.Common.{◌-◌, ◌≤◌, ◌≡◌, ℕ, Bool, true, not, ◌&&◌, inl, inr, List, [], ◌∷◌, ◌++◌}
 use Rattle.std.proofs.Common.{length, get_or, take, drop, nat_lt, refl, sym, ap, ap₂, ◌∙◌, subst, arith}
 use Rattle.std.proofs.Common.{length-append, ltb-true, suc}
 use Rattle.std.specs.List.{list_all}
@@ -13,12 +13,11 @@ use Rattle.lexical.specs.Found.{IsPieceAt, LendsText, kind_of}
 use Rattle.lexical.specs.Literal.{Literal}
 use Rattle.lexical.specs.Piece.{IsPiece}
 use Rattle.lexical.specs.Quick.{IsAsciiAt}
-use Rattle.lexical.specs.Quoted.{close, is_one_of, letters}
+use Rattle.lexical.specs.Quoted.{ByteStr, Str, close}
 use Rattle.lexical.specs.Rule.{Stands}
-use Rattle.lexical.specs.SingleQuoted.{Character, is_char_plain}
+use Rattle.lexical.specs.SingleQuoted.{Byte, Character, is_char_plain}
 use Rattle.lexical.specs.declared.piece.Piece.{Piece}
 use Rattle.lexical.specs.declared.piece.PieceKind.TheVariants as kinds
-use Rattle.lexical.specs.declared.quoted.StringKind.TheVariants as strings
 use Rattle.lexical.proofs.QuickLemmas.{at_other, low_fails}
 use Rattle.lexical.proofs.QuotedLemmas.{no_name}
 use Rattle.lexical.proofs.TextLemmas.{front_len}
@@ -65,62 +64,6 @@ character_stands c rest plain ended = record {
   };
 }
 
-character_plain : (b : ℕ) (rest : List ℕ) → b < 128 → is_char_plain b ≡ true → ends (get_or rest 0 32) ≡ true
-    → IsAsciiAt Character (39 ∷ (b ∷ (39 ∷ rest))) 3
-character_plain b rest low plain ended =
-    ascii_at Character _ (39 ∷ (b ∷ (39 ∷ []))) rest 3 refl refl
-    (and_from _ _ refl (and_from _ _ (lt-ltb b 128 low) refl))
-    (character_stands b rest plain ended)
-
-character_escaped : (b : ℕ) (rest : List ℕ) → b < 128 → is_one_of (letters strings.Plain) b ≡ true
-    → ends (get_or rest 0 32) ≡ true → IsAsciiAt Character (39 ∷ (92 ∷ (b ∷ (39 ∷ rest)))) 4
-character_escaped b rest low letter ended =
-    ascii_at Character _ (39 ∷ (92 ∷ (b ∷ (39 ∷ [])))) rest 4 refl refl
-    (and_from _ _ refl (and_from _ _ refl (and_from _ _ (lt-ltb b 128 low) refl)))
-    (record {
-      front = 39 ∷ [];
-      back = 92 ∷ (b ∷ (39 ∷ []));
-      whole = refl;
-      first = refl;
-      second = record {
-        front = 92 ∷ (b ∷ []);
-        back = 39 ∷ [];
-        whole = refl;
-        first = inr (record {
-          front = 92 ∷ [];
-          back = b ∷ [];
-          whole = refl;
-          first = refl;
-          second = inl (b, refl, letter);
-        });
-        second = closes 39 rest ended;
-      };
-    })
-
--- by the bytes of the text
-pub plain_read : (text : List ℕ) → get_or text 0 32 ≡ 39 → get_or text 2 32 ≡ 39 → get_or text 1 32 < 128
-    → is_char_plain (get_or text 1 32) ≡ true → ends (get_or text 3 32) ≡ true → IsAsciiAt Character text 3
-plain_read [] front back low plain ended = absurd (omega (arith, front))
-plain_read (a ∷ []) front back low plain ended = absurd (omega (arith, back))
-plain_read (a ∷ (b ∷ [])) front back low plain ended = absurd (omega (arith, back))
-plain_read (a ∷ (b ∷ (c ∷ rest))) front back low plain ended =
-    subst (λ t. IsAsciiAt Character t 3) (ap₂ (λ x y. x ∷ (b ∷ (y ∷ rest))) (sym front) (sym back))
-    (character_plain b rest low plain ended)
-
-pub escaped_read : (text : List ℕ) → get_or text 0 32 ≡ 39 → get_or text 1 32 ≡ 92 → get_or text 3 32 ≡ 39
-    → get_or text 2 32 < 128 → is_one_of (letters strings.Plain) (get_or text 2 32) ≡ true
-    → ends (get_or text 4 32) ≡ true → IsAsciiAt Character text 4
-escaped_read [] front slash back low letter ended = absurd (omega (arith, front))
-escaped_read (a ∷ []) front slash back low letter ended = absurd (omega (arith, slash))
-escaped_read (a ∷ (b ∷ [])) front slash back low letter ended = absurd (omega (arith, back))
-escaped_read (a ∷ (b ∷ (c ∷ []))) front slash back low letter ended = absurd (omega (arith, back))
-escaped_read (a ∷ (b ∷ (c ∷ (d ∷ rest)))) front slash back low letter ended =
-    subst (λ t. IsAsciiAt Character t 4)
-    (ap₂ (λ x y. x ∷ (b ∷ (c ∷ (y ∷ rest)))) (sym front) (sym back)
-    ∙ ap (λ x. a ∷ (x ∷ (c ∷ (d ∷ rest)))) refl)
-    (subst (λ x. IsAsciiAt Character (39 ∷ (x ∷ (c ∷ (39 ∷ rest)))) 4) (sym slash)
-    (character_escaped c rest low letter ended))
-
 -- ---- bytes that pass
 
 pub ascii_all : (bs : List ℕ) → IsAscii bs → all_ascii bs ≡ true
@@ -134,10 +77,25 @@ all_same test other same (c ∷ cs) = ap₂ (λ x y. x && y) (same c) (all_same 
 
 -- ---- as a piece
 
-pub character_piece : (first : Bool) (text : List ℕ) (n : ℕ) → IsAsciiAt Character text n
-    → IsAsciiAt (λ p r. IsPiece first (kind_of kinds.Literal p) p r) text n
+pub literal_piece : (A : Form) (first : Bool) (text : List ℕ) (n : ℕ) → ((p r : List ℕ) → A p r → Literal p r)
+    → IsAsciiAt A text n → IsAsciiAt (λ p r. IsPiece first (kind_of kinds.Literal p) p r) text n
+literal_piece A first text n to at = at_other _ _ text n (λ p r h. (refl, inl (to p r h))) at
+
+pub character_literal : (p r : List ℕ) → Character p r → Literal p r
 unfolding Literal
-character_piece first text n at = at_other _ _ text n (λ p r h. (refl, inl (inl (inr (inl h))))) at
+character_literal p r h = inl (inr (inl h))
+
+pub byte_literal : (p r : List ℕ) → Byte p r → Literal p r
+unfolding Literal
+byte_literal p r h = inl (inr (inr (inr (inl h))))
+
+pub string_literal : (p r : List ℕ) → Str p r → Literal p r
+unfolding Literal
+string_literal p r h = inl (inl (inl h))
+
+pub byte_string_literal : (p r : List ℕ) → ByteStr p r → Literal p r
+unfolding Literal
+byte_string_literal p r h = inl (inr (inr (inl (inl h))))
 
 -- ---- a character past ASCII
 

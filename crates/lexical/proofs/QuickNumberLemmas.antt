@@ -43,7 +43,7 @@ use Rattle.lexical.proofs.RuleSteps.{find_then}
 use Rattle.lexical.proofs.TextLemmas.{all_pass, any_cut}
 
 -- a form, and then another
-then_at : (A B : Form) (text : List ℕ) (n k : ℕ) → IsAsciiAt A text n → IsAsciiAt B (drop n text) k
+pub then_at : (A B : Form) (text : List ℕ) (n k : ℕ) → IsAsciiAt A text n → IsAsciiAt B (drop n text) k
     → IsAsciiAt (Then A B) text (n + k)
 then_at A B text n k a b =
     let p = take n text in

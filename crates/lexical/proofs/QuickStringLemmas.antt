@@ -1,182 +1,249 @@
 -- What a few bytes tell of a string.
-use Rattle.std.proofs.Common.{◌≡◌, ℕ, ◌+◌, ◌<◌, Bool, true, not, ◌&&◌, ◌||◌, ◌==◌, inl, inr, List, [], ◌∷◌, ◌++◌, Some}
-use Rattle.std.proofs.Common.{length, get_or, take, drop, nat_lt, refl, sym, ap, ap₂, ◌∙◌, subst, arith, append_assoc}
-use Rattle.std.proofs.Common.{◌≤◌, drop-cons, length-append, length-drop, eqb-true, suc}
+use Rattle.std.proofs.Common.{◌≡◌, ℕ, ◌+◌, ◌<◌, ◌≤◌, Bool, true, not, inl, inr, List, [], ◌∷◌, ◌++◌, Some}
+use Rattle.std.proofs.Common.{length, get_or, take, drop, codes, refl, sym, ap, ap₂, ◌∙◌, subst, arith, append_assoc}
+use Rattle.std.proofs.Common.{append-nil, drop-cons, length-append, length-drop, suc}
 use Rattle.std.proofs.Math.Seq.{take-add}
 use Rattle.std.specs.Prelude.{map}
 use Rattle.std.specs.List.{list_all, concat}
-use Rattle.std.specs.Str.{IsAscii}
-use Rattle.std.proofs.lemmas.Bool.{and_parts, and_from, both_ways, cases_lt, or_cases}
-use Rattle.std.proofs.lemmas.List.{get_or-drop, get_or_past, take-append-drop, length-take-le}
+use Rattle.std.specs.Str.{IsCharBoundary, IsUtf8, chars, encode_utf8_all}
+use Rattle.std.proofs.lemmas.Bool.{and_parts, and_from}
+use Rattle.std.proofs.lemmas.List.{drop-drop, get_or_default, length-take-le, take-append-drop}
 use Rattle.std.proofs.lemmas.List.Folds.{concat-append, list_all-append}
+use Rattle.std.proofs.lemmas.Str.{IsCharBoundary-from_take, IsUtf8-append, IsUtf8-drop, IsUtf8-from_ascii, IsUtf8-take}
+use Rattle.std.proofs.lemmas.Str.{chars-IsAscii, chars-append, encodes-append, encodes-chars}
 use Rattle.memchr.specs.Find.{IsFirstByte, is_byte3}
 use Rattle.lexical.specs.Ascii.{all_ascii}
 use Rattle.lexical.specs.Finder.{while_front}
-use Rattle.lexical.specs.Form.{Each}
-use Rattle.lexical.specs.Found.{kind_of}
+use Rattle.lexical.specs.Form.{Each, Exactly, Form, Then}
+use Rattle.lexical.specs.Found.{IsAt, IsPieceAt, LendsText, kind_of}
 use Rattle.lexical.specs.Literal.{Literal}
 use Rattle.lexical.specs.Piece.{IsPiece}
-use Rattle.lexical.specs.Quick.{IsAsciiAt}
-use Rattle.lexical.specs.Quoted.{Str, StringUnit, is_one_of, is_string_plain, letters}
+use Rattle.lexical.specs.Quick.{Anywhere, IsAsciiAt}
+use Rattle.lexical.specs.Quoted.{body, escaped, is_plain, unit}
+use Rattle.lexical.specs.RawString.{may_stand_raw}
+use Rattle.lexical.specs.Rule.{Stands}
+use Rattle.lexical.specs.declared.piece.Piece.{Piece}
 use Rattle.lexical.specs.declared.piece.PieceKind.TheVariants as kinds
-use Rattle.lexical.specs.declared.quoted.StringKind.TheVariants as strings
+use Rattle.lexical.specs.declared.quoted.StringKind.{StringKind}
 use Rattle.lexical.proofs.FinderLemmas.{finds_run}
-use Rattle.lexical.proofs.QuickLemmas.{at_other, front_of_run}
-use Rattle.lexical.proofs.QuickLiteralLemmas.{all_same, ascii_all, ascii_at, closes, ends}
+use Rattle.lexical.proofs.QuickEscapeLemmas.{after_backslash}
+use Rattle.lexical.proofs.QuickLemmas.{ascii_split, get_after}
+use Rattle.lexical.proofs.QuickLiteralLemmas.{closes, ends}
+use Rattle.lexical.proofs.Scan.{run_boundary, run_front}
 use Rattle.lexical.proofs.SearchLemmas.{found_end, plain_allowed}
+use Rattle.lexical.proofs.TextLemmas.{encode_all_ascii, is_ascii, seam_boundary, seam_take}
 
 -- ---- units, whatever follows them
 
-abbrev Anywhere : List (List ℕ) → Type 0
-Anywhere [] = Unit {0}
-Anywhere (u ∷ us) = ((r : List ℕ) → StringUnit u r) × Anywhere us
+module _ (kind : StringKind) where
+  abbrev AllAnywhere : List (List ℕ) → Type 0
+  AllAnywhere [] = Unit {0}
+  AllAnywhere (u ∷ us) = ((r : List ℕ) → Stands (unit kind) u r) × AllAnywhere us
 
--- the text is made of such units
-pub record Units (p : List ℕ) : Type 0 where
-  units : List (List ℕ)
-  whole : p ≡ concat units
-  each : Anywhere units
+  -- the text is made of such units
+  pub record Units (p : List ℕ) : Type 0 where
+    units : List (List ℕ)
+    whole : p ≡ concat units
+    each : AllAnywhere units
 
-each_unit : (us : List (List ℕ)) (r : List ℕ) → Anywhere us → Each StringUnit us r
-each_unit [] r all = tt
-each_unit (u ∷ us) r all = (all.0 (concat us ++ r), each_unit us r all.1)
+  each_unit : (us : List (List ℕ)) (r : List ℕ) → AllAnywhere us → Each (Stands (unit kind)) us r
+  each_unit [] r all = tt
+  each_unit (u ∷ us) r all = (all.0 (concat us ++ r), each_unit us r all.1)
 
-both_anywhere : (us vs : List (List ℕ)) → Anywhere us → Anywhere vs → Anywhere (us ++ vs)
-both_anywhere [] vs a b = b
-both_anywhere (u ∷ us) vs a b = (a.0, both_anywhere us vs a.1 b)
+  both_anywhere : (us vs : List (List ℕ)) → AllAnywhere us → AllAnywhere vs → AllAnywhere (us ++ vs)
+  both_anywhere [] vs a b = b
+  both_anywhere (u ∷ us) vs a b = (a.0, both_anywhere us vs a.1 b)
 
-both_units : (p q : List ℕ) → Units p → Units q → Units (p ++ q)
-both_units p q a b = record {
-  units = a.units ++ b.units;
-  whole = ap₂ (λ x y. x ++ y) a.whole b.whole ∙ sym (concat-append a.units b.units);
-  each = both_anywhere a.units b.units a.each b.each;
+  both_units : (p q : List ℕ) → Units p → Units q → Units (p ++ q)
+  both_units p q a b = record {
+    units = a.units ++ b.units;
+    whole = ap₂ (λ x y. x ++ y) a.whole b.whole ∙ sym (concat-append a.units b.units);
+    each = both_anywhere a.units b.units a.each b.each;
+  }
+
+  -- characters that are each a unit
+  abbrev singles : List ℕ → List (List ℕ)
+  singles = map (λ c. c ∷ [])
+
+  concat_singles : (cs : List ℕ) → concat (singles cs) ≡ cs
+  concat_singles [] = refl
+  concat_singles (c ∷ cs) = ap (λ xs. c ∷ xs) (concat_singles cs)
+
+  each_single : (cs : List ℕ) → list_all (is_plain kind) cs ≡ true → AllAnywhere (singles cs)
+  each_single [] all = tt
+  each_single (c ∷ cs) all =
+      let parts = and_parts _ _ all in (λ r. inl (c, refl, parts.0), each_single cs parts.1)
+
+  plain_units : (cs : List ℕ) → list_all (is_plain kind) cs ≡ true → Units cs
+  plain_units cs all = record { units = singles cs; whole = sym (concat_singles cs); each = each_single cs all }
+
+  -- ---- what stands at the front of the text
+
+  -- a text that is made of units, if a string of the kind may have each of its characters
+  pub record Front (bytes : List ℕ) : Type 0 where
+    utf8 : IsUtf8 bytes
+    units : list_all (may_stand_raw kind) (chars bytes) ≡ true → Units (chars bytes)
+
+  both_fronts : (a b : List ℕ) → Front a → Front b → Front (a ++ b)
+  both_fronts a b x y =
+      let split = chars-append a b x.utf8 in
+      record {
+        utf8 = IsUtf8-append a b x.utf8 y.utf8;
+        units = λ all.
+            let parts = and_parts _ _ (sym (list_all-append (may_stand_raw kind) (chars a) (chars b))
+            ∙ (ap (list_all (may_stand_raw kind)) (sym split) ∙ all)) in
+            subst Units (sym split) (both_units (chars a) (chars b) (x.units parts.0) (y.units parts.1));
+      }
+
+  -- an escape is one unit
+  escape_front : (p : List ℕ) → all_ascii p ≡ true → ((r : List ℕ) → Then (Exactly (codes "\\")) (Stands (escaped kind)) p r)
+      → Front p
+  escape_front p ascii is =
+      let low = is_ascii p ascii in
+      record {
+        utf8 = IsUtf8-from_ascii p low;
+        units = λ all. subst Units (sym (chars-IsAscii p low))
+            (record { units = p ∷ []; whole = sym (append-nil p); each = (λ r. inr (inr (is r)), tt) });
+      }
+
+  -- what stands before the byte that the search ends at
+  plain_of : (cs : List ℕ) → list_all (may_stand_raw kind) cs ≡ true
+      → list_all (λ b. not (is_byte3 34 92 13 b)) cs ≡ true → list_all (is_plain kind) cs ≡ true
+  plain_of [] may goes = refl
+  plain_of (c ∷ cs) may goes =
+      let a = and_parts _ _ may in
+      let b = and_parts _ _ goes in
+      and_from _ _ (plain_allowed kind c ∙ and_from _ _ a.0 b.0) (plain_of cs a.1 b.1)
+
+  pub stretch : (bs : List ℕ) (k : ℕ) → IsUtf8 bs → IsFirstByte (is_byte3 34 92 13) bs (Some k) → Front (take k bs)
+  stretch bs k utf8 found =
+      let test : ℕ → Bool = λ b. not (is_byte3 34 92 13 b) in
+      let past : (c : ℕ) → 128 ≤ c → test c ≡ true = λ c high. grind (arith, high) in
+      let size : k ≡ length (while_front test bs) = sym (found_end (is_byte3 34 92 13) bs (Some k) found) in
+      let front = run_front test true past bs utf8 k size in
+      record {
+        utf8 = IsUtf8-take bs k utf8 (run_boundary test true past bs utf8 k size);
+        units = λ all. plain_units (chars (take k bs)) (plain_of (chars (take k bs)) all
+            (ap (list_all test) front ∙ ((finds_run test).sound (chars bs)).1.each));
+      }
+
+  -- ---- past an escape, and up to where the search ends after it
+
+  -- the backslash stands at n, e bytes after it, and k bytes before the search ends
+  module _ (inside after rest : List ℕ) (n e k : ℕ) (utf8 : IsUtf8 inside) (before : Front (take n inside))
+      (slash : get_or inside n 0 ≡ 92) (inner : n < length inside) (same : after ≡ drop (n + 1) inside)
+      (at : IsAsciiAt (Anywhere (Stands (escaped kind))) after e) (is : rest ≡ drop (n + 1 + e) inside) where
+    escape_here : IsAsciiAt (Anywhere (Then (Exactly (codes "\\")) (Stands (escaped kind)))) (drop n inside) (e + 1)
+    escape_here =
+        let here : get_or (drop n inside) 0 32 ≡ 92 =
+        get_after inside n ∙ (get_or_default inside n 32 0 inner ∙ slash) in
+        after_backslash (Stands (escaped kind)) (drop n inside) after e here
+        (same ∙ sym (drop-drop 1 n inside)) at
+
+    past_within : n + 1 + e ≤ length inside
+    past_within = omega (arith, escape_here.within, length-drop n inside, inner)
+
+    past_front : Front (take (n + 1 + e) inside)
+    past_front =
+        let total : n + (e + 1) ≡ n + 1 + e = omega arith in
+        subst (λ m. Front (take m inside)) total
+        (subst Front (sym (take-add n (e + 1) inside))
+        (both_fronts (take n inside) (take (e + 1) (drop n inside)) before
+        (escape_front (take (e + 1) (drop n inside)) escape_here.ascii escape_here.stands)))
+
+    rest_utf8 : IsUtf8 rest
+    rest_utf8 = subst IsUtf8 (sym is) (IsUtf8-drop inside (n + 1 + e) utf8
+        (IsCharBoundary-from_take inside (n + 1 + e) utf8 past_within past_front.utf8))
+
+    module _ (found : IsFirstByte (is_byte3 34 92 13) rest (Some k)) where
+      pub units_within : n + 1 + e + k < length inside
+      units_within = omega (arith, found.0.high, ap length is, length-drop (n + 1 + e) inside, past_within)
+
+      pub units_on : Front (take (n + 1 + e + k) inside)
+      units_on =
+          subst Front (sym (take-add (n + 1 + e) k inside))
+          (both_fronts (take (n + 1 + e) inside) (take k (drop (n + 1 + e) inside)) past_front
+          (subst (λ xs. Front (take k xs)) is (stretch rest k rest_utf8 found)))
+
+  -- ---- the whole of it
+
+  pub string_body : (inside : List ℕ) (k : ℕ) → k < length inside → Front (take k inside)
+      → list_all (may_stand_raw kind) (chars (take k inside)) ≡ true → get_or inside k 0 ≡ 34
+      → ends (get_or inside (k + 1) 32) ≡ true → IsAt (Stands (body (unit kind) (codes "\""))) (chars inside) (k + 1)
+  string_body inside k within front may hit ended =
+      let p = chars (take k inside) in
+      let rest = drop (k + 1) inside in
+      let next : suc k ≡ k + 1 = omega arith in
+      let back : drop k inside ≡ 34 ∷ rest =
+      drop-cons inside k 0 within ∙ ap₂ (λ c m. c ∷ drop m inside) hit next in
+      let units = front.units may in
+      let bytes : encode_utf8_all (p ++ (34 ∷ [])) ≡ take k inside ++ (34 ∷ []) =
+      encodes-append p (34 ∷ [])
+      ∙ ap₂ (λ x y. x ++ y) (encodes-chars (take k inside) front.utf8) (encode_all_ascii (34 ∷ []) refl) in
+      record {
+        front = p ++ (34 ∷ []);
+        rest = chars rest;
+        whole = ap chars (sym (take-append-drop k inside))
+            ∙ (chars-append (take k inside) (drop k inside) front.utf8
+            ∙ (ap (λ xs. p ++ xs) (ap chars back ∙ ascii_split (34 ∷ rest) 1 refl)
+            ∙ sym (append_assoc p (34 ∷ []) (chars rest))));
+        stands = record {
+          front = p;
+          back = 34 ∷ [];
+          whole = refl;
+          first = record {
+            units = units.units;
+            whole = units.whole;
+            each = each_unit units.units ((34 ∷ []) ++ chars rest) units.each;
+          };
+          second = closes 34 rest (ap ends (get_after inside (k + 1)) ∙ ended);
+        };
+        size = sym (ap length bytes ∙ (length-append (take k inside) (34 ∷ [])
+            ∙ ap (λ m. m + 1) (length-take-le k inside (omega (arith, within)))));
+      }
+
+-- ---- a form that stands there
+
+-- a form for another
+pub found_other : (A B : Form) (text : List ℕ) (n : ℕ) → ((p r : List ℕ) → A p r → B p r) → IsAt A text n
+    → IsAt B text n
+found_other A B text n to at = record {
+  front = at.front;
+  rest = at.rest;
+  whole = at.whole;
+  stands = to at.front at.rest at.stands;
+  size = at.size;
 }
 
--- characters that are each a unit
-abbrev singles : List ℕ → List (List ℕ)
-singles = map (λ c. c ∷ [])
-
-concat_singles : (cs : List ℕ) → concat (singles cs) ≡ cs
-concat_singles [] = refl
-concat_singles (c ∷ cs) = ap (λ xs. c ∷ xs) (concat_singles cs)
-
-each_single : (cs : List ℕ) → list_all is_string_plain cs ≡ true → Anywhere (singles cs)
-each_single [] all = tt
-each_single (c ∷ cs) all =
-    let parts = and_parts _ _ all in (λ r. inl (c, refl, parts.0), each_single cs parts.1)
-
-plain_units : (cs : List ℕ) → list_all is_string_plain cs ≡ true → Units cs
-plain_units cs all = record { units = singles cs; whole = sym (concat_singles cs); each = each_single cs all }
-
--- whether the byte makes a unit with the backslash before it
-abbrev pub ends_escape : ℕ → Bool
-ends_escape c = nat_lt c 128 && ((c == 10) || is_one_of (letters strings.Plain) c)
-
-pair_units : (c : ℕ) → ends_escape c ≡ true → Units (92 ∷ (c ∷ []))
-pair_units c h = record {
-  units = (92 ∷ (c ∷ [])) ∷ [];
-  whole = refl;
-  each = (
-    λ r. inr (inr (record {
-      front = 92 ∷ [];
-      back = c ∷ [];
-      whole = refl;
-      first = refl;
-      second = elim (or_cases _ _ (and_parts _ _ h).1) [
-        | inl feed ↦ inl (inl (ap (λ x. x ∷ []) (eqb-true c 10 feed)))
-        | inr letter ↦ inr (inl (c, refl, letter))
-      ];
-    })),
-    tt,
+-- what opens it
+pub after_front : (A : Form) (opener text inside : List ℕ) (n : ℕ) → all_ascii opener ≡ true
+    → text ≡ opener ++ inside → IsAt A inside n → IsAt (Then (Exactly opener) A) text (n + length opener)
+after_front A opener text inside n ascii whole at = record {
+  front = opener ++ at.front;
+  rest = at.rest;
+  whole = whole ∙ (ap (λ xs. opener ++ xs) at.whole ∙ sym (append_assoc opener at.front at.rest));
+  stands = record { front = opener; back = at.front; whole = refl; first = refl; second = at.stands };
+  size = omega (
+    arith,
+    at.size,
+    ap length (encodes-append opener at.front ∙ ap (λ xs. xs ++ encode_utf8_all at.front) (encode_all_ascii opener ascii)),
+    length-append opener (encode_utf8_all at.front),
   );
 }
 
--- ---- by the bytes of the text
+-- as a piece, whose characters are counted
+module _ (text : List ℕ) (n : ℕ) (utf8 : IsUtf8 text) (at : IsAt Literal (chars text) n) where
+  pub literal_cut : IsCharBoundary text n
+  literal_cut = seam_boundary text at.front at.rest n utf8 at.whole at.size
 
--- up to where the search ends
-pub stretch : (bs : List ℕ) (k : ℕ) → IsFirstByte (is_byte3 34 92 13) bs (Some k) → Units (take k bs)
-stretch bs k found =
-    let test : ℕ → Bool = λ b. not (is_byte3 34 92 13 b) in
-    let size : length (while_front test bs) ≡ k = found_end (is_byte3 34 92 13) bs (Some k) found in
-    let run = front_of_run test bs k (sym size) in
-    plain_units (take k bs)
-    (all_same is_string_plain test (plain_allowed strings.Plain) (take k bs)
-    ∙ (ap (list_all test) run.0 ∙ ((finds_run test).sound bs).1.each))
-
--- the byte after the backslash is one of the text
-pub pair_within : (inside : List ℕ) (n : ℕ) → ends_escape (get_or inside (n + 1) 32) ≡ true → n + 1 < length inside
-pair_within inside n h = elim (cases_lt (n + 1) (length inside)) [
-  | inl low ↦ low
-  | inr high ↦ absurd (both_ways _ (ap ends_escape (get_or_past inside (n + 1) 32 high)) h)
-]
-
-pub search_within : (inside rest : List ℕ) (n k : ℕ) → n + 2 ≤ length inside → rest ≡ drop (n + 2) inside
-    → IsFirstByte (is_byte3 34 92 13) rest (Some k) → n + 2 + k < length inside
-search_within inside rest n k within is found =
-    omega (arith, found.0.high, ap length is, length-drop (n + 2) inside)
-
--- past an escape, and up to where the search ends after it
-pub units_on : (inside rest : List ℕ) (n k : ℕ) → n < length inside → Units (take n inside) → get_or inside n 0 ≡ 92
-    → ends_escape (get_or inside (n + 1) 32) ≡ true → rest ≡ drop (n + 2) inside
-    → IsFirstByte (is_byte3 34 92 13) rest (Some k) → Units (take (n + 2 + k) inside)
-units_on inside rest n k within before slash letter is found =
-    let c = get_or inside (n + 1) 32 in
-    let next : suc n ≡ n + 1 = omega arith in
-    let last : suc (n + 1) ≡ n + 2 = omega arith in
-    let both : drop n inside ≡ 92 ∷ (c ∷ drop (n + 2) inside) =
-    drop-cons inside n 0 within
-    ∙ ap₂ (λ x xs. x ∷ xs) slash
-    (ap (λ m. drop m inside) next
-    ∙ (drop-cons inside (n + 1) 32 (pair_within inside n letter) ∙ ap (λ m. c ∷ drop m inside) last)) in
-    let whole : take (n + 2) inside ≡ take n inside ++ (92 ∷ (c ∷ [])) =
-    take-add n 2 inside ∙ ap (λ xs. take n inside ++ take 2 xs) both in
-    subst Units (sym (take-add (n + 2) k inside))
-    (both_units (take (n + 2) inside) (take k (drop (n + 2) inside))
-    (subst Units (sym whole) (both_units (take n inside) (92 ∷ (c ∷ [])) before (pair_units c letter)))
-    (subst (λ xs. Units (take k xs)) is (stretch rest k found)))
-
-string_at : (inside rest : List ℕ) → all_ascii inside ≡ true → Units inside
-    → ends (get_or rest 0 32) ≡ true → (text : List ℕ) → text ≡ 34 ∷ (inside ++ (34 ∷ rest))
-    → IsAsciiAt Str text (length inside + 2)
-unfolding Str
-string_at inside rest ascii units ended text whole =
-    let p = 34 ∷ (inside ++ (34 ∷ [])) in
-    ascii_at Str text p rest (length inside + 2)
-    (whole ∙ ap (λ xs. 34 ∷ xs) (sym (append_assoc inside (34 ∷ []) rest)))
-    (omega (arith, length-append inside (34 ∷ [])))
-    (and_from _ _ refl (list_all-append _ inside (34 ∷ []) ∙ and_from _ _ ascii refl))
-    (record {
-      front = 34 ∷ [];
-      back = inside ++ (34 ∷ []);
-      whole = refl;
-      first = refl;
-      second = record {
-        front = inside;
-        back = 34 ∷ [];
-        whole = refl;
-        first = record { units = units.units; whole = units.whole; each = each_unit units.units _ units.each };
-        second = closes 34 rest ended;
-      };
-    })
-
--- `inside` follows the first byte of the text
-pub string_read : (text inside : List ℕ) (k : ℕ) → get_or text 0 32 ≡ 34 → inside ≡ drop 1 text
-    → k < length inside → Units (take k inside) → get_or inside k 0 ≡ 34 → IsAscii (take k inside)
-    → ends (get_or inside (k + 1) 32) ≡ true → IsAsciiAt Str text (k + 2)
-string_read [] inside k front is within units hit ascii ended = absurd (omega (arith, front))
-string_read (a ∷ text) inside k front is within units hit ascii ended =
-    let next : suc k ≡ k + 1 = omega arith in
-    let split : inside ≡ take k inside ++ (34 ∷ drop (k + 1) inside) =
-    sym (take-append-drop k inside)
-    ∙ ap (λ xs. take k inside ++ xs) (drop-cons inside k 0 within ∙ ap₂ (λ c m. c ∷ drop m inside) hit next) in
-    let count : length (take k inside) ≡ k = length-take-le k inside (omega arith) in
-    subst (λ n. IsAsciiAt Str (a ∷ text) n) (ap (λ n. n + 2) count)
-    (string_at (take k inside) (drop (k + 1) inside) (ascii_all (take k inside) ascii) units
-    (ap ends (get_or-drop (k + 1) inside 0 32 ∙ ap (λ i. get_or inside i 32) (omega arith)) ∙ ended)
-    (a ∷ text) (ap₂ (λ x xs. x ∷ xs) front (sym is ∙ split)))
-
--- as a piece
-pub string_piece : (first : Bool) (text : List ℕ) (n : ℕ) → IsAsciiAt Str text n
-    → IsAsciiAt (λ p r. IsPiece first (kind_of kinds.Literal p) p r) text n
-unfolding Literal
-string_piece first text n at = at_other _ _ text n (λ p r h. (refl, inl (inl (inl (inl h))))) at
+  pub literal_counted : (first : Bool) (piece : Piece) → piece.kind ≡ kinds.Literal → piece.bytes ≡ n
+      → piece.chars ≡ length (chars (take n text)) → IsPieceAt first (chars text) piece
+  literal_counted first piece kind bytes count = record {
+    front = at.front;
+    rest = at.rest;
+    whole = at.whole;
+    stands = subst (λ k. IsPiece first (kind_of k at.front) at.front at.rest) (sym kind) (refl, inl at.stands);
+    bytes = bytes ∙ at.size;
+    chars = count ∙ ap length (seam_take text at.front at.rest n utf8 at.whole at.size);
+    lends = subst LendsText (sym kind) tt;
+  }

@@ -1,17 +1,22 @@
 -- What a few bytes tell.
 use Rattle.std.specs.Prelude.{ℕ, ◌≤◌, Bool, false, not, ◌||◌, ◌==◌, cond, List, ◌++◌, IsTrue, IsFalse, length, nat_lt}
-use Rattle.std.specs.Prelude.{take, drop}
+use Rattle.std.specs.Prelude.{take, drop, codes}
+use Rattle.std.specs.Char.{is_ascii_hexdigit}
 use Rattle.std.specs.List.{list_all}
 use Rattle.std.specs.Str.{chars}
 use Rattle.lexical.specs.Ascii.{all_ascii}
 use Rattle.lexical.specs.Character.{carriage_return, line_feed}
-use Rattle.lexical.specs.Form.{Form}
+use Rattle.lexical.specs.Form.{Form, Then}
 use Rattle.lexical.specs.Identifier.{Identifier}
 use Rattle.lexical.specs.Mark.{bars_quote}
 use Rattle.lexical.specs.Number.{end, is_exponent_letter}
 use Rattle.lexical.specs.PieceFinder.{piece_start}
+use Rattle.lexical.specs.Quoted.{close, escape, is_octal_digit}
 use Rattle.lexical.specs.Rule.{Stands}
+use Rattle.lexical.specs.SingleQuoted.{is_plain, unit}
 use Rattle.lexical.specs.Text.{first_passes}
+use Rattle.lexical.specs.declared.quoted.StringKind.{StringKind}
+use Rattle.lexical.specs.declared.quoted.StringKind.TheVariants as strings
 use Rattle.lexical.specs.declared.class.PieceStart.{PieceStart}
 use Rattle.lexical.specs.declared.class.PieceStart.TheVariants as starts
 
@@ -40,3 +45,17 @@ Line p r = IsTrue (list_all is_line_plain p) × IsFalse (first_passes (λ c. not
 -- what ends a number, and begins with no exponent
 abbrev pub NumberEnd : Form
 NumberEnd p r = Stands end p r × IsFalse (first_passes is_exponent_letter (p ++ r))
+
+-- a piece of the form, whatever follows it
+abbrev pub Anywhere : Form → Form
+Anywhere A p r = (rest : List ℕ) → A p rest
+
+-- what may stand first after `x`, but in C strings, where the second digit counts too
+abbrev pub pair_front : StringKind → ℕ → Bool
+pair_front strings.Plain = is_octal_digit
+pair_front strings.Byte = is_ascii_hexdigit
+pair_front strings.C = λ c. false
+
+-- the rest of a literal between single quotes, after the first of them
+abbrev pub Single : StringKind → Form
+Single kind = Then (Stands (unit (is_plain kind) (escape kind))) (Stands (close (codes "'")))

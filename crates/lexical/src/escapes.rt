@@ -77,17 +77,15 @@ fn allows(kind: StringKind, value: u32) -> bool
 /// How many hex digits a character's code may have at most.
 const MOST_DIGITS: u32 = 6;
 
-/// Whether the hex digits, six at most, write a character that is allowed.
-fn writes_character(text: &str, kind: StringKind) -> bool
-    requires { IsTrue (list_all is_code_digit (chars text.now)) }
-    ensures { result ≡ is_code (rule.allows kind) (chars text.now) }
+/// Whether the hex digits, six at most, write a character that is allowed, whatever `_` stand between them.
+pub fn writes_character(code: &[u8], kind: StringKind) -> bool
+    requires { IsTrue (list_all is_code_digit code.now) }
+    ensures { result ≡ is_code (rule.allows kind) code.now }
 {
     let mut value: u32 = 0;
     let mut count: u32 = 0;
-    let mut rest = text;
-    while let Some((c, after)) = split_first(rest) {
-        rest = after;
-        if let Some(digit) = c.to_digit(16) {
+    for byte in code {
+        if let Some(digit) = (*byte as char).to_digit(16) {
             value = 16 * value + digit;
             count += 1;
         }
@@ -104,7 +102,7 @@ fn code(at: Cursor<'_>, kind: StringKind) -> Option<Cursor<'_>>
 {
     let first = one(at, Class::HexDigit)?;
     let end = skip(first, Class::CodeDigit);
-    if !writes_character(before(at.rest, end.rest), kind) {
+    if !writes_character(before(at.rest, end.rest).as_bytes(), kind) {
         return None;
     }
     Some(end)

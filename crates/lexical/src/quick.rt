@@ -6,7 +6,8 @@
 ghost use Rattle.std.specs.Prelude.{◌≡◌, ◌==◌, ◌&&◌, ◌||◌, Bool, IfSome, false, get_or, nat_lt, not};
 ghost use Rattle.std.specs.Str.{chars};
 ghost use Rattle.lexical.specs.Character.{double_quote};
-ghost use Rattle.lexical.specs.Found.{IsPieceAt};
+ghost use Rattle.lexical.specs.Found.{IsAt, IsPieceAt};
+ghost use Rattle.lexical.specs.Literal.{Literal};
 ghost use Rattle.lexical.specs.Mark.{bars_quote};
 ghost use Rattle.lexical.specs.Quick.{IsAsciiAt, Line, UnbarredName};
 
@@ -16,9 +17,10 @@ mod quoted;
 use crate::bytes::{Class, count_ascii, holds_ascii};
 use crate::class::{PieceStart, byte_start};
 use crate::piece::{Piece, PieceKind};
+use crate::text::char_count;
 use memchr::memchr2;
 use numbers::{long_number_size, number_size};
-use quoted::{character_size, string_size, wide_character};
+use quoted::{byte_size, byte_string_size, character_size, string_size, wide_character};
 
 /// The byte at the index, or a space where there is none.
 #[inline(always)]
@@ -111,6 +113,30 @@ fn ascii(kind: PieceKind<'_>, size: usize) -> Piece<'_>
     }
 }
 
+/// The literal of so many bytes at the front of the text, its characters counted.
+#[inline(always)]
+fn counted(text: &str, size: usize) -> Piece<'_>
+    requires { IsAt Literal (chars text.now) size }
+    ensures { (first : Bool) → IsPieceAt first (chars text.now) result }
+{
+    Piece {
+        kind: PieceKind::Literal,
+        bytes: size,
+        chars: char_count(&text[..size]),
+    }
+}
+
+/// The byte or byte string at the front.
+#[inline(always)]
+fn byte_literal(text: &str) -> Option<Piece<'_>>
+    ensures { (first : Bool) → IfSome result (λ piece. IsPieceAt first (chars text.now) piece) }
+{
+    match byte_size(text) {
+        Some(size) => Some(ascii(PieceKind::Literal, size)),
+        None => Some(counted(text, byte_string_size(text)?)),
+    }
+}
+
 /// The piece at the front of the text, where a few bytes tell it. `None` says nothing.
 #[inline(always)]
 pub fn quick(text: &str) -> Option<Piece<'_>>
@@ -169,7 +195,8 @@ pub fn quick_quoted(text: &str) -> Option<Piece<'_>>
     }
     match byte_start(bytes[0]) {
         PieceStart::Digit => Some(ascii(PieceKind::Literal, long_number_size(text)?)),
-        PieceStart::DoubleQuote => Some(ascii(PieceKind::Literal, string_size(text)?)),
+        PieceStart::DoubleQuote => Some(counted(text, string_size(text)?)),
+        PieceStart::Letter => byte_literal(text),
         PieceStart::Quote => {
             if let Some(size) = character_size(text) {
                 return Some(ascii(PieceKind::Literal, size));

@@ -10,9 +10,10 @@ mod quoted;
 use crate::lexical::bytes::{Class, count_ascii, holds_ascii};
 use crate::lexical::class::{PieceStart, byte_start};
 use crate::lexical::piece::{Piece, PieceKind};
+use crate::lexical::text::char_count;
 use crate::shim::memchr::memchr2;
 use numbers::{long_number_size, number_size};
-use quoted::{character_size, string_size, wide_character};
+use quoted::{byte_size, byte_string_size, character_size, string_size, wide_character};
 
 /// The byte at the index, or a space where there is none.
 #[inline(always)]
@@ -97,6 +98,27 @@ fn ascii(kind: PieceKind<'_>, size: usize) -> Piece<'_>
     }
 }
 
+/// The literal of so many bytes at the front of the text, its characters counted.
+#[inline(always)]
+fn counted(text: &str, size: usize) -> Piece<'_>
+{
+    Piece {
+        kind: PieceKind::Literal,
+        bytes: size,
+        chars: char_count(&text[..size]),
+    }
+}
+
+/// The byte or byte string at the front.
+#[inline(always)]
+fn byte_literal(text: &str) -> Option<Piece<'_>>
+{
+    match byte_size(text) {
+        Some(size) => Some(ascii(PieceKind::Literal, size)),
+        None => Some(counted(text, byte_string_size(text)?)),
+    }
+}
+
 /// The piece at the front of the text, where a few bytes tell it. `None` says nothing.
 #[inline(always)]
 pub fn quick(text: &str) -> Option<Piece<'_>>
@@ -153,7 +175,8 @@ pub fn quick_quoted(text: &str) -> Option<Piece<'_>>
     }
     match byte_start(bytes[0]) {
         PieceStart::Digit => Some(ascii(PieceKind::Literal, long_number_size(text)?)),
-        PieceStart::DoubleQuote => Some(ascii(PieceKind::Literal, string_size(text)?)),
+        PieceStart::DoubleQuote => Some(counted(text, string_size(text)?)),
+        PieceStart::Letter => byte_literal(text),
         PieceStart::Quote => {
             if let Some(size) = character_size(text) {
                 return Some(ascii(PieceKind::Literal, size));

@@ -1,8 +1,8 @@
 // Made from crates/lexical/src/quick/quoted.rt by rust/erase: change that file, not this one.
 //! Literals between quotes that a few bytes tell.
 
-use crate::lexical::bytes::{Class, holds_ascii};
-use crate::lexical::escapes::is_letter;
+use crate::lexical::bytes::{Base, Class, count_ascii, holds_ascii};
+use crate::lexical::escapes::{is_letter, writes_character};
 use crate::lexical::piece::{Piece, PieceKind};
 use crate::lexical::quick::byte_at;
 use crate::lexical::quoted::StringKind;
@@ -17,8 +17,89 @@ fn ends_literal(byte: u8) -> bool
     byte.is_ascii() && !holds_ascii(Class::IdentifierStart, byte)
 }
 
-/// How many bytes the character has that stands at the front, between its quotes one of ASCII, or a backslash and a
-/// letter.
+/// Whether the byte may be the first of the two digits after `x`. In a C string no byte may: two zeros are forbidden
+/// there, which is left to the slower way.
+#[inline(always)]
+fn begins_pair(byte: u8, kind: StringKind) -> bool
+{
+    match kind {
+        StringKind::Plain => holds_ascii(Class::DigitOf(Base::Octal), byte),
+        StringKind::Byte => holds_ascii(Class::HexDigit, byte),
+        StringKind::C => false,
+    }
+}
+
+/// How many bytes `x` and its two digits have at the front, by the rule `hex-escape`.
+#[inline(always)]
+fn hex_size(bytes: &[u8], kind: StringKind) -> Option<usize>
+{
+    if byte_at(bytes, 0) == b'x'
+        && begins_pair(byte_at(bytes, 1), kind)
+        && holds_ascii(Class::HexDigit, byte_at(bytes, 2))
+    {
+        Some(3)
+    } else {
+        None
+    }
+}
+
+/// How many bytes `u{`, a character's code and `}` have at the front, by the rule `unicode-escape`.
+#[inline(never)]
+fn unicode_size(bytes: &[u8], kind: StringKind) -> Option<usize>
+{
+    if byte_at(bytes, 0) != b'u' || byte_at(bytes, 1) != b'{' {
+        return None;
+    }
+    let code = &bytes[2..];
+    if !holds_ascii(Class::HexDigit, byte_at(code, 0)) {
+        return None;
+    }
+    let digits = count_ascii(code, Class::CodeDigit);
+    if byte_at(code, digits) != b'}' || !writes_character(&code[..digits], kind) {
+        return None;
+    }
+    Some(digits + 3)
+}
+
+/// How many bytes the escape has at the front, after its backslash: a letter, `x` and two digits, or the code of a
+/// character.
+#[inline(always)]
+fn escape_size(bytes: &[u8], kind: StringKind) -> Option<usize>
+{
+    let first = byte_at(bytes, 0);
+    if first.is_ascii() && is_letter(first as char, kind) {
+        return Some(1);
+    }
+    match hex_size(bytes, kind) {
+        Some(size) => Some(size),
+        None => unicode_size(bytes, kind),
+    }
+}
+
+/// How many bytes the literal between single quotes has that stands at the front, after its first quote: one of ASCII
+/// or an escape, and the other quote.
+#[inline(always)]
+fn single_size(inside: &[u8], kind: StringKind) -> Option<usize>
+{
+    let byte = byte_at(inside, 0);
+    if byte == b'\\' {
+        let unit = escape_size(&inside[1..], kind)? + 1;
+        if byte_at(inside, unit) == b'\'' && ends_literal(byte_at(inside, unit + 1)) {
+            return Some(unit + 1);
+        }
+        return None;
+    }
+    if byte.is_ascii()
+        && byte_at(inside, 1) == b'\''
+        && stands_bare(byte as char, kind)
+        && ends_literal(byte_at(inside, 2))
+    {
+        return Some(2);
+    }
+    None
+}
+
+/// How many bytes the character has that stands at the front, between its quotes one of ASCII or an escape.
 #[inline(always)]
 pub fn character_size(text: &str) -> Option<usize>
 {
@@ -26,26 +107,18 @@ pub fn character_size(text: &str) -> Option<usize>
     if byte_at(bytes, 0) != b'\'' {
         return None;
     }
-    let byte = byte_at(bytes, 1);
-    if byte == b'\\' {
-        let letter = byte_at(bytes, 2);
-        if letter.is_ascii()
-            && is_letter(letter as char, StringKind::Plain)
-            && byte_at(bytes, 3) == b'\''
-            && ends_literal(byte_at(bytes, 4))
-        {
-            return Some(4);
-        }
+    Some(single_size(&bytes[1..], StringKind::Plain)? + 1)
+}
+
+/// How many bytes the byte literal has that stands at the front.
+#[inline(always)]
+pub fn byte_size(text: &str) -> Option<usize>
+{
+    let bytes = text.as_bytes();
+    if byte_at(bytes, 0) != b'b' || byte_at(bytes, 1) != b'\'' {
         return None;
     }
-    if byte.is_ascii()
-        && byte_at(bytes, 2) == b'\''
-        && stands_bare(byte as char, StringKind::Plain)
-        && ends_literal(byte_at(bytes, 3))
-    {
-        return Some(3);
-    }
-    None
+    Some(single_size(&bytes[2..], StringKind::Byte)? + 2)
 }
 
 /// The character that stands at the front, between its quotes one that stands for itself, past ASCII too.
@@ -69,13 +142,6 @@ pub fn wide_character(text: &str) -> Option<Piece<'_>>
     })
 }
 
-/// Whether the byte makes a unit of a string with the backslash before it: a letter, or a LF.
-#[inline(always)]
-fn ends_escape(byte: u8) -> bool
-{
-    byte.is_ascii() && (byte == b'\n' || is_letter(byte as char, StringKind::Plain))
-}
-
 /// How many bytes stand before the first quote, backslash or CR, if there is one.
 #[inline(always)]
 fn plain_size(bytes: &[u8]) -> Option<usize>
@@ -88,34 +154,63 @@ fn plain_size(bytes: &[u8]) -> Option<usize>
     memchr3(b'"', b'\\', b'\r', bytes)
 }
 
-/// How many bytes the string has that stands at the front, of ASCII with no CR, whose escapes are of two bytes each.
+/// How many bytes may stand after a backslash in a string, at the front: a LF, or an escape.
+#[inline(always)]
+fn escaped_size(bytes: &[u8], kind: StringKind) -> Option<usize>
+{
+    if byte_at(bytes, 0) == b'\n' {
+        return Some(1);
+    }
+    escape_size(bytes, kind)
+}
+
+/// Whether a string of the kind may have each character of the stretch. In a C string none may: zeros are forbidden
+/// there, which is left to the slower way.
+#[inline(always)]
+fn may_hold(stretch: &[u8], kind: StringKind) -> bool
+{
+    match kind {
+        StringKind::Plain => true,
+        StringKind::Byte => stretch.is_ascii(),
+        StringKind::C => false,
+    }
+}
+
+/// How many bytes the string has that stands at the front, after its first quote, with no CR: units up to a quote.
 ///
-/// The search for what ends it goes on after each escape: the string is searched once.
+/// Quotes, backslashes and CR are searched for among its bytes: what stands between them, past ASCII too, stands for
+/// itself. The search goes on after each escape: the string is searched once.
+#[inline(always)]
+fn body_size(inside: &str, kind: StringKind) -> Option<usize>
+{
+    let bytes = inside.as_bytes();
+    let mut size = memchr3(b'"', b'\\', b'\r', bytes)?;
+    while bytes[size] == b'\\' {
+        size += 1;
+        size += escaped_size(&bytes[size..], kind)?;
+        size += plain_size(&bytes[size..])?;
+    }
+    if bytes[size] == b'"'
+        && ends_literal(byte_at(bytes, size + 1))
+        && may_hold(&bytes[..size], kind)
+    {
+        return Some(size + 1);
+    }
+    None
+}
+
+/// How many bytes the string has that stands at the front, with no CR.
 #[inline(always)]
 pub fn string_size(text: &str) -> Option<usize>
 {
-    let bytes = text.as_bytes();
-    if byte_at(bytes, 0) != b'"' {
-        return None;
-    }
-    let inside = &bytes[1..];
-    let mut size = memchr3(b'"', b'\\', b'\r', inside)?;
-    // What is past ASCII mostly stands before the first escape too: such a string is left at once.
-    if inside[size] == b'\\' && !inside[..size].is_ascii() {
-        return None;
-    }
-    while inside[size] == b'\\' {
-        if !ends_escape(byte_at(inside, size + 1)) {
-            return None;
-        }
-        size += 2;
-        size += plain_size(&inside[size..])?;
-    }
-    if inside[size] == b'"'
-        && inside[..size].is_ascii()
-        && ends_literal(byte_at(inside, size + 1))
-    {
-        return Some(size + 2);
-    }
-    None
+    let inside = strip(text, "\"")?;
+    Some(body_size(inside, StringKind::Plain)? + 1)
+}
+
+/// How many bytes the byte string has that stands at the front, with no CR.
+#[inline(always)]
+pub fn byte_string_size(text: &str) -> Option<usize>
+{
+    let inside = strip(text, "b\"")?;
+    Some(body_size(inside, StringKind::Byte)? + 2)
 }

@@ -1,0 +1,69 @@
+-- What a few bytes tell of a literal between single quotes.
+use Rattle.std.proofs.Common.{◌≡◌, ℕ, ◌+◌, ◌<◌, true, inl, inr, List, [], ◌∷◌}
+use Rattle.std.proofs.Common.{get_or, drop, codes, refl, ap, ap₂, ◌∙◌, subst, arith, drop-cons, suc}
+use Rattle.std.proofs.lemmas.Bool.{and_from, lt-ltb}
+use Rattle.lexical.specs.Form.{Exactly}
+use Rattle.lexical.specs.Quick.{Anywhere, IsAsciiAt, Single}
+use Rattle.lexical.specs.Quoted.{close, escape}
+use Rattle.lexical.specs.Rule.{Stands}
+use Rattle.lexical.specs.SingleQuoted.{Byte, Character, is_plain, unit}
+use Rattle.lexical.specs.declared.quoted.StringKind.{StringKind}
+use Rattle.lexical.specs.declared.quoted.StringKind.TheVariants as strings
+use Rattle.lexical.proofs.QuickEscapeLemmas.{after_backslash}
+use Rattle.lexical.proofs.QuickLemmas.{at_other, get_after}
+use Rattle.lexical.proofs.QuickLiteralLemmas.{ascii_at, closes, ends}
+use Rattle.lexical.proofs.QuickNumberLemmas.{byte_within, then_at}
+
+-- the quote that closes it
+close_at : (text : List ℕ) (n : ℕ) → get_or text n 32 ≡ 39 → ends (get_or text (n + 1) 32) ≡ true
+    → IsAsciiAt (Stands (close (codes "'"))) (drop n text) 1
+close_at text n quote ended =
+    let next : suc n ≡ n + 1 = omega arith in
+    let within = byte_within text n _ 39 refl quote (λ e. omega (arith, e)) in
+    ascii_at (Stands (close (codes "'"))) (drop n text) (39 ∷ []) (drop (n + 1) text) 1
+    (drop-cons text n 32 within ∙ ap₂ (λ c m. c ∷ drop m text) quote next) refl refl
+    (closes 39 (drop (n + 1) text) (ap ends (get_after text (n + 1)) ∙ ended))
+
+pub single_escaped : (kind : StringKind) (inside rest : List ℕ) (n : ℕ) → get_or inside 0 32 ≡ 92
+    → rest ≡ drop 1 inside → IsAsciiAt (Anywhere (Stands (escape kind))) rest n → get_or inside (n + 1) 32 ≡ 39
+    → ends (get_or inside (n + 1 + 1) 32) ≡ true → IsAsciiAt (Single kind) inside (n + 1 + 1)
+single_escaped kind inside rest n slash same at quote ended =
+    then_at (Stands (unit (is_plain kind) (escape kind))) (Stands (close (codes "'"))) inside (n + 1) 1
+    (at_other _ _ inside (n + 1) (λ p r h. inr (h r))
+    (after_backslash (Stands (escape kind)) inside rest n slash same at))
+    (close_at inside (n + 1) quote ended)
+
+pub single_bare : (kind : StringKind) (inside : List ℕ) → get_or inside 0 32 < 128
+    → is_plain kind (get_or inside 0 32) ≡ true → get_or inside 1 32 ≡ 39 → ends (get_or inside 2 32) ≡ true
+    → IsAsciiAt (Single kind) inside 2
+single_bare kind [] low plain quote ended = absurd (omega (arith, quote))
+single_bare kind (b ∷ rest) low plain quote ended =
+    then_at (Stands (unit (is_plain kind) (escape kind))) (Stands (close (codes "'"))) (b ∷ rest) 1 1
+    (ascii_at _ (b ∷ rest) (b ∷ []) rest 1 refl refl (and_from _ _ (lt-ltb b 128 low) refl) (inl (b, refl, plain)))
+    (close_at (b ∷ rest) 1 quote ended)
+
+-- ---- what opens it
+
+pub character_read : (text inside : List ℕ) (n : ℕ) → get_or text 0 32 ≡ 39 → inside ≡ drop 1 text
+    → IsAsciiAt (Single strings.Plain) inside n → IsAsciiAt Character text (n + 1)
+character_read [] inside n quote same at = absurd (omega (arith, quote))
+character_read (a ∷ text) inside n quote same at =
+    let total : 1 + n ≡ n + 1 = omega arith in
+    subst (IsAsciiAt Character (a ∷ text)) total
+    (then_at (Exactly (codes "'")) (Single strings.Plain) (a ∷ text) 1 n
+    (ascii_at (Exactly (codes "'")) (a ∷ text) (a ∷ []) text 1 refl refl
+    (and_from _ _ (lt-ltb a 128 (omega (arith, quote))) refl) (ap (λ x. x ∷ []) quote))
+    (subst (λ t. IsAsciiAt (Single strings.Plain) t n) same at))
+
+pub byte_read : (text inside : List ℕ) (n : ℕ) → get_or text 0 32 ≡ 98 → get_or text 1 32 ≡ 39
+    → inside ≡ drop 2 text → IsAsciiAt (Single strings.Byte) inside n → IsAsciiAt Byte text (n + 2)
+byte_read [] inside n letter quote same at = absurd (omega (arith, letter))
+byte_read (a ∷ []) inside n letter quote same at = absurd (omega (arith, quote))
+byte_read (a ∷ (b ∷ text)) inside n letter quote same at =
+    let total : 2 + n ≡ n + 2 = omega arith in
+    subst (IsAsciiAt Byte (a ∷ (b ∷ text))) total
+    (then_at (Exactly (codes "b'")) (Single strings.Byte) (a ∷ (b ∷ text)) 2 n
+    (ascii_at (Exactly (codes "b'")) (a ∷ (b ∷ text)) (a ∷ (b ∷ [])) text 2 refl refl
+    (and_from _ _ (lt-ltb a 128 (omega (arith, letter))) (and_from _ _ (lt-ltb b 128 (omega (arith, quote))) refl))
+    (ap₂ (λ x y. x ∷ (y ∷ [])) letter quote))
+    (subst (λ t. IsAsciiAt (Single strings.Byte) t n) same at))

@@ -1,0 +1,42 @@
+use Rattle.std.proofs.Common.{◌+◌, codes, sym, ap, ◌∙◌, subst}
+use Rattle.std.specs.Str.{chars}
+use Rattle.std.proofs.lemmas.List.{take_rest}
+use Rattle.lexical.specs.Found.{IsAt}
+use Rattle.lexical.specs.Quoted.{body, unit}
+use Rattle.lexical.specs.Rule.{Stands}
+use Rattle.lexical.proofs.QuickLiteralLemmas.{ends}
+use Rattle.lexical.proofs.QuickStringLemmas.{stretch, string_body, units_on, units_within}
+use Rattle.lexical.proofs.quick.quoted.body_size.Goals as goal
+
+pub loop-size-init : goal.loop-size-init
+loop-size-init c =
+    let bytes = c.as_bytes-bytes.result.now in
+    record {
+      within = c.in_ok-size.ensures.0.high;
+      front = stretch c.args.kind bytes _ c.as_bytes-bytes.ensures.utf8 c.in_ok-size.ensures;
+    }
+
+pub loop-size-preserved : goal.loop-size-preserved
+loop-size-preserved c =
+    let bytes = c.as_bytes-bytes.result.now in
+    let n = c.loop-size.size in
+    let e = c.in_ok-size-2.field-0 in
+    let k = c.in_ok-size-3.field-0 in
+    let before = c.loop-size.invariant in
+    let same = take_rest bytes (n + 1) in
+    let rest = take_rest bytes (n + 1 + e) in
+    record {
+      within = units_within c.args.kind bytes _ _ n e k c.as_bytes-bytes.ensures.utf8 before.front
+          c.loop-size-test.true before.within same c.in_ok-size-2.ensures rest c.in_ok-size-3.ensures;
+      front = units_on c.args.kind bytes _ _ n e k c.as_bytes-bytes.ensures.utf8 before.front
+          c.loop-size-test.true before.within same c.in_ok-size-2.ensures rest c.in_ok-size-3.ensures;
+    }
+
+pub returns-then-may_hold-clause-found : goal.returns-then-may_hold-clause-found
+returns-then-may_hold-clause-found c =
+    let n = c.loop-size.size in
+    let before = c.loop-size.invariant in
+    subst (λ t. IsAt (Stands (body (unit c.args.kind) (codes "\""))) (chars t) (n + 1)) c.as_bytes-bytes.ensures.value
+    (string_body c.args.kind c.as_bytes-bytes.result.now n before.within before.front
+    (c.may_hold.ensures c.if-may_hold.true) c.if-bytes-size-eq34.true
+    (ap ends (sym c.byte_at.ensures) ∙ sym c.if-ends_literal.ensures))
