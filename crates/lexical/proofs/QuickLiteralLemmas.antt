@@ -11,6 +11,7 @@ use Rattle.lexical.specs.Class.{is_ident_start}
 use Rattle.lexical.specs.Form.{Form}
 use Rattle.lexical.specs.Found.{IsPieceAt, LendsText, kind_of}
 use Rattle.lexical.specs.Literal.{Literal}
+use Rattle.lexical.specs.Number.{Number}
 use Rattle.lexical.specs.Piece.{IsPiece}
 use Rattle.lexical.specs.Quick.{IsAsciiAt}
 use Rattle.lexical.specs.Quoted.{ByteStr, Str, close}
@@ -80,6 +81,10 @@ all_same test other same (c ∷ cs) = ap₂ (λ x y. x && y) (same c) (all_same 
 pub literal_piece : (A : Form) (first : Bool) (text : List ℕ) (n : ℕ) → ((p r : List ℕ) → A p r → Literal p r)
     → IsAsciiAt A text n → IsAsciiAt (λ p r. IsPiece first (kind_of kinds.Literal p) p r) text n
 literal_piece A first text n to at = at_other _ _ text n (λ p r h. (refl, inl (to p r h))) at
+
+pub number_literal : (p r : List ℕ) → Number p r → Literal p r
+unfolding Literal
+number_literal p r h = inr h
 
 pub character_literal : (p r : List ℕ) → Character p r → Literal p r
 unfolding Literal

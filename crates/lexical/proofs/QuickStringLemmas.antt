@@ -3,7 +3,8 @@ use Rattle.std.proofs.Common.{◌≡◌, ℕ, ◌+◌, ◌<◌, ◌≤◌, Bool,
 use Rattle.std.proofs.Common.{length, get_or, take, drop, codes, refl, sym, ap, ap₂, ◌∙◌, subst, arith, append_assoc}
 use Rattle.std.proofs.Common.{append-nil, drop-cons, length-append, length-drop, suc}
 use Rattle.std.proofs.Math.Seq.{take-add}
-use Rattle.std.specs.Prelude.{map}
+use Rattle.std.proofs.Common.{None, Option}
+use Rattle.std.specs.Prelude.{IfSome, map}
 use Rattle.std.specs.List.{list_all, concat}
 use Rattle.std.specs.Str.{IsCharBoundary, IsUtf8, chars, encode_utf8_all}
 use Rattle.std.proofs.lemmas.Bool.{and_parts, and_from}
@@ -31,7 +32,7 @@ use Rattle.lexical.proofs.QuickLemmas.{ascii_split, get_after}
 use Rattle.lexical.proofs.QuickLiteralLemmas.{closes, ends}
 use Rattle.lexical.proofs.Scan.{run_boundary, run_front}
 use Rattle.lexical.proofs.SearchLemmas.{found_end, plain_allowed}
-use Rattle.lexical.proofs.TextLemmas.{encode_all_ascii, is_ascii, seam_boundary, seam_take}
+use Rattle.lexical.proofs.TextLemmas.{ascii_bytes, encode_all_ascii, is_ascii, seam_boundary, seam_take}
 
 -- ---- units, whatever follows them
 
@@ -214,6 +215,26 @@ found_other A B text n to at = record {
   stands = to at.front at.rest at.stands;
   size = at.size;
 }
+
+-- one of ASCII
+pub ascii_found : (A : Form) (text : List ℕ) (n : ℕ) → IsAsciiAt A text n → IsAt A (chars text) n
+ascii_found A text n at = record {
+  front = take n text;
+  rest = chars (drop n text);
+  whole = ascii_split text n at.ascii;
+  stands = at.stands;
+  size = sym (ascii_bytes (take n text) at.ascii ∙ length-take-le n text at.within);
+}
+
+pub some_literal : (A : Form) (text : List ℕ) (size : Option ℕ) → ((p r : List ℕ) → A p r → Literal p r)
+    → IfSome size (IsAsciiAt A text) → IfSome size (IsAt Literal (chars text))
+some_literal A text None to at = tt
+some_literal A text (Some n) to at = found_other A Literal (chars text) n to (ascii_found A text n at)
+
+pub some_found : (A : Form) (text : List ℕ) (size : Option ℕ) → ((p r : List ℕ) → A p r → Literal p r)
+    → IfSome size (IsAt A (chars text)) → IfSome size (IsAt Literal (chars text))
+some_found A text None to at = tt
+some_found A text (Some n) to at = found_other A Literal (chars text) n to at
 
 -- what opens it
 pub after_front : (A : Form) (opener text inside : List ℕ) (n : ℕ) → all_ascii opener ≡ true

@@ -21,7 +21,7 @@ use crate::literals::{literal, quoted};
 use crate::marks::{begins_comment, follows_quote, mark};
 use crate::numbers::number;
 use crate::piece::{Piece, PieceKind};
-use crate::quick::{quick, quick_quoted};
+use crate::quick::{quick, quick_literal, quick_quoted};
 
 /// A literal that was read, if one was, as a piece: its kind, and the cursor after it.
 #[inline(always)]
@@ -131,6 +131,18 @@ fn piece_by_characters(text: &str, first: bool) -> Option<Piece<'_>>
 /// It answers `None` where none stands. At `b"a"b+` it answers 5, at `1.0e+-5` it answers 4, and at
 /// `0b12` that none stands.
 pub fn literal_at(text: &str) -> Option<usize>
+    ensures found { IfSome result (IsAt Literal (chars text.now)) }
+    ensures none { IfNone result (HasNone Literal (chars text.now)) }
+{
+    match quick_literal(text) {
+        Some(size) => Some(size),
+        None => literal_by_characters(text),
+    }
+}
+
+/// The same, read by its characters.
+#[inline(never)]
+fn literal_by_characters(text: &str) -> Option<usize>
     ensures found { IfSome result (IsAt Literal (chars text.now)) }
     ensures none { IfNone result (HasNone Literal (chars text.now)) }
 {

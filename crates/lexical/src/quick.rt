@@ -215,3 +215,23 @@ pub fn quick_quoted(text: &str) -> Option<Piece<'_>>
         _ => None,
     }
 }
+
+/// How many bytes the literal has that stands at the front, where a few bytes tell it. `None` says nothing.
+#[inline(never)]
+pub fn quick_literal(text: &str) -> Option<usize>
+    ensures { IfSome result (IsAt Literal (chars text.now)) }
+{
+    match byte_start(byte_at(text.as_bytes(), 0)) {
+        PieceStart::Digit => match number_size(text) {
+            Some(size) => Some(size),
+            None => long_number_size(text),
+        },
+        PieceStart::DoubleQuote => string_size(text),
+        PieceStart::Quote => character_size(text),
+        PieceStart::Letter => match byte_size(text) {
+            Some(size) => Some(size),
+            None => byte_string_size(text),
+        },
+        _ => None,
+    }
+}

@@ -9,7 +9,7 @@ use crate::lexical::literals::{literal, quoted};
 use crate::lexical::marks::{begins_comment, follows_quote, mark};
 use crate::lexical::numbers::number;
 use crate::lexical::piece::{Piece, PieceKind};
-use crate::lexical::quick::{quick, quick_quoted};
+use crate::lexical::quick::{quick, quick_literal, quick_quoted};
 
 /// A literal that was read, if one was, as a piece: its kind, and the cursor after it.
 #[inline(always)]
@@ -110,6 +110,16 @@ fn piece_by_characters(text: &str, first: bool) -> Option<Piece<'_>>
 /// It answers `None` where none stands. At `b"a"b+` it answers 5, at `1.0e+-5` it answers 4, and at
 /// `0b12` that none stands.
 pub fn literal_at(text: &str) -> Option<usize>
+{
+    match quick_literal(text) {
+        Some(size) => Some(size),
+        None => literal_by_characters(text),
+    }
+}
+
+/// The same, read by its characters.
+#[inline(never)]
+fn literal_by_characters(text: &str) -> Option<usize>
 {
     let after = literal(Cursor::new(text))?;
     Some(after.bytes_in(text))

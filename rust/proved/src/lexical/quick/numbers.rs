@@ -53,7 +53,71 @@ fn suffix_size(bytes: &[u8]) -> Option<usize>
     }
 }
 
-/// How many bytes the float has that stands at the front, with a dot and no exponent.
+/// How many bytes the digits of an exponent have at the front, before ASCII, with no `_` before them.
+#[inline(always)]
+fn exponent_digits_size(bytes: &[u8]) -> Option<usize>
+{
+    if !holds_ascii(Class::Digit, byte_at(bytes, 0)) {
+        return None;
+    }
+    let size = count_ascii(bytes, Class::DigitOrUnderscore);
+    if byte_at(bytes, size).is_ascii() {
+        Some(size)
+    } else {
+        None
+    }
+}
+
+/// How many bytes the exponent has at the front, with no `_` before its digits.
+#[inline(always)]
+fn exponent_size(bytes: &[u8]) -> Option<usize>
+{
+    if !holds_ascii(Class::ExponentLetter, byte_at(bytes, 0)) {
+        return None;
+    }
+    let after = &bytes[1..];
+    if holds_ascii(Class::Sign, byte_at(after, 0)) {
+        return Some(exponent_digits_size(&after[1..])? + 2);
+    }
+    Some(exponent_digits_size(after)? + 1)
+}
+
+/// How many bytes an exponent and a suffix have at the front.
+#[inline(always)]
+fn exponent_end_size(bytes: &[u8]) -> Option<usize>
+{
+    let exponent = exponent_size(bytes)?;
+    let suffix = suffix_size(&bytes[exponent..])?;
+    Some(exponent + suffix)
+}
+
+/// How many bytes the float has that stands at the front, with an exponent and no dot.
+#[inline(always)]
+fn dotless_size(text: &str) -> Option<usize>
+{
+    let bytes = text.as_bytes();
+    if !holds_ascii(Class::Digit, byte_at(bytes, 0)) {
+        return None;
+    }
+    let digits = count_ascii(bytes, Class::DigitOrUnderscore);
+    if !holds_ascii(Class::ExponentLetter, byte_at(bytes, digits)) {
+        return None;
+    }
+    let end = exponent_end_size(&bytes[digits..])?;
+    Some(digits + end)
+}
+
+/// How many bytes may end a float at the front, after its dot and the digits there: an exponent, if any, and a suffix.
+#[inline(always)]
+fn fraction_end_size(bytes: &[u8]) -> Option<usize>
+{
+    match suffix_size(bytes) {
+        Some(size) => Some(size),
+        None => exponent_end_size(bytes),
+    }
+}
+
+/// How many bytes the float has that stands at the front, with a dot.
 #[inline(always)]
 fn float_size(text: &str) -> Option<usize>
 {
@@ -71,8 +135,8 @@ fn float_size(text: &str) -> Option<usize>
         return None;
     }
     let fraction = count_ascii(after, Class::DigitOrUnderscore);
-    let suffix = suffix_size(&after[fraction..])?;
-    Some(digits + 1 + fraction + suffix)
+    let end = fraction_end_size(&after[fraction..])?;
+    Some(digits + 1 + fraction + end)
 }
 
 /// How many bytes the number of base 16 has that stands at the front, and begins with a digit after its prefix.
@@ -115,15 +179,18 @@ fn suffixed_size(text: &str) -> Option<usize>
     Some(digits + suffix)
 }
 
-/// How many bytes the number has that stands at the front, with a dot, a suffix or the prefix of base 16.
+/// How many bytes the number has that stands at the front, with a dot, an exponent, a suffix or the prefix of base 16.
 #[inline(never)]
 pub fn long_number_size(text: &str) -> Option<usize>
 {
     if let Some(size) = float_size(text) {
         return Some(size);
     }
-    match hex_size(text) {
+    if let Some(size) = hex_size(text) {
+        return Some(size);
+    }
+    match suffixed_size(text) {
         Some(size) => Some(size),
-        None => suffixed_size(text),
+        None => dotless_size(text),
     }
 }

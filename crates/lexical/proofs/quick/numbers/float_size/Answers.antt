@@ -4,11 +4,11 @@ use Rattle.lexical.specs.declared.bytes.Class.TheVariants as classes
 use Rattle.lexical.proofs.QuickNumberLemmas.{float_read, byte_within, run_within}
 use Rattle.lexical.proofs.quick.numbers.float_size.Goals as goal
 
-pub slice_bounds-suffix_size-count : goal.slice_bounds-suffix_size-count
-slice_bounds-suffix_size-count c = run_within classes.DigitOrUnderscore _ _ c.count_ascii-fraction.ensures
+pub slice_bounds-fraction_end_size-count : goal.slice_bounds-fraction_end_size-count
+slice_bounds-fraction_end_size-count c = run_within classes.DigitOrUnderscore _ _ c.count_ascii-fraction.ensures
 
-pub slice_bounds-suffix_size-start : goal.slice_bounds-suffix_size-start
-slice_bounds-suffix_size-start c = run_within classes.DigitOrUnderscore _ _ c.count_ascii-fraction.ensures
+pub slice_bounds-fraction_end_size-start : goal.slice_bounds-fraction_end_size-start
+slice_bounds-fraction_end_size-start c = run_within classes.DigitOrUnderscore _ _ c.count_ascii-fraction.ensures
 
 pub overflow_add-result-2 : goal.overflow_add-result-2
 overflow_add-result-2 c =
@@ -33,7 +33,7 @@ overflow_add-result-3 c =
       arith,
       byte_within bytes digits _ 46 c.byte_at-2.ensures c.if-byte_at-ne46.false (λ e. omega (arith, e)),
       run_within classes.DigitOrUnderscore inside _ c.count_ascii-fraction.ensures,
-      c.in_ok-suffix.ensures.end.within,
+      c.in_ok-end.ensures.end.within,
       ap length (take_rest inside fraction),
       length-drop fraction inside,
       ap length (take_rest bytes (digits + 1)),
@@ -46,8 +46,8 @@ returns c =
     let digits = c.count_ascii-digits.result in
     let inside = take (length bytes - (digits + 1)) (drop (digits + 1) bytes) in
     float_read c.args.text.now bytes inside _ c.byte_at.result digits c.byte_at-2.result c.byte_at-next.result
-    c.count_ascii-fraction.result c.in_ok-suffix.suffix c.as_bytes-bytes.ensures.value c.byte_at.ensures
+    c.count_ascii-fraction.result c.in_ok-end.end c.as_bytes-bytes.ensures.value c.byte_at.ensures
     c.if-not-holds_ascii.ensures c.count_ascii-digits.ensures c.byte_at-2.ensures c.if-byte_at-ne46.false
     (take_rest bytes (digits + 1)) c.byte_at-next.ensures c.if-not-is_ascii.ensures c.if-holds_ascii.ensures
-    c.count_ascii-fraction.ensures (take_rest inside c.count_ascii-fraction.result) c.in_ok-suffix.ensures.end
-    c.in_ok-suffix.ensures.ascii
+    c.count_ascii-fraction.ensures (take_rest inside c.count_ascii-fraction.result) c.in_ok-end.ensures.end
+    c.in_ok-end.ensures.ascii

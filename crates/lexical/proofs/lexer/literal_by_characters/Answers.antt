@@ -5,7 +5,7 @@ use Rattle.lexical.specs.Rule.{find}
 use Rattle.lexical.proofs.FinderLemmas.{none_is}
 use Rattle.lexical.proofs.LiteralFinderLemmas.{finds_literal}
 use Rattle.lexical.proofs.AnswerLemmas.{is_in, is_at}
-use Rattle.lexical.proofs.lexer.literal_at.Goals as goal
+use Rattle.lexical.proofs.lexer.literal_by_characters.Goals as goal
 
 pub bytes_in-requires : goal.bytes_in-requires
 bytes_in-requires c = is_in literal Literal finds_literal _ _ _ c.new.ensures.rest c.in_ok-after.ensures
