@@ -1,6 +1,7 @@
 -- What a few bytes tell of an escape.
 use Rattle.std.proofs.Common.{◌≡◌, ℕ, ◌+◌, ◌<◌, Bool, true, ◌&&◌, inl, List, [], ◌∷◌, ◌++◌}
-use Rattle.std.proofs.Common.{length, get_or, take, drop, nat_lt, codes, Option, Some, None, refl, sym, ap, ap₂, ◌∙◌, subst, arith}
+use Rattle.std.proofs.Common.{length, get_or, take, drop, nat_lt, codes, Option, Some, None}
+use Rattle.std.proofs.Common.{refl, sym, ap, ap₂, ◌∙◌, subst, arith}
 use Rattle.std.proofs.Common.{append_assoc, drop-cons, length-append, suc}
 use Rattle.std.specs.Prelude.{IfSome}
 use Rattle.std.specs.Char.{is_ascii_hexdigit}
@@ -15,7 +16,8 @@ use Rattle.lexical.specs.Bytes.{ascii_in}
 use Rattle.lexical.specs.Finder.{while_front}
 use Rattle.lexical.specs.Form.{Exactly, Form, Then}
 use Rattle.lexical.specs.Quick.{Anywhere, IsAsciiAt, pair_front}
-use Rattle.lexical.specs.Quoted.{allows, escape, escaped, hex, is_code, is_code_digit, is_one_of, letters, pair, unicode}
+use Rattle.lexical.specs.Quoted.{allows, escape, escaped, hex, is_code, is_code_digit, is_one_of, letters}
+use Rattle.lexical.specs.Quoted.{pair, unicode}
 use Rattle.lexical.specs.RawString.{may_stand_raw}
 use Rattle.lexical.specs.Rule.{Stands}
 use Rattle.lexical.specs.declared.bytes.Class.TheVariants as classes
@@ -105,7 +107,8 @@ module _ (code : List ℕ) (n : ℕ) (size : n ≡ length (while_front (ascii_in
       let more = run_cons classes.CodeDigit code n size on refl in
       let digits = take n code in
       let count : length digits ≡ n = length-take-le n code (front_of_run _ code n size).2 in
-      let ascii : all_ascii digits ≡ true = all_low classes.CodeDigit digits (run_passes classes.CodeDigit code n size) in
+      let ascii : all_ascii digits ≡ true =
+      all_low classes.CodeDigit digits (run_passes classes.CodeDigit code n size) in
       let within : n < length code = byte_within code n _ 125 refl close (λ e. omega (arith, e)) in
       let next : suc n ≡ n + 1 = omega arith in
       let split : code ≡ digits ++ (125 ∷ drop (n + 1) code) =

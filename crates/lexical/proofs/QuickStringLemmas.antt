@@ -97,8 +97,8 @@ module _ (kind : StringKind) where
       }
 
   -- an escape is one unit
-  escape_front : (p : List ℕ) → all_ascii p ≡ true → ((r : List ℕ) → Then (Exactly (codes "\\")) (Stands (escaped kind)) p r)
-      → Front p
+  escape_front : (p : List ℕ) → all_ascii p ≡ true
+      → ((r : List ℕ) → Then (Exactly (codes "\\")) (Stands (escaped kind)) p r) → Front p
   escape_front p ascii is =
       let low = is_ascii p ascii in
       record {
@@ -247,7 +247,8 @@ after_front A opener text inside n ascii whole at = record {
   size = omega (
     arith,
     at.size,
-    ap length (encodes-append opener at.front ∙ ap (λ xs. xs ++ encode_utf8_all at.front) (encode_all_ascii opener ascii)),
+    ap length (encodes-append opener at.front
+        ∙ ap (λ xs. xs ++ encode_utf8_all at.front) (encode_all_ascii opener ascii)),
     length-append opener (encode_utf8_all at.front),
   );
 }

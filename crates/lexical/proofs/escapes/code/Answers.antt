@@ -15,7 +15,8 @@ writes_character-requires c =
     let pass = then_passes _ _ _ _ _ c.in_ok-first.ensures c.skip-end.ensures in
     let all = ap (list_all is_code_digit) (c.before-2.ensures pass.front (digits_whole _ _ pass))
     ∙ digits_all _ _ pass in
-    ap (list_all is_code_digit) (digits_bytes c.before-2.result.now _ c.before-2.utf8 c.as_bytes.ensures.value all) ∙ all
+    ap (list_all is_code_digit) (digits_bytes c.before-2.result.now _ c.before-2.utf8 c.as_bytes.ensures.value all)
+    ∙ all
 
 pub returns-then-not-writes_character : goal.returns-then-not-writes_character
 returns-then-not-writes_character c =

@@ -16,7 +16,8 @@ pub returns-in-Quote : goal.returns-in-Quote
 returns-in-Quote c = some_literal _ c.args.text.now _ character_literal c.character_size.ensures
 
 pub returns-in-Some-byte_size : goal.returns-in-Some-byte_size
-returns-in-Some-byte_size c = found_other _ _ _ _ byte_literal (ascii_found _ c.args.text.now _ c.in-Some-byte_size.ensures)
+returns-in-Some-byte_size c =
+    found_other _ _ _ _ byte_literal (ascii_found _ c.args.text.now _ c.in-Some-byte_size.ensures)
 
 pub returns-in-None-byte_size : goal.returns-in-None-byte_size
 returns-in-None-byte_size c = some_found _ c.args.text.now _ byte_string_literal c.byte_string_size.ensures

@@ -32,8 +32,8 @@ returns-in_ok-long_number_size-in-Digit c first =
 
 pub returns-in-Some : goal.returns-in-Some
 returns-in-Some c first =
-    ascii_piece first _ _ _ _ (literal_piece _ first _ _ character_literal c.in-Some.ensures) tt c.ascii-in-Some.ensures.kind
-    c.ascii-in-Some.ensures.bytes c.ascii-in-Some.ensures.chars
+    ascii_piece first _ _ _ _ (literal_piece _ first _ _ character_literal c.in-Some.ensures) tt
+    c.ascii-in-Some.ensures.kind c.ascii-in-Some.ensures.bytes c.ascii-in-Some.ensures.chars
 
 pub counted-requires : goal.counted-requires
 counted-requires c = found_other _ _ _ _ string_literal c.in_ok-string_size-in-DoubleQuote.ensures

@@ -1,5 +1,5 @@
 use Rattle.std.proofs.lemmas.List.{take_rest}
-use Rattle.lexical.proofs.QuickNumberLemmas.{dotless_read}
+use Rattle.lexical.proofs.QuickExponentLemmas.{dotless_read}
 use Rattle.lexical.proofs.quick.numbers.dotless_size.Goals as goal
 
 pub returns : goal.returns

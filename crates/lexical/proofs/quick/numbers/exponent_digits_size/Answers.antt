@@ -1,7 +1,7 @@
 use Rattle.std.proofs.Common.{nat_lt, sym, ap, ◌∙◌, ltb-true}
 use Rattle.lexical.specs.Bytes.{ascii_in}
 use Rattle.lexical.specs.declared.bytes.Class.TheVariants as classes
-use Rattle.lexical.proofs.QuickNumberLemmas.{exponent_digits_at}
+use Rattle.lexical.proofs.QuickExponentLemmas.{exponent_digits_at}
 use Rattle.lexical.proofs.quick.numbers.exponent_digits_size.Goals as goal
 
 pub returns-then-is_ascii-clause-digits : goal.returns-then-is_ascii-clause-digits

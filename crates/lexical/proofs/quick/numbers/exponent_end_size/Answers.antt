@@ -1,5 +1,5 @@
 use Rattle.std.proofs.lemmas.List.{take_rest}
-use Rattle.lexical.proofs.QuickNumberLemmas.{exponent_end_at}
+use Rattle.lexical.proofs.QuickExponentLemmas.{exponent_end_at}
 use Rattle.lexical.proofs.quick.numbers.exponent_end_size.Goals as goal
 
 pub returns-clause-end : goal.returns-clause-end

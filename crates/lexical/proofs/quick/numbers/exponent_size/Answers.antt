@@ -1,6 +1,6 @@
 use Rattle.std.proofs.lemmas.List.{take_rest}
 use Rattle.std.proofs.Common.{◌-◌, length, take, drop}
-use Rattle.lexical.proofs.QuickNumberLemmas.{signed_read, unsigned_read}
+use Rattle.lexical.proofs.QuickExponentLemmas.{signed_read, unsigned_read}
 use Rattle.lexical.proofs.quick.numbers.exponent_size.Goals as goal
 
 pub returns-then-holds_ascii-clause-exponent : goal.returns-then-holds_ascii-clause-exponent

@@ -1,4 +1,5 @@
-use Rattle.lexical.proofs.QuickNumberLemmas.{end_at, some_exponent}
+use Rattle.lexical.proofs.QuickExponentLemmas.{some_exponent}
+use Rattle.lexical.proofs.QuickNumberLemmas.{end_at}
 use Rattle.lexical.proofs.quick.numbers.fraction_end_size.Goals as goal
 
 pub returns-in-Some-clause-end : goal.returns-in-Some-clause-end
