@@ -382,7 +382,7 @@ exponent_continues c h = elim (or_cases _ _ h) [
   | inr capital ↦ ap is_ident_continue (eqb-true c 69 capital)
 ]
 
-one_none : (test : ℕ → Bool) (text : List ℕ) → first_passes test text ≡ false → find (One test) text ≡ None
+pub one_none : (test : ℕ → Bool) (text : List ℕ) → first_passes test text ≡ false → find (One test) text ≡ None
 unfolding find
 one_none test [] fails = refl
 one_none test (c ∷ text) fails = cond-false _ _ _ fails

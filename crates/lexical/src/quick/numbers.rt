@@ -206,19 +206,50 @@ fn suffixed_size(text: &str) -> Option<usize>
     Some(digits + suffix)
 }
 
-/// How many bytes the number has that stands at the front, with a dot, an exponent, a suffix or the prefix of base 16.
+/// How many bytes the number of digits alone has that stands at the front, before a dot that is no part of it.
+#[inline(always)]
+fn undotted_size(text: &str) -> Option<usize>
+    ensures { IfSome result (IsAsciiAt Number text.now) }
+{
+    let bytes = text.as_bytes();
+    if !holds_ascii(Class::Digit, byte_at(bytes, 0)) {
+        return None;
+    }
+    let digits = count_ascii(bytes, Class::DigitOrUnderscore);
+    if byte_at(bytes, digits) != b'.' {
+        return None;
+    }
+    let after = &bytes[digits + 1..];
+    if holds_ascii(Class::BarsDot, byte_at(after, 0)) {
+        Some(digits)
+    } else {
+        None
+    }
+}
+
+/// How many bytes the number has that stands at the front, before or with a dot, or with an exponent, a suffix or the
+/// prefix of base 16.
 #[inline(never)]
 pub fn long_number_size(text: &str) -> Option<usize>
     ensures { IfSome result (IsAsciiAt Number text.now) }
 {
-    if let Some(size) = float_size(text) {
-        return Some(size);
+    let bytes = text.as_bytes();
+    // The byte after the digits tells which of these may stand here.
+    let next = byte_at(bytes, count_ascii(bytes, Class::DigitOrUnderscore));
+    if next == b'.' {
+        return match float_size(text) {
+            Some(size) => Some(size),
+            None => undotted_size(text),
+        };
     }
-    if let Some(size) = hex_size(text) {
-        return Some(size);
+    if next == b'x' {
+        return hex_size(text);
     }
-    match suffixed_size(text) {
-        Some(size) => Some(size),
-        None => dotless_size(text),
+    if begins_suffix(next) {
+        return suffixed_size(text);
     }
+    if holds_ascii(Class::ExponentLetter, next) {
+        return dotless_size(text);
+    }
+    None
 }
