@@ -20,7 +20,7 @@ const SHORT_WALK: u32 = 32;
 const BLOCK: u32 = 128;
 
 /// So many lines are searched without blocks.
-const FEW_LINES: usize = 16;
+const FEW_LINES: usize = 64;
 
 /// A file of a source map: its text, the positions that it takes, and where its lines begin.
 #[derive(Drop)]
@@ -38,9 +38,9 @@ pub(crate) struct FileInfo {
     byte_offsets: BTreeMap<u32, usize>,
     /// The known offset that was used last.
     used: OffsetPair,
-    /// Of where lines that aren't ASCII begin and end, those on both sides of the offset that was found last.
+    /// Of where lines that aren't ASCII begin and end, those on both sides of the offset that was sought last.
     around: (OffsetPair, OffsetPair),
-    /// The offset that was found last.
+    /// The offset that was found last where not all around it is ASCII.
     found: OffsetPair,
     /// For each block of characters how many lines begin up to its start; none where lines are few.
     line_blocks: Vec<u32>,
@@ -169,16 +169,25 @@ fn count_by_blocks(alloc: Global, starts: &[u32], count: u32) -> Result<Vec<u32>
     Ok(blocks)
 }
 
-/// How many of the offsets, which ascend, are at most this one. The first `from` are, and those from `to` on are not,
-/// where the advice is right; else all are searched.
-fn count_up_to(offsets: &[u32], char_offset: u32, from: usize, to: usize) -> usize
+/// How many of the offsets, which ascend, are at most this one.
+fn count_up_to(offsets: &[u32], char_offset: u32) -> usize
+    requires { IsNonDecreasing offsets.now }
+    ensures within { result ≤ length offsets.now }
+    ensures before { (k : ℕ) → k < result → slice_index offsets.now k ≤ char_offset }
+    ensures after { (k : ℕ) → result ≤ k → k < length offsets.now → char_offset < slice_index offsets.now k }
+{
+    offsets.partition_point(|offset| *offset <= char_offset)
+}
+
+/// The same. The first `from` are, and those from `to` on are not, where the advice is right; else all are searched.
+fn count_near(offsets: &[u32], char_offset: u32, from: usize, to: usize) -> usize
     requires { IsNonDecreasing offsets.now }
     ensures within { result ≤ length offsets.now }
     ensures before { (k : ℕ) → k < result → slice_index offsets.now k ≤ char_offset }
     ensures after { (k : ℕ) → result ≤ k → k < length offsets.now → char_offset < slice_index offsets.now k }
 {
     if !stands_between(offsets, char_offset, from, to) {
-        return offsets.partition_point(|offset| *offset <= char_offset);
+        return count_up_to(offsets, char_offset);
     }
     from + offsets[from..to].partition_point(|offset| *offset <= char_offset)
 }
@@ -247,30 +256,61 @@ impl FileInfo {
         }
     }
 
-    /// How many line feeds stand before an offset of the text, and where its line begins, in characters.
-    fn line_at(&self, char_offset: u32) -> (usize, u32)
-        requires { char_offset ≤ length self.now.text }
-        ensures { IsLineAt self.now.text char_offset result.0 result.1 }
-    {
-        let (from, to) = self.lines_near(char_offset);
-        let line_feeds = count_up_to(&self.line_starts, char_offset, from, to);
-        let line_start = if line_feeds == 0 {
-            0
-        } else {
-            self.line_starts[line_feeds - 1]
-        };
-        (line_feeds, line_start)
-    }
-
     /// The line and column of an offset of the text, in characters.
     pub(crate) fn line_column(&self, char_offset: u32) -> LineColumn
         requires { char_offset ≤ length self.now.text }
         ensures { result ≡ line_column self.now.text char_offset }
     {
-        let (line_feeds, line_start) = self.line_at(char_offset);
+        // Without blocks there is no advice to try.
+        if self.line_blocks.is_empty() {
+            self.line_column_after(count_up_to(&self.line_starts, char_offset), char_offset)
+        } else {
+            self.line_column_near(char_offset)
+        }
+    }
+
+    /// The same, sought first among the lines that begin in the block of the offset.
+    #[inline(never)]
+    fn line_column_near(&self, char_offset: u32) -> LineColumn
+        requires { char_offset ≤ length self.now.text }
+        ensures { result ≡ line_column self.now.text char_offset }
+    {
+        let (from, to) = self.lines_near(char_offset);
+        self.line_column_after(
+            count_near(&self.line_starts, char_offset, from, to),
+            char_offset,
+        )
+    }
+
+    /// The line and column of an offset of the text that stands after so many line feeds.
+    fn line_column_after(&self, line_feeds: usize, char_offset: u32) -> LineColumn
+        requires offset { char_offset ≤ length self.now.text }
+        requires within { line_feeds ≤ length (after_line_feeds self.now.text) }
+        requires before { (k : ℕ) → k < line_feeds → slice_index (after_line_feeds self.now.text) k ≤ char_offset }
+        requires after { (k : ℕ) → line_feeds ≤ k → k < length (after_line_feeds self.now.text)
+            → char_offset < slice_index (after_line_feeds self.now.text) k }
+        ensures { result ≡ line_column self.now.text char_offset }
+    {
+        let line_start = self.line_start(line_feeds, char_offset);
         LineColumn {
             line: line_feeds + 1,
             column: (char_offset - line_start) as usize,
+        }
+    }
+
+    /// Where the line begins that stands after so many line feeds and has this offset, in characters.
+    fn line_start(&self, line_feeds: usize, char_offset: u32) -> u32
+        requires offset { char_offset ≤ length self.now.text }
+        requires within { line_feeds ≤ length (after_line_feeds self.now.text) }
+        requires before { (k : ℕ) → k < line_feeds → slice_index (after_line_feeds self.now.text) k ≤ char_offset }
+        requires after { (k : ℕ) → line_feeds ≤ k → k < length (after_line_feeds self.now.text)
+            → char_offset < slice_index (after_line_feeds self.now.text) k }
+        ensures { IsLineAt self.now.text char_offset line_feeds result }
+    {
+        if line_feeds == 0 {
+            0
+        } else {
+            self.line_starts[line_feeds - 1]
         }
     }
 
@@ -298,17 +338,34 @@ impl FileInfo {
         (before, after)
     }
 
-    /// The same, without a search where those of the offset found last stand around this one too.
-    fn known_around(&self, char_offset: u32) -> (OffsetPair, OffsetPair)
-        requires { char_offset ≤ length self.now.text }
-        ensures before { IsByteOffset self.now.text result.0.chars result.0.bytes × (result.0.chars ≤ char_offset) }
-        ensures after { IsByteOffset self.now.text result.1.chars result.1.bytes × (char_offset ≤ result.1.chars) }
+    /// The same, without a search where those found last stand around this one too.
+    fn find_bounds(&mut self, char_offset: u32) -> (OffsetPair, OffsetPair)
+        requires { char_offset ≤ length self.old.text }
+        ensures before { IsByteOffset self.old.text result.0.chars result.0.bytes × (result.0.chars ≤ char_offset) }
+        ensures after { IsByteOffset self.old.text result.1.chars result.1.bytes × (char_offset ≤ result.1.chars) }
+        ensures kept { self.new ≡ self.old }
     {
         let (start, end) = self.around;
         if start.chars <= char_offset && char_offset < end.chars {
-            (start, end)
+            return (start, end);
+        }
+        let found = self.bounds_around(char_offset);
+        self.around = found;
+        found
+    }
+
+    /// The bytes before an offset that stands between two known ones, if all is ASCII there.
+    fn ascii_offset(&self, char_offset: u32, start: OffsetPair, end: OffsetPair) -> Option<usize>
+        requires start { IsByteOffset self.now.text start.chars start.bytes }
+        requires end { IsByteOffset self.now.text end.chars end.bytes }
+        requires after_start { start.chars ≤ char_offset }
+        requires before_end { char_offset ≤ end.chars }
+        ensures { IfSome result (λ bytes. IsByteOffset self.now.text char_offset bytes) }
+    {
+        if end.bytes - start.bytes == (end.chars - start.chars) as usize {
+            Some(start.bytes + (char_offset - start.chars) as usize)
         } else {
-            self.bounds_around(char_offset)
+            None
         }
     }
 
@@ -345,7 +402,7 @@ impl FileInfo {
     }
 
     /// A known offset to walk from to this one, between two that stand around it: the one used last if it is near,
-    /// else the nearer one of those on both sides. Where all around the offset is ASCII, it is known itself.
+    /// else the nearer one of those on both sides.
     fn nearest_known(&self, char_offset: u32, start: OffsetPair, end: OffsetPair) -> OffsetPair
         requires within { char_offset ≤ length self.now.text }
         requires start { IsByteOffset self.now.text start.chars start.bytes }
@@ -354,12 +411,6 @@ impl FileInfo {
         requires before_end { char_offset ≤ end.chars }
         ensures { IsByteOffset self.now.text result.chars result.bytes }
     {
-        if end.bytes - start.bytes == (end.chars - start.chars) as usize {
-            return OffsetPair {
-                chars: char_offset,
-                bytes: start.bytes + (char_offset - start.chars) as usize,
-            };
-        }
         if char_offset.abs_diff(self.used.chars) <= SHORT_WALK {
             return self.used;
         }
@@ -404,28 +455,15 @@ impl FileInfo {
         }
     }
 
-    /// The bytes before an offset that stands between the same bounds as the one found last, if all is ASCII there.
-    fn ascii_offset(&self, char_offset: u32) -> Option<usize>
-        ensures { IfSome result (λ bytes. IsByteOffset self.now.text char_offset bytes) }
-    {
-        let (start, end) = self.around;
-        if char_offset < start.chars || end.chars <= char_offset {
-            return None;
-        }
-        let chars = end.chars - start.chars;
-        if end.bytes - start.bytes == chars as usize {
-            Some(start.bytes + (char_offset - start.chars) as usize)
-        } else {
-            None
-        }
-    }
-
     /// An offset of the text in characters as one in bytes.
     pub(crate) fn byte_offset(&self, char_offset: u32) -> usize
         requires { char_offset ≤ length self.now.text }
         ensures { result ≡ byte_offset self.now.text char_offset }
     {
         let (start, end) = self.bounds_around(char_offset);
+        if let Some(bytes) = self.ascii_offset(char_offset, start, end) {
+            return bytes;
+        }
         self.count_from(self.nearest_known(char_offset, start, end), char_offset)
     }
 
@@ -435,17 +473,16 @@ impl FileInfo {
         ensures value { result ≡ byte_offset self.old.text char_offset }
         ensures kept { self.new ≡ self.old }
     {
-        if let Some(bytes) = self.ascii_offset(char_offset) {
+        let (start, end) = self.find_bounds(char_offset);
+        if let Some(bytes) = self.ascii_offset(char_offset, start, end) {
             self.used = OffsetPair {
                 chars: char_offset,
                 bytes,
             };
             return bytes;
         }
-        let (start, end) = self.known_around(char_offset);
         let known = self.nearest_known(char_offset, start, end);
         let bytes = self.count_from(self.nearer(known, char_offset), char_offset);
-        self.around = (start, end);
         self.found = OffsetPair {
             chars: char_offset,
             bytes,

@@ -27,8 +27,9 @@ pub invariant_of-self-then-abs_diff-gt-SHORT_WALK : goal.invariant_of-self-then-
 invariant_of-self-then-abs_diff-gt-SHORT_WALK c =
     let text = ap (λ file. file.text) c.self.view_is in
     let char_offset = c.args.char_offset in
+    let kept = ap (λ file. length file.text) c.find_bounds.ensures.kept in
     let found : IsByteOffset _ char_offset c.count_from-bytes.result = record {
-      within = omega (arith, c.requires, ap length text);
+      within = omega (arith, c.requires, kept, ap length text);
       value = c.count_from-bytes.ensures ∙ ap (λ t. byte_offset t char_offset) (sym text);
     } in
     record {
@@ -39,8 +40,8 @@ invariant_of-self-then-abs_diff-gt-SHORT_WALK c =
           c.insert.new.self.entries c.insert.result found c.self.invariant.known c.insert.ensures.entries
           c.insert.ensures.err;
       last_used = found;
-      around_before = own _ _ c.known_around.result.0 text c.known_around.ensures.before.0;
-      around_after = own _ _ c.known_around.result.1 text c.known_around.ensures.after.0;
+      around_before = c.self.invariant.around_before;
+      around_after = c.self.invariant.around_after;
       last_found = found;
     }
 
@@ -48,16 +49,17 @@ pub invariant_of-self-else-abs_diff-gt-SHORT_WALK : goal.invariant_of-self-else-
 invariant_of-self-else-abs_diff-gt-SHORT_WALK c =
     let text = ap (λ file. file.text) c.self.view_is in
     let char_offset = c.args.char_offset in
+    let kept = ap (λ file. length file.text) c.find_bounds.ensures.kept in
     record {
       ends = c.self.invariant.ends;
       lines = c.self.invariant.lines;
       bounds = c.self.invariant.bounds;
       known = c.self.invariant.known;
       last_used = own _ _ c.nearest_known-known.result text c.nearest_known-known.ensures;
-      around_before = own _ _ c.known_around.result.0 text c.known_around.ensures.before.0;
-      around_after = own _ _ c.known_around.result.1 text c.known_around.ensures.after.0;
+      around_before = c.self.invariant.around_before;
+      around_after = c.self.invariant.around_after;
       last_found = record {
-        within = omega (arith, c.requires, ap length text);
+        within = omega (arith, c.requires, kept, ap length text);
         value = c.count_from-bytes.ensures ∙ ap (λ t. byte_offset t char_offset) (sym text);
       };
     }
