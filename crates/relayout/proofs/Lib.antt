@@ -7,3 +7,5 @@ mod TokenLemmas
 mod CommentLemmas
 mod PartLemmas
 mod AttributeLemmas
+mod LiteralLemmas
+mod KeptLemmas

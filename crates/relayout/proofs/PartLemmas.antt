@@ -3,7 +3,6 @@ use Rattle.std.proofs.Common.{◌≡◌, ℕ, Bool, true, false, ◌&&◌, List,
 use Rattle.std.proofs.Common.{sym, ap, ◌∙◌, subst, inl, append_assoc, append-nil}
 use Rattle.std.proofs.Common.{◌||◌, ◌<◌, inr, length, arith}
 use Rattle.std.specs.Str.{chars}
-use Rattle.std.proofs.Math.Bool.{or-false}
 use Rattle.std.proofs.lemmas.Bool.{and_from, cases_Bool}
 use Rattle.lexical.specs.Cover.{onto, StandBefore, IsCover}
 use Rattle.lexical.specs.Piece.{Kind, Piece, Gap, IsPiece}
@@ -122,18 +121,6 @@ makes_all source first free rest out none so =
       covers_now = comments_cover source all.0 covers all.3;
       tokens = comments_keep source all.0 covers all.3;
     })
-
--- ---- a space
-
-pub space_part : (first free : Bool) (text rest out new : List ℕ) → text ≡ 32 ∷ rest → new ≡ out ++ 32 ∷ []
-    → (part : Part) × IsFirstPart first free text part rest × (free ≡ is_free free part)
-    × (new ≡ out ++ onto (new_part part) [])
-space_part first free text rest out new whole push = (
-  White 32,
-  record { whole = whole; stand = (inl (32, refl, refl), tt); may = refl; stays = λ _. tt },
-  sym (or-false free),
-  push,
-)
 
 -- ---- an attribute
 

@@ -5,7 +5,7 @@ use Rattle.lexical.specs.Cover.{onto, IsCover, StandBefore}
 use Rattle.pm_token.specs.Escaped.{string_text}
 use Rattle.pm_token.specs.Text.{IsText}
 use Rattle.relayout.specs.Commented.{Part, White, Kept, Attribute, attribute_front, is_doc_line, is_free, may_all}
-use Rattle.relayout.specs.Commented.{may_be, new_pieces, old_part, old_pieces}
+use Rattle.relayout.specs.Commented.{may_be, new_part, new_pieces, old_part, old_pieces}
 use Rattle.relayout.specs.Laws.{KeepsTokens}
 
 -- a character that a line of a comment may have
@@ -16,6 +16,15 @@ in_line c = not ((c == line_feed) || (c == carriage_return))
 pub record IsAttribute (whole : List ℕ) (inner : Bool) (text rest : List ℕ) : Type 0 where
   pub is : whole ≡ attribute_front inner ++ (string_text text ++ (codes "]\n" ++ rest))
   pub may : IsTrue (is_doc_line inner text)
+
+-- what stands before the attribute in what is kept is written, and a comment in the place of the attribute
+pub record BecomesComment (kept whole rest old new : List ℕ) : Type 0 where
+  pub inner : Bool
+  pub text : List ℕ
+  pub all : IsText text
+  pub attribute : IsAttribute whole inner text rest
+  pub writes : (front : List ℕ) → kept ≡ front ++ whole
+      → new ≡ old ++ (front ++ onto (new_part (Attribute inner text)) [])
 
 -- no such attribute does
 abbrev pub HasNoAttribute : List ℕ → Type 0

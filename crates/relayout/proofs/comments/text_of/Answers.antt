@@ -18,10 +18,10 @@ returns-then-not-is_whole c = λ text all same.
 pub returns-in-Ok : goal.returns-in-Ok
 returns-in-Ok c =
     let literal = ap (λ x. str_value x.text) c.in_ok-from_str_unchecked.ensures.ok in
-    text_found (chars c.args.literal.now) (chars (string_bytes c.in-Ok.text)) _ _ c.same_literal-in-Ok.result
+    text_found (chars c.args.literal.now) (chars (string_bytes c.in-Ok.text)) _ _ c.same_literal.result
     (sym literal ∙ c.in-Ok.ensures.value.ok)
     (λ same is. is.1 ∙ ap (λ t. string_text (chars (string_bytes t))) (sym is.0))
-    c.same_literal-in-Ok.ensures
+    c.same_literal.ensures
 
 pub returns-in-Err-InvalidLiteralKind : goal.returns-in-Err-InvalidLiteralKind
 returns-in-Err-InvalidLiteralKind c =

@@ -2,11 +2,15 @@ use Rattle.std.proofs.Common.{length}
 use denote.Text.{Utf8}
 use denote.Shadow.{shadow}
 use Rattle.std.specs.Str.{chars}
-use Rattle.relayout.proofs.PartLemmas.{Makes}
+use Rattle.relayout.proofs.KeptLemmas.{Keeps}
 use Rattle.relayout.proofs.comments.with_doc_comments.Given as goal
 
 abbrev pub invariant-loop-rest : goal.invariant-loop-rest
-invariant-loop-rest l = shadow (Utf8 l.rest) × Makes (chars l.fn.text) l.first l.free (chars l.rest) l.out
+invariant-loop-rest l = record {
+  kept_text : shadow (Utf8 l.kept);
+  rest_text : shadow (Utf8 l.rest);
+  keeps : Keeps (chars l.fn.text) l.first l.free (chars l.kept) (chars l.rest) l.out;
+}
 
 abbrev pub decreases-loop-rest : goal.decreases-loop-rest
 decreases-loop-rest l = length (chars l.rest)

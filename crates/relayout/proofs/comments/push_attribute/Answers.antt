@@ -1,0 +1,23 @@
+use Rattle.std.proofs.Common.{refl}
+use Rattle.std.specs.Str.{chars}
+use Rattle.relayout.proofs.AttributeLemmas.{no_front, no_literal, no_text}
+use Rattle.relayout.proofs.comments.push_attribute.Goals as goal
+
+pub returns-in_default-clause-found : goal.returns-in_default-clause-found
+returns-in_default-clause-found c = (no_front _ c.in_default.ensures.found, refl)
+
+pub returns-in_default-split_literal-clause-found : goal.returns-in_default-split_literal-clause-found
+returns-in_default-split_literal-clause-found c = (
+  no_literal _ (chars c.in-Some.after.now) c.in-Some.inner c.in-Some.ensures.found
+      c.in_default-split_literal.ensures.found,
+  refl,
+)
+
+pub returns-in_default-3-clause-found : goal.returns-in_default-3-clause-found
+returns-in_default-3-clause-found c = (
+  no_text _ (chars c.in-Some.after.now) (chars c.in-Some-split_literal.literal.now)
+      (chars c.in-Some-split_literal.rest.now) c.in-Some.inner c.in-Some.ensures.found
+      c.in-Some-split_literal.ensures.found.0 c.in-Some-split_literal.ensures.found.1
+      (rw c.in_default-3.is at c.in_ok-said-2.ensures),
+  refl,
+)
