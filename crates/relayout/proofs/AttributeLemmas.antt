@@ -17,7 +17,7 @@ use Rattle.pm_token.proofs.EscapedLemmas.{doc_built}
 use Rattle.pm_token.proofs.ValueLawLemmas.{strings_come_back}
 use Rattle.proc_macro2.proofs.PieceStarts.{literal_stands}
 use Rattle.relayout.specs.Commented.{attribute_front, is_doc_line}
-use Rattle.relayout.specs.Comments.{HasNoAttribute, IsAttribute}
+use Rattle.relayout.specs.Comments.{HasNoAttribute}
 
 -- ---- string literals
 
@@ -139,13 +139,3 @@ no_line whole after literal more found other front stands split is_found all_fou
     let text_is : text ≡ found = one_text text found all all_found (sym same ∙ is_found) in
     both_ways _ fails (subst (λ t. is_doc_line other t ≡ true) text_is
     (subst (λ b. is_doc_line b text ≡ true) (sym at.0) is.may))
-
-pub attribute_is : (whole after literal rest text : List ℕ) (inner : Bool) → whole ≡ attribute_front inner ++ after
-    → after ≡ literal ++ (codes "]\n" ++ rest) → literal ≡ string_text text → is_doc_line inner text ≡ true
-    → IsAttribute whole inner text rest
-attribute_is whole after literal rest text inner front split is may = record {
-  is =
-      front ∙ ap (λ x. attribute_front inner ++ x) (split
-      ∙ ap (λ x. x ++ (codes "]\n" ++ rest)) is);
-  may = may;
-}

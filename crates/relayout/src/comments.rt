@@ -51,7 +51,7 @@ pub fn with_doc_comments(alloc: Global, text: &str) -> Result<String, RelayoutEr
         // Of white space only the line ends matter, so the lexer isn't asked for it.
         let (solid, white) = past_white(rest);
         if white > 0 {
-            free = free || ends_line(before(rest, solid));
+            free = is_free_after(free, before(rest, solid));
             rest = solid;
             first = false;
             continue;
@@ -73,7 +73,16 @@ pub fn with_doc_comments(alloc: Global, text: &str) -> Result<String, RelayoutEr
     Ok(out.into_string())
 }
 
+// Whether nothing but white space stands on the line after this white space, where so it was before it or not.
+#[inline(always)]
+fn is_free_after(free: bool, white: &str) -> bool
+    ensures { result ≡ (free || ends_line (chars white.now)) }
+{
+    free || ends_line(white)
+}
+
 // Whether a line ends in the white space.
+#[inline(always)]
 fn ends_line(white: &str) -> bool
     ensures { result ≡ ends_line (chars white.now) }
 {

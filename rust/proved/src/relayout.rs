@@ -7,6 +7,7 @@
 mod comments;
 mod errors;
 pub mod laws;
+mod literals;
 mod relaying;
 mod white;
 

@@ -4,8 +4,9 @@
 use crate::shim::prelude::String;
 
 use crate::relayout::errors::RelayoutError;
-use crate::lexical::parts::begins;
-use crate::lexical::{PieceKind, literal_at, piece_at};
+use crate::relayout::literals::{escaped_text, plain_text, strip};
+use crate::lexical::parts::{before, begins};
+use crate::lexical::{PieceKind, literal_at, past_white, piece_at};
 use crate::pm_token::parts::{TextBuilder, string_literal};
 use crate::pm_token::{ConversionErrorKind, Literal};
 use crate::proc_macro2::Span;
@@ -25,45 +26,118 @@ use crate::shim::alloc::{AllocError, Global};
 pub fn with_doc_comments(alloc: Global, text: &str) -> Result<String, RelayoutError>
 {
     let mut out = TextBuilder::with_room(alloc, text.len())?;
+    // What isn't written yet, and the end of it that is still to be read. What is kept is written as a whole.
+    let mut kept = text;
     let mut rest = text;
     let mut first = true;
     let mut free = true;
     while !rest.is_empty() {
-        let Some((after, is_free)) = push_part(alloc, &mut out, rest, first, free)? else {
+        // Of white space only the line ends matter, so the lexer isn't asked for it.
+        let (solid, white) = past_white(rest);
+        if white > 0 {
+            free = is_free_after(free, before(rest, solid));
+            rest = solid;
+            first = false;
+            continue;
+        }
+        if let Some(after) = push_comment(alloc, &mut out, kept, rest, free)? {
+            kept = after;
+            rest = after;
+            first = false;
+            continue;
+        }
+        let Some((after, is_free)) = past_piece(rest, first, free) else {
             return Err(RelayoutError::NoPiece);
         };
         rest = after;
         first = false;
         free = is_free;
     }
+    out.push_text(kept)?;
     Ok(out.into_string())
 }
 
-// Writes what stands at the front of the text, as a comment if it is an attribute that may be one. `free` says whether
-// nothing but white space stands before it on its line. Answers what follows it, and whether so it is there; `None`
-// where no piece stands.
-fn push_part<'a>(
+// Whether nothing but white space stands on the line after this white space, where so it was before it or not.
+#[inline(always)]
+fn is_free_after(free: bool, white: &str) -> bool
+{
+    free || ends_line(white)
+}
+
+// Whether a line ends in the white space.
+#[inline(always)]
+fn ends_line(white: &str) -> bool
+{
+    white.chars().any(|c| c == '\n')
+}
+
+// Writes a comment in the place of the attribute at the front of the text, and before it what is kept up to there. `free`
+// says whether nothing but white space stands before the text on its line. Answers what follows the attribute's line;
+// `None`, and nothing is written, where no attribute is to become a comment.
+#[inline(always)]
+fn push_comment<'a>(
     alloc: Global,
     out: &mut TextBuilder,
+    kept: &str,
     text: &'a str,
-    first: bool,
     free: bool,
-) -> Result<Option<(&'a str, bool)>, AllocError>
+) -> Result<Option<&'a str>, AllocError>
 {
-    // Texts have so many spaces that these are not left to the lexer.
-    if let Some(rest) = strip(text, " ") {
-        out.push(' ')?;
-        return Ok(Some((rest, free)));
+    if !free {
+        return Ok(None);
     }
-    match attribute_at(alloc, text, free)? {
-        Some(found) => {
-            out.push_text(front_of(found.inner))?;
-            out.push_text(found.text.as_str())?;
-            out.push('\n')?;
-            Ok(Some((found.rest, true)))
-        }
-        None => push_piece(out, text, first, free),
+    if !begins(text, "#") {
+        return Ok(None);
     }
+    push_attribute(alloc, out, kept, text)
+}
+
+// The same, where nothing but white space stands before the text on its line.
+#[inline(never)]
+fn push_attribute<'a>(
+    alloc: Global,
+    out: &mut TextBuilder,
+    kept: &str,
+    text: &'a str,
+) -> Result<Option<&'a str>, AllocError>
+{
+    let Some((inner, after)) = past_front(text) else {
+        return Ok(None);
+    };
+    // Most texts stand in their literals as they are, or with short escapes.
+    if let Some((said, rest)) = plain_text(after) {
+        return push_doc(out, kept, text, inner, said, rest);
+    }
+    if let Some((said, rest)) = escaped_text(alloc, after)? {
+        return push_doc(out, kept, text, inner, said.as_str(), rest);
+    }
+    let Some((literal, rest)) = split_literal(after) else {
+        return Ok(None);
+    };
+    let Some(said) = text_of(alloc, literal)? else {
+        return Ok(None);
+    };
+    push_doc(out, kept, text, inner, said.as_str(), rest)
+}
+
+// The same of an attribute of this text before the rest, if a comment gives the text.
+fn push_doc<'a>(
+    out: &mut TextBuilder,
+    kept: &str,
+    text: &str,
+    inner: bool,
+    said: &str,
+    rest: &'a str,
+) -> Result<Option<&'a str>, AllocError>
+{
+    if !is_doc_line(inner, said) {
+        return Ok(None);
+    }
+    out.push_text(before(kept, text))?;
+    out.push_text(front_of(inner))?;
+    out.push_text(said)?;
+    out.push('\n')?;
+    Ok(Some(rest))
 }
 
 // How a comment begins, one with `!` or not.
@@ -72,20 +146,16 @@ fn front_of(inner: bool) -> &'static str
     if inner { "//!" } else { "///" }
 }
 
-// Writes the piece at the front of the text, where no attribute is to become a comment, and answers the same.
-fn push_piece<'a>(
-    out: &mut TextBuilder,
-    text: &'a str,
-    first: bool,
-    free: bool,
-) -> Result<Option<(&'a str, bool)>, AllocError>
+// What follows the piece at the front of the text, where no attribute is to become a comment, and whether nothing but
+// white space stands before that on its line. `free` says whether so it is before the piece. `None` where none stands.
+#[inline(always)]
+fn past_piece(text: &str, first: bool, free: bool) -> Option<(&str, bool)>
 {
     let Some(piece) = piece_at(text, first) else {
-        return Ok(None);
+        return None;
     };
-    let own = &text[..piece.bytes];
-    out.push_text(own)?;
-    Ok(Some((&text[piece.bytes..], is_free(free, piece.kind, own))))
+    let (own, rest) = text.split_at(piece.bytes);
+    Some((rest, is_free(free, piece.kind, own)))
 }
 
 // Whether nothing but white space stands on the line after a piece of this kind and text.
@@ -95,36 +165,6 @@ fn is_free(free: bool, kind: PieceKind<'_>, text: &str) -> bool
         PieceKind::Gap => !begins(text, "/") && (free || begins(text, "\n")),
         _ => false,
     }
-}
-
-// The attribute of a doc comment, and what follows the line's end after it.
-struct Attribute<'a> {
-    // Whether it is the one of a comment with `!`.
-    inner: bool,
-    text: String,
-    rest: &'a str,
-}
-
-// The attribute at the front of the text, if nothing but white space stands before it on its line (`free`), LF follows
-// it, and a comment gives its text.
-fn attribute_at(alloc: Global, text: &str, free: bool) -> Result<Option<Attribute<'_>>, AllocError>
-{
-    if !free {
-        return Ok(None);
-    }
-    let Some((inner, after)) = past_front(text) else {
-        return Ok(None);
-    };
-    let Some((literal, rest)) = split_literal(after) else {
-        return Ok(None);
-    };
-    let Some(text) = text_of(alloc, literal)? else {
-        return Ok(None);
-    };
-    if !is_doc_line(inner, text.as_str()) {
-        return Ok(None);
-    }
-    Ok(Some(Attribute { inner, text, rest }))
 }
 
 // What follows the front of an attribute, which is of a comment with `!` or not.
@@ -137,12 +177,6 @@ fn past_front(text: &str) -> Option<(bool, &str)>
         return Some((true, rest));
     }
     None
-}
-
-// What follows this ASCII front of the text.
-fn strip<'a>(text: &'a str, front: &str) -> Option<&'a str>
-{
-    text.strip_prefix(front)
 }
 
 // The literal at the front of the text, and what follows `]` and LF after it.
@@ -160,13 +194,6 @@ fn split_literal(text: &str) -> Option<(&str, &str)>
 // The text of which this is the string literal, as `Literal::string` writes it.
 fn text_of(alloc: Global, literal: &str) -> Result<Option<String>, AllocError>
 {
-    // Most texts stand in their literals as they are.
-    if let Some(plain) = unquoted(literal) {
-        let text = String::from_str(alloc, plain)?;
-        if let Some(text) = same_literal(alloc, literal, text)? {
-            return Ok(Some(text));
-        }
-    }
     if !Literal::is_whole(literal) {
         return Ok(None);
     }
@@ -176,11 +203,6 @@ fn text_of(alloc: Global, literal: &str) -> Result<Option<String>, AllocError>
         Err(ConversionErrorKind::InvalidLiteralKind) => Ok(None),
         Err(ConversionErrorKind::FailedToUnescape(_)) => Ok(None),
     }
-}
-
-// What stands between quotes, if they stand around it.
-fn unquoted(literal: &str) -> Option<&str> {
-    literal.strip_prefix('"')?.strip_suffix('"')
 }
 
 // The text, if this is its string literal.

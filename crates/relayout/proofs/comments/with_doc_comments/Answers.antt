@@ -6,25 +6,15 @@ use Rattle.relayout.proofs.PartLemmas.{part_shortens}
 use Rattle.relayout.proofs.RelaidLemmas.{cover_none, no_chars, some_chars, string_chars}
 use Rattle.relayout.proofs.comments.with_doc_comments.Goals as goal
 
-pub loop-rest-preserved-then-free : goal.loop-rest-preserved-then-free
-loop-rest-preserved-then-free c = record {
-  kept_text = c.loop-rest.invariant.kept_text;
-  rest_text = c.past_white-white.ensures.utf8;
-  keeps = keeps_white (chars c.args.text.now) (chars c.loop-rest.kept.now) (chars c.loop-rest.rest.now)
-      (chars c.past_white-white.result.0.now) c.loop-rest.out c.loop-rest.first c.loop-rest.free c.loop-rest.free
-      c.past_white-white.result.1 c.past_white-white.ensures.passed c.if-white-gt0.true
-      (λ front e. c.if-free.true ∙ sym (ap (λ b. b || ends_line front) c.if-free.true)) c.loop-rest.invariant.keeps;
-}
-
-pub loop-rest-preserved-else-free : goal.loop-rest-preserved-else-free
-loop-rest-preserved-else-free c = record {
+pub loop-rest-preserved-then-white-gt0 : goal.loop-rest-preserved-then-white-gt0
+loop-rest-preserved-then-white-gt0 c = record {
   kept_text = c.loop-rest.invariant.kept_text;
   rest_text = c.past_white-white.ensures.utf8;
   keeps = keeps_white (chars c.args.text.now) (chars c.loop-rest.kept.now) (chars c.loop-rest.rest.now)
       (chars c.past_white-white.result.0.now) c.loop-rest.out c.loop-rest.first c.loop-rest.free
-      c.ends_line-free.result c.past_white-white.result.1 c.past_white-white.ensures.passed c.if-white-gt0.true
-      (λ front e. c.ends_line-free.ensures
-      ∙ (ap ends_line (c.before-else-free.ensures front e) ∙ sym (ap (λ b. b || ends_line front) c.if-free.false)))
+      c.is_free_after-free.result c.past_white-white.result.1 c.past_white-white.ensures.passed c.if-white-gt0.true
+      (λ front e. c.is_free_after-free.ensures
+      ∙ ap (λ w. c.loop-rest.free || ends_line w) (c.before-then-white-gt0.ensures front e))
       c.loop-rest.invariant.keeps;
 }
 
