@@ -1,22 +1,26 @@
 -- A text that is gone over part by part, of which what is kept is written as a whole.
 use Rattle.std.proofs.Common.{◌≡◌, ℕ, ◌<◌, ◌==◌, Bool, true, false, ◌&&◌, ◌||◌, List, [], ◌∷◌, ◌++◌, codes, refl}
 use Rattle.std.proofs.Common.{sym, ap, ◌∙◌, subst, inl, append_assoc, append-nil, length, arith}
-use Rattle.std.specs.Prelude.{nat_lt}
+use Rattle.std.specs.Prelude.{cond, nat_lt, None, Some}
 use Rattle.std.specs.List.{list_all}
+use Rattle.std.specs.Str.{chars, IsUtf8}
 use Rattle.std.proofs.Math.Bool.{or-false}
 use Rattle.std.proofs.lemmas.Bool.{and_parts, both_ways}
 use Rattle.lexical.specs.Class.{is_white}
 use Rattle.lexical.specs.Cover.{onto}
+use Rattle.lexical.specs.Finder.{Answer, while_rest}
+use Rattle.lexical.specs.Rule.{Run, find}
 use Rattle.lexical.specs.Text.{begins_with}
 use Rattle.lexical.specs.WhiteRun.{IsPastWhite, ascii_white}
 use Rattle.pm_token.specs.Escaped.{string_text}
 use Rattle.pm_token.specs.Text.{IsText}
 use Rattle.relayout.specs.Commented.{Part, White, Attribute, attribute_front, comment_front, is_doc_line, is_free}
 use Rattle.relayout.specs.Commented.{new_part}
-use Rattle.relayout.specs.Comments.{BecomesComment, HasNoAttribute, IsCommented, IsFirstPart}
+use Rattle.relayout.specs.Comments.{BecomesComment, HasNoAttribute, IsCommented, IsFirstPart, in_line}
 use Rattle.relayout.specs.Written.{ends_line}
 use Rattle.relayout.proofs.AttributeLemmas.{no_front, no_line, string_stands}
 use Rattle.relayout.proofs.PartLemmas.{Makes, attribute_part, attribute_written, makes_all, makes_part, makes_start}
+use Rattle.relayout.proofs.RelaidLemmas.{no_chars, some_chars}
 
 -- ---- what is read of what is kept
 
@@ -74,8 +78,8 @@ keeps_run source kept (d ∷ front) rest out first free c all so =
     let both = and_parts (ascii_white c) (list_all ascii_white (d ∷ front)) all in
     subst (λ b. Keeps source false b kept rest out) (or_assoc free (c == 10) (ends_line (d ∷ front)))
     (keeps_run source kept front rest out false (free || (c == 10)) d both.1
-    (keeps_part source kept (c ∷ ((d ∷ front) ++ rest)) ((d ∷ front) ++ rest) out first free (free || (c == 10)) (White c)
-    (white_part first free c ((d ∷ front) ++ rest) both.0) (ap (λ b. free || b) (sym (feed_is c))) refl so))
+    (keeps_part source kept (c ∷ ((d ∷ front) ++ rest)) ((d ∷ front) ++ rest) out first free (free || (c == 10))
+    (White c) (white_part first free c ((d ∷ front) ++ rest) both.0) (ap (λ b. free || b) (sym (feed_is c))) refl so))
   where
     or_assoc : (a b c : Bool) → ((a || b) || c) ≡ (a || (b || c))
     or_assoc true b c = refl
@@ -130,13 +134,13 @@ pub becomes : (kept whole said rest out before front a b c new : List ℕ) (inne
     → is_doc_line inner said ≡ true → ((front : List ℕ) → kept ≡ front ++ whole → before ≡ front)
     → front ≡ comment_front inner → a ≡ out ++ before → b ≡ a ++ front → c ≡ b ++ said → new ≡ c ++ (10 ∷ [])
     → BecomesComment kept whole rest out new
-becomes kept whole said rest out before front a b c new inner is all may stands first keep second third fourth = record {
+becomes kept whole said rest out before front a b c new inner is all may stands first keep second third last = record {
   inner = inner;
   text = said;
   all = all;
   attribute = record { is = is; may = may };
   writes = λ skipped split.
-      attribute_written a front said b c new inner first second third fourth
+      attribute_written a front said b c new inner first second third last
       ∙ (ap (λ x. x ++ onto (new_part (Attribute inner said)) []) (keep ∙ ap (λ x. out ++ x) (stands skipped split))
       ∙ append_assoc out skipped (onto (new_part (Attribute inner said)) []));
 }
@@ -154,3 +158,45 @@ keeps_comment source kept text rest out new first free begins is so = record {
       (is.writes so.front so.split ∙ sym (append_assoc out so.front (onto (new_part (Attribute is.inner is.text)) [])))
       so.makes);
 }
+
+-- ---- a line
+
+-- where nothing else is left, all characters pass
+none_left : (passes : ℕ → Bool) (text : List ℕ) → while_rest passes text ≡ [] → list_all passes text ≡ true
+none_left passes [] e = refl
+none_left passes (c ∷ text) e = by_first (passes c) (none_left passes text) e
+  where
+    by_first : (b : Bool) → (while_rest passes text ≡ [] → list_all passes text ≡ true)
+        → cond b (while_rest passes text) (c ∷ text) ≡ [] → (b && list_all passes text) ≡ true
+    by_first true more e = more e
+    by_first false more e = let clash : ◌≡◌ {A = List ℕ} (c ∷ text) [] = e in absurd (cc)
+
+some_left : (passes : ℕ → Bool) (text : List ℕ) (d : ℕ) (left : List ℕ) → while_rest passes text ≡ d ∷ left
+    → list_all passes text ≡ false
+some_left passes [] d left e = let clash : ◌≡◌ {A = List ℕ} [] (d ∷ left) = e in absurd (cc)
+some_left passes (c ∷ text) d left e = by_first (passes c) (some_left passes text d left) e
+  where
+    by_first : (b : Bool) → (while_rest passes text ≡ d ∷ left → list_all passes text ≡ false)
+        → cond b (while_rest passes text) (c ∷ text) ≡ d ∷ left → (b && list_all passes text) ≡ false
+    by_first true more e = more e
+    by_first false more e = refl
+
+-- what the search for the end of a line leaves
+abbrev left_of : Answer → List ℕ
+left_of None = []
+left_of (Some x) = x.1
+
+line_left : (text front rest : List ℕ) → find (Run in_line) text ≡ Some (front, rest) → while_rest in_line text ≡ rest
+unfolding find
+line_left text front rest found = ap left_of found
+
+pub line_ends : (text front rest : List ℕ) → IsUtf8 rest → find (Run in_line) text ≡ Some (front, chars rest)
+    → (length rest == 0) ≡ list_all in_line text
+line_ends text front rest utf8 found = by_length (length rest == 0) refl
+  where
+    by_length : (b : Bool) → (length rest == 0) ≡ b → b ≡ list_all in_line text
+    by_length true none =
+        sym (none_left in_line text (line_left text front (chars rest) found ∙ no_chars rest none))
+    by_length false none =
+        let some = some_chars rest utf8 none in
+        sym (some_left in_line text some.0 some.1 (line_left text front (chars rest) found ∙ some.2))

@@ -4,8 +4,8 @@
 use crate::shim::prelude::String;
 
 use crate::relayout::errors::RelayoutError;
-use crate::relayout::literals::{escaped_text, plain_text, strip};
-use crate::lexical::parts::{before, begins};
+use crate::relayout::literals::{escaped_text, plain_end, plain_front, strip};
+use crate::lexical::parts::{Cursor, before, begins, skip_to_either};
 use crate::lexical::{PieceKind, literal_at, past_white, piece_at};
 use crate::pm_token::parts::{TextBuilder, string_literal};
 use crate::pm_token::{ConversionErrorKind, Literal};
@@ -71,9 +71,9 @@ fn ends_line(white: &str) -> bool
     white.chars().any(|c| c == '\n')
 }
 
-// Writes a comment in the place of the attribute at the front of the text, and before it what is kept up to there. `free`
-// says whether nothing but white space stands before the text on its line. Answers what follows the attribute's line;
-// `None`, and nothing is written, where no attribute is to become a comment.
+// Writes a comment in the place of the attribute at the front of the text, and before it what is kept up to there.
+// `free` says whether nothing but white space stands before the text on its line. Answers what follows the attribute's
+// line; `None`, and nothing is written, where no attribute is to become a comment.
 #[inline(always)]
 fn push_comment<'a>(
     alloc: Global,
@@ -105,11 +105,13 @@ fn push_attribute<'a>(
         return Ok(None);
     };
     // Most texts stand in their literals as they are, or with short escapes.
-    if let Some((said, rest)) = plain_text(after) {
-        return push_doc(out, kept, text, inner, said, rest);
-    }
-    if let Some((said, rest)) = escaped_text(alloc, after)? {
-        return push_doc(out, kept, text, inner, said.as_str(), rest);
+    if let Some((front, more)) = plain_front(after) {
+        if let Some(rest) = plain_end(front, more) {
+            return push_doc(out, kept, text, inner, front, rest);
+        }
+        if let Some((said, rest)) = escaped_text(alloc, front, more)? {
+            return push_doc(out, kept, text, inner, said.as_str(), rest);
+        }
     }
     let Some((literal, rest)) = split_literal(after) else {
         return Ok(None);
@@ -231,5 +233,7 @@ fn is_doc_line(inner: bool, text: &str) -> bool
 // Whether no line ends in the text, and no CR stands in it.
 fn is_in_line(text: &str) -> bool
 {
-    text.chars().all(|c| c != '\n' && c != '\r')
+    skip_to_either(Cursor::new(text), b'\n', b'\r')
+        .rest
+        .is_empty()
 }

@@ -6,42 +6,50 @@ use crate::shim::prelude::String;
 use crate::pm_token::parts::{TextBuilder, is_bare};
 use crate::shim::alloc::{AllocError, Global};
 
-// The text whose literal stands at the front, before `]` and LF, and what follows these: where each character of the
-// text is of ASCII and stands for itself. `None` says nothing.
+// The characters of ASCII at the front of a literal's content that stand for themselves, and what follows them. `None`
+// where no quote begins the text.
 #[inline(always)]
-pub(crate) fn plain_text(text: &str) -> Option<(&str, &str)>
+pub(crate) fn plain_front(text: &str) -> Option<(&str, &str)>
 {
     let content = strip(text, "\"")?;
-    let (said, after) = split_plain(content);
-    let rest = strip(after, "\"]\n")?;
-    Some((said, rest))
+    Some(split_plain(content))
 }
 
-// The same, where characters past ASCII stand for themselves too, and an escape is a backslash and a letter.
-// It takes memory only where such a literal stands.
-pub(crate) fn escaped_text(alloc: Global, text: &str) -> Result<Option<(String, &str)>, AllocError>
+// What follows the literal of these characters, `]` and LF, where they are its whole content.
+#[inline(always)]
+pub(crate) fn plain_end<'a>(front: &str, after: &'a str) -> Option<&'a str>
 {
-    let Some(content) = strip(text, "\"") else {
-        return Ok(None);
-    };
-    let size = content_size(content.as_bytes());
-    if !content.as_bytes()[size..].starts_with(b"\"]\n") {
+    strip(after, "\"]\n")
+}
+
+// The text whose literal has this content, from such a front on, before `]` and LF, and what follows these. `None` says
+// nothing: characters past ASCII may stand for themselves too, and an escape is a backslash and a letter. It takes
+// memory only where such a literal stands.
+pub(crate) fn escaped_text<'a>(
+    alloc: Global,
+    front: &str,
+    after: &'a str,
+) -> Result<Option<(String, &'a str)>, AllocError>
+{
+    let size = content_size(after.as_bytes());
+    if !after.as_bytes()[size..].starts_with(b"\"]\n") {
         return Ok(None);
     }
     // No text is longer than the content of its literal.
-    let mut said = TextBuilder::with_room(alloc, size)?;
-    let mut rest = content;
+    let mut said = TextBuilder::with_room(alloc, front.len() + size)?;
+    said.push_text(front)?;
+    let mut rest = after;
     while !rest.is_empty() {
-        let (front, after) = split_plain(rest);
-        said.push_text(front)?;
-        if let Some(behind) = strip(after, "\"]\n") {
+        if let Some(behind) = strip(rest, "\"]\n") {
             return Ok(Some((said.into_string(), behind)));
         }
-        let Some((c, behind)) = split_unit(after) else {
+        let Some((c, behind)) = split_unit(rest) else {
             return Ok(None);
         };
         said.push(c)?;
-        rest = behind;
+        let (plain, left) = split_plain(behind);
+        said.push_text(plain)?;
+        rest = left;
     }
     Ok(None)
 }
