@@ -2,11 +2,8 @@
 use Rattle.std.proofs.Common.{◌≡◌, ℕ, true, false, List, [], ◌∷◌, ◌++◌, codes, refl}
 use Rattle.std.proofs.Common.{sym, ap, ap₂, ◌∙◌, subst, append-nil, append_assoc, length, take, drop}
 use Rattle.std.specs.List.{list_all}
-use Rattle.std.specs.Borrow.{Bor}
-use Rattle.std.specs.Prelude.{IfSome, MatchOption, None, Option, Some}
 use Rattle.std.specs.Str.{chars, IsCharBoundary, IsUtf8}
 use Rattle.lexical.specs.Finder.{while_front, while_rest}
-use Rattle.lexical.specs.Text.{begins_with}
 use Rattle.lexical.proofs.FinderLemmas.{finds_run}
 use Rattle.lexical.proofs.Scan.{run_boundary, run_front, run_rest}
 use Rattle.pm_token.specs.Escaped.{content, is_plain_ascii, string_text, written, written_char}
@@ -93,10 +90,3 @@ pub plain_all : (literal inside said left rest : List ℕ) → literal ≡ codes
 plain_all literal inside said left rest quote split all end =
     reads_all literal said left rest end
     (reads_plain literal [] inside said left said split all refl (reads_start literal [] inside quote refl))
-
-pub plain_ends : (front after : List ℕ) (r : Option (Bor (List ℕ))) → list_all (is_plain_ascii 34) front ≡ true
-    → MatchOption r (begins_with (codes "\"]\n") after ≡ false) (λ rest. after ≡ codes "\"]\n" ++ chars rest.now)
-    → IfSome r (λ rest. codes "\"" ++ (front ++ after) ≡ string_text front ++ (codes "]\n" ++ chars rest.now))
-plain_ends front after None all none = tt
-plain_ends front after (Some rest) all end =
-    plain_all (codes "\"" ++ (front ++ after)) (front ++ after) front after (chars rest.now) refl refl all end

@@ -18,7 +18,7 @@ ghost use Rattle.relayout.specs.Relaid.{HasNoCover, IfNoPiece};
 ghost use Rattle.relayout.specs.Written.{ends_line, is_white_gap};
 
 use crate::errors::RelayoutError;
-use crate::literals::{escaped_text, plain_end, plain_front, strip};
+use crate::literals::{escaped_text, plain_front, strip};
 use lexical::parts::{Cursor, before, begins, skip_to_either};
 use lexical::{PieceKind, literal_at, past_white, piece_at};
 use pm_token::parts::{TextBuilder, string_literal};
@@ -135,7 +135,7 @@ fn push_attribute<'a>(
     };
     // Most texts stand in their literals as they are, or with short escapes.
     if let Some((front, more)) = plain_front(after) {
-        if let Some(rest) = plain_end(front, more) {
+        if let Some(rest) = strip(more, "\"]\n") {
             return push_doc(out, kept, text, inner, front, rest);
         }
         if let Some((said, rest)) = escaped_text(alloc, front, more)? {

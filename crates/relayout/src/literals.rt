@@ -25,17 +25,6 @@ pub(crate) fn plain_front(text: &str) -> Option<(&str, &str)>
     Some(split_plain(content))
 }
 
-// What follows the literal of these characters, `]` and LF, where they are its whole content.
-#[inline(always)]
-pub(crate) fn plain_end<'a>(front: &str, after: &'a str) -> Option<&'a str>
-    requires { IsTrue (list_all (is_plain_ascii double_quote) (chars front.now)) }
-    ensures found { IfSome result (λ rest. codes "\"" ++ (chars front.now ++ chars after.now)
-        ≡ string_text (chars front.now) ++ (codes "]\n" ++ chars rest.now)) }
-    ensures utf8 { IfSome result (λ rest. IsUtf8 rest.now) }
-{
-    strip(after, "\"]\n")
-}
-
 // The text whose literal has this content, from such a front on, before `]` and LF, and what follows these. `None` says
 // nothing: characters past ASCII may stand for themselves too, and an escape is a backslash and a letter. It takes
 // memory only where such a literal stands.

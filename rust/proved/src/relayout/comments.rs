@@ -4,7 +4,7 @@
 use crate::shim::prelude::String;
 
 use crate::relayout::errors::RelayoutError;
-use crate::relayout::literals::{escaped_text, plain_end, plain_front, strip};
+use crate::relayout::literals::{escaped_text, plain_front, strip};
 use crate::lexical::parts::{Cursor, before, begins, skip_to_either};
 use crate::lexical::{PieceKind, literal_at, past_white, piece_at};
 use crate::pm_token::parts::{TextBuilder, string_literal};
@@ -106,7 +106,7 @@ fn push_attribute<'a>(
     };
     // Most texts stand in their literals as they are, or with short escapes.
     if let Some((front, more)) = plain_front(after) {
-        if let Some(rest) = plain_end(front, more) {
+        if let Some(rest) = strip(more, "\"]\n") {
             return push_doc(out, kept, text, inner, front, rest);
         }
         if let Some((said, rest)) = escaped_text(alloc, front, more)? {

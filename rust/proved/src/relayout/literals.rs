@@ -15,13 +15,6 @@ pub(crate) fn plain_front(text: &str) -> Option<(&str, &str)>
     Some(split_plain(content))
 }
 
-// What follows the literal of these characters, `]` and LF, where they are its whole content.
-#[inline(always)]
-pub(crate) fn plain_end<'a>(front: &str, after: &'a str) -> Option<&'a str>
-{
-    strip(after, "\"]\n")
-}
-
 // The text whose literal has this content, from such a front on, before `]` and LF, and what follows these. `None` says
 // nothing: characters past ASCII may stand for themselves too, and an escape is a backslash and a letter. It takes
 // memory only where such a literal stands.
