@@ -8,11 +8,11 @@ ghost use Rattle.explain.specs.Explained.{IsExplained, IsStretch, IsStuck, Parse
 ghost use Rattle.explain.specs.Open.{Loses, WaitsAs, waiting};
 
 use crate::explained::{ExplainError, Explained, Opener, Stretch};
-use crate::nesting::{Refusal, take};
+use crate::nesting::{Refusal, close, delimiter};
 use crate::reason::Reason;
 use crate::stuck::reason_at;
 use lexical::parts::Cursor;
-use lexical::{past_white, piece_at};
+use lexical::{PieceKind, past_white, piece_at};
 use pm_span::parts::{bounds, fits_new, span_of};
 use std::alloc::{AllocError, Global};
 
@@ -48,10 +48,21 @@ fn explain_at(alloc: Global, base: u32, text: &str) -> Result<Option<Explained>,
     while let Some(piece) = piece_at(rest, first) {
         let tail = &rest[piece.bytes..];
         let end = at + piece.chars as u32;
-        if let Some(refusal) = take(&mut openers, piece.kind, stretch(text, rest, tail, at, end))? {
-            let before = stretch(text, rest, rest, at, at);
-            let here = stretch(text, rest, tail, at, end);
-            return Ok(Some(refused(refusal, before, here, openers)));
+        match piece.kind {
+            PieceKind::Opener(c) => {
+                let delimiter = delimiter(c);
+                let at = stretch(text, rest, tail, at, end);
+                openers.push(Opener { delimiter, at })?;
+            }
+            PieceKind::Closer(c) => {
+                if let Some(refusal) = close(&mut openers, delimiter(c)) {
+                    let before = stretch(text, rest, rest, at, at);
+                    let here = stretch(text, rest, tail, at, end);
+                    return Ok(Some(refused(refusal, before, here, openers)));
+                }
+            }
+            // Most pieces leave the openers as they are.
+            _ => {}
         }
         // White characters are gaps, and are passed over all at once.
         let (after, white) = past_white(tail);

@@ -1,16 +1,13 @@
 //! The openers that wait for a closer.
-ghost use Rattle.std.specs.Prelude.{◌≡◌, ◌∷◌, ◌++◌, [], ℕ, List, IfOk, MatchOption};
-ghost use Rattle.lexical.specs.Found.{kind_of};
+ghost use Rattle.std.specs.Prelude.{◌≡◌, ◌∷◌, ◌++◌, [], ℕ, List, MatchOption};
 ghost use Rattle.pm_stream.specs.Delimited.{delimiter_of};
-ghost use Rattle.pm_stream.specs.Events.{Closes, events_onto};
-ghost use Rattle.explain.specs.Open.{Gains, Loses, Refuses, RefusesPiece, Steps, WaitsAs, waiting};
+ghost use Rattle.pm_stream.specs.Events.{Closes};
+ghost use Rattle.explain.specs.Open.{Loses, Refuses, Steps, WaitsAs, waiting};
 ghost use Rattle.explain.specs.declared.explained.Opener.{Opener};
 
-use crate::explained::{Opener, Stretch};
+use crate::explained::Opener;
 use crate::reason::Reason;
-use lexical::PieceKind;
 use pm_token::Delimiter;
-use std::alloc::AllocError;
 
 /// Why a closer can't stand where it does.
 #[derive(Drop)]
@@ -21,34 +18,8 @@ pub struct Refusal {
     pub innermost: Option<Opener>,
 }
 
-/// Takes a piece into account, which begins at `at`. Answers why it can't stand there, if it is a closer that doesn't
-/// match the innermost opener, which is then taken out.
-pub fn take(
-    openers: &mut Vec<Opener>,
-    kind: PieceKind<'_>,
-    at: Stretch,
-) -> Result<Option<Refusal>, AllocError>
-    ensures steps { IfOk result (λ refused. MatchOption refused
-        ((front : List ℕ) → Steps openers.old.items openers.new.items (events_onto at.span.lo
-        (kind_of kind.entry front) front []))
-        (λ x. RefusesPiece kind.entry x × WaitsAs (waiting openers.old.items) x.innermost openers.new.items)) }
-    ensures kept { IfOk result (λ refused. MatchOption refused
-        (Gains kind.entry at openers.old.items openers.new.items)
-        (λ x. Loses openers.old.items x.innermost openers.new.items)) }
-{
-    match kind {
-        PieceKind::Opener(c) => {
-            let delimiter = delimiter(c);
-            openers.push(Opener { delimiter, at })?;
-            Ok(None)
-        }
-        PieceKind::Closer(c) => Ok(close(openers, delimiter(c))),
-        _ => Ok(None),
-    }
-}
-
 /// Takes out the innermost opener, and answers why this closer doesn't match it, if it doesn't.
-fn close(openers: &mut Vec<Opener>, delimiter: Delimiter) -> Option<Refusal>
+pub fn close(openers: &mut Vec<Opener>, delimiter: Delimiter) -> Option<Refusal>
     ensures steps { MatchOption result
         ((hi : ℕ) → Steps openers.old.items openers.new.items (Closes delimiter hi ∷ []))
         (λ x. Refuses delimiter x × WaitsAs (waiting openers.old.items) x.innermost openers.new.items) }
@@ -71,7 +42,7 @@ fn close(openers: &mut Vec<Opener>, delimiter: Delimiter) -> Option<Refusal>
 }
 
 /// The delimiter of which `c` is the opener or the closer.
-fn delimiter(c: char) -> Delimiter
+pub fn delimiter(c: char) -> Delimiter
     ensures { result ≡ delimiter_of c }
 {
     match c {

@@ -13,7 +13,10 @@ use Rattle.explain.specs.Open.{Steps}
 use Rattle.explain.proofs.ExplainingLemmas.{open_none, open_past, read, read_whole, read_at, refused_explained}
 use Rattle.explain.proofs.ExplainingLemmas.{left_answer, stuck_explained}
 use Rattle.explain.proofs.StandLemmas.{all_gained, all_lost, all_none}
+use Rattle.explain.proofs.TakingLemmas.{Takes, refuses_piece, takes_closer, takes_opener, takes_other}
 use Rattle.explain.proofs.explaining.explain_at.Goals as goal
+use Rattle.explain.proofs.explaining.explain_at.Goals.{in-Opener+in_ok-push-in-Opener, in-Closer+in_default-close}
+use Rattle.explain.proofs.explaining.explain_at.Goals.{in_default-kind}
 
 pub loop-piece-init : goal.loop-piece-init
 loop-piece-init c = record {
@@ -32,13 +35,13 @@ loop-piece-smaller c =
     (left_shorter _ c.loop-piece.rest.now _ _ _ c.in-Some.piece c.loop-piece.invariant.utf8 c.in-Some.ensures.found
     c.range_from-tail.ensures.value c.past_white-white.ensures.passed).1
 
-pub stretch-requires-clause-from : goal.stretch-requires-clause-from
-stretch-requires-clause-from c =
+pub stretch-at-requires-clause-from : goal.stretch-at-requires-clause-from
+stretch-at-requires-clause-from c =
     let h = c.loop-piece.invariant.reads in
     (read _ _ _ _ _ _ h, read_whole _ _ _ _ _ _ h)
 
-pub stretch-requires-clause-to : goal.stretch-requires-clause-to
-stretch-requires-clause-to c =
+pub stretch-at-requires-clause-to : goal.stretch-at-requires-clause-to
+stretch-at-requires-clause-to c =
     let found = c.in-Some.ensures.found in
     let tail = ap chars c.range_from-tail.ensures.value
     ∙ piece_rest _ c.loop-piece.rest.now c.in-Some.piece c.loop-piece.invariant.utf8 found in
@@ -61,16 +64,16 @@ stretch-here-requires-clause-to c =
     ∙ piece_rest _ c.loop-piece.rest.now c.in-Some.piece c.loop-piece.invariant.utf8 found in
     (found.front, found.whole ∙ ap (λ t. found.front ++ t) (sym tail))
 
-pub returns-in-Some-2 : goal.returns-in-Some-2
-returns-in-Some-2 c =
+pub returns-in-Some-close : goal.returns-in-Some-close
+returns-in-Some-close c =
     let base = c.args.base in
     let source = chars c.args.text.now in
     let rest = chars c.loop-piece.rest.now in
     let h = c.loop-piece.invariant.reads in
     let found = c.in-Some.ensures.found in
-    let refusal = c.in-Some-2.refusal in
-    let told = rw c.in-Some-2.is at c.in_ok-refusal.ensures.steps in
-    let kept = rw c.in-Some-2.is at c.in_ok-refusal.ensures.kept in
+    let refusal = c.in-Some-close.refusal in
+    let told = c.in-Some-close.ensures.steps in
+    let kept = c.in-Some-close.ensures.kept in
     let whole = read_whole _ _ _ _ _ _ h in
     let place = read_at _ _ _ _ _ _ h in
     let tail = ap chars c.range_from-tail.ensures.value
@@ -82,10 +85,11 @@ returns-in-Some-2 c =
       before = c.stretch-before.result;
       at = c.stretch-here.result;
       innermost = refusal.innermost;
-      outer = c.take.new.openers;
+      outer = c.close.new.openers;
     })
-    c.in-Some.piece found told.0 told.1
-    (all_lost _ c.loop-piece.openers.items refusal.innermost c.take.new.openers.items kept
+    c.in-Some.piece found (refuses_piece c.in-Some.piece.kind c.in-Closer.c c.delimiter.result refusal c.in-Closer.is
+    c.delimiter.ensures told.0) told.1
+    (all_lost _ c.loop-piece.openers.items refusal.innermost c.close.new.openers.items kept
     c.loop-piece.invariant.stand)
     (c.stretch-before.ensures base (read _ _ _ _ _ _ h) [] whole refl place (omega arith))
     (c.stretch-here.ensures base (read _ _ _ _ _ _ h) found.front whole
@@ -115,23 +119,37 @@ loop-piece-preserved c =
     c.range_from-tail.ensures.value c.past_white-white.ensures.passed in
     let tail = ap chars c.range_from-tail.ensures.value
     ∙ piece_rest _ c.loop-piece.rest.now c.in-Some.piece c.loop-piece.invariant.utf8 found in
-    let told = rw c.in_default-2.is at c.in_ok-refusal.ensures.steps in
-    let kept = rw c.in_default-2.is at c.in_ok-refusal.ensures.kept in
+    let behind = read _ _ _ _ _ _ h in
+    let whole = read_whole _ _ _ _ _ _ h in
     let place = read_at _ _ _ _ _ _ h in
-    let here = c.stretch.ensures base (read _ _ _ _ _ _ h) found.front (read_whole _ _ _ _ _ _ h)
-    (found.whole ∙ ap (λ t. found.front ++ t) (sym tail)) place (ap (λ n. c.loop-piece.at + n) found.chars) in
+    let old = c.loop-piece.openers.items in
+    let new = c.match-piece.openers.items in
+    let kind = c.in-Some.piece.kind in
+    let takes : Takes base behind found.front kind old new = elim c.match-piece.branch [
+      | in-Opener+in_ok-push-in-Opener w ↦
+          takes_opener base behind found.front kind old new w.in-Opener.c
+          (record { delimiter = w.delimiter-delimiter.result; at = w.stretch-at.result })
+          w.in-Opener.is w.delimiter-delimiter.ensures
+          (w.stretch-at.ensures base behind found.front whole (found.whole ∙ ap (λ t. found.front ++ t) (sym tail))
+          place (ap (λ n. c.loop-piece.at + n) found.chars))
+          (ap (λ v. v.items) w.openers-is ∙ w.in_ok-push-in-Opener.ensures.items)
+      | in-Closer+in_default-close w ↦
+          subst (Takes base behind found.front kind old) (sym (ap (λ v. v.items) w.openers-is))
+          (takes_closer base behind found.front kind old w.close.new.openers.items w.in-Closer.c w.delimiter.result
+          w.in-Closer.is w.delimiter.ensures w.in_default-close.ensures.steps w.in_default-close.ensures.kept)
+      | in_default-kind w ↦
+          takes_other base behind found.front kind old new w.in_default-kind.not-Opener w.in_default-kind.not-Closer
+          (ap (λ v. v.items) w.openers-is)
+    ] in
     record {
       utf8 = c.past_white-white.ensures.utf8;
       left = omega (arith, c.loop-piece.invariant.left);
-      reads = open_past base (chars c.args.text.now) _ _ _ c.loop-piece.at _ _ c.loop-piece.openers.items
-          c.take.new.openers.items c.in-Some.piece h found tail
-          (subst (λ n. Steps c.loop-piece.openers.items c.take.new.openers.items
-          (events_onto n (kind_of c.in-Some.piece.kind found.front) found.front []))
-          (ap (λ s. s.lo) here.span ∙ sym place) (told found.front))
+      reads = open_past base (chars c.args.text.now) _ _ _ c.loop-piece.at _ _ old new c.in-Some.piece h found tail
+          (subst (λ n. Steps old new (events_onto n (kind_of kind found.front) found.front []))
+          (ap (λ s. s.lo) takes.here.span ∙ sym place) takes.steps)
           c.past_white-white.ensures.passed;
-      stand = all_gained base (chars c.args.text.now) (chars c.loop-piece.rest.now) (read _ _ _ _ _ _ h)
-          c.loop-piece.first c.in-Some.piece found c.stretch.result (read_whole _ _ _ _ _ _ h) here
-          c.loop-piece.openers.items c.take.new.openers.items kept c.loop-piece.invariant.stand;
+      stand = all_gained base (chars c.args.text.now) (chars c.loop-piece.rest.now) behind c.loop-piece.first
+          c.in-Some.piece found takes.at whole takes.here old new takes.gains c.loop-piece.invariant.stand;
     }
 
 pub returns-then-is_empty : goal.returns-then-is_empty
