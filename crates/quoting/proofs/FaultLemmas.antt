@@ -1,14 +1,18 @@
 -- The search for the first fault.
-use Rattle.std.proofs.Common.{◌≡◌, ℕ, ◌&&◌, Bool, true, false, Option, Some, None, List, [], ◌∷◌}
+use Rattle.std.proofs.Common.{◌≡◌, ℕ, ◌==◌, ◌&&◌, Bool, true, false, not, Option, Some, None, List, [], ◌∷◌}
 use Rattle.std.proofs.Common.{if◌then◌else◌, refl, sym, ap, ◌∙◌}
+use Rattle.proc_macro2.specs.Character.{single_quote}
 use Rattle.proc_macro2.specs.Forest.{Forest, nil, leaf, group}
 use Rattle.proc_macro2.specs.InOrder.{token_tree}
+use Rattle.proc_macro2.specs.Leaf.{mark_token}
 use Rattle.proc_macro2.specs.Shown.{is_shown}
-use Rattle.proc_macro2.specs.SpacedTree.{step_fits}
-use Rattle.proc_macro2.specs.Steps.{Step, Leave, steps, steps_onto}
+use Rattle.proc_macro2.specs.SpacedTree.{step_fits, tree_fits}
+use Rattle.proc_macro2.specs.Steps.{Step, Enter, Leave, Token as Past, steps, steps_onto}
 use Rattle.proc_macro2.specs.Token.{Token, Name, Mark, Literal}
-use Rattle.proc_macro2.specs.WellSpaced.{next_token}
+use Rattle.proc_macro2.specs.WellSpaced.{fits, follows_joint, follows_quote, next_token}
 use Rattle.proc_macro2.specs.declared.Group.{Group as Grouped}
+use Rattle.proc_macro2.specs.declared.TokenTree.{TokenTree}
+use Rattle.proc_macro2.specs.declared.TokenTree.TheVariants.{Group, Ident, Punct, Literal as Text}
 use Rattle.pm_stream.proofs.SpacedLemmas.{left_spaced}
 use Rattle.quoting.specs.Fault.{IsFaultOf, fault_or, first_fault, may_stand, tree_fault}
 use Rattle.quoting.specs.Searched.{step_fault}
@@ -57,8 +61,43 @@ named f (Memory error) h = tt
 
 -- ---- whether any mark has to be mended
 
--- one step more
-pub spaced_more : (spaced fits : Bool) (old new : List Step) (step : Step) → old ≡ step ∷ new → fits ≡ step_fits step
-    → ((spaced && fits) && left_spaced new) ≡ (spaced && left_spaced old)
-spaced_more true fits old new step first is = ap (λ b. b && left_spaced new) is ∙ sym (ap left_spaced first)
-spaced_more false fits old new step first is = refl
+-- one step more, past what fits
+pub spaced_on : (spaced : Bool) (old new : List Step) (step : Step) → old ≡ step ∷ new → step_fits step ≡ true
+    → (spaced && left_spaced new) ≡ (spaced && left_spaced old)
+spaced_on true old new step first is = sym (ap left_spaced first ∙ ap (λ b. b && left_spaced new) is)
+spaced_on false old new step first is = refl
+
+-- ---- what fits has no fault
+
+clean : (b : Bool) (fault : QuoteError) → b ≡ true → ◌≡◌ {A = Option QuoteError} (if b then None else Some fault) None
+clean true fault e = refl
+clean false fault e = absurd (cc)
+
+stands_joint : (quote follows joins : Bool) → (if quote then follows else joins) ≡ true
+    → (if quote then follows else true) ≡ true
+stands_joint true follows joins e = e
+stands_joint false follows joins e = refl
+
+stands_alone : (quote follows : Bool) → not quote ≡ true → (if quote then follows else true) ≡ true
+stands_alone true follows e = absurd (cc)
+stands_alone false follows e = refl
+
+may_stand_fitting : (token : Token) (next : Option Token) → fits token next ≡ true → may_stand token next ≡ true
+may_stand_fitting (Name raw name) next e = refl
+may_stand_fitting (Mark c true) next e =
+    stands_joint (c == single_quote) (follows_quote next) (follows_joint c next) e
+may_stand_fitting (Mark c false) next e = stands_alone (c == single_quote) (follows_quote next) e
+may_stand_fitting (Literal text) next e = refl
+
+tree_clean : (tree : TokenTree) (rest : Forest) → tree_fits tree rest ≡ true → tree_fault tree rest ≡ None
+tree_clean (Group g) rest e = clean (is_shown g.delimiter) NoneGroup e
+tree_clean (Ident i) rest e = refl
+tree_clean (Punct p) rest e =
+    clean (may_stand (mark_token p) (next_token rest)) LoneQuote
+    (may_stand_fitting (mark_token p) (next_token rest) e)
+tree_clean (Text l) rest e = refl
+
+pub step_clean : (step : Step) → step_fits step ≡ true → step_fault step ≡ None
+step_clean (Enter g after) e = tree_clean (Group g) after e
+step_clean (Leave g after) e = refl
+step_clean (Past tree after) e = tree_clean tree after e

@@ -107,8 +107,13 @@ impl Draft {
             trees,
             ..
         } = self;
+        let listed = parts::stream(alloc, trees)?;
+        // Mostly all trees stand in the list.
+        if first.is_empty() {
+            return Ok(listed);
+        }
         let mut stream = first;
-        append(&mut stream, parts::stream(alloc, trees)?)?;
+        append(&mut stream, listed)?;
         Ok(stream)
     }
 }
@@ -119,6 +124,10 @@ fn opened(alloc: Global, first: &TokenStream, room: usize) -> Result<Vec<TokenTr
     ensures ok { IfOk result (λ list. forest list.items ≡ first.now) }
     ensures built { IfOk result (λ list. IsBuilt (forest list.items)) }
 {
+    // Mostly no stream came first.
+    if first.is_empty() {
+        return Vec::with_capacity(alloc, room);
+    }
     let trees = first.trees();
     let mut list = Vec::with_capacity(alloc, room.saturating_add(trees.len()))?;
     push_copies(&mut list, trees)?;

@@ -25,10 +25,13 @@ pub(crate) fn are_well_spaced(alloc: Global, trees: &[TokenTree]) -> Result<bool
     let mut steps = Steps::new(alloc, trees);
     let mut spaced = true;
     while let Some(step) = steps.next()? {
-        if let Some(fault) = step_fault(step) {
-            return Err(fault);
+        // What fits as it is has no fault.
+        if !step_fits(step) {
+            if let Some(fault) = step_fault(step) {
+                return Err(fault);
+            }
+            spaced = false;
         }
-        spaced &= step_fits(step);
     }
     Ok(spaced)
 }

@@ -83,8 +83,13 @@ impl Draft {
             trees,
             ..
         } = self;
+        let listed = parts::stream(alloc, trees)?;
+        // Mostly all trees stand in the list.
+        if first.is_empty() {
+            return Ok(listed);
+        }
         let mut stream = first;
-        append(&mut stream, parts::stream(alloc, trees)?)?;
+        append(&mut stream, listed)?;
         Ok(stream)
     }
 }
@@ -93,6 +98,10 @@ impl Draft {
 #[inline(never)]
 fn opened(alloc: Global, first: &TokenStream, room: usize) -> Result<Vec<TokenTree>, AllocError>
 {
+    // Mostly no stream came first.
+    if first.is_empty() {
+        return Vec::with_capacity(alloc, room);
+    }
     let trees = first.trees();
     let mut list = Vec::with_capacity(alloc, room.saturating_add(trees.len()))?;
     push_copies(&mut list, trees)?;
