@@ -8,6 +8,7 @@ mod PushLemmas
 mod Examples
 mod DraftLemmas
 mod FillLemmas
+mod FixedLemmas
 mod TurnLemmas
 mod NameLemmas
 mod TextLemmas

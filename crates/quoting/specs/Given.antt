@@ -1,10 +1,11 @@
 -- What the code's values are in the words of templates.
-use Rattle.std.specs.Prelude.{ℕ, zero, suc, Bool, true, false, ◌==◌, List, [], ◌∷◌, Option, Some, None, Err}
+use Rattle.std.specs.Prelude.{ℕ, zero, suc, Bool, true, false, ◌==◌, List, [], ◌∷◌, Option, Some, None, Err, not}
 use Rattle.std.specs.Prelude.{if◌then◌else◌}
 use Rattle.std.specs.Borrow.{Bor}
 use Rattle.std.specs.Char.{is_ascii_digit}
 use Rattle.std.specs.List.{list_all}
 use Rattle.std.specs.Str.{chars}
+use Rattle.proc_macro2.specs.Character.{hash_sign}
 use Rattle.proc_macro2.specs.Extent.{Extent}
 use Rattle.proc_macro2.specs.Forest.{Forest, nil, leaf, group}
 use Rattle.proc_macro2.specs.Leaf.{mark_token, name_token, text_token}
@@ -122,6 +123,13 @@ tree_is_mark c (Group g) = false
 tree_is_mark c (Ident i) = false
 tree_is_mark c (Punct p) = p.mark == c
 tree_is_mark c (Literal l) = false
+
+-- whether the tree is neither a group nor `#`: where all are so, all come out as they are
+abbrev pub is_fixed : TokenTree → Bool
+is_fixed (Group g) = false
+is_fixed (Ident i) = true
+is_fixed (Punct p) = not (p.mark == hash_sign)
+is_fixed (Literal l) = true
 
 -- what comes in the place of what has a meaning, in a turn or outside of repetitions
 abbrev pub gives : List Hole → Option ℕ → ℕ → Interpolation → Outcome

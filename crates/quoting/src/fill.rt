@@ -2,10 +2,11 @@
 //!
 //! Groups nest no deeper in a template than a limit, so that the functions may call themselves for them.
 ghost use Rattle.std.specs.Prelude.{◌≡◌, All, IfErr, IfOk, Ok, Err, OnOk};
+ghost use Rattle.std.specs.List.{list_all};
 ghost use Rattle.proc_macro2.specs.Forest.{joined};
 ghost use Rattle.proc_macro2.specs.Trees.{forest, GoesInside};
 ghost use Rattle.quoting.specs.Filled.{before_turn, followed, has_meaning, filled_by};
-ghost use Rattle.quoting.specs.Given.{UnlessMemory, apart_before, gives, inside_at, repeats_of, separator_of};
+ghost use Rattle.quoting.specs.Given.{UnlessMemory, apart_before, gives, inside_at, is_fixed, repeats_of, separator_of};
 
 use crate::draft::Draft;
 use crate::errors::TemplateError;
@@ -116,7 +117,35 @@ fn filled_inside(
     let Some(inner) = depth.checked_sub(1) else {
         return Err(TemplateError::TooDeep(group.span()));
     };
-    filled(alloc, group.stream_ref(), holes, turn, inner)
+    let template = group.stream_ref();
+    // Where nothing is to be filled the trees are shared.
+    if are_fixed(template.trees()) {
+        return Ok(template.clone()?);
+    }
+    filled(alloc, template, holes, turn, inner)
+}
+
+// Whether the trees are neither groups nor `#`, and so come out as they are.
+fn are_fixed(trees: &[TokenTree]) -> bool
+    ensures { result ≡ list_all is_fixed trees.now }
+{
+    for tree in trees {
+        if !is_fixed(tree) {
+            return false;
+        }
+    }
+    true
+}
+
+// Whether the tree is neither a group nor a `#`.
+fn is_fixed(tree: &TokenTree) -> bool
+    ensures { result ≡ is_fixed tree.now }
+{
+    match tree {
+        TokenTree::Group(_) => false,
+        TokenTree::Punct(mark) => mark.as_char() != '#',
+        TokenTree::Ident(_) | TokenTree::Literal(_) => true,
+    }
 }
 
 // Puts the turns of a repetition after the trees of the draft, with the separator between them. That it names no list

@@ -98,7 +98,33 @@ fn filled_inside(
     let Some(inner) = depth.checked_sub(1) else {
         return Err(TemplateError::TooDeep(group.span()));
     };
-    filled(alloc, group.stream_ref(), holes, turn, inner)
+    let template = group.stream_ref();
+    // Where nothing is to be filled the trees are shared.
+    if are_fixed(template.trees()) {
+        return Ok(template.clone()?);
+    }
+    filled(alloc, template, holes, turn, inner)
+}
+
+// Whether the trees are neither groups nor `#`, and so come out as they are.
+fn are_fixed(trees: &[TokenTree]) -> bool
+{
+    for tree in trees {
+        if !is_fixed(tree) {
+            return false;
+        }
+    }
+    true
+}
+
+// Whether the tree is neither a group nor a `#`.
+fn is_fixed(tree: &TokenTree) -> bool
+{
+    match tree {
+        TokenTree::Group(_) => false,
+        TokenTree::Punct(mark) => mark.as_char() != '#',
+        TokenTree::Ident(_) | TokenTree::Literal(_) => true,
+    }
 }
 
 // Puts the turns of a repetition after the trees of the draft, with the separator between them. That it names no list

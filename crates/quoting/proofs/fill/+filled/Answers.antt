@@ -8,6 +8,7 @@ use Rattle.quoting.proofs.TurnLemmas.{all_turns, checked_fault, turn_fault, turn
 use Rattle.quoting.proofs.TurnLemmas.{turns_ended}
 use Rattle.quoting.proofs.FillLemmas.{IsUpTo, copy_inside, ended, follows_fault, followed_by, found_onto, found_step}
 use Rattle.quoting.proofs.FillLemmas.{gives_name, group_step, token_step, unless_weaker}
+use Rattle.quoting.proofs.FixedLemmas.{inside_stays}
 use Rattle.quoting.proofs.fill.+filled.Goals as goal
 
 pub repeat_onto-loop-turn-init : goal.repeat_onto-loop-turn-init
@@ -127,3 +128,10 @@ fill_onto-returns-clause-ok t c =
     ended (gives c.args.holes.now c.args.turn) c.args.depth c.args.draft.now (forest c.args.template.now) _
     c.loop-tree.left.now
     c.loop-tree.invariant c.in_default.ensures.cases
+
+pub filled_inside-returns-then-are_fixed-clause-ok : goal.filled_inside-returns-then-are_fixed-clause-ok
+filled_inside-returns-then-are_fixed-clause-ok t c =
+    let stream = c.stream_ref-template.ensures.value in
+    inside_stays (gives c.args.holes.now c.args.turn) c.args.depth c.in-Some.inner c.args.group.now c.trees.result.now
+    c.in_ok-clone.field-0 (search rules) (c.trees.ensures.value ∙ stream)
+    (sym c.are_fixed.ensures ∙ c.if-are_fixed.true) (c.in_ok-clone.ensures.cases ∙ stream)
