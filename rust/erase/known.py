@@ -21,14 +21,14 @@ TOOLCHAIN_CRATES = {'hex', 'itoa', 'memchr', 'ucd_category', 'ucd_derived', 'ucd
 # Methods of std's types that Rust's types have too, with the same answers, or that the shim's types have.
 METHODS = set('''
     abs_diff all allocator and_then any append as_bytes as_mut_slice as_slice as_str
-    bytes checked_add checked_mul checked_sub chars clear clone cmp collect contains copy_from_slice count
+    bytes capacity checked_add checked_mul checked_sub chars clear clone cmp collect contains copy_from_slice count
     debug_list debug_struct encode_utf8 entry escape_unicode extend_from_slice
     field filter find finish first fmt format from_mut get get_mut hash
     ilog10 insert into_bytes into_iter into_string is_ascii is_ascii_alphabetic is_ascii_alphanumeric is_ascii_digit
     is_ascii_hexdigit is_char_boundary is_digit is_empty is_err is_none is_ok is_some is_whitespace iter
     kind last len len_utf8 lines map max min next next_back ok or_else parse partition_point pop pop_front push push_str
-    range read read_to_end remove reserve resize rev reverse saturating_add saturating_mul saturating_sub size_hint
-    skip sort_unstable stdin split split_at split_first split_last split_off split_once starts_with strip_prefix
+    range read read_to_end remove reserve resize rev reverse saturating_add saturating_mul saturating_sub shrink_to_fit
+    size_hint skip sort_unstable stdin split split_at split_first split_last split_off split_once starts_with strip_prefix
     strip_suffix
     take to_digit to_string trim truncate unsigned_abs unwrap_or utf8_chunks utf8_error
     valid valid_up_to width write write_all write_char write_str

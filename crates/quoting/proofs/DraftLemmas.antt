@@ -102,6 +102,13 @@ opens old first items list r same is none copied =
     let empty : forest items ≡ nil = all_nil (forest items) (is_nil-forest items ∙ (sym is ∙ none)) in
     copied ∙ (sym (joined_nil first) ∙ (ap (joined first) (sym empty) ∙ same))
 
+-- no list: all trees are those of the first stream
+pub stays_first : (old first : Forest) (items : List TokenTree) (r : Bool) → joined first (forest items) ≡ old
+    → r ≡ nat_eq (length items) 0 → r ≡ true → first ≡ old
+stays_first old first items r same is none =
+    let empty : forest items ≡ nil = all_nil (forest items) (is_nil-forest items ∙ (sym is ∙ none)) in
+    sym (joined_nil first) ∙ (ap (joined first) (sym empty) ∙ same)
+
 pub weaker : {E : Type 0} (r : Result (Unit {0}) E) (P Q : Type 0) → (P → Q) → OnOk r P → OnOk r Q
 weaker (Ok u) P Q f h = f h
 weaker (Err e) P Q f h = tt

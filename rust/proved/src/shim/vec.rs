@@ -78,6 +78,18 @@ impl<T> Vec<T> {
         self.0.truncate(items);
     }
 
+    /// Contract: how many items there is room for.
+    #[inline(always)]
+    pub fn capacity(&self) -> usize {
+        self.0.capacity()
+    }
+
+    /// Contract: the items stay, and there is room for no more of them than before.
+    #[inline(always)]
+    pub fn shrink_to_fit(&mut self) {
+        self.0.shrink_to_fit();
+    }
+
     /// Rust's list, for callers.
     #[inline(always)]
     pub fn into_rust(self) -> std::vec::Vec<T> {
