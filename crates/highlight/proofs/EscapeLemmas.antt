@@ -1,10 +1,11 @@
 -- Texts escaped, a part at a time.
 use Rattle.std.proofs.Common.{◌≡◌, ℕ, suc, ◌+◌, ◌<◌, true, false, ◌==◌, List, [], ◌∷◌, ◌++◌, codes, length, get_or}
-use Rattle.std.proofs.Common.{refl, sym, ap, ◌∙◌, arith, append_assoc, append-nil}
+use Rattle.std.proofs.Common.{refl, sym, ap, subst, ◌∙◌, ◌≤◌, arith, append_assoc, append-nil, drop, take}
 use Rattle.std.specs.Prelude.{encode_utf8, if◌then◌else◌}
 use Rattle.std.proofs.lemmas.Bool.{ne_eqb}
+use Rattle.std.proofs.lemmas.List.{get_or-take, length-take-le, take-append-drop}
 use Rattle.std.proofs.lemmas.Str.{inside_one}
-use Rattle.highlight.specs.Page.{anchor, escape, escaped, in_span, line_after}
+use Rattle.highlight.specs.Page.{IsBare, anchor, escape, escaped, in_span, line_after}
 
 pub line_after-append : (line : ℕ) (s t : List ℕ) → line_after line (s ++ t) ≡ line_after (line_after line s) t
 line_after-append line [] t = refl
@@ -27,18 +28,17 @@ escaped-append line (c ∷ s) t =
     ]
 
 -- bytes of which none is escaped, and none is a line feed
-pub record IsBare (text : List ℕ) : Type 0 where
-  pub none : (k : ℕ) → k < length text
-      → ((get_or text k 0 == 10) ≡ false) × (escape (get_or text k 0) ≡ get_or text k 0 ∷ [])
+pub record AreBare (text : List ℕ) : Type 0 where
+  pub none : (k : ℕ) → k < length text → IsBare (get_or text k 0)
 
-bare_escaped : (line : ℕ) (text : List ℕ) → IsBare text → escaped line text ≡ text
+bare_escaped : (line : ℕ) (text : List ℕ) → AreBare text → escaped line text ≡ text
 bare_escaped line [] bare = refl
 bare_escaped line (c ∷ text) bare =
     let here = bare.none 0 (omega arith) in
     let more = bare_escaped line text (record { none = λ k below. bare.none (suc k) (omega arith) }) in
     rw (here.0, here.1) (ap (λ l. c ∷ l) more)
 
-bare_line : (line : ℕ) (text : List ℕ) → IsBare text → line_after line text ≡ line
+bare_line : (line : ℕ) (text : List ℕ) → AreBare text → line_after line text ≡ line
 bare_line line [] bare = refl
 bare_line line (c ∷ text) bare =
     let here = bare.none 0 (omega arith) in
@@ -46,7 +46,7 @@ bare_line line (c ∷ text) bare =
 
 -- the bytes of a character below 128 are itself
 character_bare : (c : ℕ) → (c ≡ 10 → ⊥) → (c ≡ 60 → ⊥) → (c ≡ 62 → ⊥) → (c ≡ 38 → ⊥) → (c ≡ 34 → ⊥)
-    → IsBare (encode_utf8 c)
+    → AreBare (encode_utf8 c)
 character_bare c feed less more ampersand quote = record {
   none = λ k below.
       let is = inside_one c [] (encode_utf8 c) k (sym (append-nil _)) below in
@@ -153,6 +153,12 @@ line_end line rest whole none all = ap (line_after line) (sym none) ∙ all
 
 -- ---- a text in its span
 
+pub span_opened : (before one two after class mark : List ℕ) → one ≡ before ++ codes "<span class=" → two ≡ one ++ class
+    → after ≡ two ++ mark → mark ≡ codes ">" → after ≡ before ++ (codes "<span class=" ++ (class ++ codes ">"))
+span_opened before one two after class mark opened named closed is =
+    rw (closed, is, named, opened) (append_assoc (before ++ codes "<span class=") class (codes ">")
+    ∙ append_assoc before (codes "<span class=") (class ++ codes ">"))
+
 pub span_parts : (before one two after class text : List ℕ) → (length class == 0) ≡ false
     → one ≡ before ++ (codes "<span class=" ++ (class ++ codes ">")) → two ≡ one ++ text
     → after ≡ two ++ codes "</span>"
@@ -170,3 +176,35 @@ span_parts before one two after class text some opened shown closed =
     )
     (ap (λ l. before ++ l) (append_assoc (codes "<span class=") (class ++ codes ">") (text ++ closer)
     ∙ ap (λ l. codes "<span class=" ++ l) (append_assoc class (codes ">") (text ++ closer))))
+
+-- ---- bytes at the front of which none is escaped
+
+are_bare : (text : List ℕ) (size : ℕ) → size ≤ length text → ((k : ℕ) → k < size → IsBare (get_or text k 0))
+    → AreBare (take size text)
+are_bare text size within bare = record {
+  none = λ k below.
+      let inside : k < size = omega (arith, below, length-take-le size text within) in
+      subst IsBare (sym (get_or-take size text k 0 inside)) (bare k inside);
+}
+
+pub bare_shown : (before out : List ℕ) (line : ℕ) (text : List ℕ) (size : ℕ) (front rest : List ℕ)
+    → size ≤ length text → ((k : ℕ) → k < size → IsBare (get_or text k 0)) → front ≡ take size text
+    → rest ≡ drop size text → out ≡ before ++ front → out ++ escaped line rest ≡ before ++ escaped line text
+bare_shown before out line text size front rest within bare fronts rests is =
+    let each = are_bare text size within bare in
+    let whole : escaped line text ≡ take size text ++ escaped line (drop size text) =
+    ap (escaped line) (sym (take-append-drop size text))
+    ∙ escaped-append line (take size text) (drop size text)
+    ∙ ap (λ l. l ++ escaped (line_after line (take size text)) (drop size text))
+    (bare_escaped line (take size text) each)
+    ∙ ap (λ n. take size text ++ escaped n (drop size text)) (bare_line line (take size text) each) in
+    rw (is, fronts, rests, whole) (append_assoc before (take size text) (escaped line (drop size text)))
+
+pub bare_line_after : (line : ℕ) (text : List ℕ) (size : ℕ) (rest : List ℕ)
+    → size ≤ length text → ((k : ℕ) → k < size → IsBare (get_or text k 0))
+    → rest ≡ drop size text → line_after line rest ≡ line_after line text
+bare_line_after line text size rest within bare rests =
+    ap (line_after line) rests
+    ∙ ap (λ n. line_after n (drop size text)) (sym (bare_line line (take size text) (are_bare text size within bare)))
+    ∙ sym (line_after-append line (take size text) (drop size text))
+    ∙ ap (line_after line) (take-append-drop size text)

@@ -1,5 +1,5 @@
 -- What is written: a page for a browser, or a terminal's colours.
-use Rattle.std.specs.Prelude.{ℕ, ◌≡◌, ◌+◌, ◌==◌, List, [], ◌∷◌, ◌++◌, true, codes, length, if◌then◌else◌}
+use Rattle.std.specs.Prelude.{ℕ, ◌≡◌, ◌+◌, ◌==◌, List, [], ◌∷◌, ◌++◌, false, true, codes, length, if◌then◌else◌}
 use Rattle.std.specs.Prelude.{MatchOption, Option}
 use Rattle.std.specs.Fmt.{decimal}
 use Rattle.std.specs.Str.{chars}
@@ -23,6 +23,10 @@ escape c =
     if c == 60 then codes "&lt;"
     else (if c == 62 then codes "&gt;" else (if c == 38 then codes "&amp;"
     else (if c == 34 then codes "&quot;" else c ∷ [])))
+
+-- a byte that isn't escaped, and no line feed
+abbrev pub IsBare : ℕ → Type 0
+IsBare c = ((c == 10) ≡ false) × (escape c ≡ c ∷ [])
 
 -- a text that begins on this line; each line feed (10) begins another
 abbrev pub escaped : ℕ → List ℕ → List ℕ

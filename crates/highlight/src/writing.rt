@@ -1,8 +1,10 @@
 //! Appends pieces to what is written, marked.
 ghost use Rattle.std.specs.Prelude.{◌≡◌, ◌+◌, ◌++◌, [], OnOk, codes, encode_utf8, string_bytes};
+ghost use Rattle.std.specs.Prelude.{◌<◌, ◌≤◌, ℕ, IfOk, false, length, slice_index, true};
+ghost use Rattle.std.specs.Str.{IsUtf8};
 ghost use Rattle.highlight.specs.Mark.{Faulty, Styled};
-ghost use Rattle.highlight.specs.Page.{anchor, escaped, in_span, in_colour, line_after, line_past, marked_piece};
-ghost use Rattle.highlight.specs.Page.{marked_text};
+ghost use Rattle.highlight.specs.Page.{IsBare, anchor, escaped, in_span, in_colour, line_after, line_past};
+ghost use Rattle.highlight.specs.Page.{marked_piece, marked_text};
 
 use crate::format::Format;
 use crate::style::Style;
@@ -89,7 +91,9 @@ impl Sheet {
         if class.is_empty() {
             return self.push_escaped(text);
         }
-        write!(self.out, "<span class={class}>")?;
+        self.out.push_str("<span class=")?;
+        self.out.push_str(class)?;
+        self.out.push('>')?;
         self.push_escaped(text)?;
         self.out.push_str("</span>")?;
         Ok(())
@@ -105,7 +109,11 @@ impl Sheet {
         if colour.is_empty() {
             return self.out.push_str(text);
         }
-        write!(self.out, "\x1b[{colour}m{text}\x1b[0m")
+        self.out.push_str("\x1b[")?;
+        self.out.push_str(colour)?;
+        self.out.push('m')?;
+        self.out.push_str(text)?;
+        self.out.push_str("\x1b[0m")
     }
 
     // Appends the text itself, escaped, with an anchor after each line feed.
@@ -115,10 +123,27 @@ impl Sheet {
         ensures line { OnOk result (self.new.line ≡ line_after self.old.line text.now) }
         ensures kept { self.new.format ≡ self.old.format }
     {
-        for c in text.chars() {
+        let mut rest = self.push_bare(text)?.chars();
+        while let Some(c) = rest.next() {
             self.push_character(c)?;
+            rest = self.push_bare(rest.as_str())?.chars();
         }
         Ok(())
+    }
+
+    // Appends what stands before the first byte that is escaped, all at once, and answers the text from there on.
+    fn push_bare<'a>(&mut self, text: &'a str) -> Result<&'a str, AllocError>
+        ensures shown { IfOk result (λ rest. string_bytes self.new.out ++ escaped self.old.line rest.now
+            ≡ string_bytes self.old.out ++ escaped self.old.line text.now) }
+        ensures line { IfOk result (λ rest. line_after self.old.line rest.now ≡ line_after self.old.line text.now) }
+        ensures shorter { IfOk result (λ rest. length rest.now ≤ length text.now) }
+        ensures utf8 { IfOk result (λ rest. IsUtf8 rest.now) }
+        ensures kept_line { self.new.line ≡ self.old.line }
+        ensures kept_format { self.new.format ≡ self.old.format }
+    {
+        let size = bare_size(text.as_bytes());
+        self.out.push_str(&text[..size])?;
+        Ok(&text[size..])
     }
 
     // Appends a character.
@@ -150,6 +175,35 @@ impl Sheet {
             return Err(AllocError);
         };
         self.line = line;
-        write!(self.out, "\n<a id=L{line}></a>")
+        self.out.push_str("\n<a id=L")?;
+        write!(self.out, "{line}")?;
+        self.out.push_str("></a>")
+    }
+}
+
+// How many bytes stand before the first that is escaped, or before the end.
+fn bare_size(bytes: &[u8]) -> usize
+    ensures within { result ≤ length bytes.now }
+    ensures bare { (k : ℕ) → k < result → IsBare (slice_index bytes.now k) }
+    ensures stop { result < length bytes.now → slice_index bytes.now result < 128 }
+{
+    let mut size = 0;
+    while size < bytes.len() {
+        if is_escaped(bytes[size]) {
+            break;
+        }
+        size += 1;
+    }
+    size
+}
+
+// Whether the byte isn't appended as it is.
+fn is_escaped(byte: u8) -> bool
+    ensures bare { result ≡ false → IsBare byte }
+    ensures ascii { result ≡ true → byte < 128 }
+{
+    match byte {
+        b'\n' | b'<' | b'>' | b'&' | b'"' => true,
+        _ => false,
     }
 }
