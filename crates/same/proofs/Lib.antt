@@ -1,3 +1,4 @@
+mod WhiteLemmas
 mod WordLemmas
 mod ComparingLemmas
 mod TokenLemmas

@@ -1,11 +1,11 @@
 -- The words that are left of a text, one after another.
 use Rattle.std.proofs.Common.{◌≡◌, ℕ, ◌<◌, ◌≤◌, List, [], ◌∷◌, ◌++◌, length}
-use Rattle.std.proofs.Common.{Option, Some, None, refl, sym, ap, ap₂, ◌∙◌, subst, arith}
+use Rattle.std.proofs.Common.{length-append, Option, Some, None, refl, sym, ap, ap₂, ◌∙◌, subst, arith}
 use Rattle.std.specs.Str.{chars}
 use Rattle.lexical.specs.Cover.{onto, StandBefore}
 use Rattle.lexical.specs.Found.{kind_of}
 use Rattle.lexical.specs.Piece.{Piece, HasNoPiece}
-use Rattle.lexical.specs.Walk.{IsNext}
+use Rattle.lexical.specs.Walk.{IsNext, PassesWhite}
 use Rattle.lexical.specs.declared.walk.PlacedPiece.{PlacedPiece}
 use Rattle.lexical.specs.declared.walk.PieceWalk.{PieceWalk}
 use Rattle.lexical.proofs.PieceFacts.{piece_not_empty}
@@ -16,6 +16,7 @@ use Rattle.same.specs.declared.said.DocStep.{DocStep}
 use Rattle.same.specs.declared.said.DocStep.TheVariants as steps
 use Rattle.same.specs.declared.said.Said.{Said}
 use Rattle.same.specs.declared.words.Words.{Words}
+use Rattle.same.proofs.WhiteLemmas.{cover_white}
 
 -- ---- pieces
 
@@ -79,38 +80,38 @@ size_step old new step was is walk =
     )
 
 -- the words of the pieces that are left are those that were left
-pub record Stands (old left : Words) : Type 0 where
+pub record Follows (old left : Words) : Type 0 where
   pub step : left.step ≡ None
-  pub here : chars left.here.now ≡ chars left.walk.rest.now
   pub comments : left.comments ≡ old.comments
   pub shorter : length left.walk.rest.now ≤ length old.walk.rest.now
   pub goes : (xs : List Piece) → Covers old.walk xs
       → (ys : List Piece) × Covers left.walk ys × (words_left old xs ≡ words old.comments ys)
 
-pub stands_start : (old left : Words) → old.step ≡ None → left.step ≡ None → left.walk ≡ old.walk
-    → left.comments ≡ old.comments → chars left.here.now ≡ chars left.walk.rest.now → Stands old left
-stands_start old left none now walk comments here = record {
-  step = now;
-  here = here;
-  comments = comments;
-  shorter = omega (arith, ap (λ (w : PieceWalk). length w.rest.now) walk);
+-- and what is left of the text is where the next word is
+pub record Stands (old left : Words) : Type 0 where
+  pub follows : Follows old left
+  pub here : chars left.here.now ≡ chars left.walk.rest.now
+
+pub follows_start : (old : Words) → old.step ≡ None → Follows old old
+follows_start old none = record {
+  step = none;
+  comments = refl;
+  shorter = omega arith;
   goes = λ xs covers. (
     xs,
-    subst (λ w. Covers w xs) (sym walk) covers,
+    covers,
     ap (λ step. placed_onto (doc_left step (chars old.doc.now)) (chars old.here.now) (words old.comments xs)) none,
   );
 }
 
 -- past a piece without words
-pub stands_skip : (old left new : Words) (next : PlacedPiece) (to : PieceWalk) → Stands old left
+pub follows_skip : (old left new : Words) (next : PlacedPiece) (to : PieceWalk) → Follows old left
     → IsNext left.walk next to
     → ((here : List ℕ) (more : List Placed)
     → piece_words left.comments (piece_of next).0 (piece_of next).1 here more ≡ more)
-    → new.step ≡ None → new.walk ≡ to → new.comments ≡ left.comments → chars new.here.now ≡ chars new.walk.rest.now
-    → Stands old new
-stands_skip old left new next to so is none step walk comments here = record {
+    → new.step ≡ None → new.walk ≡ to → new.comments ≡ left.comments → Follows old new
+follows_skip old left new next to so is none step walk comments = record {
   step = step;
-  here = here;
   comments = comments ∙ so.comments;
   shorter = omega (arith, so.shorter, is.shorter, ap (λ (w : PieceWalk). length w.rest.now) walk);
   goes = λ xs covers.
@@ -125,6 +126,28 @@ stands_skip old left new next to so is none step walk comments here = record {
       );
 }
 
+-- past white characters
+pub stands_white : (old left new : Words) → Follows old left
+    → (white : List ℕ) × PassesWhite left.walk white new.walk → new.step ≡ left.step → new.comments ≡ left.comments
+    → new.here.now ≡ new.walk.rest.now → Stands old new
+stands_white old left new so passes step comments here = record {
+  follows = record {
+    step = step ∙ so.step;
+    comments = comments ∙ so.comments;
+    shorter =
+        omega (arith, so.shorter, ap length passes.1.joined, length-append passes.0 new.walk.rest.now);
+    goes = λ xs covers.
+        let before = so.goes xs covers in
+        let after = cover_white left.walk.at_front passes.0 (chars new.walk.rest.now) before.0 passes.1.stands.each
+        (rw passes.1.whole at before.1.0) before.1.1 in (
+          after.0,
+          (after.1, subst (λ b. StandBefore b after.0 []) (sym passes.1.behind) after.2),
+          before.2 ∙ after.3 old.comments,
+        );
+  };
+  here = ap chars here;
+}
+
 -- a piece with words
 pub stands_word : (old left new : Words) (next : PlacedPiece) (to : PieceWalk) (said : Said) → Stands old left
     → IsNext left.walk next to
@@ -133,7 +156,7 @@ pub stands_word : (old left new : Words) (next : PlacedPiece) (to : PieceWalk) (
     → new.walk ≡ to → new.comments ≡ left.comments → new.here ≡ left.here
     → (xs : List Piece) → Covers old.walk xs → ComesFirst old said new xs
 stands_word old left new next to said so is some walk comments here xs covers =
-    let before = so.goes xs covers in
+    let before = so.follows.goes xs covers in
     let first = cover_first left.walk next to is before.0 before.1 in
     let whole : onto (piece_of next ∷ first.0) [] ≡ chars new.here.now =
     sym (before.1.0 ∙ ap (λ ps. onto ps []) first.2) ∙ (sym so.here ∙ ap (λ t. chars t.now) (sym here)) in
@@ -143,22 +166,22 @@ stands_word old left new next to said so is some walk comments here xs covers =
       first =
           before.2 ∙ (ap (words old.comments) first.2
           ∙ (ap (λ b. piece_words b (piece_of next).0 (piece_of next).1 (onto (piece_of next ∷ first.0) [])
-          (words old.comments first.0)) (sym so.comments)
+          (words old.comments first.0)) (sym so.follows.comments)
           ∙ (some (onto (piece_of next ∷ first.0) []) (words old.comments first.0)
           ∙ ap₂ (λ h b. (word_of said, h) ∷ placed_onto (doc_left new.step (chars new.doc.now)) h (words b first.0))
-          whole (sym (comments ∙ so.comments)))));
+          whole (sym (comments ∙ so.follows.comments)))));
     }
 
 pub stands_smaller : (old left new : Words) (next : PlacedPiece) (to : PieceWalk) → Stands old left
     → IsNext left.walk next to → new.walk ≡ to → size new < size old
 stands_smaller old left new next to so is walk =
-    omega (arith, so.shorter, is.shorter, ap (λ (w : PieceWalk). length w.rest.now) walk, steps_few new.step)
+    omega (arith, so.follows.shorter, is.shorter, ap (λ (w : PieceWalk). length w.rest.now) walk, steps_few new.step)
 
 -- at the end
 pub stands_none : (old left : Words) → Stands old left → HasNoPiece left.walk.at_front (chars left.walk.rest.now)
     → (xs : List Piece) → Covers old.walk xs → (words_left old xs ≡ []) × (chars left.here.now ≡ [])
 stands_none old left so none xs covers =
-    let before = so.goes xs covers in
+    let before = so.follows.goes xs covers in
     let nil = none_first left.walk before.0 none before.1 in
     (before.2 ∙ ap (words old.comments) nil, so.here ∙ (before.1.0 ∙ ap (λ ps. onto ps []) nil))
 

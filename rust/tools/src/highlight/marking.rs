@@ -9,6 +9,8 @@ use crate::highlight::style::{Style, style_of};
 use crate::highlight::unread::push_unread;
 use crate::highlight::writing::Sheet;
 use proved::explain::{ExplainError, Explained, explain};
+use proved::lexical::PieceWalk;
+use proved::lexical::parts::pass_white;
 use crate::messages::Failure;
 use proved::proc_macro2::{PieceKind, PlacedPiece, pieces};
 use proved::shim::alloc::{AllocError, Global};
@@ -26,13 +28,27 @@ pub fn marked(alloc: Global, format: Format, text: &str) -> Result<String, Failu
     };
     let mut sheet = Sheet::new(alloc, format);
     let mut walk = pieces(text);
+    push_white(&mut walk, &mut styling, &mut sheet)?;
     while let Some(next) = walk.next_piece() {
         let style = styling.style_of(next);
         sheet.push_piece(style, next.text)?;
+        push_white(&mut walk, &mut styling, &mut sheet)?;
     }
     let answer = explained(alloc, walk.rest())?;
     push_unread(alloc, &mut sheet, &answer, walk.rest())?;
     Ok(sheet.out)
+}
+
+// Appends the white characters of ASCII that stand next, all at once: each is a gap that stands bare.
+fn push_white(
+    walk: &mut PieceWalk<'_>,
+    styling: &mut Styling,
+    sheet: &mut Sheet,
+) -> Result<(), AllocError>
+{
+    let white = pass_white(walk);
+    styling.is_after_quote = styling.is_after_quote & white.is_empty();
+    sheet.push_piece(Style::Bare, white)
 }
 
 // The styles of the delimiters, the first last.
@@ -40,8 +56,11 @@ fn styles_of_delimiters(alloc: Global, text: &str) -> Result<Vec<Style>, AllocEr
 {
     let mut nesting = Nesting::new(alloc);
     let mut walk = pieces(text);
+    // White space has no delimiters. What is passed would be given as gaps.
+    pass_white(&mut walk);
     while let Some(next) = walk.next_piece() {
         nesting.take(next.piece.kind)?;
+        pass_white(&mut walk);
     }
     let mut styles = nesting.into_styles(walk.rest().is_empty());
     styles.reverse();

@@ -51,6 +51,7 @@ impl Nesting {
     /// Takes the next piece, of which a delimiter alone counts.
     ///
     /// A closer matches the innermost opener that waits for it; those inside that one are never closed.
+    #[inline]
     pub fn take(&mut self, kind: PieceKind<'_>) -> Result<(), AllocError>
     {
         match kind {

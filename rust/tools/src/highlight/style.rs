@@ -177,16 +177,31 @@ fn is_float(number: &str) -> bool
     false
 }
 
+// Whether the text is a word that is no name unless raw: a keyword of the edition 2024, or a reserved one. It is
+// compared with those alone that begin as it does.
 fn is_keyword(text: &str) -> bool
 {
-    KEYWORDS.contains(&text)
+    match text.as_bytes() {
+        [b'S', ..] => ["Self"].contains(&text),
+        [b'a', ..] => ["abstract", "as", "async", "await"].contains(&text),
+        [b'b', ..] => ["become", "box", "break"].contains(&text),
+        [b'c', ..] => ["const", "continue", "crate"].contains(&text),
+        [b'd', ..] => ["do", "dyn"].contains(&text),
+        [b'e', ..] => ["else", "enum", "extern"].contains(&text),
+        [b'f', ..] => ["false", "final", "fn", "for"].contains(&text),
+        [b'g', ..] => ["gen"].contains(&text),
+        [b'i', ..] => ["if", "impl", "in"].contains(&text),
+        [b'l', ..] => ["let", "loop"].contains(&text),
+        [b'm', ..] => ["macro", "match", "mod", "move", "mut"].contains(&text),
+        [b'o', ..] => ["override"].contains(&text),
+        [b'p', ..] => ["priv", "pub"].contains(&text),
+        [b'r', ..] => ["ref", "return"].contains(&text),
+        [b's', ..] => ["self", "static", "struct", "super"].contains(&text),
+        [b't', ..] => ["trait", "true", "try", "type", "typeof"].contains(&text),
+        [b'u', ..] => ["unsafe", "unsized", "use"].contains(&text),
+        [b'v', ..] => ["virtual"].contains(&text),
+        [b'w', ..] => ["where", "while"].contains(&text),
+        [b'y', ..] => ["yield"].contains(&text),
+        _ => false,
+    }
 }
-
-/// The words that are no names unless raw: the keywords of the edition 2024, reserved ones too.
-const KEYWORDS: [&str; 52] = [
-    "Self", "abstract", "as", "async", "await", "become", "box", "break", "const", "continue",
-    "crate", "do", "dyn", "else", "enum", "extern", "false", "final", "fn", "for", "gen", "if",
-    "impl", "in", "let", "loop", "macro", "match", "mod", "move", "mut", "override", "priv", "pub",
-    "ref", "return", "self", "static", "struct", "super", "trait", "true", "try", "type", "typeof",
-    "unsafe", "unsized", "use", "virtual", "where", "while", "yield",
-];

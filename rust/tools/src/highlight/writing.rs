@@ -64,7 +64,9 @@ impl Sheet {
         if class.is_empty() {
             return self.push_escaped(text);
         }
-        write!(self.out, "<span class={class}>")?;
+        self.out.push_str("<span class=")?;
+        self.out.push_str(class)?;
+        self.out.push('>')?;
         self.push_escaped(text)?;
         self.out.push_str("</span>")?;
         Ok(())
@@ -76,16 +78,30 @@ impl Sheet {
         if colour.is_empty() {
             return self.out.push_str(text);
         }
-        write!(self.out, "\x1b[{colour}m{text}\x1b[0m")
+        self.out.push_str("\x1b[")?;
+        self.out.push_str(colour)?;
+        self.out.push('m')?;
+        self.out.push_str(text)?;
+        self.out.push_str("\x1b[0m")
     }
 
     // Appends the text itself, escaped, with an anchor after each line feed.
     fn push_escaped(&mut self, text: &str) -> Result<(), AllocError>
     {
-        for c in text.chars() {
+        let mut rest = self.push_bare(text)?.chars();
+        while let Some(c) = rest.next() {
             self.push_character(c)?;
+            rest = self.push_bare(rest.as_str())?.chars();
         }
         Ok(())
+    }
+
+    // Appends what stands before the first byte that is escaped, all at once, and answers the text from there on.
+    fn push_bare<'a>(&mut self, text: &'a str) -> Result<&'a str, AllocError>
+    {
+        let size = bare_size(text.as_bytes());
+        self.out.push_str(&text[..size])?;
+        Ok(&text[size..])
     }
 
     // Appends a character.
@@ -108,6 +124,30 @@ impl Sheet {
             return Err(AllocError::met());
         };
         self.line = line;
-        write!(self.out, "\n<a id=L{line}></a>")
+        self.out.push_str("\n<a id=L")?;
+        write!(self.out, "{line}")?;
+        self.out.push_str("></a>")
+    }
+}
+
+// How many bytes stand before the first that is escaped, or before the end.
+fn bare_size(bytes: &[u8]) -> usize
+{
+    let mut size = 0;
+    while size < bytes.len() {
+        if is_escaped(bytes[size]) {
+            break;
+        }
+        size += 1;
+    }
+    size
+}
+
+// Whether the byte isn't appended as it is.
+fn is_escaped(byte: u8) -> bool
+{
+    match byte {
+        b'\n' | b'<' | b'>' | b'&' | b'"' => true,
+        _ => false,
     }
 }

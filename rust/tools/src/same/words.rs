@@ -2,7 +2,7 @@
 //! What is compared of a text: its tokens, one after another, and perhaps its comments.
 
 use crate::same::said::{DocStep, Said, after, alone, delimiter};
-use proved::lexical::parts::begins;
+use proved::lexical::parts::{begins, pass_white};
 use proved::lexical::{PieceKind, PieceWalk, PlacedPiece, pieces};
 use proved::pm_token::Delimiter;
 
@@ -31,19 +31,29 @@ impl<'a> Words<'a> {
         }
     }
     /// The next word, from which `here` is the text then on. None at the end, where `here` is empty.
+    #[inline(always)]
     pub fn next(&mut self) -> Option<Said<'a>>
     {
+        // In its callers' loops the walk stays in registers, as in `next_piece`.
         if let Some(step) = self.step {
             return Some(self.take_step(step));
         }
-        self.here = self.walk.rest();
+        self.pass_white();
         while let Some(next) = self.walk.next_piece() {
             if let Some(said) = self.begin(next) {
                 return Some(said);
             }
-            self.here = self.walk.rest();
+            self.pass_white();
         }
         None
+    }
+
+    // Passes white characters of ASCII, all at once: they have no words. Then `here` is what is left.
+    #[inline(always)]
+    fn pass_white(&mut self)
+    {
+        pass_white(&mut self.walk);
+        self.here = self.walk.rest();
     }
 
     // The first word of the piece, if it has one.
