@@ -3,6 +3,7 @@
 
 use crate::shim::prelude::{String, Vec};
 
+use crate::lexical::parts::{Cursor, skip_to};
 use crate::pm_token::parts::{is_raw, name_of};
 use crate::proc_macro2::{Delimiter, Ident, Punct, Spacing, TokenTree};
 use crate::shim::alloc::AllocError;
@@ -192,13 +193,29 @@ pub static NOTHING: Atom = Atom {
 
 impl Atom {
     /// An atom with no role yet.
+    // Each field is set once, where the atom is to stand.
+    #[inline(always)]
     pub fn new(kind: Kind, tokens: usize, glued: bool, width: usize) -> Atom {
-        let mut atom = NOTHING;
-        atom.kind = kind;
-        atom.tokens = tokens;
-        atom.glued = glued;
-        atom.width = width;
-        atom
+        Atom {
+            tokens,
+            width,
+            offset: 0,
+            tall_before: 0,
+            part_end: 0,
+            first: 0,
+            end: 0,
+            parts: 0,
+            line: Break::Nothing,
+            kind,
+            role: Role::Plain,
+            glued,
+            spaced: false,
+            tall: false,
+            plain: false,
+            statements: false,
+            rest: false,
+            begins_branches: false,
+        }
     }
 
     pub fn is_nothing(&self) -> bool {
@@ -385,32 +402,20 @@ fn group_atom(delimiter: Delimiter, trees: &[TokenTree]) -> Atom {
 
 // How many characters an identifier has.
 fn width_of(ident: &Ident) -> usize {
-    let mut count: usize = if is_raw(ident) { 2 } else { 0 };
-    for byte in name_of(ident).as_bytes() {
-        if begins_char(*byte) {
-            count = count.saturating_add(1);
-        }
-    }
-    count
+    let front: usize = if is_raw(ident) { 2 } else { 0 };
+    let name = name_of(ident);
+    // Most names are of ASCII.
+    let width = if name.is_ascii() {
+        name.len()
+    } else {
+        first_line(name)
+    };
+    width.saturating_add(front)
 }
 
 // How many characters stand on the first line of a text.
 fn first_line(text: &str) -> usize {
-    let mut count: usize = 0;
-    for byte in text.as_bytes() {
-        if *byte == b'\n' {
-            break;
-        }
-        if begins_char(*byte) {
-            count = count.saturating_add(1);
-        }
-    }
-    count
-}
-
-// Whether a character begins with this byte of a text: each has one that goes on with no other.
-fn begins_char(byte: u8) -> bool {
-    byte & 0xc0 != 0x80
+    skip_to(Cursor::new(text), b'\n').chars_before
 }
 
 // The lifetime or the operator that begins with this mark, which is the tree of this index.

@@ -7,6 +7,9 @@ use crate::pm_stream::parts;
 use crate::proc_macro2::{TokenStream, TokenTree};
 use crate::shim::alloc::{AllocError, Global};
 
+/// For how many trees a list has room at most before they come: those of most templates.
+const MOST_ROOM: usize = 64;
+
 /// Trees that are to become a stream. It is seen as these trees, in order.
 ///
 /// They stand in a list that becomes a stream as it is. The stream that comes first is copied into it only where
@@ -16,7 +19,7 @@ pub(crate) struct Draft {
     // The stream that came first, or none once its trees stand in the list.
     first: TokenStream,
     trees: Vec<TokenTree>,
-    // For how many trees the list has room at first, besides those of the first stream.
+    // How many trees are expected, besides those of the first stream.
     room: usize,
 }
 
@@ -68,7 +71,7 @@ impl Draft {
     fn open(&mut self) -> Result<(), AllocError>
     {
         if self.trees.is_empty() {
-            self.trees = opened(self.alloc, &self.first, self.room)?;
+            self.trees = opened(self.alloc, &self.first, self.room.min(MOST_ROOM))?;
             self.first = TokenStream::new(self.alloc);
         }
         Ok(())
@@ -80,9 +83,16 @@ impl Draft {
         let Draft {
             alloc,
             first,
-            trees,
+            mut trees,
             ..
         } = self;
+        if trees.is_empty() {
+            return Ok(first);
+        }
+        // Fewer trees may have come than were expected. What stays takes no more room than a list that grew by them.
+        if trees.len() < trees.capacity() / 2 {
+            trees.shrink_to_fit();
+        }
         let listed = parts::stream(alloc, trees)?;
         // Mostly all trees stand in the list.
         if first.is_empty() {

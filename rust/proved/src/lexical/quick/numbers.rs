@@ -217,8 +217,10 @@ pub fn long_number_size(text: &str) -> Option<usize>
         return hex_size(text);
     }
     if begins_suffix(next) {
-        suffixed_size(text)
-    } else {
-        dotless_size(text)
+        return suffixed_size(text);
     }
+    if holds_ascii(Class::ExponentLetter, next) {
+        return dotless_size(text);
+    }
+    None
 }
