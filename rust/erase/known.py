@@ -28,8 +28,8 @@ METHODS = set('''
     is_ascii_hexdigit is_char_boundary is_digit is_empty is_err is_none is_ok is_some is_whitespace iter
     kind last len len_utf8 lines map max min next next_back ok or_else parse partition_point pop pop_front push push_str
     range read read_to_end remove reserve resize rev reverse saturating_add saturating_mul saturating_sub shrink_to_fit
-    size_hint skip sort_unstable stdin split split_at split_first split_last split_off split_once starts_with strip_prefix
-    strip_suffix
+    size_hint skip sort_unstable stdin split split_at split_first split_last split_off split_once starts_with
+    strip_prefix strip_suffix
     take to_digit to_string trim truncate unsigned_abs unwrap_or utf8_chunks utf8_error
     valid valid_up_to width write write_all write_char write_str
 '''.split())

@@ -36,7 +36,8 @@ use Rattle.lexical.proofs.FinderLemmas.{none_is}
 use Rattle.lexical.proofs.NumberFinderLemmas.{finds_digits, no_float}
 use Rattle.lexical.proofs.PieceFacts.{none_begins, start_continues}
 use Rattle.lexical.proofs.QuickLemmas.{ascii_split, at_other, exponent_continues, front_of_run, get_after, low_fails}
-use Rattle.lexical.proofs.QuickLemmas.{clear_float, next_fails, no_tail, one_ascii, one_none, run_cons, run_passes, run_stops}
+use Rattle.lexical.proofs.QuickLemmas.{clear_float, next_fails, no_tail, one_ascii, one_none}
+use Rattle.lexical.proofs.QuickLemmas.{run_cons, run_passes, run_stops}
 use Rattle.lexical.proofs.QuotedLemmas.{no_name}
 use Rattle.lexical.proofs.RuleLemmas.{exact}
 use Rattle.lexical.proofs.RuleSteps.{find_either, find_not_before, find_then, text_found, then_lacks}
