@@ -23,7 +23,11 @@ const PARTS: &[&str] = &[
     "\n    ",
     "\r\n",
     "\r",
+    "\u{b}",
+    "\u{c}",
+    "\u{85}",
     "\u{a0}",
+    "\u{feff}",
     "\u{2028}",
     "\u{200e}",
     "(",
@@ -72,7 +76,7 @@ impl Random {
     fn text(&mut self, alloc: Global) -> Result<String, AllocError> {
         let mut text = String::new(alloc);
         for _ in 0..self.below(24) {
-            let at = self.below(34) as usize;
+            let at = self.below(38) as usize;
             text.push_str(PARTS.get(at).copied().unwrap_or(""))?;
         }
         Ok(text)
