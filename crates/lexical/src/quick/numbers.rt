@@ -206,27 +206,6 @@ fn suffixed_size(text: &str) -> Option<usize>
     Some(digits + suffix)
 }
 
-/// How many bytes the number of digits alone has that stands at the front, before a dot that is no part of it.
-#[inline(always)]
-fn undotted_size(text: &str) -> Option<usize>
-    ensures { IfSome result (IsAsciiAt Number text.now) }
-{
-    let bytes = text.as_bytes();
-    if !holds_ascii(Class::Digit, byte_at(bytes, 0)) {
-        return None;
-    }
-    let digits = count_ascii(bytes, Class::DigitOrUnderscore);
-    if byte_at(bytes, digits) != b'.' {
-        return None;
-    }
-    let after = &bytes[digits + 1..];
-    if holds_ascii(Class::BarsDot, byte_at(after, 0)) {
-        Some(digits)
-    } else {
-        None
-    }
-}
-
 /// How many bytes the number has that stands at the front, before or with a dot, or with an exponent, a suffix or the
 /// prefix of base 16.
 #[inline(never)]
@@ -234,13 +213,19 @@ pub fn long_number_size(text: &str) -> Option<usize>
     ensures { IfSome result (IsAsciiAt Number text.now) }
 {
     let bytes = text.as_bytes();
+    if !holds_ascii(Class::Digit, byte_at(bytes, 0)) {
+        return None;
+    }
     // The byte after the digits tells which of these may stand here.
-    let next = byte_at(bytes, count_ascii(bytes, Class::DigitOrUnderscore));
+    let digits = count_ascii(bytes, Class::DigitOrUnderscore);
+    let next = byte_at(bytes, digits);
     if next == b'.' {
-        return match float_size(text) {
-            Some(size) => Some(size),
-            None => undotted_size(text),
-        };
+        // A dot before a range, a call or a field is no part of the number.
+        let after = &bytes[digits + 1..];
+        if holds_ascii(Class::BarsDot, byte_at(after, 0)) {
+            return Some(digits);
+        }
+        return float_size(text);
     }
     if next == b'x' {
         return hex_size(text);

@@ -1,0 +1,12 @@
+use Rattle.std.proofs.Common.{◌+◌}
+use Rattle.std.proofs.lemmas.List.{take_rest}
+use Rattle.lexical.proofs.QuickNumberLemmas.{undotted_read}
+use Rattle.lexical.proofs.quick.numbers.long_number_size.Goals as goal
+
+pub returns-then-holds_ascii : goal.returns-then-holds_ascii
+returns-then-holds_ascii c =
+    let bytes = c.as_bytes-bytes.result.now in
+    undotted_read c.args.text.now bytes _ c.byte_at.result c.count_ascii-digits.result c.byte_at-next.result
+    c.byte_at-then-next-eq46.result c.as_bytes-bytes.ensures.value c.byte_at.ensures c.if-not-holds_ascii.ensures
+    c.count_ascii-digits.ensures c.byte_at-next.ensures c.if-next-eq46.true
+    (take_rest bytes (c.count_ascii-digits.result + 1)) c.byte_at-then-next-eq46.ensures c.if-holds_ascii.ensures
