@@ -1,0 +1,40 @@
+//! Random numbers.
+
+ghost use Rattle.std.specs.Prelude.{◌<◌, length};
+
+/// A source of random numbers.
+#[derive(Drop)]
+pub struct Random {
+    /// The last number, which isn't 0.
+    state: u64,
+}
+
+impl Random {
+    /// The numbers of this seed, which isn't 0.
+    pub fn new(seed: u64) -> Random {
+        Random { state: seed }
+    }
+
+    /// A number below the bound, which isn't 0.
+    pub fn below(&mut self, bound: u64) -> u64
+        requires { 0 < bound }
+        ensures { result < bound }
+    {
+        self.state ^= self.state << 13;
+        self.state ^= self.state >> 7;
+        self.state ^= self.state << 17;
+        self.state % bound
+    }
+
+    /// A number up to this one.
+    pub fn up_to(&mut self, most: u32) -> u32 {
+        u32::try_from(self.below(most as u64 + 1)).unwrap_or(0)
+    }
+
+    /// One of these values, of which there are some.
+    pub fn one_of<T: Copy>(&mut self, values: &[T]) -> T
+        requires { 0 < length values.now }
+    {
+        values[self.below(values.len() as u64) as usize]
+    }
+}

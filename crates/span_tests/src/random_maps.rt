@@ -1,0 +1,54 @@
+//! Random maps and look-ups.
+use crate::compared::{LOOK_UPS, Maps};
+use crate::random::Random;
+use crate::texts::random_text;
+use std::process::Abort;
+use std::test::Fail;
+
+/// How many maps are made.
+const MAPS: u32 = 150;
+
+/// Asks of a random span, which begins anywhere or near the one before, and says where it begins.
+fn ask_some(
+    rt: &(impl Abort + AllocGlobal),
+    random: &mut Random,
+    maps: &mut Maps,
+    before: u32,
+) -> Result<u32, Fail> {
+    let lo = if random.up_to(2) == 0 {
+        random.up_to(maps.last)
+    } else {
+        let near = random.up_to(80);
+        before
+            .saturating_add(near)
+            .saturating_sub(40)
+            .min(maps.last)
+    };
+    let far = random.one_of(&[0, 10, 60, 200, 2000]);
+    let hi = lo.saturating_add(random.up_to(far)).min(maps.last);
+    let what = random.one_of(LOOK_UPS);
+    maps.ask(rt, what, lo, hi)?;
+    Ok(lo)
+}
+
+#[test]
+fn random_maps_keep_what_they_kept(rt: HostRuntime) -> Result<(), Fail> {
+    let alloc = rt.alloc();
+    let mut random = Random::new(71);
+    let mut maps = Maps::new(alloc);
+    for _ in 0..MAPS {
+        if random.up_to(1) == 0 {
+            maps.invalidate();
+        }
+        let text = random_text(alloc, &mut random, 900)?;
+        let mut before = maps.add(&rt, &text)?;
+        for _ in 0..10 {
+            for _ in 0..5 {
+                before = ask_some(&rt, &mut random, &mut maps, before)?;
+            }
+            maps.compare(&rt)?;
+        }
+    }
+    assert!(rt; maps.asked > 5000, "{} spans are asked", maps.asked);
+    Ok(())
+}
