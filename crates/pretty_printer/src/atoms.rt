@@ -189,9 +189,9 @@ pub static NOTHING: Atom = Atom {
 
 impl Atom {
     /// An atom with no role yet.
-    // Each field is set once, where the atom is to stand.
     #[inline(always)]
     pub fn new(kind: Kind, tokens: usize, glued: bool, width: usize) -> Atom {
+        // Each field is set once, where the atom is to stand.
         Atom {
             tokens,
             width,

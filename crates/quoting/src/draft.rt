@@ -12,6 +12,9 @@ use std::marker::Model;
 /// For how many trees a list has room at most before they come: those of most templates.
 const MOST_ROOM: usize = 64;
 
+/// For so many trees a list may have room that holds fewer.
+const FEW_TREES: usize = 4;
+
 /// Trees that are to become a stream. It is seen as these trees, in order.
 ///
 /// They stand in a list that becomes a stream as it is. The stream that comes first is copied into it only where
@@ -113,8 +116,8 @@ impl Draft {
         if trees.is_empty() {
             return Ok(first);
         }
-        // Fewer trees may have come than were expected. What stays takes no more room than a list that grew by them.
-        if trees.len() < trees.capacity() / 2 {
+        // Fewer trees may have come than were expected. A list that grew by them would be more than half full.
+        if trees.capacity() > FEW_TREES && trees.len() <= trees.capacity() / 2 {
             trees.shrink_to_fit();
         }
         let listed = parts::stream(alloc, trees)?;

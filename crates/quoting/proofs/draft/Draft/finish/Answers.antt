@@ -1,4 +1,4 @@
-use Rattle.std.proofs.Common.{◌≡◌, length, nat_eq, sym, ◌∙◌, rules}
+use Rattle.std.proofs.Common.{◌≡◌, length, nat_eq, rules}
 use Rattle.quoting.proofs.DraftLemmas.{stays_first}
 use Rattle.quoting.proofs.draft.Draft.finish.Goals as goal
 
