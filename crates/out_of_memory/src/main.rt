@@ -59,7 +59,7 @@ fn run<W: Write>(
         "copy" => copies::run(alloc, out, call, input),
         "relay" => relaying::run(alloc, out, call, input),
         "header" => headers::run(alloc, out, call, input),
-        "quote" => quotes::run(alloc, out, call),
+        "quote" => quotes::run(alloc, out, call, input),
         "unfailing" => unfailing::run(alloc, out, call, input),
         _ => Err(Fail::NoCase),
     }

@@ -14,14 +14,15 @@ use std::io::Write;
 const TEMPLATE: &str = "[#one] #((#each)),*";
 
 /// Pushes to a quote of `x (+ y)`, whose `+` is Joint, fills it, or asks it for its stream, and writes what it gives
-/// then.
-pub fn run<W: Write>(alloc: Global, out: &mut W, call: &str) -> Result<(), Fail> {
+/// then. It is filled by the template that is given, or else by one of its own.
+pub fn run<W: Write>(alloc: Global, out: &mut W, call: &str, given: &str) -> Result<(), Fail> {
+    let template = if given.is_empty() { TEMPLATE } else { given };
     for _ in 0..2 {
         let mut quote = x_and_group(alloc)?;
         match call {
             "push" => push(alloc, out, &mut quote)?,
             "push_stream" => push_stream(alloc, out, &mut quote)?,
-            "fill" => fill(alloc, out, &mut quote)?,
+            "fill" => fill(alloc, out, &mut quote, template)?,
             "parse" => parse(alloc, out, &mut quote)?,
             "finish" => finish(out, &quote)?,
             _ => return Err(Fail::NoCase),
@@ -44,8 +45,13 @@ fn push_stream<W: Write>(alloc: Global, out: &mut W, quote: &mut Quote) -> Resul
 }
 
 /// Fills a template with a stream for its name and one for each turn of its repetition.
-fn fill<W: Write>(alloc: Global, out: &mut W, quote: &mut Quote) -> Result<(), Fail> {
-    let template = TokenStream::from_str(TEMPLATE, &mut SourceMap::new(alloc))?;
+fn fill<W: Write>(
+    alloc: Global,
+    out: &mut W,
+    quote: &mut Quote,
+    template: &str,
+) -> Result<(), Fail> {
+    let template = TokenStream::from_str(template, &mut SourceMap::new(alloc))?;
     let one = TokenStream::from_tree(alloc, name(alloc, "z")?)?;
     let each = [one.clone()?, one.clone()?];
     let holes = [Hole::one("one", &one), Hole::each("each", &each)];
