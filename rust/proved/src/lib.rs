@@ -245,6 +245,7 @@ macro_rules! erased {
 erased! {
     lexical
     literal_escaper
+    #[allow(unused_variables)]
     pm_span
     pm_token
     pm_stream
