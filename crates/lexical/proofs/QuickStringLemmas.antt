@@ -6,7 +6,7 @@ use Rattle.std.proofs.Math.Seq.{take-add}
 use Rattle.std.proofs.Common.{None, Option}
 use Rattle.std.specs.Prelude.{IfSome, map}
 use Rattle.std.specs.List.{list_all, concat}
-use Rattle.std.specs.Str.{IsCharBoundary, IsUtf8, chars, encode_utf8_all}
+use Rattle.std.specs.Str.{IsAscii, IsCharBoundary, IsUtf8, chars, encode_utf8_all}
 use Rattle.std.proofs.lemmas.Bool.{and_parts, and_from}
 use Rattle.std.proofs.lemmas.List.{drop-drop, get_or_default, length-take-le, take-append-drop}
 use Rattle.std.proofs.lemmas.List.Folds.{concat-append, list_all-append}
@@ -19,17 +19,18 @@ use Rattle.lexical.specs.Form.{Each, Exactly, Form, Then}
 use Rattle.lexical.specs.Found.{IsAt, IsPieceAt, LendsText, kind_of}
 use Rattle.lexical.specs.Literal.{Literal}
 use Rattle.lexical.specs.Piece.{IsPiece}
-use Rattle.lexical.specs.Quick.{Anywhere, IsAsciiAt}
-use Rattle.lexical.specs.Quoted.{body, escaped, is_plain, unit}
+use Rattle.lexical.specs.Quick.{Anywhere, IsAsciiAt, IsStretch}
+use Rattle.lexical.specs.Quoted.{Str, body, escaped, is_plain, unit}
 use Rattle.lexical.specs.RawString.{may_stand_raw}
 use Rattle.lexical.specs.Rule.{Stands}
 use Rattle.lexical.specs.declared.piece.Piece.{Piece}
 use Rattle.lexical.specs.declared.piece.PieceKind.TheVariants as kinds
 use Rattle.lexical.specs.declared.quoted.StringKind.{StringKind}
+use Rattle.lexical.specs.declared.quoted.StringKind.TheVariants as strings
 use Rattle.lexical.proofs.FinderLemmas.{finds_run}
-use Rattle.lexical.proofs.QuickEscapeLemmas.{after_backslash}
+use Rattle.lexical.proofs.QuickEscapeLemmas.{after_backslash, plain_holds}
 use Rattle.lexical.proofs.QuickLemmas.{ascii_split, get_after}
-use Rattle.lexical.proofs.QuickLiteralLemmas.{closes, ends}
+use Rattle.lexical.proofs.QuickLiteralLemmas.{ascii_all, closes, ends, string_literal}
 use Rattle.lexical.proofs.Scan.{run_boundary, run_front}
 use Rattle.lexical.proofs.SearchLemmas.{found_end, plain_allowed}
 use Rattle.lexical.proofs.TextLemmas.{ascii_bytes, encode_all_ascii, is_ascii, seam_boundary, seam_take}
@@ -80,21 +81,16 @@ module _ (kind : StringKind) where
 
   -- ---- what stands at the front of the text
 
-  -- a text that is made of units, if a string of the kind may have each of its characters
+  -- a text that is made of units
   pub record Front (bytes : List ℕ) : Type 0 where
     utf8 : IsUtf8 bytes
-    units : list_all (may_stand_raw kind) (chars bytes) ≡ true → Units (chars bytes)
+    units : Units (chars bytes)
 
   both_fronts : (a b : List ℕ) → Front a → Front b → Front (a ++ b)
-  both_fronts a b x y =
-      let split = chars-append a b x.utf8 in
-      record {
-        utf8 = IsUtf8-append a b x.utf8 y.utf8;
-        units = λ all.
-            let parts = and_parts _ _ (sym (list_all-append (may_stand_raw kind) (chars a) (chars b))
-            ∙ (ap (list_all (may_stand_raw kind)) (sym split) ∙ all)) in
-            subst Units (sym split) (both_units (chars a) (chars b) (x.units parts.0) (y.units parts.1));
-      }
+  both_fronts a b x y = record {
+    utf8 = IsUtf8-append a b x.utf8 y.utf8;
+    units = subst Units (sym (chars-append a b x.utf8)) (both_units (chars a) (chars b) x.units y.units);
+  }
 
   -- an escape is one unit
   escape_front : (p : List ℕ) → all_ascii p ≡ true
@@ -103,7 +99,7 @@ module _ (kind : StringKind) where
       let low = is_ascii p ascii in
       record {
         utf8 = IsUtf8-from_ascii p low;
-        units = λ all. subst Units (sym (chars-IsAscii p low))
+        units = subst Units (sym (chars-IsAscii p low))
             (record { units = p ∷ []; whole = sym (append-nil p); each = (λ r. inr (inr (is r)), tt) });
       }
 
@@ -116,15 +112,16 @@ module _ (kind : StringKind) where
       let b = and_parts _ _ goes in
       and_from _ _ (plain_allowed kind c ∙ and_from _ _ a.0 b.0) (plain_of cs a.1 b.1)
 
-  pub stretch : (bs : List ℕ) (k : ℕ) → IsUtf8 bs → IsFirstByte (is_byte3 34 92 13) bs (Some k) → Front (take k bs)
-  stretch bs k utf8 found =
+  pub stretch : (bs : List ℕ) (k : ℕ) → IsUtf8 bs → IsStretch kind bs k → Front (take k bs)
+  stretch bs k utf8 is =
+      let found = is.first in
       let test : ℕ → Bool = λ b. not (is_byte3 34 92 13 b) in
       let past : (c : ℕ) → 128 ≤ c → test c ≡ true = λ c high. grind (arith, high) in
       let size : k ≡ length (while_front test bs) = sym (found_end (is_byte3 34 92 13) bs (Some k) found) in
       let front = run_front test true past bs utf8 k size in
       record {
         utf8 = IsUtf8-take bs k utf8 (run_boundary test true past bs utf8 k size);
-        units = λ all. plain_units (chars (take k bs)) (plain_of (chars (take k bs)) all
+        units = plain_units (chars (take k bs)) (plain_of (chars (take k bs)) is.may
             (ap (list_all test) front ∙ ((finds_run test).sound (chars bs)).1.each));
       }
 
@@ -156,40 +153,38 @@ module _ (kind : StringKind) where
     rest_utf8 = subst IsUtf8 (sym is) (IsUtf8-drop inside (n + 1 + e) utf8
         (IsCharBoundary-from_take inside (n + 1 + e) utf8 past_within past_front.utf8))
 
-    module _ (found : IsFirstByte (is_byte3 34 92 13) rest (Some k)) where
+    module _ (on : IsStretch kind rest k) where
       pub units_within : n + 1 + e + k < length inside
-      units_within = omega (arith, found.0.high, ap length is, length-drop (n + 1 + e) inside, past_within)
+      units_within = omega (arith, on.first.0.high, ap length is, length-drop (n + 1 + e) inside, past_within)
 
       pub units_on : Front (take (n + 1 + e + k) inside)
       units_on =
           subst Front (sym (take-add (n + 1 + e) k inside))
           (both_fronts (take (n + 1 + e) inside) (take k (drop (n + 1 + e) inside)) past_front
-          (subst (λ xs. Front (take k xs)) is (stretch rest k rest_utf8 found)))
+          (subst (λ xs. Front (take k xs)) is (stretch rest k rest_utf8 on)))
 
   -- ---- the whole of it
 
-  pub string_body : (inside : List ℕ) (k : ℕ) → k < length inside → Front (take k inside)
-      → list_all (may_stand_raw kind) (chars (take k inside)) ≡ true → get_or inside k 0 ≡ 34
-      → ends (get_or inside (k + 1) 32) ≡ true → IsAt (Stands (body (unit kind) (codes "\""))) (chars inside) (k + 1)
-  string_body inside k within front may hit ended =
-      let p = chars (take k inside) in
-      let rest = drop (k + 1) inside in
-      let next : suc k ≡ k + 1 = omega arith in
-      let back : drop k inside ≡ 34 ∷ rest =
-      drop-cons inside k 0 within ∙ ap₂ (λ c m. c ∷ drop m inside) hit next in
-      let units = front.units may in
-      let bytes : encode_utf8_all (p ++ (34 ∷ [])) ≡ take k inside ++ (34 ∷ []) =
-      encodes-append p (34 ∷ [])
-      ∙ ap₂ (λ x y. x ++ y) (encodes-chars (take k inside) front.utf8) (encode_all_ascii (34 ∷ []) refl) in
-      record {
-        front = p ++ (34 ∷ []);
-        rest = chars rest;
-        whole = ap chars (sym (take-append-drop k inside))
-            ∙ (chars-append (take k inside) (drop k inside) front.utf8
-            ∙ (ap (λ xs. p ++ xs) (ap chars back ∙ ascii_split (34 ∷ rest) 1 refl)
-            ∙ sym (append_assoc p (34 ∷ []) (chars rest))));
-        stands = record {
-          front = p;
+  module _ (inside : List ℕ) (k : ℕ) (within : k < length inside) (front : Front (take k inside))
+      (hit : get_or inside k 0 ≡ 34) (ended : ends (get_or inside (k + 1) 32) ≡ true) where
+    string_whole : chars inside ≡ (chars (take k inside) ++ (34 ∷ [])) ++ chars (drop (k + 1) inside)
+    string_whole =
+        let rest = drop (k + 1) inside in
+        let next : suc k ≡ k + 1 = omega arith in
+        let back : drop k inside ≡ 34 ∷ rest =
+        drop-cons inside k 0 within ∙ ap₂ (λ c m. c ∷ drop m inside) hit next in
+        ap chars (sym (take-append-drop k inside))
+        ∙ (chars-append (take k inside) (drop k inside) front.utf8
+        ∙ (ap (λ xs. chars (take k inside) ++ xs) (ap chars back ∙ ascii_split (34 ∷ rest) 1 refl)
+        ∙ sym (append_assoc (chars (take k inside)) (34 ∷ []) (chars rest))))
+
+    string_stands : Stands (body (unit kind) (codes "\"")) (chars (take k inside) ++ (34 ∷ []))
+        (chars (drop (k + 1) inside))
+    string_stands =
+        let rest = drop (k + 1) inside in
+        let units = front.units in
+        record {
+          front = chars (take k inside);
           back = 34 ∷ [];
           whole = refl;
           first = record {
@@ -198,10 +193,30 @@ module _ (kind : StringKind) where
             each = each_unit units.units ((34 ∷ []) ++ chars rest) units.each;
           };
           second = closes 34 rest (ap ends (get_after inside (k + 1)) ∙ ended);
-        };
-        size = sym (ap length bytes ∙ (length-append (take k inside) (34 ∷ [])
-            ∙ ap (λ m. m + 1) (length-take-le k inside (omega (arith, within)))));
-      }
+        }
+
+    pub string_body : IsAt (Stands (body (unit kind) (codes "\""))) (chars inside) (k + 1)
+    string_body =
+        let p = chars (take k inside) in
+        let bytes : encode_utf8_all (p ++ (34 ∷ [])) ≡ take k inside ++ (34 ∷ []) =
+        encodes-append p (34 ∷ [])
+        ∙ ap₂ (λ x y. x ++ y) (encodes-chars (take k inside) front.utf8) (encode_all_ascii (34 ∷ []) refl) in
+        record {
+          front = p ++ (34 ∷ []);
+          rest = chars (drop (k + 1) inside);
+          whole = string_whole;
+          stands = string_stands;
+          size = sym (ap length bytes ∙ (length-append (take k inside) (34 ∷ [])
+              ∙ ap (λ m. m + 1) (length-take-le k inside (omega (arith, within)))));
+        }
+
+-- in a string any character may stand before the byte that the search ends at
+pub plain_stretch : (text bytes : List ℕ) (k : ℕ) → bytes ≡ text → IsFirstByte (is_byte3 34 92 13) bytes (Some k)
+    → IsStretch strings.Plain text k
+plain_stretch text bytes k same found = record {
+  first = subst (λ t. IsFirstByte (is_byte3 34 92 13) t (Some k)) same found;
+  may = plain_holds (chars (take k text));
+}
 
 -- ---- a form that stands there
 
@@ -269,3 +284,39 @@ module _ (text : List ℕ) (n : ℕ) (utf8 : IsUtf8 text) (at : IsAt Literal (ch
     chars = count ∙ ap length (seam_take text at.front at.rest n utf8 at.whole at.size);
     lends = subst LendsText (sym kind) tt;
   }
+
+-- a string of one stretch of ASCII, which follows its first quote
+pub plain_string : (first : Bool) (text inside : List ℕ) (k : ℕ) (piece : Piece) → IsUtf8 inside
+    → chars text ≡ codes "\"" ++ chars inside → IsStretch strings.Plain inside k → get_or inside k 0 ≡ 34
+    → IsAscii (take k inside) → ends (get_or inside (k + 1) 32) ≡ true → piece.kind ≡ kinds.Literal
+    → piece.bytes ≡ k + 2 → piece.chars ≡ k + 2 → IsPieceAt first (chars text) piece
+unfolding Str
+plain_string first text inside k piece utf8 split is hit low ended kind bytes count =
+    let p = take k inside in
+    let q = 34 ∷ (p ++ (34 ∷ [])) in
+    let rest = chars (drop (k + 1) inside) in
+    let within : k < length inside = is.first.0.high in
+    let front = stretch strings.Plain inside k utf8 is in
+    let same : chars p ≡ p = chars-IsAscii p low in
+    let all : all_ascii q ≡ true =
+    and_from _ _ refl (list_all-append _ p (34 ∷ []) ∙ and_from _ _ (ascii_all p low) refl) in
+    let size : k + 2 ≡ length q =
+    omega (arith, length-append p (34 ∷ []), length-take-le k inside (omega (arith, within))) in
+    let stands : Str q rest = record {
+      front = 34 ∷ [];
+      back = p ++ (34 ∷ []);
+      whole = refl;
+      first = refl;
+      second = subst (λ xs. Stands (body (unit strings.Plain) (codes "\"")) (xs ++ (34 ∷ [])) rest) same
+          (string_stands strings.Plain inside k within front hit ended);
+    } in
+    record {
+      front = q;
+      rest = rest;
+      whole = split ∙ ap (λ xs. 34 ∷ xs) (string_whole strings.Plain inside k within front hit ended
+          ∙ ap (λ xs. (xs ++ (34 ∷ [])) ++ rest) same);
+      stands = subst (λ k. IsPiece first (kind_of k q) q rest) (sym kind) (refl, inl (string_literal q rest stands));
+      bytes = bytes ∙ (size ∙ sym (ascii_bytes q all));
+      chars = count ∙ size;
+      lends = subst LendsText (sym kind) tt;
+    }

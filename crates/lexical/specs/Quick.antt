@@ -1,17 +1,19 @@
 -- What a few bytes tell.
 use Rattle.std.specs.Prelude.{ℕ, ◌≤◌, Bool, false, not, ◌||◌, ◌==◌, cond, List, ◌++◌, IsTrue, IsFalse, length, nat_lt}
-use Rattle.std.specs.Prelude.{take, drop, codes}
+use Rattle.std.specs.Prelude.{Some, take, drop, codes}
 use Rattle.std.specs.Char.{is_ascii_hexdigit}
 use Rattle.std.specs.List.{list_all}
 use Rattle.std.specs.Str.{chars}
+use Rattle.memchr.specs.Find.{IsFirstByte, is_byte3}
 use Rattle.lexical.specs.Ascii.{all_ascii}
-use Rattle.lexical.specs.Character.{carriage_return, line_feed}
+use Rattle.lexical.specs.Character.{backslash, carriage_return, double_quote, line_feed}
 use Rattle.lexical.specs.Form.{Form, Then}
 use Rattle.lexical.specs.Identifier.{Identifier}
 use Rattle.lexical.specs.Mark.{bars_quote}
 use Rattle.lexical.specs.Number.{end, is_exponent_letter}
 use Rattle.lexical.specs.PieceFinder.{piece_start}
 use Rattle.lexical.specs.Quoted.{close, escape, is_octal_digit}
+use Rattle.lexical.specs.RawString.{may_stand_raw}
 use Rattle.lexical.specs.Rule.{Stands}
 use Rattle.lexical.specs.SingleQuoted.{is_plain, unit}
 use Rattle.lexical.specs.Text.{first_passes}
@@ -59,3 +61,8 @@ pair_front strings.C = λ c. false
 -- the rest of a literal between single quotes, after the first of them
 abbrev pub Single : StringKind → Form
 Single kind = Then (Stands (unit (is_plain kind) (escape kind))) (Stands (close (codes "'")))
+
+-- so many bytes stand before the first quote, backslash or CR, and a string of the kind may have their characters
+pub record IsStretch (kind : StringKind) (bytes : List ℕ) (size : ℕ) : Type 0 where
+  pub first : IsFirstByte (is_byte3 double_quote backslash carriage_return) bytes (Some size)
+  pub may : IsTrue (list_all (may_stand_raw kind) (chars (take size bytes)))

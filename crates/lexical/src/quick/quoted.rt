@@ -7,7 +7,7 @@ ghost use Rattle.memchr.specs.Find.{IsFirstByte, is_byte3};
 ghost use Rattle.lexical.specs.Character.{backslash, carriage_return, double_quote};
 ghost use Rattle.lexical.specs.Class.{is_ident_start};
 ghost use Rattle.lexical.specs.Found.{IsAt, IsPieceAt};
-ghost use Rattle.lexical.specs.Quick.{Anywhere, IsAsciiAt, Single, pair_front};
+ghost use Rattle.lexical.specs.Quick.{Anywhere, IsAsciiAt, IsStretch, Single, pair_front};
 ghost use Rattle.lexical.specs.Quoted.{ByteStr, Str, allows, body, escape, escaped, hex, pair, unicode, unit};
 ghost use Rattle.lexical.specs.RawString.{may_stand_raw};
 ghost use Rattle.lexical.specs.Rule.{Stands};
@@ -16,7 +16,7 @@ ghost use Rattle.lexical.specs.SingleQuoted.{Byte, Character};
 use crate::bytes::{Base, Class, count_ascii, holds_ascii};
 use crate::escapes::{is_letter, writes_character};
 use crate::piece::{Piece, PieceKind};
-use crate::quick::byte_at;
+use crate::quick::{ascii, byte_at, counted};
 use crate::quoted::StringKind;
 use crate::single_quotes::stands_bare;
 use crate::text::{split_first, strip};
@@ -163,19 +163,6 @@ pub fn wide_character(text: &str) -> Option<Piece<'_>>
     })
 }
 
-/// How many bytes stand before the first quote, backslash or CR, if there is one.
-#[inline(always)]
-fn plain_size(bytes: &[u8]) -> Option<usize>
-    ensures { IsFirstByte (is_byte3 double_quote backslash carriage_return) bytes.now result }
-{
-    // Often a quote or an escape follows at once.
-    let next = byte_at(bytes, 0);
-    if next == b'"' || next == b'\\' {
-        return Some(0);
-    }
-    memchr3(b'"', b'\\', b'\r', bytes)
-}
-
 /// How many bytes may stand after a backslash in a string, at the front: a LF, or an escape.
 #[inline(always)]
 fn escaped_size(bytes: &[u8], kind: StringKind) -> Option<usize>
@@ -200,29 +187,73 @@ fn may_hold(stretch: &[u8], kind: StringKind) -> bool
     }
 }
 
-/// How many bytes the string has that stands at the front, after its first quote, with no CR: units up to a quote.
+/// How many bytes stand before the first quote, backslash or CR, if there is one.
+#[inline(always)]
+fn plain_size(bytes: &[u8]) -> Option<usize>
+    ensures { IsFirstByte (is_byte3 double_quote backslash carriage_return) bytes.now result }
+{
+    // Often a quote or an escape follows at once.
+    let next = byte_at(bytes, 0);
+    if next == b'"' || next == b'\\' {
+        return Some(0);
+    }
+    memchr3(b'"', b'\\', b'\r', bytes)
+}
+
+/// The same, if a string of the kind may have all that stands before it.
+#[inline(always)]
+fn stretch_size(bytes: &[u8], kind: StringKind) -> Option<usize>
+    ensures { IfSome result (IsStretch kind bytes.now) }
+{
+    let size = plain_size(bytes)?;
+    if may_hold(&bytes[..size], kind) {
+        Some(size)
+    } else {
+        None
+    }
+}
+
+/// How many bytes the string has that stands at the front, after its first quote, with no CR: units up to a quote. The
+/// first stretch of them that stand for themselves has so many bytes.
 ///
 /// Quotes, backslashes and CR are searched for among its bytes: what stands between them, past ASCII too, stands for
 /// itself. The search goes on after each escape: the string is searched once.
 #[inline(always)]
-fn body_size(inside: &str, kind: StringKind) -> Option<usize>
+fn body_size(inside: &str, stretch: usize, kind: StringKind) -> Option<usize>
+    requires { IsStretch kind inside.now stretch }
     ensures found { IfSome result (IsAt (Stands (body (unit kind) (codes "\""))) (chars inside.now)) }
     ensures within { IfSome result (λ size. size < 2 ^ 63) }
 {
     let bytes = inside.as_bytes();
-    let mut size = memchr3(b'"', b'\\', b'\r', bytes)?;
+    let mut size = stretch;
     while bytes[size] == b'\\' {
         size += 1;
         size += escaped_size(&bytes[size..], kind)?;
-        size += plain_size(&bytes[size..])?;
+        size += stretch_size(&bytes[size..], kind)?;
     }
-    if bytes[size] == b'"'
-        && ends_literal(byte_at(bytes, size + 1))
-        && may_hold(&bytes[..size], kind)
-    {
+    if bytes[size] == b'"' && ends_literal(byte_at(bytes, size + 1)) {
         return Some(size + 1);
     }
     None
+}
+
+/// The string that stands at the front, with no CR.
+#[inline(always)]
+pub fn string(text: &str) -> Option<Piece<'_>>
+    ensures { (first : Bool) → IfSome result (λ piece. IsPieceAt first (chars text.now) piece) }
+{
+    let inside = strip(text, "\"")?;
+    let bytes = inside.as_bytes();
+    let stretch = memchr3(b'"', b'\\', b'\r', bytes)?;
+    // Most strings are one stretch of ASCII, whose characters want no count.
+    if bytes[stretch] == b'"' && bytes[..stretch].is_ascii() {
+        if ends_literal(byte_at(bytes, stretch + 1)) {
+            return Some(ascii(PieceKind::Literal, stretch + 2));
+        }
+        return None;
+    }
+    let size = body_size(inside, stretch, StringKind::Plain)?;
+    Some(counted(text, size + 1))
 }
 
 /// How many bytes the string has that stands at the front, with no CR.
@@ -231,7 +262,8 @@ pub fn string_size(text: &str) -> Option<usize>
     ensures { IfSome result (IsAt Str (chars text.now)) }
 {
     let inside = strip(text, "\"")?;
-    Some(body_size(inside, StringKind::Plain)? + 1)
+    let stretch = memchr3(b'"', b'\\', b'\r', inside.as_bytes())?;
+    Some(body_size(inside, stretch, StringKind::Plain)? + 1)
 }
 
 /// How many bytes the byte string has that stands at the front, with no CR.
@@ -240,5 +272,6 @@ pub fn byte_string_size(text: &str) -> Option<usize>
     ensures { IfSome result (IsAt ByteStr (chars text.now)) }
 {
     let inside = strip(text, "b\"")?;
-    Some(body_size(inside, StringKind::Byte)? + 2)
+    let stretch = stretch_size(inside.as_bytes(), StringKind::Byte)?;
+    Some(body_size(inside, stretch, StringKind::Byte)? + 2)
 }

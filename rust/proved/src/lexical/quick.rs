@@ -13,7 +13,7 @@ use crate::lexical::piece::{Piece, PieceKind};
 use crate::lexical::text::char_count;
 use crate::shim::memchr::memchr2;
 use numbers::{long_number_size, number_size};
-use quoted::{byte_size, byte_string_size, character_size, string_size, wide_character};
+use quoted::{byte_size, byte_string_size, character_size, string, string_size, wide_character};
 
 /// The byte at the index, or a space where there is none.
 #[inline(always)]
@@ -175,7 +175,7 @@ pub fn quick_quoted(text: &str) -> Option<Piece<'_>>
     }
     match byte_start(bytes[0]) {
         PieceStart::Digit => Some(ascii(PieceKind::Literal, long_number_size(text)?)),
-        PieceStart::DoubleQuote => Some(counted(text, string_size(text)?)),
+        PieceStart::DoubleQuote => string(text),
         PieceStart::Letter => byte_literal(text),
         PieceStart::Quote => {
             if let Some(size) = character_size(text) {

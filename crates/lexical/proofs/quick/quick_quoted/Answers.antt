@@ -2,8 +2,7 @@ use Rattle.std.proofs.Common.{drop, subst}
 use Rattle.lexical.specs.Quick.{IsAsciiAt, UnbarredName}
 use Rattle.lexical.proofs.QuickLemmas.{ascii_piece, literal_at}
 use Rattle.lexical.proofs.QuickLemmas.{quote_at, quote_cut, front_byte}
-use Rattle.lexical.proofs.QuickLiteralLemmas.{character_literal, literal_piece, string_literal}
-use Rattle.lexical.proofs.QuickStringLemmas.{found_other}
+use Rattle.lexical.proofs.QuickLiteralLemmas.{character_literal, literal_piece}
 use Rattle.lexical.proofs.quick.quick_quoted.Goals as goal
 
 pub range_from-requires : goal.range_from-requires
@@ -34,6 +33,3 @@ pub returns-in-Some : goal.returns-in-Some
 returns-in-Some c first =
     ascii_piece first _ _ _ _ (literal_piece _ first _ _ character_literal c.in-Some.ensures) tt
     c.ascii-in-Some.ensures.kind c.ascii-in-Some.ensures.bytes c.ascii-in-Some.ensures.chars
-
-pub counted-requires : goal.counted-requires
-counted-requires c = found_other _ _ _ _ string_literal c.in_ok-string_size-in-DoubleQuote.ensures

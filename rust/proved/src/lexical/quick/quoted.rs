@@ -4,7 +4,7 @@
 use crate::lexical::bytes::{Base, Class, count_ascii, holds_ascii};
 use crate::lexical::escapes::{is_letter, writes_character};
 use crate::lexical::piece::{Piece, PieceKind};
-use crate::lexical::quick::byte_at;
+use crate::lexical::quick::{ascii, byte_at, counted};
 use crate::lexical::quoted::StringKind;
 use crate::lexical::single_quotes::stands_bare;
 use crate::lexical::text::{split_first, strip};
@@ -142,18 +142,6 @@ pub fn wide_character(text: &str) -> Option<Piece<'_>>
     })
 }
 
-/// How many bytes stand before the first quote, backslash or CR, if there is one.
-#[inline(always)]
-fn plain_size(bytes: &[u8]) -> Option<usize>
-{
-    // Often a quote or an escape follows at once.
-    let next = byte_at(bytes, 0);
-    if next == b'"' || next == b'\\' {
-        return Some(0);
-    }
-    memchr3(b'"', b'\\', b'\r', bytes)
-}
-
 /// How many bytes may stand after a backslash in a string, at the front: a LF, or an escape.
 #[inline(always)]
 fn escaped_size(bytes: &[u8], kind: StringKind) -> Option<usize>
@@ -176,27 +164,67 @@ fn may_hold(stretch: &[u8], kind: StringKind) -> bool
     }
 }
 
-/// How many bytes the string has that stands at the front, after its first quote, with no CR: units up to a quote.
+/// How many bytes stand before the first quote, backslash or CR, if there is one.
+#[inline(always)]
+fn plain_size(bytes: &[u8]) -> Option<usize>
+{
+    // Often a quote or an escape follows at once.
+    let next = byte_at(bytes, 0);
+    if next == b'"' || next == b'\\' {
+        return Some(0);
+    }
+    memchr3(b'"', b'\\', b'\r', bytes)
+}
+
+/// The same, if a string of the kind may have all that stands before it.
+#[inline(always)]
+fn stretch_size(bytes: &[u8], kind: StringKind) -> Option<usize>
+{
+    let size = plain_size(bytes)?;
+    if may_hold(&bytes[..size], kind) {
+        Some(size)
+    } else {
+        None
+    }
+}
+
+/// How many bytes the string has that stands at the front, after its first quote, with no CR: units up to a quote. The
+/// first stretch of them that stand for themselves has so many bytes.
 ///
 /// Quotes, backslashes and CR are searched for among its bytes: what stands between them, past ASCII too, stands for
 /// itself. The search goes on after each escape: the string is searched once.
 #[inline(always)]
-fn body_size(inside: &str, kind: StringKind) -> Option<usize>
+fn body_size(inside: &str, stretch: usize, kind: StringKind) -> Option<usize>
 {
     let bytes = inside.as_bytes();
-    let mut size = memchr3(b'"', b'\\', b'\r', bytes)?;
+    let mut size = stretch;
     while bytes[size] == b'\\' {
         size += 1;
         size += escaped_size(&bytes[size..], kind)?;
-        size += plain_size(&bytes[size..])?;
+        size += stretch_size(&bytes[size..], kind)?;
     }
-    if bytes[size] == b'"'
-        && ends_literal(byte_at(bytes, size + 1))
-        && may_hold(&bytes[..size], kind)
-    {
+    if bytes[size] == b'"' && ends_literal(byte_at(bytes, size + 1)) {
         return Some(size + 1);
     }
     None
+}
+
+/// The string that stands at the front, with no CR.
+#[inline(always)]
+pub fn string(text: &str) -> Option<Piece<'_>>
+{
+    let inside = strip(text, "\"")?;
+    let bytes = inside.as_bytes();
+    let stretch = memchr3(b'"', b'\\', b'\r', bytes)?;
+    // Most strings are one stretch of ASCII, whose characters want no count.
+    if bytes[stretch] == b'"' && bytes[..stretch].is_ascii() {
+        if ends_literal(byte_at(bytes, stretch + 1)) {
+            return Some(ascii(PieceKind::Literal, stretch + 2));
+        }
+        return None;
+    }
+    let size = body_size(inside, stretch, StringKind::Plain)?;
+    Some(counted(text, size + 1))
 }
 
 /// How many bytes the string has that stands at the front, with no CR.
@@ -204,7 +232,8 @@ fn body_size(inside: &str, kind: StringKind) -> Option<usize>
 pub fn string_size(text: &str) -> Option<usize>
 {
     let inside = strip(text, "\"")?;
-    Some(body_size(inside, StringKind::Plain)? + 1)
+    let stretch = memchr3(b'"', b'\\', b'\r', inside.as_bytes())?;
+    Some(body_size(inside, stretch, StringKind::Plain)? + 1)
 }
 
 /// How many bytes the byte string has that stands at the front, with no CR.
@@ -212,5 +241,6 @@ pub fn string_size(text: &str) -> Option<usize>
 pub fn byte_string_size(text: &str) -> Option<usize>
 {
     let inside = strip(text, "b\"")?;
-    Some(body_size(inside, StringKind::Byte)? + 2)
+    let stretch = stretch_size(inside.as_bytes(), StringKind::Byte)?;
+    Some(body_size(inside, stretch, StringKind::Byte)? + 2)
 }
