@@ -1,10 +1,10 @@
 -- What a few bytes tell of a number with a fraction.
-use Rattle.std.proofs.Common.{None, Some, ap₂, append-nil, codes, eqb-true, ◌==◌}
+use Rattle.std.proofs.Common.{None, Some, ap₂, append-nil, codes, ◌==◌}
 use Rattle.std.proofs.Common.{◌≡◌, ℕ, ◌+◌, ◌<◌, ◌≤◌, Bool, true, false, not, ◌&&◌, inl, inr, List, [], ◌∷◌, ◌++◌}
 use Rattle.std.proofs.Common.{length, get_or, take, drop, nat_lt, refl, sym, ap, ◌∙◌, subst, arith}
 use Rattle.std.proofs.Common.{length-drop, ltb-true}
 use Rattle.std.proofs.Math.Seq.{take-add}
-use Rattle.std.specs.Char.{is_ascii_digit, is_digit}
+use Rattle.std.specs.Char.{is_ascii_digit}
 use Rattle.std.specs.List.{list_all}
 use Rattle.std.specs.Str.{chars}
 use Rattle.std.proofs.lemmas.Bool.{and_parts, and_from, both_ways, cases_lt, false_from_ne_true, not-true, or_left}
@@ -20,20 +20,18 @@ use Rattle.lexical.specs.Form.{Form, HasNone, Then}
 use Rattle.lexical.specs.Number.{Number, bars_dot, digits, dot, end, exponent, is_digit_or_underscore}
 use Rattle.lexical.specs.Number.{is_exponent_letter}
 use Rattle.lexical.specs.Number.{float, float_tail, fraction, number}
-use Rattle.lexical.specs.Number.{base_digits, base_prefixes, digits_in, integer, is_digit_or_underscore_in}
-use Rattle.lexical.specs.Number.{is_underscore}
+use Rattle.lexical.specs.Number.{base_prefixes, integer}
 use Rattle.lexical.specs.Quick.{IsAsciiAt, NumberEnd}
 use Rattle.lexical.specs.Rule as rules
 use Rattle.lexical.specs.Rule.{find, One, Run, Stands, perhaps}
 use Rattle.lexical.specs.Quoted.{is_one_of}
 use Rattle.lexical.specs.Text.{begins_any, first_passes}
-use Rattle.lexical.specs.declared.bytes.Base.TheVariants as bases
 use Rattle.lexical.specs.declared.bytes.Class.{Class}
 use Rattle.lexical.specs.declared.bytes.Class.TheVariants as classes
 use Rattle.lexical.proofs.ByteLemmas.{all_low}
 use Rattle.lexical.proofs.ClassLemmas.{sub_listed}
 use Rattle.lexical.proofs.FinderLemmas.{none_is}
-use Rattle.lexical.proofs.NumberFinderLemmas.{finds_digits, no_float}
+use Rattle.lexical.proofs.NumberFinderLemmas.{finds_digits}
 use Rattle.lexical.proofs.PieceFacts.{none_begins, start_continues}
 use Rattle.lexical.proofs.QuickLemmas.{ascii_split, at_other, exponent_continues, front_of_run, get_after, low_fails}
 use Rattle.lexical.proofs.QuickLemmas.{clear_float, next_fails, no_tail, one_ascii, one_none}
@@ -95,8 +93,9 @@ plain_end text b is ends =
     }
 
 -- a character that passes, and a run of a class that it is of
-run_word : (class : Class) (starts : ℕ → Bool) (text : List ℕ) (n : ℕ) → n ≡ length (while_front (ascii_in class) text)
-    → ascii_in class (get_or text 0 32) ≡ true → starts (get_or text 0 32) ≡ true → ascii_in class 32 ≡ false
+pub run_word : (class : Class) (starts : ℕ → Bool) (text : List ℕ) (n : ℕ)
+    → n ≡ length (while_front (ascii_in class) text) → ascii_in class (get_or text 0 32) ≡ true
+    → starts (get_or text 0 32) ≡ true → ascii_in class 32 ≡ false
     → is_in class 32 ≡ false → get_or text n 32 < 128
     → IsAsciiAt (Stands (rules.Then (One starts) (Run (is_in class)))) text n
 run_word class starts text n size on start space other low =
@@ -237,21 +236,18 @@ float_at text after n m k starts size point is low bars count ended last =
     (then_at (Stands digits) (Stands float_tail) text n _ whole (at_other _ _ (drop n text) _ (λ p r h. inl h) tail)))
 
 -- by what was read of the text's bytes
-pub float_read : (text bytes after rest : List ℕ) (b n d next m k : ℕ) → bytes ≡ text → b ≡ get_or bytes 0 32
-    → true ≡ ascii_in classes.Digit b → n ≡ length (while_front (ascii_in classes.DigitOrUnderscore) bytes)
-    → d ≡ get_or bytes n 32 → d ≡ 46 → after ≡ drop (n + 1) bytes → next ≡ get_or after 0 32
-    → true ≡ nat_lt next 128 → false ≡ ascii_in classes.BarsDot next
-    → m ≡ length (while_front (ascii_in classes.DigitOrUnderscore) after) → rest ≡ drop m after
-    → IsAsciiAt (Stands (rules.Then (perhaps exponent) end)) rest k → get_or rest 0 32 < 128
+pub float_read : (text after rest : List ℕ) (n d next m k : ℕ) → ascii_in classes.Digit (get_or text 0 32) ≡ true
+    → n ≡ length (while_front (ascii_in classes.DigitOrUnderscore) text) → d ≡ get_or text n 32 → d ≡ 46
+    → after ≡ drop (n + 1) text → next ≡ get_or after 0 32 → true ≡ nat_lt next 128
+    → false ≡ ascii_in classes.BarsDot next → m ≡ length (while_front (ascii_in classes.DigitOrUnderscore) after)
+    → rest ≡ drop m after → IsAsciiAt (Stands (rules.Then (perhaps exponent) end)) rest k → get_or rest 0 32 < 128
     → IsAsciiAt Number text (n + 1 + m + k)
-float_read text bytes after rest b n d next m k same front starts size here point is first low bars count left ended
-    last =
-    subst (λ t. IsAsciiAt Number t (n + 1 + m + k)) same
-    (float_at bytes after n m k (ap (ascii_in classes.Digit) (sym front) ∙ sym starts) size (sym here ∙ point) is
+float_read text after rest n d next m k starts size here point is first low bars count left ended last =
+    float_at text after n m k starts size (sym here ∙ point) is
     (ltb-true _ 128 (ap (λ c. nat_lt c 128) (sym first) ∙ sym low))
     (ap (ascii_in classes.BarsDot) (sym first) ∙ sym bars) count
     (subst (λ t. IsAsciiAt (Stands (rules.Then (perhaps exponent) end)) t k) left ended)
-    (subst (λ t. get_or t 0 32 < 128) left last))
+    (subst (λ t. get_or t 0 32 < 128) left last)
 
 pub run_within : (class : Class) (text : List ℕ) (n : ℕ) → n ≡ length (while_front (ascii_in class) text)
     → n ≤ length text
@@ -263,52 +259,7 @@ byte_within text n d c is same other = elim (cases_lt n (length text)) [
   | inr high ↦ absurd (other (sym same ∙ (is ∙ get_or_past text n 32 high)))
 ]
 
--- ---- base 16
-
-prefix_at : (text : List ℕ) → get_or text 0 32 ≡ 48 → get_or text 1 32 ≡ 120
-    → IsAsciiAt (Stands (rules.Exactly (codes "0x"))) text 2
-prefix_at [] zero sign = absurd (omega (arith, zero))
-prefix_at (a ∷ []) zero sign = absurd (omega (arith, sign))
-prefix_at (a ∷ (b ∷ text)) zero sign = record {
-  within = omega arith;
-  ascii = and_from _ _ (lt-ltb a 128 (omega (arith, zero))) (and_from _ _ (lt-ltb b 128 (omega (arith, sign))) refl);
-  stands = ap₂ (λ x y. x ∷ (y ∷ [])) zero sign;
-}
-
-underscore_out : (b : ℕ) → is_digit b 16 ≡ true → is_underscore b ≡ false
-underscore_out b h = false_from_ne_true _ (λ e. both_ways _ (ap (λ c. is_digit c 16) (eqb-true b 95 e)) h)
-
-digit_out : (c : ℕ) → is_digit_or_underscore_in 16 c ≡ false → is_ascii_digit c ≡ false
-digit_out c out = grind (arith, out)
-
-digits_at : (text : List ℕ) (n : ℕ) → ascii_in (classes.DigitOf bases.Hexadecimal) (get_or text 0 32) ≡ true
-    → n ≡ length (while_front (ascii_in (classes.DigitOrUnderscoreOf bases.Hexadecimal)) text) → get_or text n 32 < 128
-    → IsAsciiAt (Stands (digits_in 16)) text n
-digits_at text n starts size low =
-    let class = classes.DigitOrUnderscoreOf bases.Hexadecimal in
-    let b = get_or text 0 32 in
-    let start = and_parts (nat_lt b 128) (is_digit b 16) starts in
-    let on : ascii_in class b ≡ true = and_from _ _ start.0 (or_left _ _ start.1) in
-    let word = run_word class (λ c. is_digit c 16) text n size on start.1 refl refl low in
-    let none : IsAsciiAt (Stands (Run is_underscore)) text 0 = record {
-      within = omega arith;
-      ascii = refl;
-      stands = record {
-        each = refl;
-        stops = low_fails is_underscore text (ltb-true b 128 start.0) (underscore_out b start.1);
-      };
-    } in
-    let same : 0 + n ≡ n = omega arith in
-    let all = subst (IsAsciiAt (Stands (rules.Then (Run is_underscore) (base_digits 16))) text) same
-    (then_at (Stands (Run is_underscore)) (Stands (base_digits 16)) text 0 n none word) in
-    record {
-      within = all.within;
-      ascii = all.ascii;
-      stands = (
-        all.stands,
-        next_fails is_ascii_digit text n low (digit_out (get_or text n 32) (run_stops class text n size refl low)),
-      );
-    }
+-- ---- a suffix
 
 -- a number that is no float
 integer_at : (text : List ℕ) (n k : ℕ) → find float (chars text) ≡ None → IsAsciiAt (Stands integer) text n
@@ -326,36 +277,6 @@ integer_at text n k none at ended =
         whole.stands,
       );
     }
-
-hex_at : (text after : List ℕ) (n k : ℕ) → get_or text 0 32 ≡ 48 → get_or text 1 32 ≡ 120 → after ≡ drop 2 text
-    → ascii_in (classes.DigitOf bases.Hexadecimal) (get_or after 0 32) ≡ true
-    → n ≡ length (while_front (ascii_in (classes.DigitOrUnderscoreOf bases.Hexadecimal)) after)
-    → IsAsciiAt NumberEnd (drop n after) k → get_or (drop n after) 0 32 < 128 → IsAsciiAt Number text (2 + n + k)
-hex_at text after n k zero sign is starts size ended last =
-    let prefix = prefix_at text zero sign in
-    let begins : begins_any base_prefixes (chars text) ≡ true =
-    ap (begins_any base_prefixes) (ascii_split text 2 prefix.ascii
-    ∙ ap (λ p. p ++ chars (drop 2 text)) prefix.stands) in
-    let all = subst (λ t. IsAsciiAt (Stands (digits_in 16)) t n) is
-    (digits_at after n starts size (omega (arith, last, get_after after n))) in
-    integer_at text (2 + n) k (no_float (chars text) begins)
-    (at_other (Stands (rules.Then (rules.Exactly (codes "0x")) (digits_in 16))) (Stands integer) text (2 + n)
-    (λ p r h. inr (inl h))
-    (then_at (Stands (rules.Exactly (codes "0x"))) (Stands (digits_in 16)) text 2 n prefix all))
-    (subst (λ t. IsAsciiAt NumberEnd t k) (ap (drop n) is ∙ drop-drop n 2 text) ended)
-
-pub hex_read : (text bytes after rest : List ℕ) (a b c n k : ℕ) → bytes ≡ text → a ≡ get_or bytes 0 32 → a ≡ 48
-    → b ≡ get_or bytes 1 32 → b ≡ 120 → after ≡ drop 2 bytes → c ≡ get_or after 0 32
-    → true ≡ ascii_in (classes.DigitOf bases.Hexadecimal) c
-    → n ≡ length (while_front (ascii_in (classes.DigitOrUnderscoreOf bases.Hexadecimal)) after) → rest ≡ drop n after
-    → IsAsciiAt NumberEnd rest k → get_or rest 0 32 < 128 → IsAsciiAt Number text (2 + n + k)
-hex_read text bytes after rest a b c n k same zero_is zero sign_is sign is first starts size left ended last =
-    subst (λ t. IsAsciiAt Number t (2 + n + k)) same
-    (hex_at bytes after n k (sym zero_is ∙ zero) (sym sign_is ∙ sign) is
-    (ap (ascii_in (classes.DigitOf bases.Hexadecimal)) (sym first) ∙ sym starts) size
-    (subst (λ t. IsAsciiAt NumberEnd t k) left ended) (subst (λ t. get_or t 0 32 < 128) left last))
-
--- ---- a suffix
 
 -- what the prefixes of bases are made of
 abbrev in_bases : ℕ → Bool
@@ -391,15 +312,14 @@ suffixed_at text n k starts size letter ended low =
     integer_at text n k none
     (record { within = word.within; ascii = word.ascii; stands = inl (word.stands, plain) }) ended
 
-pub suffixed_read : (text bytes rest : List ℕ) (b n d k : ℕ) → bytes ≡ text → b ≡ get_or bytes 0 32
-    → true ≡ ascii_in classes.Digit b → n ≡ length (while_front (ascii_in classes.DigitOrUnderscore) bytes)
-    → d ≡ get_or bytes n 32 → true ≡ is_one_of (codes "uif") d → rest ≡ drop n bytes → IsAsciiAt NumberEnd rest k
-    → get_or rest 0 32 < 128 → IsAsciiAt Number text (n + k)
-suffixed_read text bytes rest b n d k same front starts size here letter left ended last =
-    subst (λ t. IsAsciiAt Number t (n + k)) same
-    (suffixed_at bytes n k (ap (ascii_in classes.Digit) (sym front) ∙ sym starts) size
-    (ap (is_one_of (codes "uif")) (sym here) ∙ sym letter) (subst (λ t. IsAsciiAt NumberEnd t k) left ended)
-    (omega (arith, subst (λ t. get_or t 0 32 < 128) left last, get_after bytes n)))
+pub suffixed_read : (text rest : List ℕ) (n d k : ℕ) → ascii_in classes.Digit (get_or text 0 32) ≡ true
+    → n ≡ length (while_front (ascii_in classes.DigitOrUnderscore) text) → d ≡ get_or text n 32
+    → true ≡ is_one_of (codes "uif") d → rest ≡ drop n text → IsAsciiAt NumberEnd rest k → get_or rest 0 32 < 128
+    → IsAsciiAt Number text (n + k)
+suffixed_read text rest n d k starts size here letter left ended last =
+    suffixed_at text n k starts size (ap (is_one_of (codes "uif")) (sym here) ∙ sym letter)
+    (subst (λ t. IsAsciiAt NumberEnd t k) left ended)
+    (omega (arith, subst (λ t. get_or t 0 32 < 128) left last, get_after text n))
 
 -- ---- digits before a dot that is no part of the number
 

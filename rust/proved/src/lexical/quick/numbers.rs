@@ -91,15 +91,10 @@ fn exponent_end_size(bytes: &[u8]) -> Option<usize>
     Some(exponent + suffix)
 }
 
-/// How many bytes the float has that stands at the front, with an exponent and no dot.
+/// How many bytes the float has that stands at the front, with an exponent and no dot after its digits.
 #[inline(always)]
-fn dotless_size(text: &str) -> Option<usize>
+fn dotless_size(bytes: &[u8], digits: usize) -> Option<usize>
 {
-    let bytes = text.as_bytes();
-    if !holds_ascii(Class::Digit, byte_at(bytes, 0)) {
-        return None;
-    }
-    let digits = count_ascii(bytes, Class::DigitOrUnderscore);
     if !holds_ascii(Class::ExponentLetter, byte_at(bytes, digits)) {
         return None;
     }
@@ -117,15 +112,10 @@ fn fraction_end_size(bytes: &[u8]) -> Option<usize>
     }
 }
 
-/// How many bytes the float has that stands at the front, with a dot.
+/// How many bytes the float has that stands at the front, with a dot after its digits.
 #[inline(always)]
-fn float_size(text: &str) -> Option<usize>
+fn float_size(bytes: &[u8], digits: usize) -> Option<usize>
 {
-    let bytes = text.as_bytes();
-    if !holds_ascii(Class::Digit, byte_at(bytes, 0)) {
-        return None;
-    }
-    let digits = count_ascii(bytes, Class::DigitOrUnderscore);
     if byte_at(bytes, digits) != b'.' {
         return None;
     }
@@ -139,19 +129,20 @@ fn float_size(text: &str) -> Option<usize>
     Some(digits + 1 + fraction + end)
 }
 
-/// How many bytes the number of base 16 has that stands at the front, and begins with a digit after its prefix.
+/// How many bytes the number has that stands at the front, with `0` and the letter for its prefix, before a digit of
+/// the base.
 #[inline(always)]
-fn hex_size(text: &str) -> Option<usize>
+fn based_size(bytes: &[u8], letter: u8, base: Base) -> Option<usize>
 {
-    let bytes = text.as_bytes();
-    if byte_at(bytes, 0) != b'0' || byte_at(bytes, 1) != b'x' {
+    if byte_at(bytes, 0) != b'0' || byte_at(bytes, 1) != letter {
         return None;
     }
     let after = &bytes[2..];
-    if !holds_ascii(Class::DigitOf(Base::Hexadecimal), byte_at(after, 0)) {
+    if !holds_ascii(Class::DigitOf(base), byte_at(after, 0)) {
         return None;
     }
-    let digits = count_ascii(after, Class::DigitOrUnderscoreOf(Base::Hexadecimal));
+    let digits = count_ascii(after, Class::DigitOrUnderscoreOf(base));
+    // No suffix begins with a digit that is too large for the base.
     let suffix = suffix_size(&after[digits..])?;
     Some(2 + digits + suffix)
 }
@@ -165,13 +156,8 @@ fn begins_suffix(byte: u8) -> bool
 
 /// How many bytes the integer has that stands at the front, of digits and `_` before a suffix.
 #[inline(always)]
-fn suffixed_size(text: &str) -> Option<usize>
+fn suffixed_size(bytes: &[u8], digits: usize) -> Option<usize>
 {
-    let bytes = text.as_bytes();
-    if !holds_ascii(Class::Digit, byte_at(bytes, 0)) {
-        return None;
-    }
-    let digits = count_ascii(bytes, Class::DigitOrUnderscore);
     if !begins_suffix(byte_at(bytes, digits)) {
         return None;
     }
@@ -180,7 +166,7 @@ fn suffixed_size(text: &str) -> Option<usize>
 }
 
 /// How many bytes the number has that stands at the front, before or with a dot, or with an exponent, a suffix or the
-/// prefix of base 16.
+/// prefix of a base.
 #[inline(never)]
 pub fn long_number_size(text: &str) -> Option<usize>
 {
@@ -197,16 +183,22 @@ pub fn long_number_size(text: &str) -> Option<usize>
         if holds_ascii(Class::BarsDot, byte_at(after, 0)) {
             return Some(digits);
         }
-        return float_size(text);
+        return float_size(bytes, digits);
     }
     if next == b'x' {
-        return hex_size(text);
+        return based_size(bytes, b'x', Base::Hexadecimal);
+    }
+    if next == b'o' {
+        return based_size(bytes, b'o', Base::Octal);
+    }
+    if next == b'b' {
+        return based_size(bytes, b'b', Base::Binary);
     }
     if begins_suffix(next) {
-        return suffixed_size(text);
+        return suffixed_size(bytes, digits);
     }
     if holds_ascii(Class::ExponentLetter, next) {
-        return dotless_size(text);
+        return dotless_size(bytes, digits);
     }
     None
 }

@@ -12,12 +12,12 @@ slice_bounds-fraction_end_size-start c = run_within classes.DigitOrUnderscore _ 
 
 pub overflow_add-result-2 : goal.overflow_add-result-2
 overflow_add-result-2 c =
-    let bytes = c.as_bytes-bytes.result.now in
-    let digits = c.count_ascii-digits.result in
+    let bytes = c.args.bytes.now in
+    let digits = c.args.digits in
     let inside = take (length bytes - (digits + 1)) (drop (digits + 1) bytes) in
     omega (
       arith,
-      byte_within bytes digits _ 46 c.byte_at-2.ensures c.if-byte_at-ne46.false (λ e. omega (arith, e)),
+      byte_within bytes digits _ 46 c.byte_at.ensures c.if-byte_at-ne46.false (λ e. omega (arith, e)),
       run_within classes.DigitOrUnderscore inside _ c.count_ascii-fraction.ensures,
       ap length (take_rest bytes (digits + 1)),
       length-drop (digits + 1) bytes,
@@ -25,13 +25,13 @@ overflow_add-result-2 c =
 
 pub overflow_add-result-3 : goal.overflow_add-result-3
 overflow_add-result-3 c =
-    let bytes = c.as_bytes-bytes.result.now in
-    let digits = c.count_ascii-digits.result in
+    let bytes = c.args.bytes.now in
+    let digits = c.args.digits in
     let fraction = c.count_ascii-fraction.result in
     let inside = take (length bytes - (digits + 1)) (drop (digits + 1) bytes) in
     omega (
       arith,
-      byte_within bytes digits _ 46 c.byte_at-2.ensures c.if-byte_at-ne46.false (λ e. omega (arith, e)),
+      byte_within bytes digits _ 46 c.byte_at.ensures c.if-byte_at-ne46.false (λ e. omega (arith, e)),
       run_within classes.DigitOrUnderscore inside _ c.count_ascii-fraction.ensures,
       c.in_ok-end.ensures.end.within,
       ap length (take_rest inside fraction),
@@ -42,12 +42,11 @@ overflow_add-result-3 c =
 
 pub returns : goal.returns
 returns c =
-    let bytes = c.as_bytes-bytes.result.now in
-    let digits = c.count_ascii-digits.result in
+    let bytes = c.args.bytes.now in
+    let digits = c.args.digits in
     let inside = take (length bytes - (digits + 1)) (drop (digits + 1) bytes) in
-    float_read c.args.text.now bytes inside _ c.byte_at.result digits c.byte_at-2.result c.byte_at-next.result
-    c.count_ascii-fraction.result c.in_ok-end.end c.as_bytes-bytes.ensures.value c.byte_at.ensures
-    c.if-not-holds_ascii.ensures c.count_ascii-digits.ensures c.byte_at-2.ensures c.if-byte_at-ne46.false
+    float_read bytes inside _ digits c.byte_at.result c.byte_at-next.result c.count_ascii-fraction.result
+    c.in_ok-end.end c.requires.first c.requires.count c.byte_at.ensures c.if-byte_at-ne46.false
     (take_rest bytes (digits + 1)) c.byte_at-next.ensures c.if-not-is_ascii.ensures c.if-holds_ascii.ensures
     c.count_ascii-fraction.ensures (take_rest inside c.count_ascii-fraction.result) c.in_ok-end.ensures.end
     c.in_ok-end.ensures.ascii
