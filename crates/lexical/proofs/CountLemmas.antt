@@ -1,17 +1,14 @@
 -- The characters of a text are counted among its bytes.
-use Rattle.std.proofs.Common.{◌≡◌, ℕ, ◌+◌, ◌-◌, nat_lt, nat_le, Bool, ◌||◌, List, [], ◌∷◌, length, take, drop, refl}
+use Rattle.std.proofs.Common.{◌≡◌, ℕ, ◌+◌, ◌-◌, nat_lt, List, [], ◌∷◌, length, take, drop, refl}
 use Rattle.std.proofs.Common.{sym, ap, ◌∙◌, arith, length-append}
 use Rattle.std.specs.Char.{encode_utf8}
 use Rattle.std.specs.List.{count_by, slice_range}
-use Rattle.std.specs.Str.{chars, IsUtf8, IsCharBoundary, encode_utf8_all}
+use Rattle.std.specs.Str.{chars, IsAscii, IsUtf8, IsCharBoundary, encode_utf8_all}
 use Rattle.std.proofs.lemmas.Bool.{cond_both, ltb-true}
 use Rattle.std.proofs.lemmas.List.{take-append-drop}
 use Rattle.std.proofs.lemmas.List.Sums.{sum_by-append}
-use Rattle.std.proofs.lemmas.Str.{encodes-chars, chars-append, IsUtf8-take}
-
--- whether a character begins with the byte, which stands in a text
-abbrev pub is_first_byte : ℕ → Bool
-is_first_byte b = nat_lt b 128 || nat_le 192 b
+use Rattle.std.proofs.lemmas.Str.{encodes-chars, chars-append, chars-IsAscii, IsUtf8-from_ascii, IsUtf8-take}
+use Rattle.lexical.specs.Text.{is_first_byte}
 
 -- one byte of each character is its first
 one_first : (c : ℕ) → count_by is_first_byte (encode_utf8 c) ≡ 1
@@ -40,3 +37,16 @@ chars_cut text n utf8 cut =
 -- a front of the text, as a range gives it
 pub front_range : (text : List ℕ) (n : ℕ) → slice_range text 0 n ≡ take n text
 front_range text n = let same : n - 0 ≡ n = omega arith in ap (λ m. take m text) same
+
+-- each byte of ASCII is a character
+pub ascii_counted : (bytes : List ℕ) → IsAscii bytes → length bytes ≡ count_by is_first_byte bytes
+ascii_counted bytes low =
+    let same = chars-IsAscii bytes low in
+    sym (chars_counted bytes (IsUtf8-from_ascii bytes low) ∙ ap length same)
+
+-- a front, and what follows it
+pub firsts_cut : (bytes : List ℕ) (n : ℕ)
+    → count_by is_first_byte (take n bytes) + count_by is_first_byte (drop n bytes) ≡ count_by is_first_byte bytes
+firsts_cut bytes n =
+    sym (sum_by-append _ (take n bytes) (drop n bytes))
+    ∙ ap (count_by is_first_byte) (take-append-drop n bytes)

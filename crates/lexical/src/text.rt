@@ -2,6 +2,7 @@
 
 ghost use Rattle.std.specs.Prelude.{
   ◌≡◌,
+  ◌≤◌,
   ◌∷◌,
   ◌++◌,
   [],
@@ -16,10 +17,11 @@ ghost use Rattle.std.specs.Prelude.{
   nat_eq,
 };
 ghost use Rattle.std.specs.Cmp.Lexicographic.{pointwise};
+ghost use Rattle.std.specs.List.{count_by};
 ghost use Rattle.std.specs.Str.{IsUtf8, chars};
 ghost use Rattle.lexical.specs.Ascii.{all_ascii};
 ghost use Rattle.lexical.specs.Character.{carriage_return};
-ghost use Rattle.lexical.specs.Text.{begins_with, ends_with};
+ghost use Rattle.lexical.specs.Text.{begins_with, ends_with, is_first_byte};
 
 /// The first character of a text, and the text after it.
 #[tactic(auto, using(std::proofs::lemmas::Str::chars_past_char))]
@@ -33,6 +35,9 @@ pub fn split_first(text: &str) -> Option<(char, &str)>
     Some((first, characters.as_str()))
 }
 
+/// So many bytes are looked at as one: mostly they are ASCII.
+const BLOCK: usize = 64;
+
 /// How many characters the text has: as many as its bytes that begin one.
 pub fn char_count(text: &str) -> usize
     ensures { result ≡ length (chars text.now) }
@@ -40,8 +45,25 @@ pub fn char_count(text: &str) -> usize
     if text.is_ascii() {
         return text.len();
     }
+    let mut rest = text.as_bytes();
     let mut count = 0;
-    for byte in text.as_bytes() {
+    while rest.len() > BLOCK {
+        count += first_bytes(&rest[..BLOCK]);
+        rest = &rest[BLOCK..];
+    }
+    count + first_bytes(rest)
+}
+
+// How many of the bytes of a text begin a character.
+fn first_bytes(bytes: &[u8]) -> usize
+    ensures count { result ≡ count_by is_first_byte bytes.now }
+    ensures within { result ≤ length bytes.now }
+{
+    if bytes.is_ascii() {
+        return bytes.len();
+    }
+    let mut count = 0;
+    for byte in bytes {
         if *byte < 0x80 || *byte >= 0xC0 {
             count += 1;
         }

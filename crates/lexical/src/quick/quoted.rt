@@ -244,6 +244,7 @@ pub fn string(text: &str) -> Option<Piece<'_>>
 {
     let inside = strip(text, "\"")?;
     let bytes = inside.as_bytes();
+    // Few are empty or begin with an escape: here the search begins at once.
     let stretch = memchr3(b'"', b'\\', b'\r', bytes)?;
     // Most strings are one stretch of ASCII, whose characters want no count.
     if bytes[stretch] == b'"' && bytes[..stretch].is_ascii() {

@@ -10,14 +10,32 @@ pub fn split_first(text: &str) -> Option<(char, &str)>
     Some((first, characters.as_str()))
 }
 
+/// So many bytes are looked at as one: mostly they are ASCII.
+const BLOCK: usize = 64;
+
 /// How many characters the text has: as many as its bytes that begin one.
 pub fn char_count(text: &str) -> usize
 {
     if text.is_ascii() {
         return text.len();
     }
+    let mut rest = text.as_bytes();
     let mut count = 0;
-    for byte in text.as_bytes() {
+    while rest.len() > BLOCK {
+        count += first_bytes(&rest[..BLOCK]);
+        rest = &rest[BLOCK..];
+    }
+    count + first_bytes(rest)
+}
+
+// How many of the bytes of a text begin a character.
+fn first_bytes(bytes: &[u8]) -> usize
+{
+    if bytes.is_ascii() {
+        return bytes.len();
+    }
+    let mut count = 0;
+    for byte in bytes {
         if *byte < 0x80 || *byte >= 0xC0 {
             count += 1;
         }
