@@ -11,7 +11,7 @@ use crate::shim::alloc::{AllocError, Global};
 const MOST_ROOM: usize = 64;
 
 /// For so many trees a list may have room that holds fewer.
-const FEW_TREES: usize = 4;
+const FEW_TREES: usize = 8;
 
 /// Trees that are to become a stream. It is seen as these trees, in order.
 ///
