@@ -17,6 +17,9 @@ use Rattle.lexical.specs.RawString.{may_stand_raw}
 use Rattle.lexical.specs.Rule.{Stands}
 use Rattle.lexical.specs.SingleQuoted.{is_plain, unit}
 use Rattle.lexical.specs.Text.{first_passes}
+use Rattle.lexical.specs.Found.{IsPieceAt}
+use Rattle.lexical.specs.declared.piece.PieceKind.TheVariants as kinds
+use Rattle.lexical.specs.declared.quick.Extent.{Extent}
 use Rattle.lexical.specs.declared.quoted.StringKind.{StringKind}
 use Rattle.lexical.specs.declared.quoted.StringKind.TheVariants as strings
 use Rattle.lexical.specs.declared.class.PieceStart.{PieceStart}
@@ -66,3 +69,9 @@ Single kind = Then (Stands (unit (is_plain kind) (escape kind))) (Stands (close 
 pub record IsStretch (kind : StringKind) (bytes : List ℕ) (size : ℕ) : Type 0 where
   pub first : IsFirstByte (is_byte3 double_quote backslash carriage_return) bytes (Some size)
   pub may : IsTrue (list_all (may_stand_raw kind) (chars (take size bytes)))
+
+-- a literal of this extent stands at the front of the text
+abbrev pub IsLiteralAt : List ℕ → Extent → Type 0
+IsLiteralAt text extent =
+    (first : Bool)
+    → IsPieceAt first text (record { kind = kinds.Literal; bytes = extent.bytes; chars = extent.chars })
