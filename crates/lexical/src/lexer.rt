@@ -21,7 +21,7 @@ use crate::literals::{literal, quoted};
 use crate::marks::{begins_comment, follows_quote, mark};
 use crate::numbers::number;
 use crate::piece::{Piece, PieceKind};
-use crate::quick::{quick, quick_extent, quick_literal, quick_mark};
+use crate::quick::{quick, quick_extent, quick_literal, quick_quote_or_comment};
 
 /// A literal that was read, if one was, as a piece: its kind, and the cursor after it.
 #[inline(always)]
@@ -111,7 +111,7 @@ fn other_piece(text: &str, first: bool) -> Option<Piece<'_>>
             chars: extent.chars,
         });
     }
-    match quick_mark(text) {
+    match quick_quote_or_comment(text) {
         Some(piece) => Some(piece),
         None => piece_by_characters(text, first),
     }

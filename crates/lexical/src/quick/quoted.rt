@@ -1,6 +1,6 @@
 //! Literals between quotes that a few bytes tell.
 
-ghost use Rattle.std.specs.Prelude.{◌≡◌, ◌<◌, ◌^◌, ◌&&◌, Bool, IfSome, IsTrue, codes, nat_lt, not};
+ghost use Rattle.std.specs.Prelude.{◌≡◌, ◌<◌, ◌^◌, ◌&&◌, IfSome, IsTrue, codes, nat_lt, not};
 ghost use Rattle.std.specs.List.{list_all};
 ghost use Rattle.std.specs.Str.{chars};
 ghost use Rattle.memchr.specs.Find.{IsFirstByte, is_byte3};
@@ -140,7 +140,7 @@ pub fn byte_size(text: &str) -> Option<usize>
     Some(single_size(&bytes[2..], StringKind::Byte)? + 2)
 }
 
-/// The character that stands at the front, between its quotes one that stands for itself, past ASCII too.
+/// The extent of the character that stands at the front, between its quotes one that stands for itself, past ASCII too.
 #[inline(never)]
 pub fn wide_character(text: &str) -> Option<Extent>
     ensures { IfSome result (IsLiteralAt (chars text.now)) }
@@ -232,7 +232,7 @@ fn body_size(inside: &str, stretch: usize, kind: StringKind) -> Option<usize>
     None
 }
 
-/// The string that stands at the front, with no CR.
+/// The extent of the string that stands at the front, with no CR.
 #[inline(always)]
 pub fn string(text: &str) -> Option<Extent>
     ensures { IfSome result (IsLiteralAt (chars text.now)) }

@@ -98,7 +98,7 @@ fn ascii(kind: PieceKind<'_>, size: usize) -> Piece<'_>
     }
 }
 
-/// How long a literal is: all that its piece says of it.
+/// How long a literal is: all that its piece says besides its kind.
 #[derive(Clone, Copy)]
 pub struct Extent {
     /// How many bytes it has.
@@ -127,7 +127,7 @@ fn counted(text: &str, size: usize) -> Extent
     }
 }
 
-/// The byte or byte string at the front.
+/// The extent of the byte or byte string at the front.
 #[inline(always)]
 fn byte_literal(text: &str) -> Option<Extent>
 {
@@ -180,10 +180,11 @@ pub fn quick(text: &str) -> Option<Piece<'_>>
     }
 }
 
-/// The long number or literal between quotes at the front, where a few bytes tell it. `None` says nothing.
+/// The extent of the long number or literal between quotes at the front, where a few bytes tell it. `None` says
+/// nothing.
 ///
-/// It stands apart from [`quick`], which is compiled into the loops over pieces. Its answers are all of one kind, so
-/// that no kind is moved about.
+/// It stands apart from [`quick`], which is compiled into the loops over pieces. It answers literals alone: no kind is
+/// written before the piece is.
 #[inline(always)]
 pub fn quick_extent(text: &str) -> Option<Extent>
 {
@@ -210,8 +211,10 @@ pub fn quick_extent(text: &str) -> Option<Extent>
 }
 
 /// The lone quote or line comment at the front, where a few bytes tell it. `None` says nothing.
+///
+/// It stands apart from [`quick`] too, and is asked where [`quick_extent`] says nothing.
 #[inline(always)]
-pub fn quick_mark(text: &str) -> Option<Piece<'_>>
+pub fn quick_quote_or_comment(text: &str) -> Option<Piece<'_>>
 {
     let bytes = text.as_bytes();
     if bytes.is_empty() {

@@ -120,7 +120,7 @@ pub fn byte_size(text: &str) -> Option<usize>
     Some(single_size(&bytes[2..], StringKind::Byte)? + 2)
 }
 
-/// The character that stands at the front, between its quotes one that stands for itself, past ASCII too.
+/// The extent of the character that stands at the front, between its quotes one that stands for itself, past ASCII too.
 #[inline(never)]
 pub fn wide_character(text: &str) -> Option<Extent>
 {
@@ -204,7 +204,7 @@ fn body_size(inside: &str, stretch: usize, kind: StringKind) -> Option<usize>
     None
 }
 
-/// The string that stands at the front, with no CR.
+/// The extent of the string that stands at the front, with no CR.
 #[inline(always)]
 pub fn string(text: &str) -> Option<Extent>
 {

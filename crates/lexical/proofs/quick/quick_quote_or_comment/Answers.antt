@@ -1,7 +1,7 @@
 use Rattle.std.proofs.Common.{drop, subst}
 use Rattle.lexical.specs.Quick.{IsAsciiAt, UnbarredName}
 use Rattle.lexical.proofs.QuickLemmas.{ascii_piece, front_byte, quote_at, quote_cut}
-use Rattle.lexical.proofs.quick.quick_mark.Goals as goal
+use Rattle.lexical.proofs.quick.quick_quote_or_comment.Goals as goal
 
 pub range_from-requires : goal.range_from-requires
 range_from-requires c =
