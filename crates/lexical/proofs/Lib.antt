@@ -28,6 +28,7 @@ pub mod AnswerLemmas
 pub mod PieceFacts
 pub mod QuickLemmas
 pub mod QuickNumberLemmas
+pub mod QuickUndottedLemmas
 pub mod QuickBasedLemmas
 pub mod QuickExponentLemmas
 pub mod QuickLiteralLemmas

@@ -1,5 +1,5 @@
 -- What a few bytes tell of a number with a fraction.
-use Rattle.std.proofs.Common.{None, Some, ap₂, append-nil, codes, ◌==◌}
+use Rattle.std.proofs.Common.{None, append-nil, codes, ◌==◌}
 use Rattle.std.proofs.Common.{◌≡◌, ℕ, ◌+◌, ◌<◌, ◌≤◌, Bool, true, false, not, ◌&&◌, inl, inr, List, [], ◌∷◌, ◌++◌}
 use Rattle.std.proofs.Common.{length, get_or, take, drop, nat_lt, refl, sym, ap, ◌∙◌, subst, arith}
 use Rattle.std.proofs.Common.{length-drop, ltb-true}
@@ -34,11 +34,11 @@ use Rattle.lexical.proofs.FinderLemmas.{none_is}
 use Rattle.lexical.proofs.NumberFinderLemmas.{finds_digits}
 use Rattle.lexical.proofs.PieceFacts.{none_begins, start_continues}
 use Rattle.lexical.proofs.QuickLemmas.{ascii_split, at_other, exponent_continues, front_of_run, get_after, low_fails}
-use Rattle.lexical.proofs.QuickLemmas.{clear_float, next_fails, no_tail, one_ascii, one_none}
+use Rattle.lexical.proofs.QuickLemmas.{clear_float, next_fails, no_tail, one_ascii}
 use Rattle.lexical.proofs.QuickLemmas.{run_cons, run_passes, run_stops}
 use Rattle.lexical.proofs.QuotedLemmas.{no_name}
 use Rattle.lexical.proofs.RuleLemmas.{exact}
-use Rattle.lexical.proofs.RuleSteps.{find_either, find_not_before, find_then, text_found, then_lacks}
+use Rattle.lexical.proofs.RuleSteps.{find_then}
 use Rattle.lexical.proofs.TextLemmas.{all_pass, any_cut}
 
 -- a form, and then another
@@ -163,7 +163,7 @@ first_low text b is starts = ltb-true _ 128 (ap (λ c. nat_lt c 128) (sym is) �
 
 -- ---- floats
 
-byte_here : (text : List ℕ) (c : ℕ) → get_or text 0 32 ≡ c → (c ≡ 32 → ⊥)
+pub byte_here : (text : List ℕ) (c : ℕ) → get_or text 0 32 ≡ c → (c ≡ 32 → ⊥)
     → (0 < length text) × (get_or text 0 0 ≡ c)
 byte_here [] c is other = absurd (other (sym is))
 byte_here (b ∷ text) c is other = (omega arith, is)
@@ -262,7 +262,7 @@ byte_within text n d c is same other = elim (cases_lt n (length text)) [
 -- ---- a suffix
 
 -- a number that is no float
-integer_at : (text : List ℕ) (n k : ℕ) → find float (chars text) ≡ None → IsAsciiAt (Stands integer) text n
+pub integer_at : (text : List ℕ) (n k : ℕ) → find float (chars text) ≡ None → IsAsciiAt (Stands integer) text n
     → IsAsciiAt NumberEnd (drop n text) k → IsAsciiAt Number text (n + k)
 unfolding number
 integer_at text n k none at ended =
@@ -279,7 +279,7 @@ integer_at text n k none at ended =
     }
 
 -- what the prefixes of bases are made of
-abbrev in_bases : ℕ → Bool
+abbrev pub in_bases : ℕ → Bool
 in_bases = is_one_of (codes "0xob")
 
 suffix_letter : (test : ℕ → Bool) → list_all (λ c. not (test c)) (codes "uif") ≡ true → (c : ℕ)
@@ -320,68 +320,3 @@ suffixed_read text rest n d k starts size here letter left ended last =
     suffixed_at text n k starts size (ap (is_one_of (codes "uif")) (sym here) ∙ sym letter)
     (subst (λ t. IsAsciiAt NumberEnd t k) left ended)
     (omega (arith, subst (λ t. get_or t 0 32 < 128) left last, get_after text n))
-
--- ---- digits before a dot that is no part of the number
-
--- the dot, and what comes after it
-dot_split : (text after : List ℕ) (n : ℕ) → get_or text n 32 ≡ 46 → after ≡ drop (n + 1) text
-    → chars (drop n text) ≡ 46 ∷ chars after
-dot_split text after n point is =
-    let here = byte_here (drop n text) 46 (get_after text n ∙ point) (λ e. omega (arith, e)) in
-    let at = one_ascii (λ p r. p ≡ 46 ∷ []) (drop n text) 46 here.0 here.1 (omega arith) refl in
-    ascii_split (drop n text) 1 at.ascii ∙ ap₂ (λ f t. f ++ chars t) at.stands (drop-drop 1 n text ∙ sym is)
-
-low_passes : (test : ℕ → Bool) (text : List ℕ) → get_or text 0 32 < 128 → test 32 ≡ false
-    → test (get_or text 0 32) ≡ true → first_passes test (chars text) ≡ true
-low_passes test [] low space passes = absurd (both_ways _ space passes)
-low_passes test (b ∷ text) low space passes =
-    ap (first_passes test) (ascii_split (b ∷ text) 1 (and_from _ _ (lt-ltb b 128 low) refl)) ∙ passes
-
--- no number goes on with such a dot
-barred_tail : (r rest : List ℕ) → r ≡ 46 ∷ rest → first_passes bars_dot rest ≡ true → find float_tail r ≡ None
-barred_tail r rest is bars =
-    let point : find (rules.Exactly (codes ".")) r ≡ Some (46 ∷ [], rest) = text_found (codes ".") r rest is in
-    let barred : find dot r ≡ None = rw (find_not_before, point, bars) refl in
-    let none_of_letter : find (rules.Then exponent end) r ≡ None =
-    then_lacks exponent end r (then_lacks (One is_exponent_letter) _ r
-    (one_none is_exponent_letter r (ap (first_passes is_exponent_letter) is))) in
-    rw (find_either, then_lacks dot _ r barred) none_of_letter
-
-undotted_at : (text after : List ℕ) (n : ℕ) → ascii_in classes.Digit (get_or text 0 32) ≡ true
-    → n ≡ length (while_front (ascii_in classes.DigitOrUnderscore) text) → get_or text n 32 ≡ 46
-    → after ≡ drop (n + 1) text → ascii_in classes.BarsDot (get_or after 0 32) ≡ true → IsAsciiAt Number text n
-unfolding unicode_ident
-undotted_at text after n starts size point is bars =
-    let same : n + 0 ≡ n = omega arith in
-    let low : get_or text n 32 < 128 = omega (arith, point) in
-    let bar = and_parts (nat_lt (get_or after 0 32) 128) (bars_dot (get_or after 0 32)) bars in
-    let next = ltb-true (get_or after 0 32) 128 bar.0 in
-    let p = take n text in
-    let r = chars (drop n text) in
-    let word = whole_at text n starts size low in
-    let split : r ≡ 46 ∷ chars after = dot_split text after n point is in
-    let barred : first_passes bars_dot (chars after) ≡ true = low_passes bars_dot after next refl bar.1 in
-    let fails : (test : ℕ → Bool) → test 46 ≡ false → first_passes test r ≡ false =
-    λ test out. ap (first_passes test) split ∙ out in
-    let none : find float (chars text) ≡ None =
-    ap (find float) (ascii_split text n word.ascii)
-    ∙ (rw (find_then, finds_digits.complete p r word.stands, barred_tail r (chars after) split barred) refl) in
-    let all : list_all is_digit_or_underscore p ≡ true =
-    all_pass _ _ (λ c is. (and_parts _ _ is).1) p (run_passes classes.DigitOrUnderscore text n size) in
-    let plain = any_cut in_bases base_prefixes p [] r refl (fails in_bases refl)
-    (ap (begins_any base_prefixes) (append-nil p)
-    ∙ none_begins is_digit_or_underscore base_prefixes p refl all) in
-    let ended : IsAsciiAt NumberEnd (drop n text) 0 =
-    plain_end (drop n text) 46 (sym (get_after text n ∙ point)) refl in
-    subst (IsAsciiAt Number text) same
-    (integer_at text n 0 none
-    (record { within = word.within; ascii = word.ascii; stands = inl (word.stands, plain) }) ended)
-
-pub undotted_read : (text bytes after : List ℕ) (b n d e : ℕ) → bytes ≡ text → b ≡ get_or bytes 0 32
-    → true ≡ ascii_in classes.Digit b → n ≡ length (while_front (ascii_in classes.DigitOrUnderscore) bytes)
-    → d ≡ get_or bytes n 32 → d ≡ 46 → after ≡ drop (n + 1) bytes → e ≡ get_or after 0 32
-    → true ≡ ascii_in classes.BarsDot e → IsAsciiAt Number text n
-undotted_read text bytes after b n d e same front starts size here point left next bars =
-    subst (λ t. IsAsciiAt Number t n) same
-    (undotted_at bytes after n (ap (ascii_in classes.Digit) (sym front) ∙ sym starts) size (sym here ∙ point) left
-    (ap (ascii_in classes.BarsDot) (sym next) ∙ sym bars))

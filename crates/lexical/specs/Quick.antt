@@ -8,6 +8,7 @@ use Rattle.memchr.specs.Find.{IsFirstByte, is_byte3}
 use Rattle.lexical.specs.Ascii.{all_ascii}
 use Rattle.lexical.specs.Character.{backslash, carriage_return, double_quote, line_feed}
 use Rattle.lexical.specs.Form.{Form, Then}
+use Rattle.lexical.specs.Found.{IsPieceAt}
 use Rattle.lexical.specs.Identifier.{Identifier}
 use Rattle.lexical.specs.Mark.{bars_quote}
 use Rattle.lexical.specs.Number.{end, is_exponent_letter}
@@ -17,6 +18,8 @@ use Rattle.lexical.specs.RawString.{may_stand_raw}
 use Rattle.lexical.specs.Rule.{Stands}
 use Rattle.lexical.specs.SingleQuoted.{is_plain, unit}
 use Rattle.lexical.specs.Text.{first_passes}
+use Rattle.lexical.specs.declared.piece.PieceKind.TheVariants as kinds
+use Rattle.lexical.specs.declared.quick.Extent.{Extent}
 use Rattle.lexical.specs.declared.quoted.StringKind.{StringKind}
 use Rattle.lexical.specs.declared.quoted.StringKind.TheVariants as strings
 use Rattle.lexical.specs.declared.class.PieceStart.{PieceStart}
@@ -66,3 +69,9 @@ Single kind = Then (Stands (unit (is_plain kind) (escape kind))) (Stands (close 
 pub record IsStretch (kind : StringKind) (bytes : List ℕ) (size : ℕ) : Type 0 where
   pub first : IsFirstByte (is_byte3 double_quote backslash carriage_return) bytes (Some size)
   pub may : IsTrue (list_all (may_stand_raw kind) (chars (take size bytes)))
+
+-- a piece of the kind Literal, of this extent, stands at the front of the text, be it a source's front or not
+abbrev pub IsLiteralAt : List ℕ → Extent → Type 0
+IsLiteralAt text extent =
+    (first : Bool)
+    → IsPieceAt first text (record { kind = kinds.Literal; bytes = extent.bytes; chars = extent.chars })

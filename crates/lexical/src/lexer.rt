@@ -21,7 +21,7 @@ use crate::literals::{literal, quoted};
 use crate::marks::{begins_comment, follows_quote, mark};
 use crate::numbers::number;
 use crate::piece::{Piece, PieceKind};
-use crate::quick::{quick, quick_literal, quick_quoted};
+use crate::quick::{quick, quick_extent, quick_literal, quick_quote_or_comment};
 
 /// A literal that was read, if one was, as a piece: its kind, and the cursor after it.
 #[inline(always)]
@@ -104,7 +104,14 @@ fn other_piece(text: &str, first: bool) -> Option<Piece<'_>>
     ensures found { IfSome result (λ piece. IsPieceAt first (chars text.now) piece) }
     ensures none { IfNone result (HasNoPiece first (chars text.now)) }
 {
-    match quick_quoted(text) {
+    if let Some(extent) = quick_extent(text) {
+        return Some(Piece {
+            kind: PieceKind::Literal,
+            bytes: extent.bytes,
+            chars: extent.chars,
+        });
+    }
+    match quick_quote_or_comment(text) {
         Some(piece) => Some(piece),
         None => piece_by_characters(text, first),
     }

@@ -1,13 +1,13 @@
 //! Literals between quotes that a few bytes tell.
 
-ghost use Rattle.std.specs.Prelude.{◌≡◌, ◌<◌, ◌^◌, ◌&&◌, Bool, IfSome, IsTrue, codes, nat_lt, not};
+ghost use Rattle.std.specs.Prelude.{◌≡◌, ◌<◌, ◌^◌, ◌&&◌, IfSome, IsTrue, codes, nat_lt, not};
 ghost use Rattle.std.specs.List.{list_all};
 ghost use Rattle.std.specs.Str.{chars};
 ghost use Rattle.memchr.specs.Find.{IsFirstByte, is_byte3};
 ghost use Rattle.lexical.specs.Character.{backslash, carriage_return, double_quote};
 ghost use Rattle.lexical.specs.Class.{is_ident_start};
-ghost use Rattle.lexical.specs.Found.{IsAt, IsPieceAt};
-ghost use Rattle.lexical.specs.Quick.{Anywhere, IsAsciiAt, IsStretch, Single, pair_front};
+ghost use Rattle.lexical.specs.Found.{IsAt};
+ghost use Rattle.lexical.specs.Quick.{Anywhere, IsAsciiAt, IsLiteralAt, IsStretch, Single, pair_front};
 ghost use Rattle.lexical.specs.Quoted.{ByteStr, Str, allows, body, escape, escaped, hex, pair, unicode, unit};
 ghost use Rattle.lexical.specs.RawString.{may_stand_raw};
 ghost use Rattle.lexical.specs.Rule.{Stands};
@@ -15,8 +15,7 @@ ghost use Rattle.lexical.specs.SingleQuoted.{Byte, Character};
 
 use crate::bytes::{Base, Class, count_ascii, holds_ascii};
 use crate::escapes::{is_letter, writes_character};
-use crate::piece::{Piece, PieceKind};
-use crate::quick::{ascii, byte_at, counted};
+use crate::quick::{Extent, ascii_extent, byte_at, counted};
 use crate::quoted::StringKind;
 use crate::single_quotes::stands_bare;
 use crate::text::{split_first, strip};
@@ -141,10 +140,10 @@ pub fn byte_size(text: &str) -> Option<usize>
     Some(single_size(&bytes[2..], StringKind::Byte)? + 2)
 }
 
-/// The character that stands at the front, between its quotes one that stands for itself, past ASCII too.
+/// The extent of the character that stands at the front, between its quotes one that stands for itself, past ASCII too.
 #[inline(never)]
-pub fn wide_character(text: &str) -> Option<Piece<'_>>
-    ensures { (first : Bool) → IfSome result (λ piece. IsPieceAt first (chars text.now) piece) }
+pub fn wide_character(text: &str) -> Option<Extent>
+    ensures { IfSome result (IsLiteralAt (chars text.now)) }
 {
     let (quote, inside) = split_first(text)?;
     let (c, after) = split_first(inside)?;
@@ -155,12 +154,8 @@ pub fn wide_character(text: &str) -> Option<Piece<'_>>
     {
         return None;
     }
-    let size = text.len() - rest.len();
-    Some(Piece {
-        kind: PieceKind::Literal,
-        bytes: size,
-        chars: 3,
-    })
+    let bytes = text.len() - rest.len();
+    Some(Extent { bytes, chars: 3 })
 }
 
 /// How many bytes may stand after a backslash in a string, at the front: a LF, or an escape.
@@ -237,10 +232,10 @@ fn body_size(inside: &str, stretch: usize, kind: StringKind) -> Option<usize>
     None
 }
 
-/// The string that stands at the front, with no CR.
+/// The extent of the string that stands at the front, with no CR.
 #[inline(always)]
-pub fn string(text: &str) -> Option<Piece<'_>>
-    ensures { (first : Bool) → IfSome result (λ piece. IsPieceAt first (chars text.now) piece) }
+pub fn string(text: &str) -> Option<Extent>
+    ensures { IfSome result (IsLiteralAt (chars text.now)) }
 {
     let inside = strip(text, "\"")?;
     let bytes = inside.as_bytes();
@@ -249,7 +244,7 @@ pub fn string(text: &str) -> Option<Piece<'_>>
     // Most strings are one stretch of ASCII, whose characters want no count.
     if bytes[stretch] == b'"' && bytes[..stretch].is_ascii() {
         if ends_literal(byte_at(bytes, stretch + 1)) {
-            return Some(ascii(PieceKind::Literal, stretch + 2));
+            return Some(ascii_extent(stretch + 2));
         }
         return None;
     }

@@ -9,7 +9,7 @@ use crate::lexical::literals::{literal, quoted};
 use crate::lexical::marks::{begins_comment, follows_quote, mark};
 use crate::lexical::numbers::number;
 use crate::lexical::piece::{Piece, PieceKind};
-use crate::lexical::quick::{quick, quick_literal, quick_quoted};
+use crate::lexical::quick::{quick, quick_extent, quick_literal, quick_quote_or_comment};
 
 /// A literal that was read, if one was, as a piece: its kind, and the cursor after it.
 #[inline(always)]
@@ -85,7 +85,14 @@ pub fn piece_at(text: &str, first: bool) -> Option<Piece<'_>>
 #[inline(never)]
 fn other_piece(text: &str, first: bool) -> Option<Piece<'_>>
 {
-    match quick_quoted(text) {
+    if let Some(extent) = quick_extent(text) {
+        return Some(Piece {
+            kind: PieceKind::Literal,
+            bytes: extent.bytes,
+            chars: extent.chars,
+        });
+    }
+    match quick_quote_or_comment(text) {
         Some(piece) => Some(piece),
         None => piece_by_characters(text, first),
     }

@@ -98,23 +98,41 @@ fn ascii(kind: PieceKind<'_>, size: usize) -> Piece<'_>
     }
 }
 
-/// The literal of so many bytes at the front of the text, its characters counted.
+/// How long a literal is: all that its piece says besides its kind.
+#[derive(Clone, Copy)]
+pub struct Extent {
+    /// How many bytes it has.
+    pub bytes: usize,
+    /// How many characters it has.
+    pub chars: usize,
+}
+
+/// The extent of a literal of so many bytes of ASCII.
 #[inline(always)]
-fn counted(text: &str, size: usize) -> Piece<'_>
+fn ascii_extent(size: usize) -> Extent
 {
-    Piece {
-        kind: PieceKind::Literal,
+    Extent {
+        bytes: size,
+        chars: size,
+    }
+}
+
+/// The extent of the literal of so many bytes at the front of the text, its characters counted.
+#[inline(always)]
+fn counted(text: &str, size: usize) -> Extent
+{
+    Extent {
         bytes: size,
         chars: char_count(&text[..size]),
     }
 }
 
-/// The byte or byte string at the front.
+/// The extent of the byte or byte string at the front.
 #[inline(always)]
-fn byte_literal(text: &str) -> Option<Piece<'_>>
+fn byte_literal(text: &str) -> Option<Extent>
 {
     match byte_size(text) {
-        Some(size) => Some(ascii(PieceKind::Literal, size)),
+        Some(size) => Some(ascii_extent(size)),
         None => Some(counted(text, byte_string_size(text)?)),
     }
 }
@@ -162,28 +180,48 @@ pub fn quick(text: &str) -> Option<Piece<'_>>
     }
 }
 
-/// The long number, literal between quotes, lone quote or line comment at the front, where a few bytes tell it. `None`
-/// says nothing.
+/// The extent of the long number or literal between quotes at the front, where a few bytes tell it. `None` says
+/// nothing.
 ///
-/// It stands apart from [`quick`], which is compiled into the loops over pieces.
+/// It stands apart from [`quick`], which is compiled into the loops over pieces. It answers literals alone: no kind is
+/// written before the piece is.
 #[inline(always)]
-pub fn quick_quoted(text: &str) -> Option<Piece<'_>>
+pub fn quick_extent(text: &str) -> Option<Extent>
 {
     let bytes = text.as_bytes();
     if bytes.is_empty() {
         return None;
     }
     match byte_start(bytes[0]) {
-        PieceStart::Digit => Some(ascii(PieceKind::Literal, long_number_size(text)?)),
+        PieceStart::Digit => Some(ascii_extent(long_number_size(text)?)),
         PieceStart::DoubleQuote => string(text),
         PieceStart::Letter => byte_literal(text),
+        PieceStart::Quote => match character_size(text) {
+            Some(size) => Some(ascii_extent(size)),
+            None => {
+                if byte_at(bytes, 1).is_ascii() {
+                    None
+                } else {
+                    wide_character(text)
+                }
+            }
+        },
+        _ => None,
+    }
+}
+
+/// The lone quote or line comment at the front, where a few bytes tell it. `None` says nothing.
+///
+/// It stands apart from [`quick`] too, and is asked where [`quick_extent`] says nothing.
+#[inline(always)]
+pub fn quick_quote_or_comment(text: &str) -> Option<Piece<'_>>
+{
+    let bytes = text.as_bytes();
+    if bytes.is_empty() {
+        return None;
+    }
+    match byte_start(bytes[0]) {
         PieceStart::Quote => {
-            if let Some(size) = character_size(text) {
-                return Some(ascii(PieceKind::Literal, size));
-            }
-            if !byte_at(bytes, 1).is_ascii() {
-                return wide_character(text);
-            }
             name_size(&text[1..])?;
             let quote = PieceKind::Mark {
                 joint: true,

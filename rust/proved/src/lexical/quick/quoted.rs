@@ -3,8 +3,7 @@
 
 use crate::lexical::bytes::{Base, Class, count_ascii, holds_ascii};
 use crate::lexical::escapes::{is_letter, writes_character};
-use crate::lexical::piece::{Piece, PieceKind};
-use crate::lexical::quick::{ascii, byte_at, counted};
+use crate::lexical::quick::{Extent, ascii_extent, byte_at, counted};
 use crate::lexical::quoted::StringKind;
 use crate::lexical::single_quotes::stands_bare;
 use crate::lexical::text::{split_first, strip};
@@ -121,9 +120,9 @@ pub fn byte_size(text: &str) -> Option<usize>
     Some(single_size(&bytes[2..], StringKind::Byte)? + 2)
 }
 
-/// The character that stands at the front, between its quotes one that stands for itself, past ASCII too.
+/// The extent of the character that stands at the front, between its quotes one that stands for itself, past ASCII too.
 #[inline(never)]
-pub fn wide_character(text: &str) -> Option<Piece<'_>>
+pub fn wide_character(text: &str) -> Option<Extent>
 {
     let (quote, inside) = split_first(text)?;
     let (c, after) = split_first(inside)?;
@@ -134,12 +133,8 @@ pub fn wide_character(text: &str) -> Option<Piece<'_>>
     {
         return None;
     }
-    let size = text.len() - rest.len();
-    Some(Piece {
-        kind: PieceKind::Literal,
-        bytes: size,
-        chars: 3,
-    })
+    let bytes = text.len() - rest.len();
+    Some(Extent { bytes, chars: 3 })
 }
 
 /// How many bytes may stand after a backslash in a string, at the front: a LF, or an escape.
@@ -209,9 +204,9 @@ fn body_size(inside: &str, stretch: usize, kind: StringKind) -> Option<usize>
     None
 }
 
-/// The string that stands at the front, with no CR.
+/// The extent of the string that stands at the front, with no CR.
 #[inline(always)]
-pub fn string(text: &str) -> Option<Piece<'_>>
+pub fn string(text: &str) -> Option<Extent>
 {
     let inside = strip(text, "\"")?;
     let bytes = inside.as_bytes();
@@ -220,7 +215,7 @@ pub fn string(text: &str) -> Option<Piece<'_>>
     // Most strings are one stretch of ASCII, whose characters want no count.
     if bytes[stretch] == b'"' && bytes[..stretch].is_ascii() {
         if ends_literal(byte_at(bytes, stretch + 1)) {
-            return Some(ascii(PieceKind::Literal, stretch + 2));
+            return Some(ascii_extent(stretch + 2));
         }
         return None;
     }

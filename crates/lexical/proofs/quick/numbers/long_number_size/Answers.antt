@@ -1,7 +1,7 @@
 use Rattle.std.proofs.Common.{◌+◌}
 use Rattle.std.proofs.lemmas.List.{take_rest}
 use Rattle.lexical.proofs.QuickBasedLemmas.{announced_binary, announced_hexadecimal, announced_octal}
-use Rattle.lexical.proofs.QuickNumberLemmas.{undotted_read}
+use Rattle.lexical.proofs.QuickUndottedLemmas.{undotted_read}
 use Rattle.lexical.proofs.quick.numbers.long_number_size.Goals as goal
 
 pub returns-then-holds_ascii : goal.returns-then-holds_ascii

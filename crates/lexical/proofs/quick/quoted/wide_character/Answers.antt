@@ -2,8 +2,8 @@ use Rattle.std.proofs.Common.{get_or, ◌∙◌, refl, sym, ap}
 use Rattle.lexical.proofs.QuickLiteralLemmas.{ends, wide_fits, wide_read}
 use Rattle.lexical.proofs.quick.quoted.wide_character.Goals as goal
 
-pub overflow_sub-size : goal.overflow_sub-size
-overflow_sub-size c =
+pub overflow_sub-bytes : goal.overflow_sub-bytes
+overflow_sub-bytes c =
     wide_fits c.args.text.now c.in_ok-quote.inside.now c.in_ok-c.after.now c.in_ok-rest.rest.now c.in_ok-quote.quote
     c.in_ok-c.c c.utf8.text c.in_ok-rest.ensures.utf8 c.in_ok-quote.ensures.split c.if-quote-ne39.false
     c.in_ok-c.ensures.split c.in_ok-rest.ensures.split
