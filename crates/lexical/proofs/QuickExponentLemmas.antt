@@ -14,7 +14,7 @@ use Rattle.lexical.specs.Number.{float, float_tail, number}
 use Rattle.lexical.specs.Number.{exponent_digits, is_sign, is_underscore}
 use Rattle.lexical.specs.Quick.{IsAsciiAt, NumberEnd}
 use Rattle.lexical.specs.Rule as rules
-use Rattle.lexical.specs.Rule.{find, One, Run, Stands, perhaps}
+use Rattle.lexical.specs.Rule.{One, Run, Stands, perhaps}
 use Rattle.lexical.specs.Text.{first_passes}
 use Rattle.lexical.specs.declared.bytes.Class.{Class}
 use Rattle.lexical.specs.declared.bytes.Class.TheVariants as classes

@@ -17,7 +17,7 @@ use Rattle.lexical.specs.Number.{float, float_tail}
 use Rattle.lexical.specs.Number.{base_prefixes}
 use Rattle.lexical.specs.Quick.{IsAsciiAt, NumberEnd}
 use Rattle.lexical.specs.Rule as rules
-use Rattle.lexical.specs.Rule.{find, One, Run, Stands, perhaps}
+use Rattle.lexical.specs.Rule.{find, One}
 use Rattle.lexical.specs.Text.{begins_any, first_passes}
 use Rattle.lexical.specs.declared.bytes.Class.TheVariants as classes
 use Rattle.lexical.proofs.NumberFinderLemmas.{finds_digits}

@@ -3,7 +3,6 @@
 
 ghost use Rattle.std.specs.Prelude.{◌≡◌, IsTrue};
 ghost use Rattle.std.specs.List.{list_all};
-ghost use Rattle.std.specs.Str.{chars};
 ghost use Rattle.lexical.specs.Quoted as rule;
 ghost use Rattle.lexical.specs.Quoted.{is_code, is_code_digit, is_one_of};
 ghost use Rattle.lexical.specs.Rule.{One};
@@ -13,7 +12,7 @@ use crate::bytes::{Base, Class, one, skip};
 use crate::cursor::Cursor;
 use crate::quoted::StringKind;
 use crate::skip::one as one_that;
-use crate::text::{before, begins, split_first};
+use crate::text::{before, begins};
 
 /// Whether the letter is a simple escape, by the rule `simple-escape`.
 pub fn is_letter(c: char, kind: StringKind) -> bool

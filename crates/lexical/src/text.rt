@@ -54,7 +54,7 @@ pub fn char_count(text: &str) -> usize
     count + first_bytes(rest)
 }
 
-// How many of the bytes of a text begin a character.
+/// How many of the bytes of a text begin a character.
 fn first_bytes(bytes: &[u8]) -> usize
     ensures count { result ≡ count_by is_first_byte bytes.now }
     ensures within { result ≤ length bytes.now }

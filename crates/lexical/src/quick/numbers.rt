@@ -113,7 +113,7 @@ fn exponent_end_size(bytes: &[u8]) -> Option<usize>
     Some(exponent + suffix)
 }
 
-/// How many bytes the float has that stands at the front, with an exponent after its digits, so many bytes.
+/// How many bytes the float has that stands at the front, with an exponent right after its `digits` first bytes.
 #[inline(always)]
 fn dotless_size(bytes: &[u8], digits: usize) -> Option<usize>
     requires first { IsTrue (ascii_in Digit (get_or bytes.now 0 32)) }
@@ -139,7 +139,7 @@ fn fraction_end_size(bytes: &[u8]) -> Option<usize>
     }
 }
 
-/// How many bytes the float has that stands at the front, with a dot after its digits, so many bytes.
+/// How many bytes the float has that stands at the front, with a dot right after its `digits` first bytes.
 #[inline(always)]
 fn float_size(bytes: &[u8], digits: usize) -> Option<usize>
     requires first { IsTrue (ascii_in Digit (get_or bytes.now 0 32)) }
@@ -188,7 +188,7 @@ fn begins_suffix(byte: u8) -> bool
     byte == b'u' || byte == b'i' || byte == b'f'
 }
 
-/// How many bytes the integer has that stands at the front, with a suffix after its digits, so many bytes.
+/// How many bytes the integer has that stands at the front, with a suffix right after its `digits` first bytes.
 #[inline(always)]
 fn suffixed_size(bytes: &[u8], digits: usize) -> Option<usize>
     requires first { IsTrue (ascii_in Digit (get_or bytes.now 0 32)) }

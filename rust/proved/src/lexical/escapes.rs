@@ -5,7 +5,7 @@ use crate::lexical::bytes::{Base, Class, one, skip};
 use crate::lexical::cursor::Cursor;
 use crate::lexical::quoted::StringKind;
 use crate::lexical::skip::one as one_that;
-use crate::lexical::text::{before, begins, split_first};
+use crate::lexical::text::{before, begins};
 
 /// Whether the letter is a simple escape, by the rule `simple-escape`.
 pub fn is_letter(c: char, kind: StringKind) -> bool

@@ -180,11 +180,10 @@ pub fn quick(text: &str) -> Option<Piece<'_>>
     }
 }
 
-/// The extent of the long number or literal between quotes at the front, where a few bytes tell it. `None` says
-/// nothing.
+/// The extent of the number or literal between quotes at the front, where a few bytes tell it. `None` says nothing.
 ///
-/// It stands apart from [`quick`], which is compiled into the loops over pieces. It answers literals alone: no kind is
-/// written before the piece is.
+/// It stands apart from [`quick`], which is compiled into the loops over pieces and has plain integers. It answers no
+/// kind, so that its caller writes the piece at once, and not in parts.
 #[inline(always)]
 pub fn quick_extent(text: &str) -> Option<Extent>
 {

@@ -28,7 +28,7 @@ pub fn char_count(text: &str) -> usize
     count + first_bytes(rest)
 }
 
-// How many of the bytes of a text begin a character.
+/// How many of the bytes of a text begin a character.
 fn first_bytes(bytes: &[u8]) -> usize
 {
     if bytes.is_ascii() {
