@@ -1,5 +1,4 @@
 //! What lines are made of: words, operators and groups, list after list.
-use lexical::parts::{Cursor, skip_to};
 use pm_token::parts::{is_raw, name_of};
 use proc_macro2::{Delimiter, Ident, Punct, Spacing, TokenTree};
 use std::alloc::AllocError;
@@ -396,22 +395,28 @@ fn group_atom(delimiter: Delimiter, trees: &[TokenTree]) -> Atom {
     atom
 }
 
+// How many characters a text has.
+fn char_count(text: &str) -> usize {
+    // Most texts are of ASCII, whose bytes are its characters.
+    if text.is_ascii() {
+        text.len()
+    } else {
+        text.chars().count()
+    }
+}
+
 // How many characters an identifier has.
 fn width_of(ident: &Ident) -> usize {
     let front: usize = if is_raw(ident) { 2 } else { 0 };
-    let name = name_of(ident);
-    // Most names are of ASCII.
-    let width = if name.is_ascii() {
-        name.len()
-    } else {
-        first_line(name)
-    };
-    width.saturating_add(front)
+    char_count(name_of(ident)).saturating_add(front)
 }
 
 // How many characters stand on the first line of a text.
 fn first_line(text: &str) -> usize {
-    skip_to(Cursor::new(text), b'\n').chars_before
+    match text.split_once('\n') {
+        Some((line, _)) => char_count(line),
+        None => char_count(text),
+    }
 }
 
 // The lifetime or the operator that begins with this mark, which is the tree of this index.
