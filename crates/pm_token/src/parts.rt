@@ -18,7 +18,6 @@ use std::alloc::{AllocError, Global};
 use std::fmt;
 
 /// The identifier of this name, which has no `r#` even if it is raw. Fails where memory runs out.
-#[inline(always)]
 pub fn ident(alloc: Global, name: &str, raw: bool, span: Span) -> Result<Ident, AllocError>
     requires { IsBuiltToken (tokens.Name raw (chars name.now)) }
     ensures ok { IfOk result (λ ident. ident ≡ record { name = chars name.now; raw = raw; span = span }) }
