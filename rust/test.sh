@@ -48,7 +48,8 @@ minor=$(cargo --version 2> /dev/null | sed -n 's/^cargo 1\.\([0-9]*\)\..*/\1/p')
 
 if command -v python3 > /dev/null; then
     try "rust/erase rejects what it doesn't know, and its rules do what they say" python3 erase --test
-    try "rust/proved and rust/tools are what rust/erase makes of the proved sources" python3 erase --check
+    try "rust/proved, rust/tools and rust/workloads are what rust/erase makes of the proved sources" \
+        python3 erase --check
     try "rust/audit tells changes that are planted" python3 audit --test
     try "the proved sources and what is made of them differ as is known, and not otherwise" python3 audit
     if command -v rt > /dev/null; then
@@ -57,7 +58,7 @@ if command -v python3 > /dev/null; then
         skip "the tables of rust/proved beside what the proved crates answer: no rt"
     fi
 else
-    skip "rust/proved and rust/tools beside the proved sources: no python3"
+    skip "rust/proved, rust/tools and rust/workloads beside the proved sources: no python3"
 fi
 
 # The programs of rust/tools, as `cargo install` builds them.
@@ -107,6 +108,19 @@ programs() {
     fi
 }
 
+# The jobs of rust/workloads, with overflow checks. The digests are those that checks/programs wants of Rattle's build.
+workloads() {
+    jobs() { (cd workloads && cargo "$@"); }
+    digest() { jobs run --offline --quiet -- "${@:2}" < ../crates/workloads/stdin | cmp - <(echo "$2 $1"); }
+    try "the jobs of rust/workloads answer as Rattle's build does" digest 2a1d336fd5d5c167 all 7 2
+    try "a job of rust/workloads alone does too" digest 888960273426151e edit 3 1
+    documented_jobs() { RUSTDOCFLAGS="-D warnings" jobs doc --offline --quiet --no-deps --lib; }
+    try "the documents of rust/workloads" documented_jobs
+    if cargo clippy --version > /dev/null 2>&1; then
+        try "clippy on rust/workloads" jobs clippy --offline --quiet --all-targets -- -D warnings
+    fi
+}
+
 if [ "${minor:-0}" -ge 82 ]; then
     proved() { (cd proved && cargo "$@"); }
     documented() { RUSTDOCFLAGS="-D warnings" proved doc --offline --quiet --no-deps --all-features; }
@@ -119,8 +133,9 @@ if [ "${minor:-0}" -ge 82 ]; then
         try "clippy on rust/proved" proved clippy --offline --quiet --all-features --all-targets -- -D warnings
     fi
     programs
+    workloads
 else
-    skip "rust/proved and rust/tools: no cargo of Rust 1.82 or later"
+    skip "rust/proved, rust/tools and rust/workloads: no cargo of Rust 1.82 or later"
 fi
 
 # The static library for C, its header, its tests, its demo, and a Python program over it.

@@ -1,5 +1,5 @@
 #!/usr/bin/env python3
-"""Makes the Rust of rust/proved and rust/tools from the proved sources of crates/.
+"""Makes the Rust of rust/proved, rust/tools and rust/workloads from the proved sources of crates/.
 
     python3 rust/erase            writes the files anew
     python3 rust/erase --check    compares them with what is there, and fails where one differs
@@ -13,6 +13,7 @@ import pathlib
 import sys
 
 import checks
+import known
 import rules
 import selftest
 from source import Rejected, Token, text_of, tokens_of
@@ -20,6 +21,7 @@ from source import Rejected, Token, text_of, tokens_of
 TOP = pathlib.Path(__file__).resolve().parents[2]
 PACKAGE = TOP / 'rust/proved'
 TOOLS = TOP / 'rust/tools'
+WORKLOADS = TOP / 'rust/workloads'
 
 # The library crates, lowest first, whose text becomes modules of the package.
 LIBRARIES = [
@@ -33,9 +35,13 @@ OWN_TESTS = ['two_lexers', 'token_tests', 'stream_tests', 'buffer_tests', 'quoti
              'item_headers_tests']
 # The programs, and the library that they share.
 PROGRAMS = ['messages', 'tokens', 'highlight', 'find_calls', 'pretty', 'rust_check', 'same', 'indent', 'outline']
+# The jobs that bench/run times, which become a package of their own: nobody installs them.
+JOBS = ['workloads']
 # What isn't erased: tests within the library, what is for them alone, tests of how many bytes a value takes in Rattle,
 # and each `main`, which is by hand.
 LEFT_OUT = {'tests.rt', 'failing.rt', 'sizes.rt', 'main.rt'}
+# By hand too: errors whose text and conversions a derive of the toolchain writes.
+BY_HAND = {'crates/workloads/src/fails.rt'}
 
 
 def erased(text, crate, source, package):
@@ -64,12 +70,12 @@ def headed(file, source):
 
 
 def is_left_out(path):
-    return path.name in LEFT_OUT or 'tests' in path.parts
+    return path.name in LEFT_OUT or 'tests' in path.parts or str(path) in BY_HAND
 
 
-def erase_all(crates, below, target, counts, problems, tests=False):
-    """The files of these crates: from the path of each to its text."""
-    package = rules.Package(counts, crates, below, tests)
+def erase_all(crates, below, target, counts, problems, names=known.OF_LIBRARY):
+    """The files of these crates, which may name these things: from the path of each to its text."""
+    package = rules.Package(counts, crates, below, names)
     sources = {}
     for crate in crates + below:
         for path in sorted((TOP / 'crates' / crate / 'src').rglob('*.rt')):
@@ -116,8 +122,9 @@ def main():
     counts, problems = collections.Counter(), []
     files = erase_all(LIBRARIES, [], PACKAGE / 'src', counts, problems)
     files.update(erase_all(TESTED, LIBRARIES, PACKAGE / 'tests/conformance', counts, problems))
-    files.update(erase_all(OWN_TESTS, LIBRARIES, PACKAGE / 'tests/own', counts, problems, tests=True))
+    files.update(erase_all(OWN_TESTS, LIBRARIES, PACKAGE / 'tests/own', counts, problems, known.OF_TESTS))
     files.update(erase_all(PROGRAMS, LIBRARIES, TOOLS / 'src', counts, problems))
+    files.update(erase_all(JOBS, LIBRARIES, WORKLOADS / 'src', counts, problems, known.OF_JOBS))
     if problems:
         print('\n'.join(problems))
         sys.exit(f'{len(problems)} places are rejected: rust/erase has no rule for them')
@@ -125,6 +132,7 @@ def main():
     folders += [PACKAGE / 'tests/conformance' / crate for crate in TESTED]
     folders += [PACKAGE / 'tests/own' / crate for crate in OWN_TESTS]
     folders += [TOOLS / 'src' / crate for crate in PROGRAMS]
+    folders += [WORKLOADS / 'src' / crate for crate in JOBS]
     if sys.argv[1:] == ['--check']:
         differing = compare(files, folders)
         for path in differing:

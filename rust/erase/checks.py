@@ -58,7 +58,7 @@ def attributes(file):
 @check
 def macros(file):
     """A macro that has no counterpart."""
-    names = known.MACROS | {'display'} | (known.TEST_MACROS if file.package.tests else set())
+    names = known.MACROS | {'display'} | file.package.names.macros
     for at, token in enumerate(file.tokens):
         called = found(file.tokens, at, f'{token.text} !') and file.tokens[at + 1].text == '!'
         if token.kind == 'name' and called and found(file.tokens, at, f'{token.text} ! ='):
@@ -154,7 +154,7 @@ def traits(file):
 def methods(file):
     """A method that neither these crates nor the known part of std has."""
     tokens = file.tokens
-    names = known.METHODS | file.package.functions | (known.TEST_METHODS if file.package.tests else set())
+    names = known.METHODS | file.package.functions | file.package.names.methods
     for at, token in enumerate(tokens):
         name = following(tokens, at)
         if token.text != '.' or tokens[name].kind != 'name':
@@ -222,7 +222,7 @@ def items(file):
     """An item of std that the shim lacks, a crate that is no part of the package, and a module named as one."""
     tokens = file.tokens
     crates = file.package.erased | file.package.below | known.TOOLCHAIN_CRATES
-    items_of_std = known.STD_ITEMS | (known.TEST_ITEMS if file.package.tests else set())
+    items_of_std = known.STD_ITEMS | file.package.names.items
     modules = set()
     for at, token in enumerate(tokens):
         if found(tokens, at, 'std : :') and tokens[at - 1].text != ':':

@@ -3,6 +3,7 @@
 A name that is missing is rejected. Before it is added, see whether Rust's does what Rattle's does: where it takes
 memory, or answers another type, the shim needs an item of that name.
 """
+from dataclasses import dataclass
 
 # Items of std, and what the shim has in their place (rust/proved/src/shim).
 STD_ITEMS = set('''
@@ -58,6 +59,29 @@ TEST_METHODS = set('''
     wrapping_add wrapping_mul zip
 '''.split())
 TEST_MACROS = {'assert', 'assert_eq', 'vec'}
+
+# What the jobs may name besides. Their shim is in rust/workloads/src/shim.rs.
+JOB_ITEMS = {'hash::FoldHasher'}
+JOB_METHODS = set('to_le_bytes wrapping_add wrapping_mul'.split())
+
+
+@dataclass(frozen=True)
+class Names:
+    """What a package may name besides the items, methods and macros above, and where it finds its shim.
+
+    `shim` is empty where the package has none of its own, but takes that of `proved`.
+    """
+
+    items: frozenset = frozenset()
+    methods: frozenset = frozenset()
+    macros: frozenset = frozenset()
+    shim: str = ''
+    tests: bool = False
+
+
+OF_LIBRARY = Names()
+OF_TESTS = Names(frozenset(TEST_ITEMS), frozenset(TEST_METHODS), frozenset(TEST_MACROS), 'crate::shim', True)
+OF_JOBS = Names(frozenset(JOB_ITEMS), frozenset(JOB_METHODS), shim='crate::shim')
 
 # The one file with `unsafe`. Its type keeps copies of whole texts alone, so their bytes are UTF-8 whatever callers do.
 WITH_UNSAFE = 'crates/pm_token/src/symbols/short.rt'

@@ -34,13 +34,13 @@ class File:
 class Package:
     """What is known of all the files: the crates, the types with a destructor, and how the shim is named."""
 
-    def __init__(self, counts, erased=(), below=(), tests=False):
+    def __init__(self, counts, erased=(), below=(), names=known.OF_LIBRARY):
         self.counts = counts
         self.erased = set(erased)
         self.below = set(below)
-        # Whether these are crates of tests, which have a shim of their own over that of the package.
-        self.tests = tests
-        self.shim = 'proved::shim' if self.below and not tests else 'crate::shim'
+        self.names = names
+        self.tests = names.tests
+        self.shim = names.shim or ('proved::shim' if self.below else 'crate::shim')
         self.destructors = {}
         self.functions = set()
 

@@ -48,6 +48,7 @@ REJECTED = [
     ('macro_rules! m { () => {} }', 'a macro of its own'),
     ('use std::collections::HashSet;', '`std::collections::HashSet`'),
     ('use std::collections::{BTreeMap, BTreeSet};', '`std::collections::BTreeSet`'),
+    ('use std::hash::{FoldHasher, Hasher};', '`std::hash::FoldHasher`'),
     ('use std::io; fn f() { io::stdin(); }', '`std::io::stdin`'),
     ('use anyhow::Error;', 'the crate or module `anyhow`'),
     ('mod memchr;', 'a module with the name of the crate `memchr`'),
@@ -138,7 +139,8 @@ trait Unit {
 
 def applied(text, tests=False, source=known.WITH_UNSAFE):
     """A text with all rules applied, as a source of `lexical` at this path, and what is rejected in it."""
-    package = rules.Package(collections.Counter(), ['lexical', 'pm_span'], tests=tests)
+    names = known.OF_TESTS if tests else known.OF_LIBRARY
+    package = rules.Package(collections.Counter(), ['lexical', 'pm_span'], names=names)
     tokens = tokens_of(text)
     code = [token for token in tokens if token.kind not in ('clause', 'ghost')]
     package.learn(code)
@@ -150,6 +152,13 @@ def applied(text, tests=False, source=known.WITH_UNSAFE):
     rules.RULES[-1](file)
     imports = f'use crate::shim::prelude::{{{", ".join(file.prelude)}}}; ' if file.prelude else ''
     return ' '.join([*file.attributes, imports + text_of(file.tokens)]), [what for _, what in rejected]
+
+
+def rejected_of_jobs(text):
+    """What is rejected of a text in the crate of jobs, which may name more than the library."""
+    package = rules.Package(collections.Counter(), ['workloads'], ['lexical'], known.OF_JOBS)
+    file = rules.File('workloads', 'crates/workloads/src/digest.rt', tokens_of(text), package)
+    return [what for _, what in checks.rejections(file)]
 
 
 def said_of(text, source=known.WITH_UNSAFE):
@@ -184,11 +193,15 @@ def run():
             failures.append(f'not rejected as {what}: {text}\n    said: {said}')
     if said_of(example(rules.utf8)[0], 'crates/pm_token/src/symbols.rt') != [known.FORBIDDEN['unsafe']]:
         failures.append('`unsafe` is not rejected outside its file')
+    if rejected_of_jobs('use std::hash::{FoldHasher, Hasher}; fn f(a: u64) -> [u8; 8] { a.to_le_bytes() }'):
+        failures.append('the jobs may not name their hasher')
+    if not rejected_of_jobs('use std::collections::HashSet;'):
+        failures.append('the jobs may name anything')
     seen, rejected = applied(LAYOUT[0])
     if seen != LAYOUT[1] or rejected:
         failures.append(f'the layout is\n{seen}{rejected}')
     for failure in failures:
         print(failure)
-    total = 2 * len(rules.RULES) + len(REJECTED) + 2
+    total = 2 * len(rules.RULES) + len(REJECTED) + 4
     print(f'{total - len(failures)} tests of rust/erase passed, {len(failures)} failed')
     return len(failures)
