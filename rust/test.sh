@@ -60,6 +60,11 @@ if command -v python3 > /dev/null; then
 else
     skip "rust/proved, rust/tools and rust/workloads beside the proved sources: no python3"
 fi
+if command -v python3 > /dev/null && command -v git > /dev/null; then
+    try "bench/run compares what both checkouts print, but for answers that changed on purpose" ../bench/run --test
+else
+    skip "bench/run over stubs: no python3 or git"
+fi
 
 # The programs of rust/tools, as `cargo install` builds them.
 programs() {
