@@ -126,6 +126,16 @@ workloads() {
     fi
 }
 
+# What bench/ compares, by programs that Cargo builds.
+measured() {
+    if ! command -v python3 > /dev/null; then
+        skip "the answers about the texts of the workloads: no python3"
+        return
+    fi
+    try "the library answers all that the workloads' texts can be asked as recorded" ../bench/answers --check
+    try "bench/answers tells bugs that the workloads' own digests don't show" ../bench/answers --test
+}
+
 if [ "${minor:-0}" -ge 82 ]; then
     proved() { (cd proved && cargo "$@"); }
     documented() { RUSTDOCFLAGS="-D warnings" proved doc --offline --quiet --no-deps --all-features; }
@@ -139,6 +149,7 @@ if [ "${minor:-0}" -ge 82 ]; then
     fi
     programs
     workloads
+    measured
 else
     skip "rust/proved, rust/tools and rust/workloads: no cargo of Rust 1.82 or later"
 fi
