@@ -1,13 +1,13 @@
 #!/usr/bin/env bash
 # The proved functions as Rust, the programs, the Cargo package over them and the bridge to any other, with their tests
-# and examples over syn and quote; and the demo in C under sanitizers.
+# and examples over syn and quote; the demo in C under sanitizers; and how many instructions the library takes.
 #
 #   rust/test.sh
 #
 # What is left out is named, and counted by the line `skipped: N` before the last: what wants Python, a C compiler,
-# cargo with Rust 1.82 (the Cargo package: 1.88), or sources of syn, quote and the public crate, which rust/packages.sh
-# gets. rust/archive.sh builds the archive where it is older than its sources. The last line is `N passed, M failed`,
-# and the status is 1 if anything failed.
+# cargo with Rust 1.82 (the Cargo package: 1.88), valgrind of the version that bench/counts.txt names, or sources of
+# syn, quote and the public crate, which rust/packages.sh gets. rust/archive.sh builds the archive where it is older
+# than its sources. The last line is `N passed, M failed`, and the status is 1 if anything failed.
 set -u
 cd "$(dirname "$0")" || exit 1
 room=$(mktemp -d)
@@ -126,14 +126,29 @@ workloads() {
     fi
 }
 
-# What bench/ compares, by programs that Cargo builds.
+# What bench/ counts and compares, by programs that Cargo builds.
 measured() {
     if ! command -v python3 > /dev/null; then
-        skip "the answers about the texts of the workloads: no python3"
+        skip "the counts and the answers of the workloads: no python3"
         return
     fi
     try "the library answers all that the workloads' texts can be asked as recorded" ../bench/answers --check
     try "bench/answers tells bugs that the workloads' own digests don't show" ../bench/answers --test
+    if ! command -v valgrind > /dev/null || [ "$minor" -lt 88 ]; then
+        skip "the counts of instructions beside their record: no valgrind, or no cargo of Rust 1.88 or later"
+        return
+    fi
+    try "bench/counts tells a loop that is planted" ../bench/counts --test
+    local status=0
+    ../bench/counts --check > "$room/counts" 2>&1 || status=$?
+    grep '^RENEW' "$room/counts"
+    if grep -q '^skipped: ' "$room/counts"; then
+        cat "$room/counts"
+        skip "the counts of instructions beside their record, which is of other tools"
+        return
+    fi
+    counts() { cat "$room/counts" && [ "$status" -eq 0 ]; }
+    try "no row of bench/counts takes over 3 % more instructions than its record" counts
 }
 
 if [ "${minor:-0}" -ge 82 ]; then

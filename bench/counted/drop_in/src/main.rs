@@ -1,0 +1,10 @@
+//! Rows through the package in the public crate's place: those of rust/bench.
+#[path = "../../calls.rs"]
+mod calls;
+mod quoted;
+mod streams;
+mod tokens;
+
+fn main() {
+    calls::run(&[tokens::ROWS, streams::ROWS, quoted::ROWS]);
+}
