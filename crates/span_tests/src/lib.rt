@@ -1,17 +1,19 @@
-//! Tests of pm_span: a map keeps of its look-ups what it kept at the start, and answers the same.
+//! Tests of pm_span: look-ups answer what a plain walk over the texts gives, and what they answered before.
 //!
-//! No contract fixes the Debug text of a map, which shows the offsets that look-ups made known and the one used last.
-//! So the bookkeeping of the start stays here, and both are compared after look-ups.
+//! The walk (`plain`) knows nothing of indexes, of what was found before, or of the old code. The record (`recorded`)
+//! shows where answers change. What a map keeps for later look-ups is no answer, and nothing here asks for it.
 #![tactic(auto)]
 
 #[cfg(test)]
-mod compared;
+mod answers;
+#[cfg(test)]
+mod plain;
 #[cfg(test)]
 mod random;
 #[cfg(test)]
 mod random_maps;
 #[cfg(test)]
-mod start;
+mod recorded;
 #[cfg(test)]
 mod sweeps;
 #[cfg(test)]

@@ -1,5 +1,5 @@
 //! Random maps and look-ups.
-use crate::compared::{LOOK_UPS, Maps};
+use crate::answers::{Digest, LOOK_UPS, Maps, compare};
 use crate::random::Random;
 use crate::texts::random_text;
 use std::process::Abort;
@@ -13,6 +13,7 @@ fn ask_some(
     rt: &(impl Abort + AllocGlobal),
     random: &mut Random,
     maps: &mut Maps,
+    digest: &mut Digest,
     before: u32,
 ) -> Result<u32, Fail> {
     let lo = if random.up_to(2) == 0 {
@@ -27,28 +28,26 @@ fn ask_some(
     let far = random.one_of(&[0, 10, 60, 200, 2000]);
     let hi = lo.saturating_add(random.up_to(far)).min(maps.last);
     let what = random.one_of(LOOK_UPS);
-    maps.ask(rt, what, lo, hi)?;
+    maps.ask(rt, digest, what, lo, hi)?;
     Ok(lo)
 }
 
 #[test]
-fn random_maps_keep_what_they_kept(rt: HostRuntime) -> Result<(), Fail> {
+fn random_maps_answer_as_they_did(rt: HostRuntime) -> Result<(), Fail> {
     let alloc = rt.alloc();
     let mut random = Random::new(71);
     let mut maps = Maps::new(alloc);
+    let mut digest = Digest::new();
     for _ in 0..MAPS {
         if random.up_to(1) == 0 {
             maps.invalidate();
         }
         let text = random_text(alloc, &mut random, 900)?;
         let mut before = maps.add(&rt, &text)?;
-        for _ in 0..10 {
-            for _ in 0..5 {
-                before = ask_some(&rt, &mut random, &mut maps, before)?;
-            }
-            maps.compare(&rt)?;
+        for _ in 0..50 {
+            before = ask_some(&rt, &mut random, &mut maps, &mut digest, before)?;
         }
     }
-    assert!(rt; maps.asked > 5000, "{} spans are asked", maps.asked);
-    Ok(())
+    assert!(rt; digest.asked > 5000, "{} spans are asked", digest.asked);
+    compare(&rt, "random_maps", digest)
 }

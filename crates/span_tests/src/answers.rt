@@ -1,0 +1,196 @@
+//! Asks a map, and compares what it answers with what a plain walk gives.
+use crate::plain::PlainFile;
+use crate::recorded::RECORDED;
+use pm_span::parts::{add_file, bounds, fits, span_of};
+use pm_span::{LineColumn, SourceMap, Span};
+use std::alloc::Global;
+use std::process::Abort;
+use std::test::Fail;
+
+/// What a span is asked.
+#[derive(Clone, Copy, Debug)]
+pub enum LookUp {
+    Bytes,
+    Text,
+    Lines,
+}
+
+/// All of them.
+pub const LOOK_UPS: &[LookUp] = &[LookUp::Bytes, LookUp::Text, LookUp::Lines];
+
+/// All answers of a test, as one number.
+#[derive(Clone, Copy)]
+pub struct Digest {
+    /// FNV-1a of 64 bits, over all numbers and texts that were answered.
+    pub value: u64,
+    /// How many spans were asked.
+    pub asked: u32,
+}
+
+impl Digest {
+    /// That of no answer.
+    pub fn new() -> Digest {
+        Digest {
+            value: 0xcbf29ce484222325,
+            asked: 0,
+        }
+    }
+
+    /// One answer more.
+    fn add(&mut self, answer: u64) {
+        self.value = (self.value ^ answer).wrapping_mul(0x100000001b3);
+    }
+
+    /// A line and a column more.
+    fn add_place(&mut self, place: LineColumn) {
+        self.add(place.line as u64);
+        self.add(place.column as u64);
+    }
+
+    /// A text more.
+    fn add_text(&mut self, text: &str) {
+        self.add(text.len() as u64);
+        for byte in text.bytes() {
+            self.add(byte as u64);
+        }
+    }
+}
+
+/// Asserts that the test of this name answered as the record says.
+pub fn compare(rt: &impl Abort, name: &str, digest: Digest) -> Result<(), Fail> {
+    let recorded = RECORDED.iter().find(|record| record.0 == name);
+    let recorded = recorded.map(|record| record.1);
+    assert_eq!(rt; Some(digest.value), recorded, "the answers of {name}");
+    Ok(())
+}
+
+/// A map, and its texts.
+#[derive(Drop)]
+pub struct Maps {
+    alloc: Global,
+    map: SourceMap,
+    files: Vec<PlainFile>,
+    /// The last position of the last file.
+    pub last: u32,
+}
+
+impl Maps {
+    /// A map with no file but file 0.
+    pub fn new(alloc: Global) -> Maps {
+        Maps {
+            alloc,
+            map: SourceMap::with_limit(alloc, 1000000),
+            files: Vec::new(alloc),
+            last: 0,
+        }
+    }
+
+    /// Adds the text, and says where it begins.
+    pub fn add(&mut self, rt: &impl Abort, text: &str) -> Result<u32, Fail> {
+        let Some(lo) = fits(&self.map, text) else {
+            assert!(rt; false, "the text fits");
+            return Ok(0);
+        };
+        add_file(&mut self.map, text)?;
+        let file = PlainFile::new(self.alloc, text, lo)?;
+        assert_eq!(rt; lo, self.last.saturating_add(1));
+        self.last = file.hi();
+        self.files.push(file)?;
+        Ok(lo)
+    }
+
+    /// Takes the files away.
+    pub fn invalidate(&mut self) {
+        self.map.invalidate();
+        self.files.clear();
+        self.last = 0;
+    }
+
+    /// Asserts that the map answers what a walk over the text gives, of the positions from `lo` up to `hi`, if a file
+    /// has them, and adds the answers to the digest.
+    pub fn ask(
+        &mut self,
+        rt: &impl Abort,
+        digest: &mut Digest,
+        what: LookUp,
+        lo: u32,
+        hi: u32,
+    ) -> Result<(), Fail> {
+        if hi < lo {
+            return Ok(());
+        }
+        let span = span_of(lo, hi);
+        let file = self.files.iter().find(|file| file.has(lo, hi));
+        let is_held = self.map.holds(span);
+        assert_eq!(rt; is_held, file.is_some() || hi == 0, "of {lo}..{hi}");
+        digest.add(is_held as u64);
+        if !is_held {
+            return Ok(());
+        }
+        digest.asked = digest.asked.saturating_add(1);
+        match what {
+            LookUp::Bytes => ask_bytes(rt, digest, &mut self.map, file, span),
+            LookUp::Text => ask_text(rt, digest, &mut self.map, file, span)?,
+            LookUp::Lines => ask_lines(rt, digest, &self.map, file, span),
+        }
+        Ok(())
+    }
+}
+
+/// Asks for the bytes of a span.
+fn ask_bytes(
+    rt: &impl Abort,
+    digest: &mut Digest,
+    map: &mut SourceMap,
+    file: Option<&PlainFile>,
+    span: Span,
+) {
+    let (lo, hi) = bounds(span);
+    let bytes = span.byte_range(map);
+    let plain = match file {
+        None => 0..0,
+        Some(file) => file.byte_range(lo, hi),
+    };
+    digest.add(bytes.start as u64);
+    digest.add(bytes.end as u64);
+    assert_eq!(rt; bytes, plain, "of {lo}..{hi}");
+}
+
+/// Asks for the text of a span, copied and lent.
+fn ask_text(
+    rt: &impl Abort,
+    digest: &mut Digest,
+    map: &mut SourceMap,
+    file: Option<&PlainFile>,
+    span: Span,
+) -> Result<(), Fail> {
+    let (lo, hi) = bounds(span);
+    let plain = file.and_then(|file| file.text_between(lo, hi));
+    let copy = span.source_text(map)?;
+    assert_eq!(rt; copy.as_ref().map(|text| text.as_str()), plain, "of {lo}..{hi}");
+    let lent = span.source_str(map);
+    assert_eq!(rt; lent, plain, "of {lo}..{hi}");
+    digest.add_text(lent.unwrap_or(""));
+    Ok(())
+}
+
+/// Asks for the lines and columns of a span.
+fn ask_lines(
+    rt: &impl Abort,
+    digest: &mut Digest,
+    map: &SourceMap,
+    file: Option<&PlainFile>,
+    span: Span,
+) {
+    let (lo, hi) = bounds(span);
+    let (start, end) = (span.start(map), span.end(map));
+    digest.add_place(start);
+    digest.add_place(end);
+    let nowhere = LineColumn { line: 1, column: 0 };
+    let (plain_start, plain_end) = match file {
+        None => (nowhere, nowhere),
+        Some(file) => (file.line_column(lo), file.line_column(hi)),
+    };
+    assert_eq!(rt; start, plain_start, "of {lo}");
+    assert_eq!(rt; end, plain_end, "of {hi}");
+}

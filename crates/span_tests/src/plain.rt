@@ -1,0 +1,99 @@
+//! What look-ups should answer, by a walk over all characters of a text each time.
+use pm_span::LineColumn;
+use std::alloc::{AllocError, Global};
+use std::ops::Range;
+
+/// A text and the positions before its first character and after its last one.
+#[derive(Drop)]
+pub struct PlainFile {
+    text: String,
+    lo: u32,
+    hi: u32,
+}
+
+/// An offset of a text: the characters and the bytes before it, its line and its column.
+#[derive(Clone, Copy)]
+struct Place {
+    chars: u32,
+    bytes: usize,
+    line: usize,
+    column: usize,
+}
+
+impl Place {
+    /// The offset after a character.
+    fn after(self, c: char) -> Place {
+        let is_feed = c == '\n';
+        Place {
+            chars: self.chars.saturating_add(1),
+            bytes: self.bytes.saturating_add(c.len_utf8()),
+            line: self.line.saturating_add(if is_feed { 1 } else { 0 }),
+            column: if is_feed {
+                0
+            } else {
+                self.column.saturating_add(1)
+            },
+        }
+    }
+}
+
+impl PlainFile {
+    /// The file of this text that begins at `lo`.
+    pub fn new(alloc: Global, text: &str, lo: u32) -> Result<PlainFile, AllocError> {
+        let mut hi = lo;
+        for _ in text.chars() {
+            hi = hi.saturating_add(1);
+        }
+        Ok(PlainFile {
+            text: String::from_str(alloc, text)?,
+            lo,
+            hi,
+        })
+    }
+
+    /// The position after its last character.
+    pub fn hi(&self) -> u32 {
+        self.hi
+    }
+
+    /// Whether it has all positions from `lo` up to `hi`.
+    pub fn has(&self, lo: u32, hi: u32) -> bool {
+        self.lo <= lo && hi <= self.hi
+    }
+
+    /// The place of one of its positions.
+    fn place(&self, position: u32) -> Place {
+        let offset = position.saturating_sub(self.lo);
+        let mut place = Place {
+            chars: 0,
+            bytes: 0,
+            line: 1,
+            column: 0,
+        };
+        for c in self.text.as_str().chars() {
+            if place.chars >= offset {
+                return place;
+            }
+            place = place.after(c);
+        }
+        place
+    }
+
+    /// The line and column of one of its positions.
+    pub fn line_column(&self, position: u32) -> LineColumn {
+        let Place { line, column, .. } = self.place(position);
+        LineColumn { line, column }
+    }
+
+    /// The bytes that its positions from `lo` up to `hi` take.
+    pub fn byte_range(&self, lo: u32, hi: u32) -> Range<usize> {
+        let start = self.place(lo).bytes;
+        let end = self.place(hi).bytes;
+        start..end
+    }
+
+    /// Their text.
+    pub fn text_between(&self, lo: u32, hi: u32) -> Option<&str> {
+        self.text.as_str().get(self.byte_range(lo, hi))
+    }
+}
