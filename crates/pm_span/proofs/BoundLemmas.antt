@@ -5,9 +5,9 @@ use Rattle.std.specs.List.Sorted.{IsNonDecreasingBy, IsPartitionedBy, IsPartitio
 use Rattle.std.proofs.lemmas.Bool.{cases_lt, leb-true, leb-false}
 use Rattle.std.proofs.lemmas.List.Elements.{All-nil, All-push, All-weaker, Contains-append_left, Contains-push}
 use Rattle.std.proofs.lemmas.List.Sorted.{IsNonDecreasingBy-push, IsPartitionedBy-leb}
-use Rattle.pm_span.specs.FileInfo.{AreNonAsciiBounds, IsAmong, IsByteOffset, IsLine, IsNonAsciiBound, IsNonAsciiLine}
+use Rattle.pm_span.specs.ByteIndex.{AreNonAsciiBounds, IsAmong, IsByteOffset, IsLine, IsNonAsciiBound, IsNonAsciiLine}
 use Rattle.pm_span.specs.CharOffset.{byte_offset}
-use Rattle.pm_span.specs.declared.file_info.OffsetPair.{OffsetPair}
+use Rattle.pm_span.specs.declared.byte_index.OffsetPair.{OffsetPair}
 
 pub AreNonAsciiBounds-nil : (text : List ℕ) → AreNonAsciiBounds text 0 []
 AreNonAsciiBounds-nil text = record {

@@ -12,7 +12,7 @@ use Rattle.std.proofs.lemmas.List.{nil_from_length, length-take-le, take-take, d
 use Rattle.std.proofs.lemmas.List.Elements.{All-cons, All-nil, All-head, All-filter}
 use Rattle.std.proofs.lemmas.Map.Lookups.{exact_unsigned}
 use Rattle.std.proofs.lemmas.Str.{chars-nil, encodes-chars, IsUtf8-nil, length-le-encodes}
-use Rattle.pm_span.specs.FileInfo.{IsByteOffset}
+use Rattle.pm_span.specs.ByteIndex.{IsByteOffset}
 use Rattle.pm_span.specs.CharOffset.{byte_offset}
 use Rattle.pm_span.proofs.SeamLemmas.{boundary_at, byte_offset-add, byte_offset-rising, front_at, rest_at, rest_bytes}
 

@@ -2,7 +2,7 @@
 use Rattle.std.proofs.Common.{◌≡◌, ℕ, List, [], ◌∷◌, refl, lit≤, arith}
 use lib.Utf8.{encode}
 use Rattle.std.specs.Prelude.{codes}
-use Rattle.pm_span.specs.FileInfo.{after_line_feeds}
+use Rattle.pm_span.specs.LineIndex.{after_line_feeds}
 use Rattle.pm_span.specs.Files.{Files, next_lo, Fits, with_file}
 use Rattle.pm_span.specs.CharOffset.{line_column, byte_offset}
 

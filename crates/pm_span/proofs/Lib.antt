@@ -3,7 +3,9 @@ pub mod ByteOffsetLemmas
 mod Examples
 pub mod BoundLemmas
 pub mod FileLemmas
+pub mod FileTextLemmas
 pub mod LineLemmas
 pub mod ConsecutiveLemmas
+pub mod PlaceLemmas
 pub mod SeamLemmas
 pub mod SplitLemmas

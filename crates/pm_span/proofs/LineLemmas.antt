@@ -10,7 +10,7 @@ use Rattle.std.proofs.lemmas.List.{length-take-le, take_more, reverse-append, ge
 use Rattle.std.proofs.lemmas.List.{get_or_push, length_push, take-append-drop}
 use Rattle.std.proofs.lemmas.List.Elements.{All-nil, All-cons, All-weaker}
 use Rattle.std.proofs.lemmas.List.Sums.{sum_by-cons, take_while-cons}
-use Rattle.pm_span.specs.FileInfo.{after_line_feeds_from, after_line_feeds}
+use Rattle.pm_span.specs.LineIndex.{after_line_feeds_from, after_line_feeds}
 use Rattle.pm_span.specs.CharOffset.{is_line_feed, line, column, line_column}
 use Rattle.pm_span.specs.declared.location.LineColumn.{LineColumn}
 

@@ -11,7 +11,8 @@ use Rattle.std.proofs.lemmas.Str.{chars_from_encodes, chars-append, encodes-appe
 use Rattle.std.proofs.lemmas.Str.{IsUtf8-take}
 use Rattle.std.proofs.lemmas.Str.{IsCharBoundary-before_ascii}
 use Rattle.std.proofs.lemmas.Str.Pattern.{IsSplitOnceResult, split_parts}
-use Rattle.pm_span.specs.FileInfo.{after_line_feeds_from, IsLine}
+use Rattle.pm_span.specs.LineIndex.{after_line_feeds_from}
+use Rattle.pm_span.specs.ByteIndex.{IsLine}
 use Rattle.pm_span.specs.CharOffset.{is_line_feed, column}
 use Rattle.pm_span.specs.Line.{is_one_line}
 use Rattle.pm_span.proofs.AsciiLemmas.{IsAscii-from_test}

@@ -1,6 +1,8 @@
 pub mod CharOffset
 pub mod Line
 pub mod Extent
+pub mod LineIndex
+pub mod ByteIndex
 pub mod FileInfo
 pub mod Files
 pub mod Consecutive

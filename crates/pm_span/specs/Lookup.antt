@@ -18,12 +18,6 @@ EndsAt map span end =
     (text : List ℕ) (lo : ℕ) → IsFile map text lo → lo ≤ span.lo → span.hi ≤ lo + length text
     → end ≡ line_column text (span.hi - lo)
 
--- `byte-offset`: those before the offset in its file where the position is
-abbrev pub HasBytesBefore : Files → ℕ → ℕ → Type 0
-HasBytesBefore map position bytes =
-    (text : List ℕ) (lo : ℕ) → IsFile map text lo → lo ≤ position → position ≤ lo + length text
-    → bytes ≡ byte_offset text (position - lo)
-
 -- `byte-offset`: those of the two offsets in its file where the span begins and ends
 abbrev pub HasBytes : Files → Extent → Range ℕ → Type 0
 HasBytes map span bytes =

@@ -4,14 +4,17 @@
 //! with its definition.
 #![tactic(auto)]
 
+mod byte_index;
 mod file_info;
 pub mod laws;
+mod line_index;
 pub mod location;
 mod lookups;
 pub mod parts;
 pub mod source_map;
 pub mod spans;
 mod text;
+mod text_lines;
 
 pub use location::LineColumn;
 pub use source_map::SourceMap;

@@ -6,7 +6,7 @@ ghost use Rattle.pm_span.specs.Extent.{nowhere};
 ghost use Rattle.pm_span.specs.Files.{Holds};
 ghost use Rattle.pm_span.specs.Lookup.{StartsAt, EndsAt, HasBytes, HasText, HasName, IsTextOf, AreInOneFile, joined};
 
-use crate::file_info::OffsetPair;
+use crate::byte_index::OffsetPair;
 use crate::location::LineColumn;
 use crate::source_map::SourceMap;
 use crate::spans::Span;

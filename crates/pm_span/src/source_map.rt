@@ -2,18 +2,21 @@
 ghost use Rattle.std.specs.Prelude.{◌≡◌, ◌≤◌, ◌↔◌, ◌+◌, ◌^◌, ◌<◌, [], length, IfSome, IsTrue, OnOk, OnErr, SomeIff};
 ghost use Rattle.std.specs.Prelude.{MatchOption, IfOk, None, Ok, ◌≢◌};
 ghost use Rattle.std.specs.Option.{unwrap_or, option_copied};
+ghost use Rattle.std.specs.List.Sorted.{IsNonDecreasingBy};
 ghost use Rattle.std.specs.Str.{chars};
 ghost use Rattle.std.specs.String.{string_bytes};
 ghost use Rattle.pm_span.specs.Extent.{nowhere};
 ghost use Rattle.pm_span.specs.Files.{Files, next_lo, Fits, Holds, new_map, with_file};
 ghost use Rattle.pm_span.specs.Lookup.{StartsAt, HasBytes, HasText, IsTextOf};
-ghost use Rattle.pm_span.specs.Consecutive.{file_0, IsFileOf};
+ghost use Rattle.pm_span.specs.Consecutive.{file_0, AreBegun, IsFileOf};
 
-use crate::file_info::{FileInfo, OffsetPair};
+use crate::byte_index::OffsetPair;
+use crate::file_info::FileInfo;
 use crate::location::LineColumn;
 use crate::spans::Span;
 use crate::text::has_fewer_chars;
 use std::alloc::{AllocError, Global};
+use std::fmt;
 use std::marker::Model;
 use std::ops::Range;
 
@@ -22,13 +25,24 @@ use std::ops::Range;
 /// Positions count characters. File 0 is the empty text at 0..0 (`file-0`), and each later file
 /// begins one past the end of the file before it (`next-position`), so that a position lies in
 /// one file only. After the texts `ab` and `c` the files stand at 0..0, 1..3 and 4..5.
-#[derive(Debug, Drop)]
+#[derive(Drop)]
 pub struct SourceMap {
     alloc: Global,
     /// The files from 1 on.
     files: Vec<FileInfo>,
+    /// The positions that each of them takes.
+    places: Vec<Place>,
     /// The last position that may be given.
     limit: u32,
+}
+
+/// The positions that a file takes.
+#[derive(Clone, Copy)]
+struct Place {
+    /// The position before its first character.
+    lo: u32,
+    /// The position after its last character.
+    hi: u32,
 }
 
 impl Model for SourceMap {
@@ -43,7 +57,33 @@ impl Model for SourceMap {
       limit = source_map.limit;
     } };
 
-    ghost invariant = { λ source_map. AreWithin source_map.limit source_map.files.items };
+    ghost invariant = { λ source_map. AreWithin source_map.limit source_map.files.items source_map.places.items };
+}
+
+/// How many of the files at these places, which ascend, begin at or before the position.
+fn count_begun(places: &[Place], position: u32) -> usize
+    requires { IsNonDecreasingBy (λ place. place.lo) places.now }
+    ensures { AreBegun places.now position result }
+{
+    let Some((last, earlier)) = places.split_last() else {
+        return 0;
+    };
+    // Files are asked most when they were just read.
+    if last.lo <= position {
+        return places.len();
+    }
+    earlier.partition_point(|place| place.lo <= position)
+}
+
+/// Shows the fields that tell one map from another, and not those that only make look-ups short.
+impl fmt::Debug for SourceMap {
+    fn fmt<W: fmt::Write>(&self, f: &mut fmt::Formatter<W>) -> fmt::Result {
+        let mut debug = f.debug_struct("SourceMap");
+        debug.field("alloc", &self.alloc);
+        debug.field("files", &self.files);
+        debug.field("limit", &self.limit);
+        debug.finish()
+    }
 }
 
 impl SourceMap {
@@ -64,6 +104,7 @@ impl SourceMap {
         SourceMap {
             alloc,
             files: Vec::new(alloc),
+            places: Vec::new(alloc),
             limit,
         }
     }
@@ -75,6 +116,7 @@ impl SourceMap {
         ensures { self.new ≡ record self.old { texts = [] } }
     {
         self.files.clear();
+        self.places.clear();
     }
 
     /// Whether some file of the map has all the positions of the span (`holds`).
@@ -85,10 +127,11 @@ impl SourceMap {
         ensures { IsTrue result ↔ Holds self.now span }
     {
         let (lo, hi) = span.bounds();
-        let (_, file) = self.file_of(lo);
-        match file {
-            None => hi == 0,
-            Some(file) => hi <= file.hi(),
+        let number = count_begun(&self.places, lo);
+        if number == 0 {
+            hi == 0
+        } else {
+            hi <= self.places[number - 1].hi
         }
     }
 
@@ -97,13 +140,7 @@ impl SourceMap {
         ensures found { IsFileOf self.now position result.0 (unwrap_or (option_copied result.1) file_0) }
         ensures number { MatchOption result.1 (result.0 ≡ 0) (λ _. 0 < result.0) }
     {
-        // Files are asked most when they were just read.
-        if let Some(last) = self.files.last() {
-            if last.lo() <= position {
-                return (self.files.len(), Some(last));
-            }
-        }
-        let number = self.files.partition_point(|file| file.lo() <= position);
+        let number = count_begun(&self.places, position);
         if number == 0 {
             (number, None)
         } else {
@@ -148,9 +185,7 @@ impl SourceMap {
         // The span's end lies in the same file.
         let file = &mut self.files[number - 1];
         let file_lo = file.lo();
-        let start = file.find_byte_offset(lo - file_lo);
-        let end = file.find_byte_offset(hi - file_lo);
-        start..end
+        file.find_byte_range(lo - file_lo, hi - file_lo)
     }
 
     /// A copy of the text of a span of the map, whose file may keep what it found; `None` for 0..0 alone.
@@ -173,14 +208,15 @@ impl SourceMap {
         let source = &mut self.files[number - 1];
         let file_lo = source.lo();
         let start = lo - file_lo;
+        let end = hi - file_lo;
+        let bytes = source.find_byte_range(start, end);
         let from = OffsetPair {
             chars: start,
-            bytes: source.find_byte_offset(start),
+            bytes: bytes.start,
         };
-        let end = hi - file_lo;
         let to = OffsetPair {
             chars: end,
-            bytes: source.find_byte_offset(end),
+            bytes: bytes.end,
         };
         let text = String::from_str(alloc, source.text_between(from, to))?;
         Ok(Some(text))
@@ -212,7 +248,13 @@ impl SourceMap {
     {
         let lo = self.last_hi() + 1;
         let file = FileInfo::new(self.alloc, text, lo)?;
-        self.files.push(file)?;
-        Ok(())
+        self.places.push(Place { lo, hi: file.hi() })?;
+        match self.files.push(file) {
+            Ok(()) => Ok(()),
+            Err(_) => {
+                let _ = self.places.pop();
+                Err(AllocError)
+            }
+        }
     }
 }

@@ -10,27 +10,24 @@ range-requires-clause-start_le_end c = known_order c.requires.from c.requires.to
 
 pub range-requires-clause-start_boundary : goal.range-requires-clause-start_boundary
 range-requires-clause-start_boundary c =
-    let text : chars c.as_str.result.now ≡ c.args.self.now.text = ap chars c.as_str.ensures.value
-    ∙ ap (λ file. file.text) c.self.view_is in
-    λ past. known_boundary c.as_str.utf8 text c.requires.from
+    let text : chars c.text.result.now ≡ c.args.self.now.text = c.text.ensures.value in
+    λ past. known_boundary c.text.utf8 text c.requires.from
 
 pub range-requires-clause-end_boundary : goal.range-requires-clause-end_boundary
 range-requires-clause-end_boundary c =
-    let text : chars c.as_str.result.now ≡ c.args.self.now.text = ap chars c.as_str.ensures.value
-    ∙ ap (λ file. file.text) c.self.view_is in
-    known_boundary c.as_str.utf8 text c.requires.to
+    let text : chars c.text.result.now ≡ c.args.self.now.text = c.text.ensures.value in
+    known_boundary c.text.utf8 text c.requires.to
 
 pub returns : goal.returns
 returns c =
-    let bytes = c.as_str.result.now in
-    let text : chars bytes ≡ c.args.self.now.text = ap chars c.as_str.ensures.value
-    ∙ ap (λ file. file.text) c.self.view_is in
+    let bytes = c.text.result.now in
+    let text : chars bytes ≡ c.args.self.now.text = c.text.ensures.value in
     let from : c.args.from.bytes ≡ byte_offset (chars bytes) c.args.from.chars =
     c.requires.from.value ∙ ap (λ t. byte_offset t c.args.from.chars) (sym text) in
     let to : c.args.to.bytes ≡ byte_offset (chars bytes) c.args.to.chars =
     c.requires.to.value ∙ ap (λ t. byte_offset t c.args.to.chars) (sym text) in
     record {
       value = ap chars (c.range.ensures.value ∙ ap₂ (λ i j. take (j - i) (drop i bytes)) from to)
-          ∙ (between_at bytes c.args.from.chars c.args.to.chars c.as_str.utf8 c.requires.ordered
+          ∙ (between_at bytes c.args.from.chars c.args.to.chars c.text.utf8 c.requires.ordered
           ∙ ap (λ t. between t c.args.from.chars c.args.to.chars) text);
     }

@@ -1,11 +1,17 @@
-use Rattle.std.proofs.Common.{◌≡◌, ◌+◌, [], length, ap, arith}
+use Rattle.std.proofs.Common.{◌≡◌, ℕ, ◌+◌, ◌∷◌, ◌++◌, [], length, sym, ap, ap₂, ◌∙◌, arith}
+use Rattle.std.proofs.lemmas.List.{map-append}
 use Rattle.pm_span.specs.Files.{positions, next_lo}
+use Rattle.pm_span.specs.Consecutive.{place_of}
+use Rattle.pm_span.specs.declared.source_map.Place.{Place}
 use Rattle.pm_span.proofs.FileLemmas.{positions-cons}
 use Rattle.pm_span.proofs.ConsecutiveLemmas.{texts_of, AreConsecutive-push, positions-push}
 use Rattle.pm_span.proofs.source_map.SourceMap.add_file.Goals as goal
 
-pub invariant_of-self-2 : goal.invariant_of-self-2
-invariant_of-self-2 c =
+abbrev at : ℕ → ℕ → Place
+at lo hi = record { lo = lo; hi = hi }
+
+pub invariant_of-self-in-Ok : goal.invariant_of-self-in-Ok
+invariant_of-self-in-Ok c =
     let file = c.in_ok-file.file in
     let old = ap next_lo c.self.view_is in
     let begins : file.lo ≡ 1 + positions (texts_of c.self.inside.files.items) =
@@ -16,7 +22,9 @@ invariant_of-self-2 c =
       old,
       positions-cons [] (texts_of c.self.inside.files.items),
     ) in
-    rw c.in_ok-push.ensures.items (record {
+    let place : at (c.last_hi-lo.result + 1) c.hi.result ≡ place_of file =
+    ap₂ at (sym (ap (λ f. f.lo) c.in_ok-file.ensures.ok)) c.hi.ensures in
+    rw c.in-Ok.ensures.items (rw c.in_ok-push.ensures.items (record {
       consecutive = AreConsecutive-push 1 c.self.inside.files.items file c.self.invariant.consecutive begins;
       within = omega (
         arith,
@@ -27,4 +35,6 @@ invariant_of-self-2 c =
         positions-push c.self.inside.files.items file,
         ap (λ f. length f.text) c.in_ok-file.ensures.ok,
       );
-    })
+      taken = ap₂ (λ places p. places ++ p ∷ []) c.self.invariant.taken place
+          ∙ sym (map-append place_of c.self.inside.files.items (file ∷ []));
+    }))

@@ -1,4 +1,4 @@
-use Rattle.std.proofs.Common.{◌≡◌, ◌-◌, ℕ, length, ap, ap₂, subst, ◌∙◌, arith}
+use Rattle.std.proofs.Common.{◌≡◌, ◌-◌, ℕ, ap, ap₂, subst, ◌∙◌, arith}
 use Rattle.std.specs.declared.ops.Range.{Range}
 use Rattle.pm_span.specs.CharOffset.{byte_offset}
 use Rattle.pm_span.specs.Consecutive.{file_0, IsFileOf}
@@ -36,8 +36,8 @@ overflow_sub-lo c =
     c.if-number-eq0.false).1 c.index_mut-file.result.now c.index_mut-file.ensures.value in
     omega (arith, c.lo-file_lo.ensures, found.begins, ap (λ p. p.0) c.bounds-lo.ensures.value)
 
-pub find_byte_offset-start-requires : goal.find_byte_offset-start-requires
-find_byte_offset-start-requires c =
+pub find_byte_range-requires-clause-start : goal.find_byte_range-requires-clause-start
+find_byte_range-requires-clause-start c =
     let found = (file_there c.self.inside.limit c.self.inside.files.items c.args.span
     (ap (λ p. p.0) c.bounds-lo.ensures.value)
     c.self.view_is c.self.invariant.consecutive c.file_of-number.ensures.found c.bounds-lo.ensures.ordered c.requires
@@ -60,20 +60,14 @@ overflow_sub-hi c =
       ap (λ p. p.1) c.bounds-lo.ensures.value,
     )
 
-pub find_byte_offset-end-requires : goal.find_byte_offset-end-requires
-find_byte_offset-end-requires c =
+pub find_byte_range-requires-clause-end : goal.find_byte_range-requires-clause-end
+find_byte_range-requires-clause-end c =
     let found = (file_there c.self.inside.limit c.self.inside.files.items c.args.span
     (ap (λ p. p.0) c.bounds-lo.ensures.value)
     c.self.view_is c.self.invariant.consecutive c.file_of-number.ensures.found c.bounds-lo.ensures.ordered c.requires
     c.if-number-eq0.false).1 c.index_mut-file.result.now c.index_mut-file.ensures.value in
     let within = (holds_at c.args.span found c.bounds-lo.ensures.ordered).1 c.requires in
-    omega (
-      arith,
-      c.lo-file_lo.ensures,
-      within,
-      ap (λ p. p.1) c.bounds-lo.ensures.value,
-      ap (λ file. length file.text) c.find_byte_offset-start.ensures.kept,
-    )
+    omega (arith, c.lo-file_lo.ensures, within, ap (λ p. p.1) c.bounds-lo.ensures.value)
 
 pub returns-clause-value : goal.returns-clause-value
 returns-clause-value c = λ text lo file from to.
@@ -84,11 +78,9 @@ returns-clause-value c = λ text lo file from to.
     let first = ap (λ p. p.0) c.bounds-lo.ensures.value in
     let last = ap (λ p. p.1) c.bounds-lo.ensures.value in
     let own = c.index_mut-file.result.now in
-    let start = c.find_byte_offset-start.ensures.value
+    let start = c.find_byte_range.ensures.start
     ∙ ap₂ (λ p l. byte_offset own.text (p - l)) first c.lo-file_lo.ensures in
-    let end = c.find_byte_offset-end.ensures.value
-    ∙ (ap (λ f. byte_offset f.text (c.bounds-lo.result.1 - c.lo-file_lo.result)) c.find_byte_offset-start.ensures.kept
-    ∙ ap₂ (λ p l. byte_offset own.text (p - l)) last c.lo-file_lo.ensures) in
-    of_each c.args.span (λ n t l. range_of c.find_byte_offset-start.result c.find_byte_offset-end.result
+    let end = c.find_byte_range.ensures.end ∙ ap₂ (λ p l. byte_offset own.text (p - l)) last c.lo-file_lo.ensures in
+    of_each c.args.span (λ n t l. c.find_byte_range.result
     ≡ range_of (byte_offset t (c.args.span.lo - l)) (byte_offset t (c.args.span.hi - l)))
     found c.bounds-lo.ensures.ordered (ap₂ range_of start end) text lo file from to

@@ -33,8 +33,8 @@ overflow_sub-start c =
     let lo = ap (λ p. p.0) c.bounds-lo.ensures.value in
     omega (arith, c.lo-file_lo.ensures, found.begins, lo)
 
-pub find_byte_offset-requires : goal.find_byte_offset-requires
-find_byte_offset-requires c =
+pub find_byte_range-bytes-requires-clause-start : goal.find_byte_range-bytes-requires-clause-start
+find_byte_range-bytes-requires-clause-start c =
     let found = (file_there c.self.inside.limit c.self.inside.files.items c.args.span
     (ap (λ p. p.0) c.bounds-lo.ensures.value)
     c.self.view_is c.self.invariant.consecutive c.file_of-number.ensures.found c.bounds-lo.ensures.ordered c.requires
@@ -52,8 +52,8 @@ overflow_sub-end c =
     let hi = ap (λ p. p.1) c.bounds-lo.ensures.value in
     omega (arith, c.lo-file_lo.ensures, found.begins, hi, c.bounds-lo.ensures.ordered)
 
-pub find_byte_offset-requires-2 : goal.find_byte_offset-requires-2
-find_byte_offset-requires-2 c =
+pub find_byte_range-bytes-requires-clause-end : goal.find_byte_range-bytes-requires-clause-end
+find_byte_range-bytes-requires-clause-end c =
     let found = (file_there c.self.inside.limit c.self.inside.files.items c.args.span
     (ap (λ p. p.0) c.bounds-lo.ensures.value)
     c.self.view_is c.self.invariant.consecutive c.file_of-number.ensures.found c.bounds-lo.ensures.ordered c.requires
@@ -65,7 +65,6 @@ find_byte_offset-requires-2 c =
       c.lo-file_lo.ensures,
       within,
       hi,
-      ap (λ file. length file.text) c.find_byte_offset.ensures.kept,
     )
 
 pub text_between-requires-clause-from : goal.text_between-requires-clause-from
@@ -76,7 +75,7 @@ text_between-requires-clause-from c =
     c.if-number-eq0.false).1 c.index_mut-source.result.now c.index_mut-source.ensures.value in
     let lo = ap (λ p. p.0) c.bounds-lo.ensures.value in
     let within = (holds_at c.args.span found c.bounds-lo.ensures.ordered).1 c.requires in
-    let kept = c.find_byte_offset-2.ensures.kept ∙ c.find_byte_offset.ensures.kept in
+    let kept = c.find_byte_range-bytes.ensures.kept in
     record {
       within = omega (
         arith,
@@ -86,7 +85,7 @@ text_between-requires-clause-from c =
         c.bounds-lo.ensures.ordered,
         ap (λ file. length file.text) kept,
       );
-      value = c.find_byte_offset.ensures.value
+      value = c.find_byte_range-bytes.ensures.start
           ∙ ap (λ file. byte_offset file.text (c.bounds-lo.result.0 - c.lo-file_lo.result)) (sym kept);
     }
 
@@ -98,12 +97,12 @@ text_between-requires-clause-to c =
     c.if-number-eq0.false).1 c.index_mut-source.result.now c.index_mut-source.ensures.value in
     let hi = ap (λ p. p.1) c.bounds-lo.ensures.value in
     let within = (holds_at c.args.span found c.bounds-lo.ensures.ordered).1 c.requires in
-    let kept = c.find_byte_offset-2.ensures.kept ∙ c.find_byte_offset.ensures.kept in
+    let kept = c.find_byte_range-bytes.ensures.kept in
     record {
       within = omega (arith, c.lo-file_lo.ensures, within, hi, ap (λ file. length file.text) kept);
-      value = c.find_byte_offset-2.ensures.value
+      value = c.find_byte_range-bytes.ensures.end
           ∙ ap (λ file. byte_offset file.text (c.bounds-lo.result.1 - c.lo-file_lo.result))
-          (sym c.find_byte_offset-2.ensures.kept);
+          (sym kept);
     }
 
 pub returns-in_err-text-clause-nowhere : goal.returns-in_err-text-clause-nowhere
@@ -145,11 +144,11 @@ returns-clause-value c = λ text lo file.
     (ap (λ p. p.0) c.bounds-lo.ensures.value)
     c.self.view_is c.self.invariant.consecutive c.file_of-number.ensures.found c.bounds-lo.ensures.ordered c.requires
     c.if-number-eq0.false).1 c.index_mut-source.result.now c.index_mut-source.ensures.value in
-    let kept = c.find_byte_offset-2.ensures.kept ∙ c.find_byte_offset.ensures.kept in
+    let kept = c.find_byte_range-bytes.ensures.kept in
     of_each c.args.span
     (λ n t l. chars (string_bytes c.in_ok-text.text) ≡ between t (c.args.span.lo - l) (c.args.span.hi - l))
     found c.bounds-lo.ensures.ordered
-    (copied c.index_mut-source.result.now c.find_byte_offset-2.new.self (string_bytes c.in_ok-text.text)
+    (copied c.index_mut-source.result.now c.find_byte_range-bytes.new.self (string_bytes c.in_ok-text.text)
     c.text_between.result.now c.args.span.lo c.args.span.hi c.bounds-lo.result.0 c.bounds-lo.result.1
     c.lo-file_lo.result kept c.in_ok-text.ensures.ok c.text_between.ensures.value
     (ap (λ p. p.0) c.bounds-lo.ensures.value) (ap (λ p. p.1) c.bounds-lo.ensures.value) c.lo-file_lo.ensures)
@@ -162,7 +161,7 @@ returns-clause-text c =
     c.self.view_is c.self.invariant.consecutive c.file_of-number.ensures.found c.bounds-lo.ensures.ordered c.requires
     c.if-number-eq0.false).1 c.index_mut-source.result.now c.index_mut-source.ensures.value in
     let within = (holds_at c.args.span found c.bounds-lo.ensures.ordered).1 c.requires in
-    let kept = c.find_byte_offset-2.ensures.kept ∙ c.find_byte_offset.ensures.kept in
+    let kept = c.find_byte_range-bytes.ensures.kept in
     record {
       held = record {
         text = c.index_mut-source.result.now.text;
@@ -171,7 +170,7 @@ returns-clause-text c =
         from = found.begins;
         to = within;
       };
-      value = copied c.index_mut-source.result.now c.find_byte_offset-2.new.self (string_bytes c.in_ok-text.text)
+      value = copied c.index_mut-source.result.now c.find_byte_range-bytes.new.self (string_bytes c.in_ok-text.text)
           c.text_between.result.now c.args.span.lo c.args.span.hi c.bounds-lo.result.0 c.bounds-lo.result.1
           c.lo-file_lo.result kept c.in_ok-text.ensures.ok c.text_between.ensures.value
           (ap (λ p. p.0) c.bounds-lo.ensures.value) (ap (λ p. p.1) c.bounds-lo.ensures.value) c.lo-file_lo.ensures;
