@@ -118,7 +118,11 @@ impl FromIterator<TokenTree> for TokenStream {
 impl FromIterator<TokenStream> for TokenStream {
     fn from_iter<I: IntoIterator<Item = TokenStream>>(streams: I) -> TokenStream {
         let mut streams = streams.into_iter();
-        let mut stream = streams.next().unwrap_or_default();
+        // What was asked to the end is not asked again: that of `collect::<Result<TokenStream, _>>()` would go on
+        // after an error.
+        let Some(mut stream) = streams.next() else {
+            return TokenStream::new();
+        };
         stream.extend(streams);
         stream
     }

@@ -69,6 +69,65 @@ fn streams_are_built() {
     assert_eq!(read.to_string(), "(b) c");
 }
 
+/// Gives what it is asked to, and panics where it is asked again after its end.
+struct EndsOnce<T>(Option<std::vec::IntoIter<T>>);
+
+impl<T> EndsOnce<T> {
+    fn new(items: Vec<T>) -> EndsOnce<T> {
+        EndsOnce(Some(items.into_iter()))
+    }
+}
+
+impl<T> Iterator for EndsOnce<T> {
+    type Item = T;
+
+    fn next(&mut self) -> Option<T> {
+        let item = self.0.as_mut().expect("it is not asked again after its end").next();
+        if item.is_none() {
+            self.0 = None;
+        }
+        item
+    }
+}
+
+#[test]
+fn the_first_error_is_that_of_the_whole() {
+    let printed = |streams: &[Result<&str, &'static str>]| {
+        let streams = streams.iter().map(|stream| stream.map(parse));
+        streams.collect::<Result<TokenStream, _>>().map(|stream| stream.to_string())
+    };
+    assert_eq!(printed(&[Err("first"), Err("second")]), Err("first"));
+    assert_eq!(printed(&[Err("first"), Ok("x"), Err("third")]), Err("first"));
+    assert_eq!(printed(&[Ok("x"), Err("second"), Err("third")]), Err("second"));
+    assert_eq!(printed(&[Ok("x"), Err("second"), Ok("y"), Err("fourth")]), Err("second"));
+    assert_eq!(printed(&[Ok("x"), Ok("y z")]), Ok("x y z".to_owned()));
+    let trees = |trees: &[Result<TokenTree, &'static str>]| {
+        trees.iter().cloned().collect::<Result<TokenStream, _>>().map(|stream| stream.to_string())
+    };
+    assert_eq!(trees(&[Err("first"), Err("second")]), Err("first"));
+    assert_eq!(trees(&[Ok(ident("x").into()), Err("second"), Err("third")]), Err("second"));
+}
+
+#[test]
+fn no_iterator_is_asked_again_after_its_end() {
+    for count in 0..3 {
+        let name = TokenTree::from(ident("x"));
+        let want = ["", "x", "x x"][count];
+        let streams = || EndsOnce::new(vec![parse("x"); count]);
+        let trees = || EndsOnce::new(vec![name.clone(); count]);
+        assert_eq!(streams().collect::<TokenStream>().to_string(), want);
+        assert_eq!(trees().collect::<TokenStream>().to_string(), want);
+        let mut stream = TokenStream::new();
+        stream.extend(streams());
+        stream.extend(trees());
+        stream.extend(EndsOnce::new(vec![ident("y"); count]));
+        stream.extend(EndsOnce::new(vec![Punct::new('+', Spacing::Alone); count]));
+        stream.extend(EndsOnce::new(vec![Literal::u8_unsuffixed(1); count]));
+        stream.extend(EndsOnce::new(vec![Group::new(Delimiter::Brace, parse("z")); count]));
+        assert_eq!(stream.into_iter().count(), 6 * count);
+    }
+}
+
 #[test]
 fn what_the_library_refuses_is_printed_all_the_same() {
     // SAFETY: the wrapper relies on no literal being one: this is how streams come to be that the library refuses.
