@@ -29,10 +29,9 @@ impl TokenStream {
     #[inline]
     pub fn new() -> TokenStream {
         if compiler::inside() {
-            inside_alone(|| TokenStream::compiler(proc_macro::TokenStream::new()))
-        } else {
-            TokenStream::own(Own::new(Global))
+            return inside_alone(|| TokenStream::compiler(proc_macro::TokenStream::new()));
         }
+        TokenStream::own(Own::new(Global))
     }
 
     pub(crate) fn compiler(stream: proc_macro::TokenStream) -> TokenStream {
@@ -42,6 +41,29 @@ impl TokenStream {
     #[inline]
     pub(crate) fn own(stream: Own) -> TokenStream {
         TokenStream { repr: Repr::Own(stream) }
+    }
+
+    /// Puts a tree at the end. Each kind goes its own way, so that a tree of any kind need not be put together between.
+    // Inlined, so that where the tree's kind is known the way of that kind alone is left.
+    #[inline(always)]
+    fn push(&mut self, tree: TokenTree) {
+        let own = match &mut self.repr {
+            Repr::Compiler(stream) => return inside_alone(|| stream.push(tree)),
+            Repr::Own(own) => own,
+        };
+        sure(match tree {
+            TokenTree::Group(group) => parts::put_group(own, group.repr.into_own()),
+            TokenTree::Ident(ident) => parts::put_ident(own, ident.repr.into_own()),
+            TokenTree::Punct(punct) => parts::put_punct(own, punct.repr.into_own()),
+            TokenTree::Literal(literal) => parts::put_literal(own, literal.repr.into_own()),
+        });
+    }
+
+    /// Puts a tree and what follows it at the end.
+    #[inline(never)]
+    fn push_all(&mut self, tree: TokenTree, more: impl Iterator<Item = TokenTree>) {
+        self.push(tree);
+        more.for_each(|tree| self.push(tree));
     }
 
     /// Whether it has no trees.
@@ -74,8 +96,7 @@ impl FromStr for TokenStream {
         if compiler::inside() {
             return compiler::read(src, map::is_readable(src)).map(TokenStream::compiler);
         }
-        let read = map::read(src).map(TokenStream::own);
-        read.map_err(|error| LexError::own(map::place_of(error)))
+        map::read(src).map(TokenStream::own).map_err(|error| LexError::own(map::place_of(error)))
     }
 }
 
@@ -83,10 +104,9 @@ impl FromStr for TokenStream {
 impl From<proc_macro::TokenStream> for TokenStream {
     fn from(stream: proc_macro::TokenStream) -> TokenStream {
         if cfg!(procmacro2_semver_exempt) {
-            stream.to_string().parse().expect("the compiler prints what can be read")
-        } else {
-            TokenStream::compiler(stream)
+            return stream.to_string().parse().expect("the compiler prints what can be read");
         }
+        TokenStream::compiler(stream)
     }
 }
 
@@ -120,11 +140,10 @@ impl FromIterator<TokenStream> for TokenStream {
         let mut streams = streams.into_iter();
         // What was asked to the end is not asked again: that of `collect::<Result<TokenStream, _>>()` would go on
         // after an error.
-        let Some(mut stream) = streams.next() else {
-            return TokenStream::new();
-        };
-        stream.extend(streams);
-        stream
+        streams.next().map_or_else(TokenStream::new, |mut stream| {
+            stream.extend(streams);
+            stream
+        })
     }
 }
 
@@ -140,13 +159,14 @@ impl FromIterator<TokenStream> for TokenStream {
 /// # Ok::<(), proc_macro2::LexError>(())
 /// ```
 impl Extend<TokenTree> for TokenStream {
-    #[inline]
+    // `quote!` puts in most trees one at a time, so of one tree nothing is left but to push it.
+    #[inline(always)]
     fn extend<I: IntoIterator<Item = TokenTree>>(&mut self, trees: I) {
-        let trees = trees.into_iter();
-        match &mut self.repr {
-            Repr::Compiler(stream) => inside_alone(|| trees.for_each(|tree| stream.push(tree))),
-            Repr::Own(own) => trees.for_each(|tree| put(own, tree)),
-        }
+        let mut trees = trees.into_iter();
+        let Some(first) = trees.next() else { return };
+        self.push(first);
+        let Some(second) = trees.next() else { return };
+        self.push_all(second, trees);
     }
 }
 
@@ -264,18 +284,6 @@ fn of_own(tree: OwnTree) -> TokenTree {
         OwnTree::Punct(punct) => TokenTree::Punct(Punct::own(punct)),
         OwnTree::Literal(literal) => TokenTree::Literal(Literal::own(literal)),
     }
-}
-
-/// Puts a tree after those of the proved functions. Each kind goes its own way, so that a tree of any kind need not be
-/// put together between.
-#[inline(always)]
-fn put(stream: &mut Own, tree: TokenTree) {
-    sure(match tree {
-        TokenTree::Group(group) => parts::put_group(stream, group.repr.into_own()),
-        TokenTree::Ident(ident) => parts::put_ident(stream, ident.repr.into_own()),
-        TokenTree::Punct(punct) => parts::put_punct(stream, punct.repr.into_own()),
-        TokenTree::Literal(literal) => parts::put_literal(stream, literal.repr.into_own()),
-    });
 }
 
 impl Debug for IntoIter {
