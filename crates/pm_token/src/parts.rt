@@ -18,6 +18,8 @@ use std::alloc::{AllocError, Global};
 use std::fmt;
 
 /// The identifier of this name, which has no `r#` even if it is raw. Fails where memory runs out.
+// Inlined, as it is what most pieces of a text become.
+#[inline(always)]
 pub fn ident(alloc: Global, name: &str, raw: bool, span: Span) -> Result<Ident, AllocError>
     requires { IsBuiltToken (tokens.Name raw (chars name.now)) }
     ensures ok { IfOk result (λ ident. ident ≡ record { name = chars name.now; raw = raw; span = span }) }
