@@ -128,6 +128,21 @@ impl Ident {
         ensures spelled { IsTrue result ↔ (name_text self.now ≡ spelled text.now) }
         ensures computed { result ≡ pointwise nat_eq (name_text self.now) (spelled text.now) }
     {
+        // Mostly it is plain and short. The text comes first, as its length is often known to who compiles this.
+        match self.name.plain_bytes() {
+            Some(name) => text.as_bytes() == name,
+            None => self.is_written(text),
+        }
+    }
+
+    // The same, of any identifier.
+    #[inline(never)]
+    fn is_written(&self, text: &str) -> bool
+        ensures exactly { IsTrue result ↔ (name_text self.now ≡ chars text.now) }
+        ensures value { result ≡ pointwise nat_eq (name_text self.now) (chars text.now) }
+        ensures spelled { IsTrue result ↔ (name_text self.now ≡ spelled text.now) }
+        ensures computed { result ≡ pointwise nat_eq (name_text self.now) (spelled text.now) }
+    {
         let name = self.name.as_bytes();
         if !self.name.is_raw() {
             return name == text.as_bytes();

@@ -1,5 +1,5 @@
 //! Names, raw and plain.
-ghost use Rattle.std.specs.Prelude.{◌≡◌, ◌↔◌, ◌≤◌, IfOk, IsOk, IsTrue, Some, length};
+ghost use Rattle.std.specs.Prelude.{◌≡◌, ◌↔◌, ◌≤◌, IfOk, IfSome, IsOk, IsTrue, Some, false, length};
 ghost use Rattle.std.specs.Rc.{rc_str_bytes};
 ghost use Rattle.std.specs.Str.{IsUtf8, chars, encode_utf8_all};
 ghost use Rattle.pm_token.specs.Kept.{IsShort, KeptName, is_raw, name_bytes};
@@ -95,6 +95,18 @@ impl Name {
         match &self.text {
             NameText::Short(name) | NameText::RawShort(name) => name.as_bytes(),
             NameText::Long(name) | NameText::RawLong(name) => name.as_str().as_bytes(),
+        }
+    }
+
+    /// The bytes of a short plain name, and `None` of another.
+    #[inline(always)]
+    pub fn plain_bytes(&self) -> Option<&[u8]>
+        ensures { IfSome result (λ bytes. (chars bytes.now ≡ self.now.name)
+            × IsUtf8 bytes.now × (self.now.raw ≡ false)) }
+    {
+        match &self.text {
+            NameText::Short(name) => Some(name.as_bytes()),
+            _ => None,
         }
     }
 
