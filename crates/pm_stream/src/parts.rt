@@ -1,18 +1,14 @@
 //! What the crates above make streams of, and users don't.
-ghost use Rattle.std.specs.Prelude.{◌≡◌, ◌<◌, ◌+◌, ◌^◌, IfErr, IfOk, OnErr, OnOk, length};
-ghost use Rattle.std.specs.Str.{chars};
+ghost use Rattle.std.specs.Prelude.{◌≡◌, IfOk, OnErr, OnOk};
 ghost use Rattle.pm_stream.specs.Building.{split};
-ghost use Rattle.pm_stream.specs.Fault.{IsFault};
 ghost use Rattle.pm_stream.specs.Forest.{IsBuilt, joined};
 ghost use Rattle.pm_stream.specs.Trees.{forest};
-ghost use Rattle.pm_stream.specs.Parsing.{ParsesTo};
 ghost use Rattle.pm_stream.specs.declared.stream.TokenTree.TheVariants.{Group as GroupTree, Ident as IdentTree};
 ghost use Rattle.pm_stream.specs.declared.stream.TokenTree.TheVariants.{Punct as PunctTree, Literal as LiteralTree};
 
-use crate::parse::parse;
 use crate::stream::{Group, TokenStream, TokenTree};
 use pm_span::Span;
-use pm_token::{Delimiter, Ident, Literal, ParseError, Punct};
+use pm_token::{Delimiter, Ident, Literal, Punct};
 use std::alloc::{AllocError, Global};
 
 /// The group of these parts.
@@ -65,18 +61,4 @@ pub fn put_literal(stream: &mut TokenStream, literal: Literal) -> Result<(), All
     ensures err { OnErr result (stream.new ≡ stream.old) }
 {
     stream.put_literal(literal)
-}
-
-/// The token trees of a text that is no file of a map (`parses-to`). Spans count its characters from `base` on,
-/// and no map is promised to hold them. A fault has an empty span, where `TokenStream::from_str` would find it in
-/// a file that begins at `base`. `MapFull` is never answered, and `Memory` where a growth was refused.
-///
-/// It takes no copy of the text.
-pub fn parse_at(alloc: Global, base: u32, text: &str) -> Result<TokenStream, ParseError>
-    requires room { base + length (chars text.now) < 2 ^ 32 }
-    ensures ok { IfOk result (λ stream. ParsesTo base (chars text.now) stream) }
-    ensures built { IfOk result IsBuilt }
-    ensures lex { IfErr result (IsFault base (chars text.now)) }
-{
-    parse(alloc, base, text)
 }
