@@ -89,6 +89,6 @@ impl Group {
 
 show! {
     /// Prints it with its delimiters, braces with a space inside each.
-    Display for Group: group, f => print::in_chunks(group, f)
+    Display for Group: group, f => Display::fmt(group, f)
 }
 show!(Debug for Group: group, f => print::show_group(group, f));

@@ -1,7 +1,7 @@
 //! Streams of token trees.
 use crate::compiler::{self, inside_alone};
 use crate::map::{self, sure};
-use crate::print::{self, ShownStream};
+use crate::print::ShownStream;
 use crate::repr::{show, Repr};
 use crate::{Group, Ident, LexError, Literal, Punct, TokenTree};
 use proved::pm_stream::{parts, token_stream::IntoIter as OwnIter, TokenStream as Own, TokenTree as OwnTree};
@@ -205,9 +205,7 @@ impl Display for TokenStream {
     fn fmt(&self, f: &mut fmt::Formatter) -> fmt::Result {
         match &self.repr {
             Repr::Compiler(stream) => Display::fmt(&stream.clone().finish(), f),
-            // Few trees are soon written, so that room for many costs more than it spares.
-            Repr::Own(stream) if stream.trees().len() < 8 => Display::fmt(stream, f),
-            Repr::Own(stream) => print::in_chunks(stream, f),
+            Repr::Own(stream) => Display::fmt(stream, f),
         }
     }
 }

@@ -60,15 +60,93 @@ pub fn print_to<T: Display, W: Write>(value: &T, out: W) -> core::result::Result
     Ok(f.out)
 }
 
-/// Gives Rust's `Display` to a type that has Rattle's. It may have one lifetime.
+/// As many bytes are gathered before Rust's formatter is called, whose writer is behind a pointer.
+const CHUNK: usize = 128;
+
+/// A writer that gathers what is written, so that Rust's formatter is called once for many tokens. No empty text is
+/// written to it.
+struct Chunks<'a, 'b> {
+    out: &'a mut core::fmt::Formatter<'b>,
+    bytes: &'a mut [u8; CHUNK],
+    used: usize,
+}
+
+impl Chunks<'_, '_> {
+    fn flush(&mut self) -> Result {
+        let used = core::mem::take(&mut self.used);
+        if used == 0 {
+            return Ok(());
+        }
+        self.out.write_str(core::str::from_utf8(&self.bytes[..used]).expect("whole texts were put in"))
+    }
+
+    /// Writes a text for which there is no room behind the others.
+    #[cold]
+    #[inline(never)]
+    fn write_past_room(&mut self, text: &str) -> Result {
+        self.flush()?;
+        let Some(room) = self.bytes.get_mut(..text.len()) else {
+            return self.out.write_str(text);
+        };
+        room.copy_from_slice(text.as_bytes());
+        self.used = text.len();
+        Ok(())
+    }
+}
+
+impl Write for Chunks<'_, '_> {
+    #[inline(always)]
+    fn write_str(&mut self, text: &str) -> Result {
+        let Some(room) = self.bytes.get_mut(self.used..self.used + text.len()) else {
+            return self.write_past_room(text);
+        };
+        // Most texts are a mark or a space, for which a call that copies costs most of the time.
+        match (room, text.as_bytes()) {
+            ([to], [byte]) => *to = *byte,
+            (room, bytes) => room.copy_from_slice(bytes),
+        }
+        self.used += text.len();
+        Ok(())
+    }
+}
+
+/// Prints a value of many tokens by Rust's formatter, in chunks.
+pub fn print_in_chunks<T: Display>(value: &T, out: &mut core::fmt::Formatter<'_>) -> Result {
+    print_to(value, Chunks { out, bytes: &mut [0; CHUNK], used: 0 })?.flush()
+}
+
+/// Gives Rust's `Display` to a type that has Rattle's. It may have one lifetime. What may be many tokens is printed in
+/// chunks; a token alone is written at once.
 #[doc(hidden)]
 #[macro_export]
 macro_rules! display_by_shim {
+    (TokenStream) => {
+        $crate::display_by_shim!(TokenStream, |stream, f| match stream.trees() {
+            [tree] => ::core::fmt::Display::fmt(tree, f),
+            _ => $crate::shim::fmt::print_in_chunks(stream, f),
+        });
+    };
+    (TokenTree) => {
+        $crate::display_by_shim!(TokenTree, |tree, f| match tree {
+            TokenTree::Group(group) => ::core::fmt::Display::fmt(group, f),
+            TokenTree::Ident(ident) => ::core::fmt::Display::fmt(ident, f),
+            TokenTree::Punct(punct) => ::core::fmt::Display::fmt(punct, f),
+            TokenTree::Literal(literal) => ::core::fmt::Display::fmt(literal, f),
+        });
+    };
+    (Group) => { $crate::display_by_shim!(Group, |group, f| $crate::shim::fmt::print_in_chunks(group, f)); };
+    (Cursor<'a>) => {
+        $crate::display_by_shim!(Cursor<'a>, |cursor, f| $crate::shim::fmt::print_in_chunks(cursor, f));
+    };
     ($name:ident $(<$lifetime:lifetime>)?) => {
+        $crate::display_by_shim!($name $(<$lifetime>)?, |value, f| $crate::shim::fmt::print(value, f));
+    };
+    ($name:ident $(<$lifetime:lifetime>)?, |$value:ident, $f:ident| $print:expr) => {
         impl $(<$lifetime>)? ::core::fmt::Display for $name $(<$lifetime>)? {
             #[inline]
-            fn fmt(&self, f: &mut ::core::fmt::Formatter<'_>) -> ::core::fmt::Result {
-                $crate::shim::fmt::print(self, f)
+            fn fmt(&self, $f: &mut ::core::fmt::Formatter<'_>) -> ::core::fmt::Result {
+                let $value = self;
+                $print
             }
         }
     };
