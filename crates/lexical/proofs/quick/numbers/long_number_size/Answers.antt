@@ -7,10 +7,10 @@ use Rattle.lexical.proofs.quick.numbers.long_number_size.Goals as goal
 pub returns-then-holds_ascii : goal.returns-then-holds_ascii
 returns-then-holds_ascii c =
     let bytes = c.as_bytes-bytes.result.now in
-    undotted_read c.args.text.now bytes _ c.byte_at.result c.count_ascii-digits.result c.byte_at-next.result
+    undotted_read c.args.text.now bytes _ c.byte_at.result c.count_digits-digits.result c.byte_at-next.result
     c.byte_at-then-next-eq46.result c.as_bytes-bytes.ensures.value c.byte_at.ensures c.if-not-holds_ascii.ensures
-    c.count_ascii-digits.ensures c.byte_at-next.ensures c.if-next-eq46.true
-    (take_rest bytes (c.count_ascii-digits.result + 1)) c.byte_at-then-next-eq46.ensures c.if-holds_ascii.ensures
+    c.count_digits-digits.ensures c.byte_at-next.ensures c.if-next-eq46.true
+    (take_rest bytes (c.count_digits-digits.result + 1)) c.byte_at-then-next-eq46.ensures c.if-holds_ascii.ensures
 
 pub returns-then-next-eq120 : goal.returns-then-next-eq120
 returns-then-next-eq120 c =
