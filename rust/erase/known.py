@@ -24,14 +24,14 @@ METHODS = set('''
     abs_diff all allocator and_then any append as_bytes as_mut_slice as_slice as_str
     bytes capacity checked_add checked_mul checked_sub chars clear clone cmp collect contains copy_from_slice count
     debug_list debug_struct encode_utf8 entry escape_unicode extend_from_slice
-    field filter find finish first fmt format from_mut get get_mut hash
+    field filter find finish first first_chunk fmt format from_mut get get_mut hash
     ilog10 insert into_bytes into_iter into_string is_ascii is_ascii_alphabetic is_ascii_alphanumeric is_ascii_digit
     is_ascii_hexdigit is_char_boundary is_digit is_empty is_err is_none is_ok is_some is_whitespace iter
     kind last len len_utf8 lines map max min next next_back ok or_else parse partition_point pop pop_front push push_str
     range read read_to_end remove reserve resize rev reverse saturating_add saturating_mul saturating_sub shrink_to_fit
     size_hint skip sort_unstable stdin split split_at split_first split_last split_off split_once starts_with
     strip_prefix strip_suffix
-    take to_digit to_string trim truncate unsigned_abs unwrap_or utf8_chunks utf8_error
+    take to_digit to_string trailing_zeros trim truncate unsigned_abs unwrap_or utf8_chunks utf8_error
     valid valid_up_to width write write_all write_char write_str
 '''.split())
 
@@ -41,7 +41,7 @@ OF_TRAITS = {'read', 'write'}
 
 # What is called or named of the primitive types.
 PRIMITIVES = set('bool char str u8 u16 u32 u64 u128 usize i8 i16 i32 i64 i128 isize f32 f64'.split())
-OF_PRIMITIVES = set('from from_u32 from_digit MAX MIN'.split())
+OF_PRIMITIVES = set('from from_le_bytes from_u32 from_digit MAX MIN'.split())
 
 MACROS = set('format format_args matches unreachable write writeln'.split())
 

@@ -14,6 +14,7 @@ pub mod CommentKindLemmas
 pub mod NameFinderLemmas
 pub mod WhiteRunLemmas
 pub mod WordLemmas
+pub mod LaneLemmas
 pub mod CodeLemmas
 pub mod HashLemmas
 pub mod QuotedFinderLemmas

@@ -21,6 +21,7 @@ pub mod Quiet
 pub mod Found
 pub mod Ascii
 pub mod Bytes
+pub mod Word
 pub mod Finder
 pub mod Block
 pub mod Rule

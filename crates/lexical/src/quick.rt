@@ -14,10 +14,11 @@ ghost use Rattle.lexical.specs.Quick.{IsAsciiAt, IsLiteralAt, Line, UnbarredName
 mod numbers;
 mod quoted;
 
-use crate::bytes::{Class, count_ascii, holds_ascii};
+use crate::bytes::{Class, holds_ascii};
 use crate::class::{PieceStart, byte_start};
 use crate::piece::{Piece, PieceKind};
 use crate::text::char_count;
+use crate::words::count_name;
 use memchr::memchr2;
 use numbers::{long_number_size, number_size};
 use quoted::{byte_size, byte_string_size, character_size, string, string_size, wide_character};
@@ -51,7 +52,7 @@ fn name_size(text: &str) -> Option<usize>
     if !holds_ascii(Class::IdentifierStart, byte_at(bytes, 0)) {
         return None;
     }
-    let size = count_ascii(bytes, Class::IdentifierContinue);
+    let size = count_name(bytes);
     if ends_name(byte_at(bytes, size)) {
         Some(size)
     } else {

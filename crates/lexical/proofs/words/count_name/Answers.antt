@@ -1,0 +1,25 @@
+use Rattle.std.proofs.Common.{◌-◌, length, take, drop, ap, arith, length-drop}
+use Rattle.std.proofs.lemmas.List.{take_rest}
+use Rattle.lexical.specs.declared.bytes.Class.TheVariants.{IdentifierContinue}
+use Rattle.lexical.proofs.LaneLemmas.{name_goes_on}
+use Rattle.lexical.proofs.QuickNumberLemmas.{run_within}
+use Rattle.lexical.proofs.words.count_name.Goals as goal
+
+pub loop-word-preserved : goal.loop-word-preserved
+loop-word-preserved c =
+    name_goes_on c.args.bytes.now _ c.in-Some.word.now c.loop-word.count 8
+    (take_rest c.args.bytes.now c.loop-word.count) c.in-Some.ensures.cases.same c.in_default-count_in_word.ensures.all
+    c.loop-word.invariant.0 c.loop-word.invariant.1
+
+pub overflow_add-result-2 : goal.overflow_add-result-2
+overflow_add-result-2 c =
+    let bytes = c.args.bytes.now in
+    let n = c.loop-word.count in
+    let inside = take (length bytes - n) (drop n bytes) in
+    omega (
+      arith,
+      c.loop-word.invariant.0,
+      run_within IdentifierContinue inside _ c.count_ascii.ensures,
+      ap length (take_rest bytes n),
+      length-drop n bytes,
+    )
