@@ -30,6 +30,8 @@ LIBRARIES = [
 ]
 # The crates that only a test of the package takes.
 TESTED = ['conformance']
+# The record of pretty texts, which another takes.
+RECORDED = ['pretty_tests']
 # The library's own tests, and the lexer once more with what compares the two, which another test of the package takes.
 OWN_TESTS = ['two_lexers', 'token_tests', 'stream_tests', 'buffer_tests', 'quoting_tests', 'declarations_tests',
              'item_headers_tests']
@@ -122,6 +124,7 @@ def main():
     counts, problems = collections.Counter(), []
     files = erase_all(LIBRARIES, [], PACKAGE / 'src', counts, problems)
     files.update(erase_all(TESTED, LIBRARIES, PACKAGE / 'tests/conformance', counts, problems))
+    files.update(erase_all(RECORDED, LIBRARIES, PACKAGE / 'tests/pretty', counts, problems))
     files.update(erase_all(OWN_TESTS, LIBRARIES, PACKAGE / 'tests/own', counts, problems, known.OF_TESTS))
     files.update(erase_all(PROGRAMS, LIBRARIES, TOOLS / 'src', counts, problems))
     files.update(erase_all(JOBS, LIBRARIES, WORKLOADS / 'src', counts, problems, known.OF_JOBS))
@@ -130,6 +133,7 @@ def main():
         sys.exit(f'{len(problems)} places are rejected: rust/erase has no rule for them')
     folders = [PACKAGE / 'src' / crate for crate in LIBRARIES]
     folders += [PACKAGE / 'tests/conformance' / crate for crate in TESTED]
+    folders += [PACKAGE / 'tests/pretty' / crate for crate in RECORDED]
     folders += [PACKAGE / 'tests/own' / crate for crate in OWN_TESTS]
     folders += [TOOLS / 'src' / crate for crate in PROGRAMS]
     folders += [WORKLOADS / 'src' / crate for crate in JOBS]

@@ -32,7 +32,7 @@ METHODS = set('''
     size_hint skip sort_unstable stdin split split_at split_first split_last split_off split_once starts_with
     strip_prefix strip_suffix
     take to_digit to_string trailing_zeros trim truncate unsigned_abs unwrap_or utf8_chunks utf8_error
-    valid valid_up_to width write write_all write_char write_str
+    valid valid_up_to width wrapping_mul write write_all write_char write_str
 '''.split())
 
 # Those of them that are methods of traits alone, which take `&mut self`. A trait may have one of this name that takes
@@ -56,13 +56,13 @@ TEST_ITEMS = set('''
 '''.split())
 TEST_METHODS = set('''
     as_deref char_indices collected enumerate err expect or repeated sort split_at_checked trim_start_matches
-    wrapping_add wrapping_mul zip
+    wrapping_add zip
 '''.split())
 TEST_MACROS = {'assert', 'assert_eq', 'vec'}
 
 # What the jobs may name besides. Their shim is in rust/workloads/src/shim.rs.
 JOB_ITEMS = {'hash::FoldHasher'}
-JOB_METHODS = set('to_le_bytes wrapping_add wrapping_mul'.split())
+JOB_METHODS = set('to_le_bytes wrapping_add'.split())
 
 
 @dataclass(frozen=True)
