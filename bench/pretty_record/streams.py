@@ -1,6 +1,7 @@
 #!/usr/bin/env python3
 """Makes the streams of crates/pretty_tests/stdin: of a grammar of Rust, of items and statements whose names have 1 to 40
-letters, of lists and chains of each length, of shapes that grow, and of the items in bench/items.txt.
+letters, of lists and chains of each length, of shapes that grow, of words one after another, and of the items in
+bench/items.txt.
 
 Usage: bench/pretty_record/streams.py PROGRAM > crates/pretty_tests/stdin
 
@@ -112,12 +113,25 @@ class Maker:
         count = self.draw.randrange(1, 14)
         return before + part * count + inside + closing * count + after
 
+    def soup(self) -> str:
+        """Words of one kind, or some of these, one after another."""
+        words = self.choices[self.draw.choice(["soup_if", "soup_chain", "soup_where", "soup_call", "soup_call"])]
+        if self.draw.randrange(3):
+            words = self.draw.choices(words, k=self.draw.randrange(3, 12))
+        text = begin = self.draw.choice(self.choices["soup_begin"]).replace("%", "")
+        for _ in range(self.draw.randrange(1, 70)):
+            word = self.draw.choice(words)
+            apart = text[-1:].isalnum() and word[0].isalnum() or self.draw.randrange(3) == 0
+            text += " " + word if apart else word
+        text += "".join(CLOSERS[character] for character in reversed(begin) if character in CLOSERS)
+        return text + self.draw.choice(["", ";", ",{g}", "{h}"])
+
     def text(self) -> str:
         """A text of any kind."""
         makers = [lambda: self.of_rule("%items"), lambda: self.of_rule("%stmts"), lambda: self.tokens(80),
                   lambda: self.sized("items"), lambda: self.sized("statements"), lambda: self.listed("lists"),
-                  lambda: self.listed("expressions"), self.nested, self.grown, lambda: self.draw.choice(self.real)]
-        shares = [15, 15, 10, 8, 14, 7, 9, 3, 7, 12]
+                  lambda: self.listed("expressions"), self.nested, self.grown, self.soup, lambda: self.draw.choice(self.real)]
+        shares = [12, 12, 8, 7, 11, 6, 7, 3, 8, 30, 10]
         return self.draw.choices(makers, shares)[0]()
 
 
@@ -130,7 +144,8 @@ def row(word: str, text: str) -> str:
 def main() -> None:
     if len(sys.argv) != 2:
         sys.exit(__doc__)
-    maker, texts = Maker(), []
+    maker = Maker()
+    texts = list(maker.choices["chosen"])
     while len(texts) < 4 * (WHOLE + DIGESTS):
         text = maker.text()
         if text.strip() and len(text) < 2500 and text not in texts:
@@ -139,7 +154,7 @@ def main() -> None:
     said = subprocess.run([sys.argv[1]], input=rows, stdout=subprocess.PIPE).stdout.decode()
     wrong = {int(number) for number in re.findall(r"^== (\d+) is no row$", said, re.M)}
     texts = [text for number, text in enumerate(texts, 1) if number not in wrong]
-    whole = [text for text in texts if len(text) < 500][:WHOLE]
+    whole = [text for text in texts if len(text) < 500 and text not in maker.choices["chosen"]][:WHOLE]
     digests = [text for text in texts if text not in whole][:DIGESTS]
     words = ["text"] * (WHOLE - JOINT) + ["joint"] * JOINT
     rows = [row(word, text) for word, text in zip(words, whole)] + [row("digest", text) for text in digests]
