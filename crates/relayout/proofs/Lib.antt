@@ -3,6 +3,7 @@ mod CoverLemmas
 mod WhiteLemmas
 mod RelaidLemmas
 mod ChoiceLemmas
+mod StayLemmas
 mod TokenLemmas
 mod CommentLemmas
 mod PartLemmas

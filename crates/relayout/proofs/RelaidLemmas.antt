@@ -1,6 +1,6 @@
 -- What is written of a text, as pieces with other white space.
 use Rattle.std.proofs.Common.{◌≡◌, ℕ, Bool, true, false, ◌==◌, List, [], ◌∷◌, ◌++◌, refl}
-use Rattle.std.proofs.Common.{sym, ap, ap₂, ◌∙◌, ◌&&◌, inl, subst, arith, append_assoc, append-nil, length}
+use Rattle.std.proofs.Common.{sym, ap, ap₂, ◌∙◌, ◌&&◌, inl, subst, arith, append_assoc, length}
 use Rattle.std.specs.List.{list_all}
 use Rattle.std.proofs.lemmas.Bool.{and_parts, false_from_ne_true}
 use Rattle.std.specs.Str.{chars, IsUtf8, encode_utf8_all}
@@ -21,7 +21,7 @@ use Rattle.lexical.proofs.PieceFacts.{piece_not_empty}
 use Rattle.lexical.proofs.PieceLemmas.{one_piece}
 use Rattle.relayout.proofs.ChoiceLemmas.{white_is_gap}
 use Rattle.relayout.specs.Relayout.{is_line}
-use Rattle.relayout.specs.Written.{choices_left, is_white_gap, next_choice, placed, white_text, written}
+use Rattle.relayout.specs.Written.{choices_left, is_white_gap, next_choice, placed, written}
 use Rattle.relayout.specs.declared.white.White.{White}
 
 -- ---- texts without characters
@@ -38,13 +38,6 @@ some_chars text utf8 some = by_cases (chars text) refl
         let nil : text ≡ [] = sym (encodes-chars text utf8) ∙ ap encode_utf8_all e in
         absurd (both_ways _ some (ap (λ t. length t == 0) nil))
     by_cases (c ∷ more) e = (c, more, e)
-
--- what is written of a run where a choice is left
-pub run_chosen : (choices left : List White) (choice : White) (line : Bool) (run old new : List ℕ)
-    → choices ≡ choice ∷ left → ((c : ℕ) × (more : List ℕ) × (run ≡ c ∷ more)) → new ≡ old ++ white_text choice line run
-    → (left ≡ choices_left choices run) × (new ≡ old ++ placed (next_choice choices) line run)
-run_chosen choices left choice line run old new some (c, more, is) push =
-    rw (some, is) (refl, rw is at push)
 
 -- ---- a walk over the pieces
 
@@ -194,18 +187,16 @@ goes_run source choices left line from at white to out passes so =
     passes.stands.each (rw passes.whole at so))
 
 -- a piece that is none
-pub goes_piece : (source : List ℕ) (choices left after : List White) (line now : Bool) (from run : List ℕ)
+pub goes_piece : (source : List ℕ) (choices left after : List White) (line now : Bool) (from : List ℕ)
     (at : PieceWalk) (next : PlacedPiece) (to : PieceWalk) (out filled new : List ℕ) → IsNext at next to
     → is_white_gap (kind_of next.piece.kind (chars next.text.now), chars next.text.now) ≡ false
-    → Goes source choices left line from (chars at.rest.now) at.at_front out
-    → ((front : List ℕ) → from ≡ front ++ chars at.rest.now → run ≡ front)
-    → after ≡ choices_left left run → filled ≡ out ++ placed (next_choice left) line run
+    → (so : Goes source choices left line from (chars at.rest.now) at.at_front out)
+    → after ≡ choices_left left so.white → filled ≡ out ++ placed (next_choice left) line so.white
     → new ≡ filled ++ chars next.text.now
     → now ≡ is_line (kind_of next.piece.kind (chars next.text.now), chars next.text.now)
     → Goes source choices after now (chars to.rest.now) (chars to.rest.now) to.at_front new
-goes_piece source choices left after line now from run at next to out filled new is solid so cut rest fill push lines =
+goes_piece source choices left after line now from at next to out filled new is solid so rest fill push lines =
     let piece : Piece = (kind_of next.piece.kind (chars next.text.now), chars next.text.now) in
-    let white : run ≡ so.white = cut so.white so.since in
     record {
       white = [];
       since = refl;
@@ -213,29 +204,23 @@ goes_piece source choices left after line now from run at next to out filled new
       all = λ ps e stand.
           let more = cover_from at next to is ps e stand in
           let before = so.all (piece ∷ ps) more.0 more.1 in
-          let tail : List ℕ → List ℕ = λ w. written (choices_left left w) (is_line piece) [] ps in
+          let tail : List ℕ = written (choices_left left so.white) (is_line piece) [] ps in
           let same : new ++ written after now [] ps ≡ out ++ written left line so.white (piece ∷ ps) =
-          ap₂ (λ n t. n ++ t)
-          (push ∙ ap (λ f. f ++ piece.1) (fill ∙ ap (λ w. out ++ placed (next_choice left) line w) white))
-          (ap₂ (λ c l. written c l [] ps) (rest ∙ ap (choices_left left) white) lines)
-          ∙ (append_assoc (out ++ placed (next_choice left) line so.white) piece.1 (tail so.white)
-          ∙ (append_assoc out (placed (next_choice left) line so.white) (piece.1 ++ tail so.white)
+          ap₂ (λ n t. n ++ t) (push ∙ ap (λ f. f ++ piece.1) fill) (ap₂ (λ c l. written c l [] ps) rest lines)
+          ∙ (append_assoc (out ++ placed (next_choice left) line so.white) piece.1 tail
+          ∙ (append_assoc out (placed (next_choice left) line so.white) (piece.1 ++ tail)
           ∙ ap (λ t. out ++ t) (sym (cond-false (is_white_gap piece) _ _ solid)))) in
           (before.0, before.1, before.2, same ∙ before.3);
     }
 
 -- at the end
 pub goes_all : (source : List ℕ) (choices left : List White) (line : Bool) (from : List ℕ) (first : Bool)
-    (out new : List ℕ) → Goes source choices left line from [] first out
-    → new ≡ out ++ placed (next_choice left) line from
+    (out new : List ℕ) → (so : Goes source choices left line from [] first out)
+    → new ≡ out ++ placed (next_choice left) line so.white
     → (us : List Piece) × IsCover us source × (new ≡ written choices false [] us)
 goes_all source choices left line from first out new so fill =
     let all = so.all [] refl tt in
-    let white : from ≡ so.white = so.since ∙ append-nil so.white in (
-      all.0,
-      record { whole = all.1; stand = all.2 },
-      fill ∙ (ap (λ w. out ++ placed (next_choice left) line w) white ∙ all.3),
-    )
+    (all.0, record { whole = all.1; stand = all.2 }, fill ∙ all.3)
 
 -- what a text is, once it is a string
 pub string_chars : {Z : Type 0} (s : String Z) (text : List ℕ) → string_bytes s ≡ encode_utf8_all text

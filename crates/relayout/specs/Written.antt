@@ -1,5 +1,5 @@
 -- What is written of a text where other white space is chosen.
-use Rattle.std.specs.Prelude.{ℕ, Bool, false, not, ◌==◌, List, [], ◌∷◌, ◌++◌, codes, zero, suc}
+use Rattle.std.specs.Prelude.{ℕ, Bool, false, not, ◌==◌, ◌≡◌, List, [], ◌∷◌, ◌++◌, codes, zero, suc}
 use Rattle.std.specs.Prelude.{if◌then◌else◌}
 use Rattle.std.specs.List.{list_any}
 use Rattle.lexical.specs.Text.{begins_with}
@@ -53,6 +53,21 @@ abbrev pub choices_left : List White → List ℕ → List White
 choices_left choices [] = choices
 choices_left [] (c ∷ white) = []
 choices_left (choice ∷ choices) (c ∷ white) = choices
+
+-- the run is placed, which stands after a front that was kept and before the rest: what is written and what is kept now
+-- before the rest, together, go on with that front and with what is chosen for the run
+pub record Placed (choices left : List White) (line : Bool) (front run kept rest old new : List ℕ) : Type 0 where
+  pub front_now : List ℕ
+  pub keeps : kept ≡ front_now ++ rest
+  pub writes : new ++ front_now ≡ (old ++ front) ++ placed (next_choice choices) line run
+  pub leaves : left ≡ choices_left choices run
+
+-- the run from one end of a text to another is placed
+abbrev pub PlacesRun :
+    List White → List White → Bool → List ℕ → List ℕ → List ℕ → List ℕ → List ℕ → List ℕ → Type 0
+PlacesRun choices left line kept kept_now from to old new =
+    (front run : List ℕ) → kept ≡ front ++ from → from ≡ run ++ to
+    → Placed choices left line front run kept_now to old new
 
 -- ---- a text
 
