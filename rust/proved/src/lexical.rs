@@ -34,6 +34,7 @@ mod single_quotes;
 mod skip;
 mod text;
 mod walk;
+mod words;
 
 pub use crate::lexical::gaps::past_white;
 pub use crate::lexical::identifiers::is_reserved;

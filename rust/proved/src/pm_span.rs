@@ -4,14 +4,17 @@
 //! A rule is named by its label in backquotes, such as `next-position`. `docs/GRAMMAR.md` has all of them, each
 //! with its definition.
 
+mod byte_index;
 mod file_info;
 pub mod laws;
+mod line_index;
 pub mod location;
 mod lookups;
 pub mod parts;
 pub mod source_map;
 pub mod spans;
 mod text;
+mod text_lines;
 
 pub use location::LineColumn;
 pub use source_map::SourceMap;

@@ -7,10 +7,11 @@
 mod numbers;
 mod quoted;
 
-use crate::lexical::bytes::{Class, count_ascii, holds_ascii};
+use crate::lexical::bytes::{Class, holds_ascii};
 use crate::lexical::class::{PieceStart, byte_start};
 use crate::lexical::piece::{Piece, PieceKind};
 use crate::lexical::text::char_count;
+use crate::lexical::words::count_name;
 use crate::shim::memchr::memchr2;
 use numbers::{long_number_size, number_size};
 use quoted::{byte_size, byte_string_size, character_size, string, string_size, wide_character};
@@ -41,7 +42,7 @@ fn name_size(text: &str) -> Option<usize>
     if !holds_ascii(Class::IdentifierStart, byte_at(bytes, 0)) {
         return None;
     }
-    let size = count_ascii(bytes, Class::IdentifierContinue);
+    let size = count_name(bytes);
     if ends_name(byte_at(bytes, size)) {
         Some(size)
     } else {

@@ -3,7 +3,7 @@
 
 use crate::shim::prelude::{String, format};
 
-use crate::pm_span::file_info::OffsetPair;
+use crate::pm_span::byte_index::OffsetPair;
 use crate::pm_span::location::LineColumn;
 use crate::pm_span::source_map::SourceMap;
 use crate::pm_span::spans::Span;

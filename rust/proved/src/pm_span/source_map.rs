@@ -3,11 +3,13 @@
 
 use crate::shim::prelude::{String, Vec};
 
-use crate::pm_span::file_info::{FileInfo, OffsetPair};
+use crate::pm_span::byte_index::OffsetPair;
+use crate::pm_span::file_info::FileInfo;
 use crate::pm_span::location::LineColumn;
 use crate::pm_span::spans::Span;
 use crate::pm_span::text::has_fewer_chars;
 use crate::shim::alloc::{AllocError, Global};
+use crate::shim::fmt;
 use crate::shim::ops::Range;
 
 /// The texts that were read, each a file at positions of its own.
@@ -15,13 +17,47 @@ use crate::shim::ops::Range;
 /// Positions count characters. File 0 is the empty text at 0..0 (`file-0`), and each later file
 /// begins one past the end of the file before it (`next-position`), so that a position lies in
 /// one file only. After the texts `ab` and `c` the files stand at 0..0, 1..3 and 4..5.
-#[derive(Debug)]
 pub struct SourceMap {
     alloc: Global,
     /// The files from 1 on.
     files: Vec<FileInfo>,
+    /// The positions that each of them takes.
+    places: Vec<Place>,
     /// The last position that may be given.
     limit: u32,
+}
+
+/// The positions that a file takes.
+#[derive(Clone, Copy)]
+struct Place {
+    /// The position before its first character.
+    lo: u32,
+    /// The position after its last character.
+    hi: u32,
+}
+
+/// How many of the files at these places, which ascend, begin at or before the position.
+fn count_begun(places: &[Place], position: u32) -> usize
+{
+    let Some((last, earlier)) = places.split_last() else {
+        return 0;
+    };
+    // Files are asked most when they were just read.
+    if last.lo <= position {
+        return places.len();
+    }
+    earlier.partition_point(|place| place.lo <= position)
+}
+
+/// Shows the fields that tell one map from another, and not those that only make look-ups short.
+impl fmt::Debug for SourceMap {
+    fn fmt(&self, f: &mut core::fmt::Formatter<'_>) -> fmt::Result {
+        let mut debug = f.debug_struct("SourceMap");
+        debug.field("alloc", &self.alloc);
+        debug.field("files", &self.files);
+        debug.field("limit", &self.limit);
+        debug.finish()
+    }
 }
 
 impl SourceMap {
@@ -40,6 +76,7 @@ impl SourceMap {
         SourceMap {
             alloc,
             files: Vec::new(alloc),
+            places: Vec::new(alloc),
             limit,
         }
     }
@@ -50,6 +87,7 @@ impl SourceMap {
     pub fn invalidate(&mut self)
     {
         self.files.clear();
+        self.places.clear();
     }
 
     /// Whether some file of the map has all the positions of the span (`holds`).
@@ -59,23 +97,18 @@ impl SourceMap {
     pub fn holds(&self, span: Span) -> bool
     {
         let (lo, hi) = span.bounds();
-        let (_, file) = self.file_of(lo);
-        match file {
-            None => hi == 0,
-            Some(file) => hi <= file.hi(),
+        let number = count_begun(&self.places, lo);
+        if number == 0 {
+            hi == 0
+        } else {
+            hi <= self.places[number - 1].hi
         }
     }
 
     /// The last file that begins at or before the position, and its number before it; `None` for file 0.
     pub(crate) fn file_of(&self, position: u32) -> (usize, Option<&FileInfo>)
     {
-        // Files are asked most when they were just read.
-        if let Some(last) = self.files.last() {
-            if last.lo() <= position {
-                return (self.files.len(), Some(last));
-            }
-        }
-        let number = self.files.partition_point(|file| file.lo() <= position);
+        let number = count_begun(&self.places, position);
         if number == 0 {
             (number, None)
         } else {
@@ -113,9 +146,7 @@ impl SourceMap {
         // The span's end lies in the same file.
         let file = &mut self.files[number - 1];
         let file_lo = file.lo();
-        let start = file.find_byte_offset(lo - file_lo);
-        let end = file.find_byte_offset(hi - file_lo);
-        start..end
+        file.find_byte_range(lo - file_lo, hi - file_lo)
     }
 
     /// A copy of the text of a span of the map, whose file may keep what it found; `None` for 0..0 alone.
@@ -130,14 +161,15 @@ impl SourceMap {
         let source = &mut self.files[number - 1];
         let file_lo = source.lo();
         let start = lo - file_lo;
+        let end = hi - file_lo;
+        let bytes = source.find_byte_range(start, end);
         let from = OffsetPair {
             chars: start,
-            bytes: source.find_byte_offset(start),
+            bytes: bytes.start,
         };
-        let end = hi - file_lo;
         let to = OffsetPair {
             chars: end,
-            bytes: source.find_byte_offset(end),
+            bytes: bytes.end,
         };
         let text = String::from_str(alloc, source.text_between(from, to))?;
         Ok(Some(text))
@@ -164,7 +196,13 @@ impl SourceMap {
     {
         let lo = self.last_hi() + 1;
         let file = FileInfo::new(self.alloc, text, lo)?;
-        self.files.push(file)?;
-        Ok(())
+        self.places.push(Place { lo, hi: file.hi() })?;
+        match self.files.push(file) {
+            Ok(()) => Ok(()),
+            Err(_) => {
+                let _ = self.places.pop();
+                Err(AllocError::met())
+            }
+        }
     }
 }

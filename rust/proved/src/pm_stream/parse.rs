@@ -12,6 +12,9 @@ use crate::pm_token::parts::{fault, ident, literal, punct};
 use crate::pm_token::{Delimiter, ParseError, Spacing};
 use crate::shim::alloc::{AllocError, Global};
 
+/// For how many trees a list may keep room that stays empty.
+const FEW_TREES: usize = 8;
+
 impl TokenStream {
     /// The token trees of a text, which becomes the next file of the map (`parses-to`). The stream is
     /// `built`.
@@ -211,10 +214,14 @@ impl Parser {
         let Parser {
             alloc,
             mut frames,
-            trees,
+            mut trees,
         } = self;
         if let Some(frame) = frames.pop() {
             return Err(fault_at(frame.lo));
+        }
+        // It held the trees of all open groups too. Where memory for a smaller list is refused it stays as it is.
+        if trees.capacity().saturating_sub(trees.len()) > FEW_TREES {
+            trees.shrink_to_fit();
         }
         Ok(TokenStream::from_vec(alloc, trees)?)
     }

@@ -3,10 +3,9 @@
 
 use crate::shim::prelude::Vec;
 
-use crate::pm_stream::parse::parse;
 use crate::pm_stream::stream::{Group, TokenStream, TokenTree};
 use crate::pm_span::Span;
-use crate::pm_token::{Delimiter, Ident, Literal, ParseError, Punct};
+use crate::pm_token::{Delimiter, Ident, Literal, Punct};
 use crate::shim::alloc::{AllocError, Global};
 
 /// The group of these parts.
@@ -48,14 +47,4 @@ pub fn put_punct(stream: &mut TokenStream, punct: Punct) -> Result<(), AllocErro
 pub fn put_literal(stream: &mut TokenStream, literal: Literal) -> Result<(), AllocError>
 {
     stream.put_literal(literal)
-}
-
-/// The token trees of a text that is no file of a map (`parses-to`). Spans count its characters from `base` on,
-/// and no map is promised to hold them. A fault has an empty span, where `TokenStream::from_str` would find it in
-/// a file that begins at `base`. `MapFull` is never answered, and `Memory` where a growth was refused.
-///
-/// It takes no copy of the text.
-pub fn parse_at(alloc: Global, base: u32, text: &str) -> Result<TokenStream, ParseError>
-{
-    parse(alloc, base, text)
 }

@@ -79,6 +79,17 @@ impl Ident {
 
         // The same, in words that compute for an ASCII text that is known.
     {
+        // Mostly it is plain and short. The text comes first, as its length is often known to who compiles this.
+        match self.name.plain_bytes() {
+            Some(name) => text.as_bytes() == name,
+            None => self.is_written(text),
+        }
+    }
+
+    // The same, of any identifier.
+    #[inline(never)]
+    fn is_written(&self, text: &str) -> bool
+    {
         let name = self.name.as_bytes();
         if !self.name.is_raw() {
             return name == text.as_bytes();

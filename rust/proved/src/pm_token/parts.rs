@@ -12,6 +12,8 @@ use crate::shim::alloc::{AllocError, Global};
 use crate::shim::fmt;
 
 /// The identifier of this name, which has no `r#` even if it is raw. Fails where memory runs out.
+// Inlined, as it is what most pieces of a text become.
+#[inline(always)]
 pub fn ident(alloc: Global, name: &str, raw: bool, span: Span) -> Result<Ident, AllocError>
 {
     Ident::from_parts(alloc, name, raw, span)

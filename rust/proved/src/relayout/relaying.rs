@@ -26,28 +26,33 @@ pub fn relayout(alloc: Global, text: &str, choices: &[White]) -> Result<String, 
     let mut out = TextBuilder::with_room(alloc, text.len())?;
     let mut left = choices;
     let mut line = false;
+    // The text from `kept` up to `from` stays, and isn't written yet. It is copied at once, before the next run of
+    // white characters that changes or at the end. Such a run may begin at `from`.
+    let mut kept = text;
     let mut from = text;
     let mut walk = pieces(text);
     // White characters of ASCII are passed over all at once. One past ASCII is given as a piece.
     pass_white(&mut walk);
     let mut here = walk.rest();
     while let Some(next) = walk.next_piece() {
-        let run = before(from, here);
+        let to = here;
         let behind = walk.rest();
         pass_white(&mut walk);
         here = walk.rest();
         if is_white(next) {
             continue;
         }
-        left = push_run(&mut out, left, line, run)?;
-        out.push_text(next.text)?;
+        let (stays, choices) = push_run(&mut out, left, line, kept, from, to)?;
+        kept = stays;
+        left = choices;
         line = is_line(next);
         from = behind;
     }
     if !here.is_empty() {
         return Err(RelayoutError::NoPiece);
     }
-    push_run(&mut out, left, line, from)?;
+    let (stays, _) = push_run(&mut out, left, line, kept, from, here)?;
+    out.push_text(stays)?;
     Ok(out.into_string())
 }
 
@@ -69,25 +74,30 @@ fn is_line(next: PlacedPiece<'_>) -> bool
     }
 }
 
-// Writes what is chosen for a run of white characters, if there are any, and answers the choices for those after it.
-fn push_run<'a>(
+// Takes the next choice for the run of white characters from `from` up to `to`, if it isn't empty. A run that changes
+// is written as the choice says, after the text that was kept before it. Answers the text that is kept now, up to `to`
+// and on, and the choices for later runs.
+#[inline(always)]
+fn push_run<'a, 'b>(
     out: &mut TextBuilder,
     choices: &'a [White],
     line: bool,
-    run: &str,
-) -> Result<&'a [White], AllocError>
+    kept: &'b str,
+    from: &str,
+    to: &'b str,
+) -> Result<(&'b str, &'a [White]), AllocError>
 {
+    let run = before(from, to);
     if run.is_empty() {
-        return Ok(choices);
+        return Ok((kept, choices));
     }
     match choices.split_first() {
+        None => Ok((kept, choices)),
+        Some((White::Kept, left)) => Ok((kept, left)),
         Some((choice, left)) => {
+            out.push_text(before(kept, from))?;
             push_white(out, *choice, line, run)?;
-            Ok(left)
-        }
-        None => {
-            out.push_text(run)?;
-            Ok(choices)
+            Ok((to, left))
         }
     }
 }

@@ -27,6 +27,15 @@ pub fn number_size(text: &str) -> Option<usize>
     }
 }
 
+/// How many bytes at the front are digits or `_`.
+///
+/// It stands apart, as compiled into [`long_number_size`] its loop would count for each slice after the digits too.
+#[inline(never)]
+fn count_digits(bytes: &[u8]) -> usize
+{
+    count_ascii(bytes, Class::DigitOrUnderscore)
+}
+
 /// Whether a number that the byte follows ends there, and has no suffix.
 #[inline(always)]
 fn ends_digits(byte: u8) -> bool
@@ -175,7 +184,7 @@ pub fn long_number_size(text: &str) -> Option<usize>
         return None;
     }
     // The byte after the digits tells which of these may stand here.
-    let digits = count_ascii(bytes, Class::DigitOrUnderscore);
+    let digits = count_digits(bytes);
     let next = byte_at(bytes, digits);
     if next == b'.' {
         // A dot before a range, a call or a field is no part of the number.

@@ -78,6 +78,16 @@ impl Name {
         }
     }
 
+    /// The bytes of a short plain name, and `None` of another.
+    #[inline(always)]
+    pub fn plain_bytes(&self) -> Option<&[u8]>
+    {
+        match &self.text {
+            NameText::Short(name) => Some(name.as_bytes()),
+            _ => None,
+        }
+    }
+
     /// Whether both are the same name, and both are raw or both plain.
     #[inline(always)]
     pub fn same(&self, other: &Name) -> bool

@@ -1,0 +1,39 @@
+// Made from crates/lexical/src/words.rt by rust/erase: change that file, not this one.
+//! Names of ASCII, by words of 8 bytes.
+
+use crate::lexical::bytes::{Class, count_ascii};
+
+/// How many of the 8 bytes a name of ASCII goes on with, from the first of them on: `None` says all.
+///
+/// They are looked at in one word, with no branch that a processor could predict wrongly. Without its highest bit, a
+/// byte is of a range if one of two sums sets that bit and the other doesn't: the first does from the range's first
+/// byte on, the second past its last. No name has bytes with that bit.
+#[inline(always)]
+fn count_in_word(bytes: &[u8; 8]) -> Option<usize>
+{
+    let word = u64::from_le_bytes(*bytes);
+    let low = word & 0x7F7F_7F7F_7F7F_7F7F;
+    let small = low | 0x2020_2020_2020_2020;
+    let letters = (small + 0x1F1F_1F1F_1F1F_1F1F) ^ (small + 0x0505_0505_0505_0505);
+    let digits = (low + 0x5050_5050_5050_5050) ^ (low + 0x4646_4646_4646_4646);
+    let underscores = (low + 0x2121_2121_2121_2121) ^ (low + 0x2020_2020_2020_2020);
+    let stops = (!(letters ^ digits ^ underscores) | word) & 0x8080_8080_8080_8080;
+    if stops == 0 {
+        return None;
+    }
+    Some((stops.trailing_zeros() / 8) as usize)
+}
+
+/// How many bytes at the front are of ASCII, and such that a name goes on with them.
+#[inline(always)]
+pub fn count_name(bytes: &[u8]) -> usize
+{
+    let mut count = 0;
+    while let Some(word) = bytes[count..].first_chunk::<8>() {
+        if let Some(more) = count_in_word(word) {
+            return count + more;
+        }
+        count += 8;
+    }
+    count + count_ascii(&bytes[count..], Class::IdentifierContinue)
+}
