@@ -1,4 +1,6 @@
 //! Asks a map, and compares what it answers with what a plain walk gives.
+ghost use Rattle.pm_span.specs.Files.{Holds};
+
 use crate::plain::PlainFile;
 use crate::recorded::RECORDED;
 use pm_span::parts::{add_file, bounds, fits, span_of};
@@ -144,7 +146,9 @@ fn ask_bytes(
     map: &mut SourceMap,
     file: Option<&PlainFile>,
     span: Span,
-) {
+)
+    requires { Holds map.old span }
+{
     let (lo, hi) = bounds(span);
     let bytes = span.byte_range(map);
     let plain = match file {
@@ -163,14 +167,17 @@ fn ask_text(
     map: &mut SourceMap,
     file: Option<&PlainFile>,
     span: Span,
-) -> Result<(), Fail> {
+) -> Result<(), Fail>
+    requires { Holds map.old span }
+{
     let (lo, hi) = bounds(span);
     let plain = file.and_then(|file| file.text_between(lo, hi));
-    let copy = span.source_text(map)?;
-    assert_eq!(rt; copy.as_ref().map(|text| text.as_str()), plain, "of {lo}..{hi}");
     let lent = span.source_str(map);
     assert_eq!(rt; lent, plain, "of {lo}..{hi}");
     digest.add_text(lent.unwrap_or(""));
+    let copy = span.source_text(map)?;
+    let copy = copy.as_ref().map(|text| text.as_str());
+    assert_eq!(rt; copy, plain, "of {lo}..{hi}");
     Ok(())
 }
 
@@ -181,7 +188,9 @@ fn ask_lines(
     map: &SourceMap,
     file: Option<&PlainFile>,
     span: Span,
-) {
+)
+    requires { Holds map.now span }
+{
     let (lo, hi) = bounds(span);
     let (start, end) = (span.start(map), span.end(map));
     digest.add_place(start);
