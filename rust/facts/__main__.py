@@ -1,8 +1,10 @@
 #!/usr/bin/env python3
 """The facts about characters that rust/proved asks: tables made by asking the toolchain's proved crates.
 
-    python3 rust/facts            writes rust/proved/src/tables.rs anew
-    python3 rust/facts --check    compares it with what is there, and fails where it differs
+    python3 rust/facts            writes rust/proved/src/tables.rs and tables/characters.rs anew
+    python3 rust/facts --check    compares them with what is there, and fails where one differs
+
+The first has what every build asks, the second what only the feature `characters` does.
 
 A small program over `unicode_ident`, `ucd_*`, `unicode_normalization` and `unicode_width` is proved and run, by
 `rt run` in a temporary folder. It asks about every code point, and tells where an answer changes. No source of these
@@ -15,7 +17,7 @@ import sys
 import tempfile
 import textwrap
 
-TABLES = pathlib.Path(__file__).resolve().parents[1] / 'proved/src/tables.rs'
+PACKAGE = pathlib.Path(__file__).resolve().parents[1] / 'proved/src'
 
 PROGRAM = '''\
 #![tactic(auto)]
@@ -206,19 +208,23 @@ def text_of(value):
 
 
 def tables():
+    """The files of tables: from the path of each to its text."""
     version, rows, canonical, compatible = answers()
     scripts = SCRIPTS + sorted({row[6] for row in rows} - {*SCRIPTS})
     version = '.'.join(part.strip(' ()') for part in version.split(','))
-    return '\n'.join([
-        f'''// Made by rust/facts, which asks the proved crates about every code point: change nothing here.
+    head = f'''// Made by rust/facts, which asks the proved crates about every code point: change nothing here.
 //! Facts about characters, by Unicode {version}. LICENSE-UNICODE is the license of the data that they come from.
-''',
+'''
+    always = [
+        '#[cfg(feature = "characters")]\npub(crate) mod characters;\n',
         table('What may begin an identifier: ranges, their ends included, in order.', 'IDENTIFIER_START', '(u32, u32)',
               ranges(rows, 1)),
         table('What an identifier may go on with: ranges, their ends included, in order.', 'IDENTIFIER_CONTINUE',
               '(u32, u32)', ranges(rows, 2)),
         table('Where the category changes, in order: from which code point on, and its number in `CATEGORIES`.',
               'CATEGORY_RUNS', '(u32, u8)', runs((row[0], number_of(row[3])) for row in rows)),
+    ]
+    more = [
         table('Where the width changes, in order: from which code point on, and how many columns, or 3 for no width.',
               'WIDTH_RUNS', '(u32, u8)', runs((row[0], row[4]) for row in rows)),
         table('Where the properties of `ucd_props` and `ucd_derived` change: from which code point on, and their sum.',
@@ -231,16 +237,20 @@ def tables():
               'CANONICAL', '(u32, u32, &[u32])', [(row[0], row[-1], list(row[1:-1])) for row in canonical]),
         table('What decomposes compatibly and otherwise than canonically: it and its parts.', 'COMPATIBLE',
               '(u32, &[u32])', [(row[0], list(row[1:])) for row in compatible]),
-    ])
+    ]
+    return {PACKAGE / 'tables.rs': '\n'.join([head, *always]),
+            PACKAGE / 'tables/characters.rs': '\n'.join([head, *more])}
 
 
 def main():
     if sys.argv[1:] not in ([], ['--check']):
         sys.exit(__doc__)
-    text = tables()
+    files = tables()
     if sys.argv[1:]:
-        sys.exit(0 if TABLES.read_text() == text else f'{TABLES} is not what the proved crates answer: run rust/facts')
-    TABLES.write_text(text)
+        differing = [str(path) for path, text in files.items() if path.read_text() != text]
+        sys.exit(f'{", ".join(differing)}: not what the proved crates answer: run rust/facts' if differing else 0)
+    for path, text in files.items():
+        path.write_text(text)
 
 
 main()

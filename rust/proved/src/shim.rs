@@ -8,6 +8,8 @@
 
 pub mod alloc;
 pub mod boxed;
+#[cfg(feature = "characters")]
+pub mod characters;
 pub mod collections;
 pub mod fmt;
 pub mod hex;
@@ -21,9 +23,10 @@ pub mod unicode;
 pub mod vec;
 
 pub use crate::display_by_shim as display;
+#[cfg(feature = "characters")]
+pub use characters::{ucd_derived, ucd_props, ucd_script, unicode_normalization, unicode_width};
 pub use process::{env, fs};
-pub use unicode::{ucd_category, ucd_derived, ucd_props, ucd_script};
-pub use unicode::{unicode_ident, unicode_normalization, unicode_width};
+pub use unicode::{ucd_category, unicode_ident};
 
 /// What is in scope in every source of Rattle, in so far as it isn't in Rust or is another there.
 pub mod prelude {
