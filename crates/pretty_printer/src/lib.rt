@@ -16,6 +16,7 @@ ghost use Rattle.quoting.specs.Fault.{IsFaultOf};
 ghost use Rattle.quoting.specs.Respaced.{respaced};
 
 mod atoms;
+mod chains;
 mod lists;
 mod printer;
 mod roles;

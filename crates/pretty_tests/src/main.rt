@@ -1,7 +1,8 @@
 //! Writes what `pretty_printer` answers of the streams of standard input, for comparison with the record of it.
 //!
 //! No contract tells where lines break. So `stdout` beside `stdin` records it of 1,000 streams, 100 texts as they are
-//! and the others as digests; `bench/pretty_record/remake.py` makes it anew. The status is 0 exactly where each row was one.
+//! and the others as digests; `bench/pretty_record/remake.py` makes it anew. The status is 0 exactly where each row was
+//! one.
 #![tactic(auto)]
 
 mod rows;
