@@ -1,67 +1,139 @@
 #!/usr/bin/env python3
-"""Times `tokens print` on texts of 1, 2 and 4 MB and on deep groups.
+"""Counts how many instructions each program and each call takes on texts of each shape, and on texts twice as long.
 
-Usage: bench/doubling.py [PROGRAM]
-PROGRAM is the built program, crates/tokens/out/tokens if left out.
+Usage: bench/doubling.py [--named] [--jobs N] [--size BYTES] [--only NAME..]
+
+The programs are those of rust/tools, the calls those of the program in bench/doubling, over rust/proved: both as Cargo
+builds them, into CARGO_TARGET_DIR where that is set. bench/doubling/shapes.py has the shapes. `--named` takes the named
+shapes alone, on `pretty` and twelve calls; `--only` takes the programs and calls of these names. BYTES is 50,000 if
+left out. All take about two hours of one processor, the named shapes a minute.
+
+valgrind counts: of a program, by cachegrind with no caches, all that it runs less what it runs on an empty text; of a
+call, by callgrind, what is within it, on a heap on which no count depends on what was freed before. A row is over the
+limit if twice the text takes more than 2.1 times the instructions; one that takes fewer than one a byte grows by
+nothing that can be told. Rows over the limit are printed, and the last line is `N passed, M failed`. The status is 1 if
+any failed.
 """
+import argparse
+import concurrent.futures
+import glob
+import os
 import pathlib
-import random
+import re
 import subprocess
 import sys
-import time
+import tempfile
 
-WORDS = ["alpha", "beta", "x", "y1", "_z", "fn", "let", "mut", "return", "long_identifier_name"]
-MARKS = ["+", "-", "=", "==", "<<=", "::", ";", ",", "->", "&&", "!"]
-PAIRS = {"(": ")", "[": "]", "{": "}"}
+HERE = pathlib.Path(__file__).resolve().parent
+sys.path.insert(0, str(HERE / "doubling"))
+from shapes import shapes, text_of  # noqa: E402
 
-
-def source(size: int) -> str:
-    """A text of about `size` characters: words, marks, lines, and groups at most 40 deep."""
-    draw = random.Random(size)
-    parts, opened, length = [], [], 0
-    while length < size:
-        chance = draw.random()
-        if chance < 0.45:
-            part = draw.choice(WORDS)
-        elif chance < 0.7:
-            part = draw.choice(MARKS)
-        elif chance < 0.8 and len(opened) < 40:
-            part = draw.choice(list(PAIRS))
-            opened.append(part)
-        elif chance < 0.9 and opened:
-            part = PAIRS[opened.pop()]
-        else:
-            part = "\n    "
-        parts.append(part + " ")
-        length += len(part) + 1
-    parts.extend(PAIRS[opener] for opener in reversed(opened))
-    return "".join(parts)
+LIMIT = 2.1
+# The words of each program; `-` is the text's path, and with none the text is standard input.
+PROGRAMS = {
+    "tokens print": ["tokens", "print"], "tokens spans": ["tokens", "spans"], "pretty": ["pretty", "-"],
+    "indent": ["indent", "-"], "rust_check": ["rust_check", "-"], "same": ["same", "-", "-"],
+    "highlight html": ["highlight", "html", "-"], "highlight term": ["highlight", "term", "-"],
+    "outline": ["outline", "-"], "outline --json": ["outline", "--json", "-"],
+    "outline --ctags": ["outline", "--ctags", "-"], "find_calls": ["find_calls", "a", "-"],
+}
+# What `--named` takes.
+QUICK = ["pretty", "to_pretty_string", "text_with", "from_str", "reprint", "place_trees", "token_buffer", "explain",
+         "relayout", "with_doc_comments", "quote_parse", "quote_finish", "outline"]
 
 
-def seconds(program: str, text: str) -> float:
-    """The shortest of five runs."""
-    best = float("inf")
-    for _ in range(5):
-        begin = time.perf_counter()
-        done = subprocess.run([program, "print"], input=text.encode(), stdout=subprocess.DEVNULL)
-        best = min(best, time.perf_counter() - begin)
-        if done.returncode != 0:
-            sys.exit(f"{program} ended with status {done.returncode}")
-    return best
+def build() -> pathlib.Path:
+    """Builds the programs and the calls, and answers the folder that they are in."""
+    target = os.environ.get("CARGO_TARGET_DIR", str(HERE / "doubling/target"))
+    for package in (HERE / "doubling", HERE.parent / "rust/tools"):
+        subprocess.run(["cargo", "build", "--offline", "--quiet", "--release"], cwd=package, check=True,
+                       env={**os.environ, "CARGO_TARGET_DIR": target})
+    return pathlib.Path(target) / "release"
+
+
+def total(path: str) -> int:
+    """The instructions that an output of valgrind tells."""
+    return int(re.search(r"^(?:summary|totals): (\d+)", pathlib.Path(path).read_text(), re.M)[1])
+
+
+def run(words: list[str], standard_input: str, output: str) -> str:
+    """Runs words under valgrind, and answers what they print."""
+    with open(standard_input, "rb") as text:
+        done = subprocess.run(["valgrind", "--quiet", *words], stdin=text, stdout=subprocess.PIPE,
+                              stderr=subprocess.PIPE)
+    if not glob.glob(output + "*"):
+        sys.exit(f"{' '.join(words)}: {done.stderr.decode()}")
+    return done.stdout.decode(errors="replace")
+
+
+class Table:
+    """The rows, each of a program or a call and of a shape."""
+
+    def __init__(self, built: pathlib.Path, room: str, rows: list, size: int):
+        self.built, self.room, self.size = built, room, size
+        self.names = [row[0] for row in rows]
+        self.paths, self.empty = [], f"{room}/empty"
+        pathlib.Path(self.empty).write_text("")
+        for at, row in enumerate(rows):
+            for times in (1, 2):
+                self.paths.append(f"{room}/{at}.{times}.rs")
+                pathlib.Path(self.paths[-1]).write_text(text_of(row, times * size))
+
+    def program(self, name: str) -> list[tuple[str, str, int, int]]:
+        """The counts of a program on each shape."""
+        counts = []
+        for at, path in enumerate([self.empty, *self.paths]):
+            output = f"{self.room}/{name.replace(' ', '_')}.{at}"
+            words = [path if word == "-" else word for word in PROGRAMS[name]]
+            run(["--tool=cachegrind", "--cache-sim=no", f"--cachegrind-out-file={output}",
+                 f"{self.built}/{words[0]}", *words[1:]], path, output)
+            counts.append(total(output))
+            os.unlink(output)
+        return self.rows(name, [count - counts[0] for count in counts[1:]])
+
+    def call(self, name: str) -> list[tuple[str, str, int, int]]:
+        """The counts of a call on each shape whose texts it takes."""
+        output = f"{self.room}/{name}"
+        said = run(["--tool=callgrind", f"--callgrind-out-file={output}", "--toggle-collect=*measured*",
+                    "--dump-after=doubling::calls::measured*", f"{self.built}/doubling", name, *self.paths],
+                   self.empty, output)
+        counts, made = [], 0
+        for line in said.split():
+            made += int(line)
+            counts.append(total(f"{output}.{made}") if line == "1" else 0)
+        return self.rows(name, counts)
+
+    def rows(self, name: str, counts: list[int]) -> list[tuple[str, str, int, int]]:
+        """The rows of which something was counted."""
+        found = zip(self.names, counts[::2], counts[1::2], strict=True)
+        return [(name, shape, once, twice) for shape, once, twice in found if twice]
+
+    def is_over(self, once: int, twice: int) -> bool:
+        """Whether a row is over the limit."""
+        return twice > 2 * self.size and twice > LIMIT * once
 
 
 def main() -> None:
-    here = pathlib.Path(__file__).resolve().parent.parent
-    program = sys.argv[1] if len(sys.argv) > 1 else str(here / "crates/tokens/out/tokens")
-    before = None
-    for megabytes in (1, 2, 4):
-        took = seconds(program, source(megabytes * 1_000_000))
-        ratio = "" if before is None else f"  {took / before:.2f} times the half"
-        print(f"{megabytes} MB of tokens: {took * 1000:.0f} ms{ratio}")
-        before = took
-    for depth in (100_000, 1_000_000):
-        took = seconds(program, "(" * depth + ")" * depth)
-        print(f"{depth} nested groups: {took * 1000:.0f} ms")
+    parser = argparse.ArgumentParser(description=__doc__, formatter_class=argparse.RawDescriptionHelpFormatter)
+    parser.add_argument("--named", action="store_true")
+    parser.add_argument("--jobs", type=int, default=1)
+    parser.add_argument("--size", type=int, default=50_000)
+    parser.add_argument("--only", nargs="*")
+    words = parser.parse_args()
+    built = build()
+    calls = subprocess.run([built / "doubling"], stdout=subprocess.PIPE, check=True).stdout.decode().split()
+    names = words.only or (QUICK if words.named else [*PROGRAMS, *calls])
+    passed = failed = 0
+    with tempfile.TemporaryDirectory() as room, concurrent.futures.ThreadPoolExecutor(words.jobs) as pool:
+        table = Table(built, room, shapes(words.named), words.size)
+        for rows in pool.map(lambda name: (table.program if name in PROGRAMS else table.call)(name), names):
+            over = [row for row in rows if table.is_over(*row[2:])]
+            for name, shape, once, twice in over:
+                print(f"{name}, {shape}: {once} and {twice} instructions, {twice / max(1, once):.2f} times")
+            passed, failed = passed + len(rows) - len(over), failed + len(over)
+            print(f"{rows[0][0] if rows else 'a call'}: {len(rows)} rows, {len(over)} over {LIMIT}", flush=True)
+    print(f"{passed} passed, {failed} failed")
+    sys.exit(1 if failed else 0)
 
 
 if __name__ == "__main__":

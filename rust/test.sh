@@ -4,10 +4,10 @@
 #
 #   rust/test.sh
 #
-# What is left out is named, and counted by the line `skipped: N` before the last: what wants Python, a C compiler,
-# cargo with Rust 1.82 (the Cargo package: 1.88), valgrind of the version that bench/counts.txt names, or sources of
-# syn, quote and the public crate, which rust/packages.sh gets. rust/archive.sh builds the archive where it is older
-# than its sources. The last line is `N passed, M failed`, and the status is 1 if anything failed.
+# What is left out is named, and counted by the line `skipped: N` before the last: what wants Python, valgrind (for
+# bench/counts of the version that bench/counts.txt names), a C compiler, cargo with Rust 1.82 (the Cargo package:
+# 1.88), or sources of syn, quote and the public crate, which rust/packages.sh gets. rust/archive.sh builds the archive
+# where it is older than its sources. The last line is `N passed, M failed`, and the status is 1 if anything failed.
 set -u
 cd "$(dirname "$0")" || exit 1
 room=$(mktemp -d)
@@ -104,6 +104,12 @@ programs() {
             env "CARGO_BUILD=$built" ../checks/programs tokens highlight find_calls pretty rust_check same indent \
             outline
         try "the commands of README.md print what it shows" ../checks/pages "$built" ../README.md
+    fi
+    if command -v python3 > /dev/null && command -v valgrind > /dev/null; then
+        try "twice the text takes at most 2.1 times the instructions, by the named shapes of bench/doubling.py" \
+            ../bench/doubling.py --named
+    else
+        skip "how instructions grow with the text: no python3 or no valgrind"
     fi
     tools() { (cd tools && cargo "$@"); }
     documented_tools() { RUSTDOCFLAGS="-D warnings" tools doc --offline --quiet --no-deps; }

@@ -1,6 +1,6 @@
 #!/usr/bin/env python3
-"""Makes the streams of crates/pretty_tests/stdin: of a grammar of Rust, of items and statements whose names have 1 to 40
-letters, of lists and chains of each length, of shapes that grow, of words one after another, and of the items in
+"""Makes the streams of crates/pretty_tests/stdin: of a grammar of Rust, of items and statements whose names have 1 to
+40 letters, of lists and chains of each length, of shapes that grow, of words one after another, and of the items in
 bench/items.txt.
 
 Usage: bench/pretty_record/streams.py PROGRAM > crates/pretty_tests/stdin
@@ -130,7 +130,8 @@ class Maker:
         """A text of any kind."""
         makers = [lambda: self.of_rule("%items"), lambda: self.of_rule("%stmts"), lambda: self.tokens(80),
                   lambda: self.sized("items"), lambda: self.sized("statements"), lambda: self.listed("lists"),
-                  lambda: self.listed("expressions"), self.nested, self.grown, self.soup, lambda: self.draw.choice(self.real)]
+                  lambda: self.listed("expressions"), self.nested, self.grown, self.soup,
+                  lambda: self.draw.choice(self.real)]
         shares = [12, 12, 8, 7, 11, 6, 7, 3, 8, 30, 10]
         return self.draw.choices(makers, shares)[0]()
 
