@@ -3,9 +3,6 @@ use Rattle.std.specs.Prelude.{ℕ, List, Option}
 use Rattle.std.specs.Io.KnownBytes.{Appends}
 use Rattle.std.specs.List.{All}
 use Rattle.std.specs.Str.{encode_utf8_all}
-use Rattle.proc_macro2.specs.Forest.{Forest}
-use Rattle.proc_macro2.specs.Parsing.{ParsesTo}
-use Rattle.messages.specs.Parsed.{first}
 use Rattle.relayout.specs.Relaid.{IsRelaid}
 use Rattle.relayout.specs.declared.white.White.{White}
 use Rattle.relayout.specs.declared.white.White.TheVariants.{Kept, Space, Lines}
@@ -20,10 +17,6 @@ KeepsLines (Lines tabs spaces) = Unit {0}
 -- same
 abbrev pub IsIndented : List ℕ → List ℕ → Type 0
 IsIndented source text = (choices : List White) × All KeepsLines choices × IsRelaid choices source text
-
--- the source has tokens
-abbrev pub Parses : List ℕ → Type 0
-Parses source = (stream : Forest) × ParsesTo first source stream
 
 -- what is written between old and new is the source so
 abbrev pub Writes : List ℕ → Option (List ℕ) → Option (List ℕ) → Type 0

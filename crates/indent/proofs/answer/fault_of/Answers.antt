@@ -1,11 +1,15 @@
 use Rattle.std.proofs.Common.{Err, ap}
 use Rattle.messages.proofs.ParsedLemmas.{unparsed_may_fail}
 use Rattle.proc_macro2.specs.declared.TokenStream.{TokenStream}
-use Rattle.indent.proofs.answer.indent.Goals as goal
+use Rattle.indent.proofs.answer.fault_of.Goals as goal
 
-pub returns-clause-err : goal.returns-clause-err
-returns-clause-err c = λ known.
+pub returns : goal.returns
+returns c = λ known.
     let full = rw c.new-map.ensures at c.in-Err.ensures.map_full.0 in
     unparsed_may_fail TokenStream _ known _ _ _ (rw c.new-map.ensures at c.in-Err.ensures.kept)
     (rw c.new-map.ensures at c.in-Err.ensures.lex) (λ is. full (ap Err is))
     c.unparsed.ensures.fault c.unparsed.ensures.map_full c.unparsed.ensures.memory
+
+pub unreachable-requires : goal.unreachable-requires
+unreachable-requires c =
+    let none = rw c.new-map.ensures at c.in-Ok.ensures.apart in none c.requires.0 c.requires.1
