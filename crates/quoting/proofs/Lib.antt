@@ -6,9 +6,9 @@ mod PartLemmas
 mod RespacedListLemmas
 mod PushLemmas
 mod Examples
-mod DraftLemmas
-mod FillLemmas
+mod BuilderLemmas
 mod FixedLemmas
+mod FillLemmas
 mod TurnLemmas
 mod NameLemmas
 mod TextLemmas

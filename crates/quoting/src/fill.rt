@@ -8,7 +8,7 @@ ghost use Rattle.proc_macro2.specs.Trees.{forest, GoesInside};
 ghost use Rattle.quoting.specs.Filled.{before_turn, followed, has_meaning, filled_by};
 ghost use Rattle.quoting.specs.Given.{UnlessMemory, apart_before, gives, inside_at, is_fixed, repeats_of, separator_of};
 
-use crate::draft::Draft;
+use crate::builder::StreamBuilder;
 use crate::errors::TemplateError;
 use crate::holes::Hole;
 use crate::interpolation::{FoundInterpolation, Repetition, interpolation_at};
@@ -32,24 +32,24 @@ pub(crate) fn filled(
         UnlessMemory fault (filled_by (gives holes.now turn) depth 0 template.now ≡ Err fault)) }
 {
     let trees = template.trees();
-    let mut draft = Draft::new(alloc, trees.len());
-    fill_onto(alloc, &mut draft, trees, holes, turn, depth)?;
-    Ok(draft.finish()?)
+    let mut out = StreamBuilder::new(alloc);
+    fill_onto(alloc, &mut out, trees, holes, turn, depth)?;
+    Ok(out.finish()?)
 }
 
-// Puts the trees with the holes filled after those of the draft, as `filled` does.
+// Puts the trees with the holes filled after those of the stream, as `filled` does.
 #[cycle(filled)]
 fn fill_onto(
     alloc: Global,
-    draft: &mut Draft,
+    out: &mut StreamBuilder,
     template: &[TokenTree],
     holes: &[Hole<'_>],
     turn: Option<usize>,
     depth: usize,
 ) -> Result<(), TemplateError>
     requires { All GoesInside template.now }
-    ensures ok { OnOk result (followed (Ok draft.old)
-        (filled_by (gives holes.now turn) depth 0 (forest template.now)) ≡ Ok draft.new) }
+    ensures ok { OnOk result (followed (Ok out.old)
+        (filled_by (gives holes.now turn) depth 0 (forest template.now)) ≡ Ok out.new) }
     ensures fault { IfErr result (λ fault.
         UnlessMemory fault (filled_by (gives holes.now turn) depth 0 (forest template.now) ≡ Err fault)) }
 {
@@ -59,18 +59,18 @@ fn fill_onto(
             None => {
                 if let TokenTree::Group(group) = tree {
                     let inside = filled_inside(alloc, group, holes, turn, depth)?;
-                    draft.put(TokenTree::Group(regrouped(group, inside)))?;
+                    out.put(TokenTree::Group(regrouped(group, inside)), after.len())?;
                 } else {
-                    draft.put(apart_before(tree, after)?)?;
+                    out.put(apart_before(tree, after)?, after.len())?;
                 }
                 left = after;
             }
             Some(FoundInterpolation::Names(name, rest)) => {
-                draft.append(name.put_in(holes, turn)?)?;
+                out.append(name.put_in(holes, turn)?, rest.len())?;
                 left = rest;
             }
             Some(FoundInterpolation::Repeats(repetition, rest)) => {
-                repeat_onto(alloc, draft, &repetition, holes, turn, depth)?;
+                repeat_onto(alloc, out, &repetition, holes, turn, depth)?;
                 left = rest;
             }
         }
@@ -148,19 +148,19 @@ fn is_fixed(tree: &TokenTree) -> bool
     }
 }
 
-// Puts the turns of a repetition after the trees of the draft, with the separator between them. That it names no list
+// Puts the turns of a repetition after the trees of the stream, with the separator between them. That it names no list
 // comes before what is wrong inside.
 #[cycle(filled)]
 fn repeat_onto(
     alloc: Global,
-    draft: &mut Draft,
+    out: &mut StreamBuilder,
     repetition: &Repetition<'_>,
     holes: &[Hole<'_>],
     turn: Option<usize>,
     depth: usize,
 ) -> Result<(), TemplateError>
-    ensures ok { OnOk result (followed (Ok draft.old)
-        (gives holes.now turn depth (repeats_of repetition.now)) ≡ Ok draft.new) }
+    ensures ok { OnOk result (followed (Ok out.old)
+        (gives holes.now turn depth (repeats_of repetition.now)) ≡ Ok out.new) }
     ensures fault { IfErr result (λ fault.
         UnlessMemory fault (gives holes.now turn depth (repeats_of repetition.now) ≡ Err fault)) }
 {
@@ -177,18 +177,23 @@ fn repeat_onto(
     };
     checked(trees, holes, inner, turns)?;
     for turn in 0..turns {
-        separate(draft, repetition.separator, turn)?;
-        fill_onto(alloc, draft, trees, holes, Some(turn), inner)?;
+        separate(out, repetition.separator, turn, trees.len())?;
+        fill_onto(alloc, out, trees, holes, Some(turn), inner)?;
     }
     Ok(())
 }
 
-// Puts the separator at the end, Alone, before a turn that is not the first.
-fn separate(draft: &mut Draft, separator: Option<&Punct>, turn: usize) -> Result<(), AllocError>
-    ensures { OnOk result (draft.new ≡ joined draft.old (before_turn (separator_of separator.entry) turn)) }
+// Puts the separator at the end, Alone, before a turn that is not the first. So many more trees are expected.
+fn separate(
+    out: &mut StreamBuilder,
+    separator: Option<&Punct>,
+    turn: usize,
+    more: usize,
+) -> Result<(), AllocError>
+    ensures { OnOk result (out.new ≡ joined out.old (before_turn (separator_of separator.entry) turn)) }
 {
     match separator {
-        Some(mark) if turn > 0 => draft.put(TokenTree::Punct(spaced(mark, Spacing::Alone))),
+        Some(mark) if turn > 0 => out.put(TokenTree::Punct(spaced(mark, Spacing::Alone)), more),
         _ => Ok(()),
     }
 }

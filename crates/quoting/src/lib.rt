@@ -1,7 +1,7 @@
 //! A builder of streams that are faithful in print: what it answers comes back from its printed text.
 #![tactic(auto)]
 
-mod draft;
+mod builder;
 mod errors;
 mod faults;
 mod fill;

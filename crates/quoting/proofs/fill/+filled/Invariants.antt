@@ -20,7 +20,7 @@ decreases-repeat_onto l = 3 * l.depth
 
 abbrev pub invariant-fill_onto-loop-tree : goal.invariant-fill_onto-loop-tree
 invariant-fill_onto-loop-tree l =
-    IsUpTo (gives l.holes l.turn) l.depth l.fn.draft (forest l.fn.template) l.draft l.left
+    IsUpTo (gives l.holes l.turn) l.depth l.fn.out (forest l.fn.template) l.out l.left
 
 abbrev pub decreases-fill_onto-loop-tree : goal.decreases-fill_onto-loop-tree
 decreases-fill_onto-loop-tree l = length l.left
@@ -29,4 +29,4 @@ abbrev pub invariant-repeat_onto-loop-turn : goal.invariant-repeat_onto-loop-tur
 invariant-repeat_onto-loop-turn l =
     let given = turn_of l.holes l.inner (forest l.trees) in
     let between = separator_of l.repetition.separator in
-    TurnsOn given between (followed (Ok l.fn.draft) (turns_from given between 0 l.turns)) l.draft l.turn l.turns
+    TurnsOn given between (followed (Ok l.fn.out) (turns_from given between 0 l.turns)) l.out l.turn l.turns

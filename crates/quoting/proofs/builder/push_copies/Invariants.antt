@@ -1,7 +1,7 @@
 use Rattle.std.proofs.Common.{◌≡◌, take}
 use Rattle.proc_macro2.specs.Forest.{joined}
 use Rattle.proc_macro2.specs.Trees.{forest}
-use Rattle.quoting.proofs.draft.push_copies.Given as goal
+use Rattle.quoting.proofs.builder.push_copies.Given as goal
 
 abbrev pub invariant-loop-tree : goal.invariant-loop-tree
 invariant-loop-tree l =

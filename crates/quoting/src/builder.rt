@@ -1,0 +1,181 @@
+//! Streams that are put together.
+ghost use Rattle.std.specs.Prelude.{◌≡◌, ◌++◌, ◌∷◌, [], IfOk, OnErr, OnOk};
+ghost use Rattle.proc_macro2.specs.Forest.{IsBuilt, joined, nil};
+ghost use Rattle.proc_macro2.specs.Trees.{alone, forest, GoesInside};
+
+use pm_stream::parts;
+use proc_macro2::{TokenStream, TokenTree};
+use std::alloc::{AllocError, Global};
+use std::marker::Model;
+
+/// For how many trees a list has room at most before they come: those of most templates.
+const MOST_ROOM: usize = 64;
+
+/// For how many trees a list has room at least. It would grow to it by the first.
+const LEAST_ROOM: usize = 4;
+
+/// For so many trees a list may have room that holds fewer.
+const FEW_TREES: usize = 8;
+
+/// A stream that is put together. It is seen as the trees that were put in, in order.
+#[derive(Drop)]
+pub(crate) struct StreamBuilder {
+    alloc: Global,
+    trees: Trees,
+}
+
+// Trees that are put together.
+#[derive(Drop)]
+pub(crate) enum Trees {
+    // Those of a stream, or none: nothing came after it, so that it is shared.
+    Shared(TokenStream),
+    // A list that becomes a stream as it is.
+    Listed(Vec<TokenTree>),
+}
+
+impl Model for StreamBuilder {
+    ghost use Rattle.proc_macro2.specs.Codec.{coded_forest};
+    ghost use Rattle.proc_macro2.specs.Forest.{Forest};
+    ghost use Rattle.quoting.specs.Put.{IsFit, put_trees};
+
+    ghost Value = { Forest };
+
+    ghost coded = { coded_forest };
+
+    ghost view = { λ builder. put_trees builder.trees };
+
+    ghost invariant = { λ builder. IsFit builder.trees };
+}
+
+impl StreamBuilder {
+    /// No trees. It takes no memory.
+    pub(crate) fn new(alloc: Global) -> StreamBuilder
+        ensures { result ≡ nil }
+    {
+        StreamBuilder {
+            alloc,
+            trees: Trees::Shared(TokenStream::new(alloc)),
+        }
+    }
+
+    /// Puts the tree at the end. So many more are expected.
+    #[inline(always)]
+    pub(crate) fn put(&mut self, tree: TokenTree, more: usize) -> Result<(), AllocError>
+        requires { GoesInside tree }
+        ensures { OnOk result (self.new ≡ joined self.old (alone tree)) }
+    {
+        match &mut self.trees {
+            Trees::Listed(list) => push(list, tree)?,
+            Trees::Shared(stream) => {
+                let mut list = listed(self.alloc, stream, more.saturating_add(1))?;
+                push(&mut list, tree)?;
+                self.trees = Trees::Listed(list);
+            }
+        }
+        Ok(())
+    }
+
+    // Puts copies of the trees at the end. So many more are expected.
+    #[inline(never)]
+    fn copy(&mut self, trees: &[TokenTree], more: usize) -> Result<(), AllocError>
+        requires { IsBuilt (forest trees.now) }
+        ensures { OnOk result (self.new ≡ joined self.old (forest trees.now)) }
+    {
+        match &mut self.trees {
+            Trees::Listed(list) => push_copies(list, trees)?,
+            Trees::Shared(stream) => {
+                let mut list = listed(self.alloc, stream, more.saturating_add(trees.len()))?;
+                push_copies(&mut list, trees)?;
+                self.trees = Trees::Listed(list);
+            }
+        }
+        Ok(())
+    }
+
+    /// Puts the trees of the stream at the end. So many more are expected.
+    pub(crate) fn append(&mut self, stream: &TokenStream, more: usize) -> Result<(), AllocError>
+        ensures { OnOk result (self.new ≡ joined self.old stream.now) }
+    {
+        if let Trees::Shared(first) = &self.trees {
+            if first.is_empty() {
+                self.trees = Trees::Shared(stream.clone()?);
+                return Ok(());
+            }
+        }
+        self.copy(stream.trees(), more)
+    }
+
+    /// The stream.
+    pub(crate) fn finish(self) -> Result<TokenStream, AllocError>
+        ensures { IfOk result (λ stream. stream ≡ self) }
+    {
+        let StreamBuilder { alloc, trees } = self;
+        match trees {
+            Trees::Shared(stream) => Ok(stream),
+            Trees::Listed(mut list) => {
+                // Fewer trees may have come than were expected. A list that grew by them would be more than half full.
+                if list.capacity() > FEW_TREES && list.len() <= list.capacity() / 2 {
+                    list.shrink_to_fit();
+                }
+                parts::stream(alloc, list)
+            }
+        }
+    }
+}
+
+// A list of copies of the stream's trees, with room for so many more.
+#[inline(never)]
+fn listed(alloc: Global, stream: &TokenStream, more: usize) -> Result<Vec<TokenTree>, AllocError>
+    ensures ok { IfOk result (λ list. forest list.items ≡ stream.now) }
+    ensures built { IfOk result (λ list. IsBuilt (forest list.items)) }
+{
+    let trees = stream.trees();
+    let room = trees.len().saturating_add(more).min(MOST_ROOM);
+    let mut list = Vec::with_capacity(alloc, room.max(LEAST_ROOM))?;
+    push_copies(&mut list, trees)?;
+    Ok(list)
+}
+
+// Puts the tree at the end of the list.
+#[inline(always)]
+fn push(list: &mut Vec<TokenTree>, tree: TokenTree) -> Result<(), AllocError>
+    requires list { IsBuilt (forest list.old.items) }
+    requires tree { GoesInside tree }
+    ensures ok { OnOk result (forest list.new.items ≡ joined (forest list.old.items) (alone tree)) }
+    ensures built { IsBuilt (forest list.new.items) }
+{
+    // It computes nothing: proofs learn what is true of every tree.
+    tree.span();
+    list.push(tree)?;
+    Ok(())
+}
+
+// Puts copies of the trees at the end of the list. Groups share what is inside them.
+#[inline(always)]
+fn push_copies(list: &mut Vec<TokenTree>, trees: &[TokenTree]) -> Result<(), AllocError>
+    requires list { IsBuilt (forest list.old.items) }
+    requires trees { IsBuilt (forest trees.now) }
+    ensures ok { OnOk result (forest list.new.items ≡ joined (forest list.old.items) (forest trees.now)) }
+    ensures built { IsBuilt (forest list.new.items) }
+{
+    list.reserve(trees.len())?;
+    for tree in trees {
+        push_copy(list, tree)?;
+    }
+    Ok(())
+}
+
+// Puts a copy of the tree at the end of the list. Each kind has a line, so that a copy is made where it stands.
+#[inline(always)]
+fn push_copy(list: &mut Vec<TokenTree>, tree: &TokenTree) -> Result<(), AllocError>
+    ensures ok { OnOk result (list.new.items ≡ list.old.items ++ tree.now ∷ []) }
+    ensures err { OnErr result (list.new.items ≡ list.old.items) }
+{
+    match tree {
+        TokenTree::Group(group) => list.push(TokenTree::Group(group.clone()?))?,
+        TokenTree::Ident(ident) => list.push(TokenTree::Ident(ident.clone()?))?,
+        TokenTree::Punct(mark) => list.push(TokenTree::Punct(mark.clone()?))?,
+        TokenTree::Literal(literal) => list.push(TokenTree::Literal(literal.clone()?))?,
+    }
+    Ok(())
+}
