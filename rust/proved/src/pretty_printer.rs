@@ -8,6 +8,7 @@
 use crate::shim::prelude::{Clone, String};
 
 mod atoms;
+mod chains;
 mod lists;
 mod printer;
 mod roles;

@@ -1,7 +1,7 @@
 // Made from crates/quoting/src/lib.rt by rust/erase: change that file, not this one.
 //! A builder of streams that are faithful in print: what it answers comes back from its printed text.
 
-mod draft;
+mod builder;
 mod errors;
 mod faults;
 mod fill;

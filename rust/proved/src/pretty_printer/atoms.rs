@@ -123,14 +123,8 @@ pub enum Role {
     Expression,
 }
 
-/// A line that breaks before an atom.
-#[derive(Clone, Copy)]
-pub enum Break {
-    Nothing,
-    /// Before an operator: what comes later in the expression stands as far in.
-    Operator(usize),
-    Line(usize),
-}
+/// The column of no line.
+pub const NO_LINE: usize = usize::MAX;
 
 /// A word, an operator or a group. Its fields stand in the order of their sizes, so that none is padded.
 #[derive(Clone, Copy)]
@@ -151,7 +145,9 @@ pub struct Atom {
     pub end: usize,
     /// Of a group: how many parts it has.
     pub parts: usize,
-    pub line: Break,
+    /// Of an operator before which a line breaks, the column at which that line begins: what comes later in the
+    /// expression stands as far in. Else `NO_LINE`.
+    pub line: usize,
     pub kind: Kind,
     pub role: Role,
     /// Whether its last mark is Joint, so that no gap may follow.
@@ -178,7 +174,7 @@ pub static NOTHING: Atom = Atom {
     first: 0,
     end: 0,
     parts: 0,
-    line: Break::Nothing,
+    line: NO_LINE,
     kind: Kind::Nothing,
     role: Role::Plain,
     glued: false,
@@ -204,7 +200,7 @@ impl Atom {
             first: 0,
             end: 0,
             parts: 0,
-            line: Break::Nothing,
+            line: NO_LINE,
             kind,
             role: Role::Plain,
             glued,

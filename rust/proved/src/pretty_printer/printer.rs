@@ -3,7 +3,8 @@
 
 use crate::shim::prelude::Vec;
 
-use crate::pretty_printer::atoms::{Atom, Break, Role, Unread, Word, push_list};
+use crate::pretty_printer::atoms::{Atom, NO_LINE, Role, Unread, Word, push_list};
+use crate::pretty_printer::chains::{Chain, Chains, NOWHERE, chain_at};
 use crate::pretty_printer::lists::{atom, before, is_tall, width};
 use crate::pretty_printer::roles::assign_roles;
 use crate::pretty_printer::widths::{find_parts, measure, measure_group};
@@ -72,6 +73,13 @@ struct Frame {
     /// From where and up to where the chain goes whose lines are broken; nowhere if these are the same.
     chain_from: usize,
     chain_until: usize,
+    /// Up to where the last chain goes that is in no other, and whether it has dots.
+    read_until: usize,
+    read_dots: bool,
+    /// How many `<` are open since the last `where` whose lines are broken, and whether that was the last atom. If
+    /// there was none, `NOWHERE`.
+    where_depth: usize,
+    after_where: bool,
 }
 
 /// Chooses the gaps of a stream, one after another.
@@ -88,6 +96,7 @@ pub struct Printer<'a> {
     /// The list that is written, and those around it.
     list: Frame,
     outer: Vec<Frame>,
+    chains: Chains,
     /// How many characters the line has, and how many of them are spaces at its beginning.
     column: usize,
     indent: usize,
@@ -119,6 +128,10 @@ fn unwritten(group: usize, first: usize, end: usize, style: Style) -> Frame {
         operators: false,
         chain_from: 0,
         chain_until: 0,
+        read_until: first,
+        read_dots: false,
+        where_depth: NOWHERE,
+        after_where: false,
     }
 }
 
@@ -142,6 +155,7 @@ impl<'a> Printer<'a> {
             opens,
             list: unwritten(NO_GROUP, 0, top, Style::Lines),
             outer: Vec::new(alloc),
+            chains: Chains::new(alloc),
             column: 0,
             indent: 0,
             joined: 0,
@@ -183,6 +197,7 @@ impl<'a> Printer<'a> {
         let first = self.next_group;
         self.atoms.truncate(top);
         self.groups.truncate(top_groups);
+        self.chains.clear();
         for _ in first..top_groups {
             let next = self.next_group;
             match self.groups.get(next) {
@@ -446,7 +461,7 @@ impl<'a> Printer<'a> {
                 Gap::Line(_) | Gap::Blank(_) => 0,
                 _ => column.saturating_sub(indent),
             };
-            self.break_chain(index, used);
+            self.break_chain(index, used)?;
         }
         let mut style = Style::Flat;
         let mut inner = 0;
@@ -519,6 +534,7 @@ impl<'a> Printer<'a> {
         self.list.operators = false;
         self.list.chain_from = 0;
         self.list.chain_until = 0;
+        self.list.where_depth = NOWHERE;
         Ok(if joins {
             Gap::Space
         } else if first {
@@ -567,20 +583,36 @@ impl<'a> Printer<'a> {
 
     // The gap before another atom of a part.
     fn part_gap(&mut self, index: usize) -> Gap {
+        let bound = self.list.where_depth != NOWHERE && self.begins_bound(index);
         let previous = self.previous(index);
         if previous.glued {
             return Gap::Nothing;
         }
         let assigned = previous.is_mark('=') && previous.role == Role::Between;
-        match self.atom(index).line {
-            Break::Operator(column) => {
-                self.list.deep = column;
+        if self.list.where_depth != NOWHERE {
+            if self.atom(index).is_brace() && index.saturating_add(1) == self.list.part_end {
+                return Gap::Line(self.list.indent);
+            }
+            if bound {
+                return Gap::Line(deeper(self.list.indent));
+            }
+        }
+        let own = self.atom(index);
+        let line = own.line;
+        let dot = own.role == Role::Dot;
+        let binds = own.is_word(Word::Where);
+        if line != NO_LINE {
+            self.list.deep = line;
+            return Gap::Line(line);
+        }
+        if dot {
+            if let Some(column) = self.chains.line_at(self.list.first, index) {
                 return Gap::Line(column);
             }
-            Break::Line(column) => return Gap::Line(column),
-            Break::Nothing => {}
         }
-        if self.atom(index).is_word(Word::Where) && self.break_where(index) {
+        if binds && self.breaks_where() {
+            self.list.where_depth = 0;
+            self.list.after_where = true;
             return Gap::Line(self.list.indent);
         }
         if assigned {
@@ -609,44 +641,40 @@ impl<'a> Printer<'a> {
                 return false;
             }
         }
-        wide <= CHAIN || self.chain_of(index).dots < 2
+        if wide <= CHAIN {
+            return true;
+        }
+        let chain = chain_at(self.atoms.as_slice(), index, end);
+        chain.first == chain.last
     }
 
-    // Breaks the lines of a `where`, if it stands before a body or at the end of an item.
-    fn break_where(&mut self, index: usize) -> bool {
+    // Whether the lines of a `where` of this part are broken: it stands before a body or at the end of an item.
+    fn breaks_where(&self) -> bool {
         let end = self.list.part_end;
         let last = self.previous(end);
         let comma = self.previous(end.saturating_sub(1));
-        let body = last.is_brace() && comma.is_mark(',');
-        if !body && !last.is_mark(';') {
-            return false;
-        }
-        let column = deeper(self.list.indent);
-        let mut depth: usize = 0;
-        let mut begins = true;
-        for later in index.saturating_add(1)..end {
-            let role = self.atom(later).role;
-            if begins {
-                self.set_break(later, Break::Line(column));
-            }
-            if role == Role::Less {
-                depth = depth.saturating_add(1);
-            }
-            if role == Role::Greater {
-                depth = depth.saturating_sub(1);
-            }
-            begins = role == Role::Comma && depth == 0;
-        }
-        if body {
-            let indent = self.list.indent;
-            self.set_break(end.saturating_sub(1), Break::Line(indent));
-        }
-        true
+        last.is_brace() && comma.is_mark(',') || last.is_mark(';')
     }
 
-    fn set_break(&mut self, index: usize, line: Break) {
+    // Whether a bound of the last `where` begins with the atom, which comes next. Each is asked about once.
+    fn begins_bound(&mut self, index: usize) -> bool {
+        if self.list.after_where {
+            self.list.after_where = false;
+            return true;
+        }
+        let depth = self.list.where_depth;
+        match self.previous(index).role {
+            Role::Less => self.list.where_depth = depth.saturating_add(1),
+            Role::Greater => self.list.where_depth = depth.saturating_sub(1),
+            Role::Comma => return depth == 0,
+            _ => {}
+        }
+        false
+    }
+
+    fn set_line(&mut self, index: usize, column: usize) {
         if let Some(own) = self.atoms.get_mut(index) {
-            own.line = line;
+            own.line = column;
         }
     }
 
@@ -670,18 +698,28 @@ impl<'a> Printer<'a> {
         !called || own.width <= CHAIN.saturating_add(2) || earlier.is_word(Word::Fn)
     }
 
+    // Whether characters have to follow an atom on its line.
+    fn has_tail(&self, index: usize) -> bool {
+        let next = index.saturating_add(1);
+        next < self.list.part_end && !self.ends_tail(index, next)
+    }
+
+    // Whether what has to follow the atom of `index` on its line ends before the one of `later`.
+    fn ends_tail(&self, index: usize, later: usize) -> bool {
+        let own = self.atom(later);
+        let previous = self.previous(later);
+        let next_line = own.role == Role::Dot
+            || own.role == Role::Between && (own.is_and() || own.is_or());
+        own.is_word(Word::Where)
+            || previous.is_group() && later > index.saturating_add(1)
+            || next_line && !previous.glued
+    }
+
     // How many characters have to follow an atom on its line.
     fn tail(&self, index: usize) -> usize {
         let mut end = index.saturating_add(1);
         for later in index.saturating_add(1)..self.list.part_end {
-            let own = self.atom(later);
-            let previous = self.previous(later);
-            let next_line = own.role == Role::Dot
-                || own.role == Role::Between && (own.is_and() || own.is_or());
-            if own.is_word(Word::Where)
-                || previous.is_group() && later > index.saturating_add(1)
-                || next_line && !previous.glued
-            {
+            if self.ends_tail(index, later) {
                 break;
             }
             end = later.saturating_add(1);
@@ -795,7 +833,7 @@ impl<'a> Printer<'a> {
         };
         for later in index.saturating_add(1)..stop {
             if operator_of(self.atom(later)) == found && !self.previous(later).glued {
-                self.set_break(later, Break::Operator(column));
+                self.set_line(later, column);
             }
         }
     }
@@ -826,140 +864,81 @@ impl<'a> Printer<'a> {
             let wide = self.width(start, later).saturating_add(more);
             if bar > index && column.saturating_add(wide) > WIDTH {
                 let indent = self.list.indent;
-                self.set_break(bar, Break::Operator(indent));
+                self.set_line(bar, indent);
                 start = bar;
             }
             bar = later;
         }
     }
 
-    // The chain of calls that begins here.
-    fn chain_of(&self, index: usize) -> Chain {
-        let mut chain = Chain {
-            end: index,
-            dots: 0,
-            first: 0,
-            last: 0,
-        };
-        let mut depth: usize = 0;
-        for later in index..self.list.part_end {
-            let own = self.atom(later);
-            let previous = before(self.atoms.as_slice(), index, later);
-            if own.role == Role::Less {
-                depth = depth.saturating_add(1);
-            }
-            if own.role == Role::Greater {
-                depth = depth.saturating_sub(1);
-            }
-            if own.role == Role::Dot && later > index {
-                if chain.dots == 0 {
-                    chain.first = later;
-                }
-                chain.last = later;
-                chain.dots = chain.dots.saturating_add(1);
-            } else if depth == 0 && !goes_on(own, previous) {
-                break;
-            }
-            chain.end = later.saturating_add(1);
+    // The chain of calls that begins here, if it has dots.
+    fn next_chain(&mut self, index: usize) -> Result<Option<Chain>, AllocError> {
+        if index >= self.list.read_until {
+            let chain = chain_at(self.atoms.as_slice(), index, self.list.part_end);
+            self.list.read_until = chain.end;
+            self.list.read_dots = chain.first != NOWHERE;
+            return Ok(Some(chain));
         }
-        chain
+        if !self.list.read_dots {
+            return Ok(None);
+        }
+        let list = self.list.first;
+        let until = self.list.read_until;
+        let atoms = self.atoms.as_slice();
+        let chain = self
+            .chains
+            .inner(atoms, &mut self.opens, list, index, until)?;
+        Ok(Some(chain))
     }
 
     // Breaks the lines of the chain of calls that begins here before its dots, if it is too long. `used` says how many
     // characters stand before it on the line.
-    fn break_chain(&mut self, index: usize, used: usize) {
+    fn break_chain(&mut self, index: usize, used: usize) -> Result<(), AllocError> {
         self.list.chain_from = 0;
         self.list.chain_until = 0;
         self.list.chain = deeper(self.list.deep);
-        let chain = self.chain_of(index);
-        if chain.dots == 0 {
-            return;
-        }
-        let mut loose: usize = 0;
-        let mut forced = self.is_tall(index, chain.last);
-        for dot in chain.first..chain.end {
-            let previous = self.previous(dot);
-            if self.atom(dot).role == Role::Dot && !previous.glued {
-                loose = loose.saturating_add(1);
-                forced = forced || previous.role == Role::After;
-            }
-        }
-        if loose == 0 {
-            return;
-        }
-        let tall = self.is_tall(index, chain.end);
-        if !forced {
-            let after = self.tail(chain.end.saturating_sub(1)).min(1);
-            let short = self.fit(index, chain.end, after) && self.width(index, chain.end) <= CHAIN;
-            if chain.dots == 1 || short || tall && self.is_short_call(&chain, index) {
-                return;
-            }
+        let Some(chain) = self.next_chain(index)? else {
+            return Ok(());
+        };
+        if chain.loose == NOWHERE || self.stays_on_line(&chain, index) {
+            return Ok(());
         }
         let root = self.width(index, chain.first);
-        let keeps = loose > 1
+        let keeps = chain.next_loose != NOWHERE
+            && chain.loose == chain.first
             && !self.is_tall(index, chain.first)
             && root.saturating_add(used) <= TAB;
-        let mut from = chain.end;
-        for dot in chain.first..chain.end {
-            let first = dot == chain.first && keeps;
-            if self.atom(dot).role == Role::Dot && !self.previous(dot).glued && !first {
-                from = from.min(dot);
-            }
-        }
+        let from = if keeps { chain.next_loose } else { chain.loose };
         if self.is_tall(index, from) {
             self.list.chain = self.list.deep;
         }
-        let column = self.list.chain;
-        for dot in from..chain.end {
-            if self.atom(dot).role == Role::Dot && !self.previous(dot).glued {
-                self.set_break(dot, Break::Line(column));
-            }
-        }
         self.list.chain_from = from;
         self.list.chain_until = chain.end;
+        let list = self.list.first;
+        self.chains
+            .break_dots(list, index, (from, chain.end), self.list.chain)
+    }
+
+    // Whether no line of a chain breaks before its dots.
+    fn stays_on_line(&self, chain: &Chain, index: usize) -> bool {
+        if chain.after || self.is_tall(index, chain.last) {
+            return false;
+        }
+        if chain.first == chain.last {
+            return true;
+        }
+        let tail = self.has_tail(chain.end.saturating_sub(1)) as usize;
+        let short = self.fit(index, chain.end, tail) && self.width(index, chain.end) <= CHAIN;
+        short || self.is_tall(index, chain.end) && self.is_short_call(chain, index)
     }
 
     // Whether only the arguments of the last call need several lines.
     fn is_short_call(&self, chain: &Chain, index: usize) -> bool {
-        for later in chain.last..chain.end {
-            let own = self.atom(later);
-            if own.is_group() {
-                return !own.is_empty()
-                    && self.fit(index, later, 0)
-                    && self.width(index, later) <= CHAIN;
-            }
-        }
-        false
+        chain.call != NOWHERE
+            && !self.atom(chain.call).is_empty()
+            && self.fit(index, chain.call, 0)
+            && self.width(index, chain.call) <= CHAIN
     }
-}
-
-// A chain of calls: where it ends, how many dots it has, and the first and the last of them.
-#[derive(Clone, Copy)]
-struct Chain {
-    end: usize,
-    dots: usize,
-    first: usize,
-    last: usize,
-}
-
-// Whether the atom goes on with a chain of calls.
-fn goes_on(own: &Atom, previous: &Atom) -> bool {
-    if matches!(
-        own.role,
-        Role::Path | Role::After | Role::Bang | Role::Greater
-    ) {
-        return true;
-    }
-    let open = previous.is_nothing()
-        || previous.is_sign()
-            && matches!(
-                previous.role,
-                Role::Plain | Role::Dot | Role::Path | Role::Before
-            );
-    if open && (own.is_any_word() || own.role == Role::Before) {
-        return true;
-    }
-    own.is_group() && (previous.is_nothing() || !own.is_brace() || previous.role == Role::Bang)
 }
 
 // Whether an expression may begin after the atom.

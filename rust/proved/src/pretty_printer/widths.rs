@@ -83,6 +83,7 @@ fn ends_statement(own: &Atom, next: &Atom, signs_only: bool) -> bool {
 
 /// Whether a space looks well before the atom of this index, which is to have this role, and which isn't the first of
 /// its list.
+#[inline(always)]
 pub fn wants_space(
     atoms: &[Atom],
     first: usize,
@@ -152,9 +153,15 @@ pub fn measure(atoms: &mut Vec<Atom>, first: usize, end: usize) {
         return;
     }
     let mut changed = false;
+    // The branches of an `if` among those of another end there too. They are no wider, so nothing is left to do for it.
+    let mut past = first;
     for index in first..end {
-        if atom(atoms.as_slice(), index).begins_branches {
-            changed = spread(atoms, index, end) || changed;
+        if index >= past && atom(atoms.as_slice(), index).begins_branches {
+            past = end;
+            if let Some(found) = branches_end(atoms.as_slice(), index, end) {
+                past = found;
+                changed = spread(atoms, index, past) || changed;
+            }
         }
     }
     if changed {
@@ -184,17 +191,21 @@ fn place(atoms: &mut Vec<Atom>, first: usize, end: usize) -> bool {
     branches
 }
 
-// Makes blocks of the branches of the `if` of this index, where they are too wide for one line. Answers whether it did.
-fn spread(atoms: &mut Vec<Atom>, index: usize, end: usize) -> bool {
-    let mut past = index.saturating_add(1);
+// Where the branches of the `if` of this index end. Where it has none, no `if` after it has any.
+fn branches_end(atoms: &[Atom], index: usize, end: usize) -> Option<usize> {
     for later in index..end {
-        let own = atom(atoms.as_slice(), later);
+        let own = atom(atoms, later);
         let branch = own.is_group() && matches!(own.role, Role::Branch | Role::Block);
-        if branch && !after(atoms.as_slice(), end, later).is_word(Word::Else) {
-            past = later.saturating_add(1);
-            break;
+        if branch && !after(atoms, end, later).is_word(Word::Else) {
+            return Some(later.saturating_add(1));
         }
     }
+    None
+}
+
+// Makes blocks of the branches of the `if` of this index, which end before `past`, where they are too wide for one
+// line. Answers whether it did.
+fn spread(atoms: &mut Vec<Atom>, index: usize, past: usize) -> bool {
     if !is_tall(atoms.as_slice(), index, past) && width(atoms.as_slice(), index, past) <= BRANCHES {
         return false;
     }

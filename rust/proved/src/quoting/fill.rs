@@ -5,7 +5,7 @@
 
 use crate::shim::prelude::Clone;
 
-use crate::quoting::draft::Draft;
+use crate::quoting::builder::StreamBuilder;
 use crate::quoting::errors::TemplateError;
 use crate::quoting::holes::Hole;
 use crate::quoting::interpolation::{FoundInterpolation, Repetition, interpolation_at};
@@ -25,15 +25,15 @@ pub(crate) fn filled(
 ) -> Result<TokenStream, TemplateError>
 {
     let trees = template.trees();
-    let mut draft = Draft::new(alloc, trees.len());
-    fill_onto(alloc, &mut draft, trees, holes, turn, depth)?;
-    Ok(draft.finish()?)
+    let mut out = StreamBuilder::new(alloc);
+    fill_onto(alloc, &mut out, trees, holes, turn, depth)?;
+    Ok(out.finish()?)
 }
 
-// Puts the trees with the holes filled after those of the draft, as `filled` does.
+// Puts the trees with the holes filled after those of the stream, as `filled` does.
 fn fill_onto(
     alloc: Global,
-    draft: &mut Draft,
+    out: &mut StreamBuilder,
     template: &[TokenTree],
     holes: &[Hole<'_>],
     turn: Option<usize>,
@@ -46,18 +46,18 @@ fn fill_onto(
             None => {
                 if let TokenTree::Group(group) = tree {
                     let inside = filled_inside(alloc, group, holes, turn, depth)?;
-                    draft.put(TokenTree::Group(regrouped(group, inside)))?;
+                    out.put(TokenTree::Group(regrouped(group, inside)), after.len())?;
                 } else {
-                    draft.put(apart_before(tree, after)?)?;
+                    out.put(apart_before(tree, after)?, after.len())?;
                 }
                 left = after;
             }
             Some(FoundInterpolation::Names(name, rest)) => {
-                draft.append(name.put_in(holes, turn)?)?;
+                out.append(name.put_in(holes, turn)?, rest.len())?;
                 left = rest;
             }
             Some(FoundInterpolation::Repeats(repetition, rest)) => {
-                repeat_onto(alloc, draft, &repetition, holes, turn, depth)?;
+                repeat_onto(alloc, out, &repetition, holes, turn, depth)?;
                 left = rest;
             }
         }
@@ -127,11 +127,11 @@ fn is_fixed(tree: &TokenTree) -> bool
     }
 }
 
-// Puts the turns of a repetition after the trees of the draft, with the separator between them. That it names no list
+// Puts the turns of a repetition after the trees of the stream, with the separator between them. That it names no list
 // comes before what is wrong inside.
 fn repeat_onto(
     alloc: Global,
-    draft: &mut Draft,
+    out: &mut StreamBuilder,
     repetition: &Repetition<'_>,
     holes: &[Hole<'_>],
     turn: Option<usize>,
@@ -151,17 +151,22 @@ fn repeat_onto(
     };
     checked(trees, holes, inner, turns)?;
     for turn in 0..turns {
-        separate(draft, repetition.separator, turn)?;
-        fill_onto(alloc, draft, trees, holes, Some(turn), inner)?;
+        separate(out, repetition.separator, turn, trees.len())?;
+        fill_onto(alloc, out, trees, holes, Some(turn), inner)?;
     }
     Ok(())
 }
 
-// Puts the separator at the end, Alone, before a turn that is not the first.
-fn separate(draft: &mut Draft, separator: Option<&Punct>, turn: usize) -> Result<(), AllocError>
+// Puts the separator at the end, Alone, before a turn that is not the first. So many more trees are expected.
+fn separate(
+    out: &mut StreamBuilder,
+    separator: Option<&Punct>,
+    turn: usize,
+    more: usize,
+) -> Result<(), AllocError>
 {
     match separator {
-        Some(mark) if turn > 0 => draft.put(TokenTree::Punct(spaced(mark, Spacing::Alone))),
+        Some(mark) if turn > 0 => out.put(TokenTree::Punct(spaced(mark, Spacing::Alone)), more),
         _ => Ok(()),
     }
 }

@@ -4,6 +4,7 @@
 use proved::shim::prelude::String;
 
 use crate::indent::choosing::{Step, choices};
+use proved::explain::{ExplainError, explain};
 use crate::messages::Failure;
 use proved::proc_macro2::{SourceMap, TokenStream};
 use proved::relayout::{RelayoutError, relayout};
@@ -39,17 +40,28 @@ pub fn is_indented(alloc: Global, text: &str, step: Step) -> Result<bool, Failur
     Ok(indented.as_str() == text)
 }
 
-// The text with its lines indented.
+// The text with its lines indented. No trees are built to learn whether it parses.
 fn indent(alloc: Global, text: &str, step: Step) -> Result<String, Failure>
 {
-    let mut map = SourceMap::new(alloc);
-    match TokenStream::from_str(text, &mut map) {
-        Ok(_) => indent_parsed(alloc, text, step),
-        Err(error) => Err(Failure::unparsed(error, &map)),
+    match explain(alloc, text) {
+        Ok(None) => indent_parsed(alloc, text, step),
+        Ok(Some(_)) => Err(fault_of(alloc, text)),
+        Err(ExplainError::MapFull) => Err(Failure::MapFull),
+        Err(ExplainError::Memory(_)) => Err(Failure::Memory),
     }
 }
 
-// The same of a text that parses. Only memory can fail.
+// The failure of a text that doesn't parse: the line and column of its fault. Only here a map is needed to find them.
+fn fault_of(alloc: Global, text: &str) -> Failure
+{
+    let mut map = SourceMap::new(alloc);
+    match TokenStream::from_str(text, &mut map) {
+        Ok(_) => unreachable!(),
+        Err(error) => Failure::unparsed(error, &map),
+    }
+}
+
+// The text with its lines indented, if it parses. It fails only where memory runs out.
 fn indent_parsed(alloc: Global, text: &str, step: Step) -> Result<String, Failure>
 {
     let choices = choices(alloc, text, step)?;
