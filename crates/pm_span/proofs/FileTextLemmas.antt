@@ -13,8 +13,8 @@ use Rattle.pm_span.specs.declared.file_info.FileText.TheVariants.{Ascii}
 use Rattle.pm_span.proofs.ByteOffsetLemmas.{narrow_between, text_end}
 
 pub ascii_offset :
-    {kept : FileText} {text : String Global} {own : List ℕ} (k : ℕ) → kept ≡ Ascii text → HasItsSize kept → text_of kept ≡ own
-    → k ≤ length own → k ≡ byte_offset own k
+    {kept : FileText} {text : String Global} {own : List ℕ} (k : ℕ) → kept ≡ Ascii text → HasItsSize kept
+    → text_of kept ≡ own → k ≤ length own → k ≡ byte_offset own k
 ascii_offset {kept} {text} {own} k is size same within =
     let count : length (string_bytes text) ≡ length (chars (string_bytes text)) = subst HasItsSize is size in
     let whole : chars (string_bytes text) ≡ own = ap text_of (sym is) ∙ same in

@@ -4,4 +4,5 @@ use Rattle.pm_span.proofs.file_info.FileInfo.byte_offset.Goals as goal
 
 pub returns-in-Ascii : goal.returns-in-Ascii
 returns-in-Ascii c =
-    ascii_offset c.args.char_offset c.in-Ascii.is c.self.invariant.size (ap (λ file. file.text) c.self.view_is) c.requires
+    ascii_offset c.args.char_offset c.in-Ascii.is c.self.invariant.size (ap (λ file. file.text) c.self.view_is)
+    c.requires

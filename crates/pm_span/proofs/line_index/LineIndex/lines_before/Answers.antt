@@ -4,8 +4,8 @@ use Rattle.pm_span.proofs.line_index.LineIndex.lines_before.Goals as goal
 
 -- what a block says holds of each offset from its start on
 of_block :
-    {starts blocks slice own : List ℕ} (size block : ℕ) {lines char_offset : ℕ} → AreBlocks size starts blocks → starts ≡ own
-    → slice ≡ blocks → block < length slice → lines ≡ get_or slice block 0 → block * size ≤ char_offset
+    {starts blocks slice own : List ℕ} (size block : ℕ) {lines char_offset : ℕ} → AreBlocks size starts blocks
+    → starts ≡ own → slice ≡ blocks → block < length slice → lines ≡ get_or slice block 0 → block * size ≤ char_offset
     → AreUpTo own lines char_offset
 of_block {starts} {blocks} {slice} {own} size block {lines} {char_offset} counts same whole less is begins =
     let here = counts block (omega (arith, ap length whole)) in

@@ -11,8 +11,8 @@ count_begun-number-requires c =
 
 pub returns-then-number-eq0 : goal.returns-then-number-eq0
 returns-then-number-eq0 c =
-    let found = found_at c.self.inside.files.items c.self.inside.limit c.bounds-lo.result.0 c.self.view_is c.deref.ensures.value
-    c.self.invariant.taken c.self.invariant.consecutive c.count_begun-number.ensures in
+    let found = found_at c.self.inside.files.items c.self.inside.limit c.bounds-lo.result.0 c.self.view_is
+    c.deref.ensures.value c.self.invariant.taken c.self.invariant.consecutive c.count_begun-number.ensures in
     let here : IsFileOf c.args.self.now c.args.span.lo c.count_begun-number.result file_0 =
     subst (λ p. IsFileOf c.args.self.now p c.count_begun-number.result file_0) (ap (λ p. p.0) c.bounds-lo.ensures.value)
     (subst (IsFileOf c.args.self.now c.bounds-lo.result.0 c.count_begun-number.result)
@@ -25,12 +25,13 @@ pub returns-else-number-eq0 : goal.returns-else-number-eq0
 returns-else-number-eq0 c =
     let number = c.count_begun-number.result in
     let file = get_or (file_0 ∷ c.self.inside.files.items) number file_0 in
-    let found = found_at c.self.inside.files.items c.self.inside.limit c.bounds-lo.result.0 c.self.view_is c.deref.ensures.value
-    c.self.invariant.taken c.self.invariant.consecutive c.count_begun-number.ensures in
+    let found = found_at c.self.inside.files.items c.self.inside.limit c.bounds-lo.result.0 c.self.view_is
+    c.deref.ensures.value c.self.invariant.taken c.self.invariant.consecutive c.count_begun-number.ensures in
     let here : IsFileOf c.args.self.now c.args.span.lo number file =
     subst (λ p. IsFileOf c.args.self.now p number file) (ap (λ p. p.0) c.bounds-lo.ensures.value) found.0 in
     let held = holds_at c.args.span here c.bounds-lo.ensures.ordered in
-    let place = place_at c.self.inside.files.items number c.self.invariant.taken c.if-number-eq0.false found.1 c.index.ensures in
+    let place = place_at c.self.inside.files.items number c.self.invariant.taken c.if-number-eq0.false found.1
+    c.index.ensures in
     let end = ap (λ p. p.hi) place in
     let hi = ap (λ p. p.1) c.bounds-lo.ensures.value in (
       λ is. held.0 (omega (arith, leb-true _ _ is, end, hi)),
