@@ -12,7 +12,8 @@ use proved::shim::io;
 use proved::shim::io::Write;
 
 /// What stands before the record.
-const HEAD: &str = "This record detects change and proves nothing right: it is what the code answered when it was made.
+const HEAD: &str =
+    "This record detects change and proves nothing right: it is what the code answered when it was made.
 bench/pretty_record/remake.py makes it anew, tells how many streams moved, and shows ten of them before and after.
 ";
 
@@ -95,7 +96,10 @@ fn write_row<W: Write>(
         Ok(text) if digest => writeln!(writer, "== {number} {}", digest_of(text.as_bytes())),
         Ok(text) => write!(writer, "== {number}\n{text}"),
         Err(QuoteError::Memory(error)) => Err(io::Error::from(error)),
-        Err(QuoteError::NoneGroup) => writeln!(writer, "== {number} has a group with no delimiters"),
+        Err(QuoteError::NoneGroup) => writeln!(
+            writer,
+            "== {number} has a group with no delimiters"
+        ),
         Err(QuoteError::LoneQuote) => writeln!(writer, "== {number} has a lone quote"),
     }
 }
