@@ -3,3 +3,4 @@ mod WordLemmas
 mod ComparingLemmas
 mod TokenLemmas
 mod AnswerLemmas
+mod PlaceLemmas
