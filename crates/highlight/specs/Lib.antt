@@ -5,3 +5,4 @@ pub mod Nesting
 pub mod Pieces
 pub mod Page
 pub mod Seen
+pub mod Request

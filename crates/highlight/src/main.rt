@@ -16,31 +16,26 @@ mod unread;
 mod writing;
 
 use answer::write_marked;
-use format::Format;
-use messages::{Failure, conclude, path, read_text, words};
+use format::{Format, USAGE, request_of};
+use messages::{Failure, conclude, read_text, words};
 use std::env;
 use std::io::{BufWriter, Write};
 use std::process::ExitCode;
 
-const USAGE: &str = "highlight html|term [FILE]";
-
 fn main(rt: HostRuntime) -> ExitCode {
-    match asked(&rt) {
-        Ok((format, path)) => {
-            let outcome = run(&rt, format, path.as_str());
-            conclude(rt.alloc(), path.as_str(), outcome, &mut rt.stderr())
-        }
+    match words(rt.alloc(), env::args(&rt), USAGE) {
+        Ok(words) => respond(&rt, words.as_slice()),
         Err(failure) => conclude(rt.alloc(), "-", Err(failure), &mut rt.stderr()),
     }
 }
 
-// The format and the path that the words after the program's name ask for.
-fn asked(rt: &HostRuntime) -> Result<(Format, String), Failure> {
-    let words = words(rt.alloc(), env::args(rt), USAGE)?;
-    let Some((word, paths)) = words.as_slice().split_first() else {
-        return Err(Failure::Usage(USAGE));
+// Does what the words after the program's name ask for, and answers the status.
+fn respond(rt: &HostRuntime, words: &[String]) -> ExitCode {
+    let (path, outcome) = match request_of(words) {
+        Some((format, path)) => (path, run(rt, format, path)),
+        None => ("-", Err(Failure::Usage(USAGE))),
     };
-    Ok((format_named(word)?, path(rt.alloc(), paths, USAGE)?))
+    conclude(rt.alloc(), path, outcome, &mut rt.stderr())
 }
 
 // Writes the text at the path with its pieces marked.
@@ -49,13 +44,4 @@ fn run(rt: &HostRuntime, format: Format, path: &str) -> Result<(), Failure> {
     let mut writer = BufWriter::new(rt.alloc(), rt.stdout())?;
     write_marked(rt.alloc(), format, text.as_str(), &mut writer)?;
     Ok(writer.flush()?)
-}
-
-// The format that a word names.
-fn format_named(word: &String) -> Result<Format, Failure> {
-    match word.as_str() {
-        "html" => Ok(Format::Html),
-        "term" => Ok(Format::Term),
-        _ => Err(Failure::Usage(USAGE)),
-    }
 }

@@ -8,34 +8,24 @@ use proved::shim::process::{ExitCode, HostRuntime};
 use proved::shim::string::String;
 use std::io::{BufWriter, Write};
 use tools::highlight::answer::write_marked;
-use tools::highlight::format::Format;
-use tools::messages::{conclude, path, read_text, words, Failure};
-
-const USAGE: &str = "highlight html|term [FILE]";
+use tools::highlight::format::{request_of, Format, USAGE};
+use tools::messages::{conclude, read_text, words, Failure};
 
 fn main() -> ExitCode {
     let rt = HostRuntime;
-    match asked(&rt) {
-        Ok((format, path)) => {
-            let outcome = run(&rt, format, path.as_str());
-            conclude(rt.alloc(), path.as_str(), outcome, &mut rt.stderr())
-        }
+    match words(rt.alloc(), env::args(&rt), USAGE) {
+        Ok(words) => respond(&rt, words.as_slice()),
         Err(failure) => conclude(rt.alloc(), "-", Err(failure), &mut rt.stderr()),
     }
 }
 
-// The format and the path that the words after the program's name ask for.
-fn asked(rt: &HostRuntime) -> Result<(Format, String), Failure> {
-    let words = words(rt.alloc(), env::args(rt), USAGE)?;
-    let Some((word, paths)) = words.as_slice().split_first() else {
-        return Err(Failure::Usage(USAGE));
+// Does what the words after the program's name ask for, and answers the status.
+fn respond(rt: &HostRuntime, words: &[String]) -> ExitCode {
+    let (path, outcome) = match request_of(words) {
+        Some((format, path)) => (path, run(rt, format, path)),
+        None => ("-", Err(Failure::Usage(USAGE))),
     };
-    let format = match word.as_str() {
-        "html" => Format::Html,
-        "term" => Format::Term,
-        _ => return Err(Failure::Usage(USAGE)),
-    };
-    Ok((format, path(rt.alloc(), paths, USAGE)?))
+    conclude(rt.alloc(), path, outcome, &mut rt.stderr())
 }
 
 // Writes the text at the path with its pieces marked.
