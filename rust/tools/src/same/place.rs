@@ -3,21 +3,23 @@
 
 use proved::proc_macro2::LineColumn;
 
-/// The line, from 1, and how many characters of it stand before what follows so many bytes of the text.
-pub fn place_at(text: &str, bytes: usize) -> LineColumn {
-    let mut line: usize = 1;
-    let mut column: usize = 0;
+/// The line and the column of what follows so many bytes of the text. Lines count from 1, columns in characters from 0.
+pub fn place_at(text: &str, bytes: usize) -> LineColumn
+{
+    let mut line = 1;
+    let mut column = 0;
     let mut left = bytes;
-    for c in text.chars() {
-        if left == 0 {
+    let mut rest = text.chars();
+    while left > 0 {
+        let Some(c) = rest.next() else {
             break;
-        }
+        };
         left = left.saturating_sub(c.len_utf8());
         if c == '\n' {
-            line = line.saturating_add(1);
+            line += 1;
             column = 0;
         } else {
-            column = column.saturating_add(1);
+            column += 1;
         }
     }
     LineColumn { line, column }
