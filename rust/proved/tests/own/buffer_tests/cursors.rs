@@ -144,6 +144,18 @@ fn a_cursor_is_printed_as_its_stream() -> Result<(), Fail> {
     Ok(())
 }
 
+#[test]
+fn a_long_list_is_printed_without_an_error() -> Result<(), Fail> {
+    let rt = HostRuntime;
+    let mut text = String::from_str(rt.alloc(), "x")?;
+    for _ in 0..70_000 {
+        text.push_str(" + \"y\" { z } (r#w)")?;
+    }
+    let buffer = TokenBuffer::new(rt.alloc(), text.as_str())?;
+    check_printed(&rt, buffer.begin(), text.as_str())?;
+    Ok(())
+}
+
 // Two texts, and whether their trees are the same but for spans.
 const COMPARED: [(&str, &str, bool); 18] = [
     ("a", "  a", true),

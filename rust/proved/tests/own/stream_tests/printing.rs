@@ -42,3 +42,28 @@ fn deep_groups_are_printed_without_an_error() -> Result<(), Fail> {
     let text = repeated(rt.alloc(), &[("(", 70_000), ("x", 1), (")", 70_000)])?;
     one_tree_is_written(&rt, text.as_str())
 }
+
+#[test]
+fn a_long_name_is_printed_without_an_error() -> Result<(), Fail> {
+    let rt = HostRuntime;
+    let text = repeated(rt.alloc(), &[("r#", 1), ("a", 1_100_000)])?;
+    one_tree_is_written(&rt, text.as_str())
+}
+
+#[test]
+fn a_long_list_is_printed_without_an_error() -> Result<(), Fail> {
+    let rt = HostRuntime;
+    let text = repeated(rt.alloc(), &[("x + \"y\" (z) ", 70_000), ("'a", 1)])?;
+    is_written(&rt, &parsed(rt.alloc(), text.as_str())?, text.as_str());
+    Ok(())
+}
+
+#[test]
+fn a_long_list_in_a_group_is_printed_without_an_error() -> Result<(), Fail> {
+    let rt = HostRuntime;
+    for (front, back) in [("(x", ")"), ("[x", "]"), ("{ x", " }")] {
+        let text = repeated(rt.alloc(), &[(front, 1), (" x ;", 130_000), (back, 1)])?;
+        one_tree_is_written(&rt, text.as_str())?;
+    }
+    Ok(())
+}
