@@ -44,7 +44,7 @@ fn push_stream<W: Write>(alloc: Global, out: &mut W, quote: &mut Quote) -> Resul
     show(out, quote.push_stream(stream))
 }
 
-/// Fills a template with a stream for its name and one for each turn of its repetition.
+/// Fills a template with a tree for its name, no tree for another, and a tree for each turn of its repetition.
 fn fill<W: Write>(
     alloc: Global,
     out: &mut W,
@@ -53,8 +53,13 @@ fn fill<W: Write>(
 ) -> Result<(), Fail> {
     let template = TokenStream::from_str(template, &mut SourceMap::new(alloc))?;
     let one = TokenStream::from_tree(alloc, name(alloc, "z")?)?;
+    let nil = TokenStream::new(alloc);
     let each = [one.clone()?, one.clone()?];
-    let holes = [Hole::one("one", &one), Hole::each("each", &each)];
+    let holes = [
+        Hole::one("one", &one),
+        Hole::one("nil", &nil),
+        Hole::each("each", &each),
+    ];
     begin(out)?;
     show(out, quote.fill(&template, &holes))
 }
