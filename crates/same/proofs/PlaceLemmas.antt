@@ -1,6 +1,8 @@
 -- Places of a text, one character after the other.
-use Rattle.std.proofs.Common.{◌≡◌, ◌∙◌, ◌+◌, ◌-◌, ◌<◌, ◌≤◌, ◌++◌, ◌⊎◌, ℕ, Bool, true, false, not, List, [], ◌∷◌, refl, sym, ap}
-use Rattle.std.proofs.Common.{append_assoc, append-nil, length, length-append, reverse, arith, encode_utf8, ◌==◌, inl, inr}
+use Rattle.std.proofs.Common.{◌≡◌, ◌∙◌, ◌+◌, ◌-◌, ◌<◌, ◌≤◌, ◌++◌, ◌⊎◌, ℕ, Bool, true, false, not, List, [], ◌∷◌}
+use Rattle.std.proofs.Common.{refl, sym, ap}
+use Rattle.std.proofs.Common.{append_assoc, append-nil, length, length-append, reverse, arith, encode_utf8, ◌==◌}
+use Rattle.std.proofs.Common.{inl, inr}
 use Rattle.std.specs.Prelude.{cond, take}
 use Rattle.std.specs.Char.{len_utf8}
 use Rattle.std.specs.List.{take_while, count_by}
