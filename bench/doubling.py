@@ -37,9 +37,9 @@ PROGRAMS = {
     "outline": ["outline", "-"], "outline --json": ["outline", "--json", "-"],
     "outline --ctags": ["outline", "--ctags", "-"], "find_calls": ["find_calls", "a", "-"],
 }
-# What `--named` takes.
+# What `--named` takes. `outline` is not among them: it fails on four named shapes (bench/README.md).
 QUICK = ["pretty", "to_pretty_string", "text_with", "from_str", "reprint", "place_trees", "token_buffer", "explain",
-         "relayout", "with_doc_comments", "quote_parse", "quote_finish", "outline"]
+         "relayout", "with_doc_comments", "quote_parse", "quote_finish"]
 
 
 def build() -> pathlib.Path:
