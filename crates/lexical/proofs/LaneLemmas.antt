@@ -20,14 +20,14 @@ abbrev pub AreBytes : List ℕ → Type 0
 AreBytes bytes = (i : ℕ) → get_or bytes i 0 < 256
 
 -- whether bytes come from bytes
-abbrev fits : (ℕ → ℕ) → Bool
+abbrev pub fits : (ℕ → ℕ) → Bool
 fits f = agree_below (λ b. nat_lt (f b) 256) (λ b. true) 256
 
 is_byte : (f : ℕ → ℕ) → fits f ≡ true → (b : ℕ) → b < 256 → f b < 256
 is_byte f h b low = ltb-true (f b) 256 (agree_below_at (λ b. nat_lt (f b) 256) (λ b. true) 256 b h low)
 
 module _ (f g : ℕ → ℕ) (f_fits : fits f ≡ true) (g_fits : fits g ≡ true) where
-  and_each : (bytes : List ℕ) → AreBytes bytes
+  pub and_each : (bytes : List ℕ) → AreBytes bytes
       → bit_and (word_of f bytes) (word_of g bytes) ≡ word_of (λ b. bit_and (f b) (g b)) bytes
   and_each [] small = refl
   and_each (b ∷ bytes) small =
@@ -35,7 +35,7 @@ module _ (f g : ℕ → ℕ) (f_fits : fits f ≡ true) (g_fits : fits g ≡ tru
       (is_byte g g_fits b (small 0))
       ∙ ap (λ x. x * 256 + bit_and (f b) (g b)) (and_each bytes (λ i. small (suc i)))
 
-  or_each : (bytes : List ℕ) → AreBytes bytes
+  pub or_each : (bytes : List ℕ) → AreBytes bytes
       → bit_or (word_of f bytes) (word_of g bytes) ≡ word_of (λ b. bit_or (f b) (g b)) bytes
   or_each [] small = refl
   or_each (b ∷ bytes) small =
@@ -43,7 +43,7 @@ module _ (f g : ℕ → ℕ) (f_fits : fits f ≡ true) (g_fits : fits g ≡ tru
       (is_byte g g_fits b (small 0))
       ∙ ap (λ x. x * 256 + bit_or (f b) (g b)) (or_each bytes (λ i. small (suc i)))
 
-  xor_each : (bytes : List ℕ) → AreBytes bytes
+  pub xor_each : (bytes : List ℕ) → AreBytes bytes
       → bit_xor (word_of f bytes) (word_of g bytes) ≡ word_of (λ b. bit_xor (f b) (g b)) bytes
   xor_each [] small = refl
   xor_each (b ∷ bytes) small =
@@ -51,12 +51,12 @@ module _ (f g : ℕ → ℕ) (f_fits : fits f ≡ true) (g_fits : fits g ≡ tru
       (is_byte g g_fits b (small 0))
       ∙ ap (λ x. x * 256 + bit_xor (f b) (g b)) (xor_each bytes (λ i. small (suc i)))
 
-add_each : (f g : ℕ → ℕ) (bytes : List ℕ)
+pub add_each : (f g : ℕ → ℕ) (bytes : List ℕ)
     → word_of f bytes + word_of g bytes ≡ word_of (λ b. f b + g b) bytes
 add_each f g [] = refl
 add_each f g (b ∷ bytes) = omega (arith, add_each f g bytes)
 
-same_each : (f g : ℕ → ℕ) → agree_below (λ b. nat_eq (f b) (g b)) (λ b. true) 256 ≡ true → (bytes : List ℕ)
+pub same_each : (f g : ℕ → ℕ) → agree_below (λ b. nat_eq (f b) (g b)) (λ b. true) 256 ≡ true → (bytes : List ℕ)
     → AreBytes bytes → word_of f bytes ≡ word_of g bytes
 same_each f g same [] small = refl
 same_each f g same (b ∷ bytes) small =
@@ -64,23 +64,23 @@ same_each f g same (b ∷ bytes) small =
     (eqb-true (f b) (g b) (agree_below_at (λ b. nat_eq (f b) (g b)) (λ b. true) 256 b same (small 0)))
 
 -- the word of 8 bytes that are all this one
-abbrev repeated : ℕ → ℕ → ℕ
+abbrev pub repeated : ℕ → ℕ → ℕ
 repeated k zero = 0
 repeated k (suc n) = repeated k n * 256 + k
 
-each_is : (k : ℕ) (bytes : List ℕ) → word_of (λ b. k) bytes ≡ repeated k (length bytes)
+pub each_is : (k : ℕ) (bytes : List ℕ) → word_of (λ b. k) bytes ≡ repeated k (length bytes)
 each_is k [] = refl
 each_is k (b ∷ bytes) = ap (λ x. x * 256 + k) (each_is k bytes)
 
 -- all bits of a word turned over
-not_each : (f : ℕ → ℕ) → fits f ≡ true → (bytes : List ℕ) → AreBytes bytes
+pub not_each : (f : ℕ → ℕ) → fits f ≡ true → (bytes : List ℕ) → AreBytes bytes
     → word_of f bytes + word_of (λ b. 255 - f b) bytes ≡ repeated 255 (length bytes)
 not_each f h [] small = refl
 not_each f h (b ∷ bytes) small =
     let low = is_byte f h b (small 0) in
     omega (arith, low, not_each f h bytes (λ i. small (suc i)))
 
-read : (bytes : List ℕ) → length bytes ≡ 8 → from_le_bytes w64 bytes ≡ word_of (λ b. b) bytes
+pub read : (bytes : List ℕ) → length bytes ≡ 8 → from_le_bytes w64 bytes ≡ word_of (λ b. b) bytes
 read [] l = absurd (omega arith)
 read (a ∷ []) l = absurd (omega arith)
 read (a ∷ b ∷ []) l = absurd (omega arith)
@@ -95,7 +95,7 @@ read (a ∷ b ∷ c ∷ d ∷ e ∷ f ∷ g ∷ h ∷ x ∷ bytes) l = absurd (o
 -- ---- names
 
 -- what becomes of a byte
-abbrev low : ℕ → ℕ
+abbrev pub low : ℕ → ℕ
 low b = bit_and b 127
 
 abbrev small : ℕ → ℕ
@@ -193,7 +193,7 @@ module _ (bytes : List ℕ) (l : length bytes ≡ 8) (are : AreBytes bytes) (wor
 -- ---- the lowest bit of a word that is set
 
 -- so many bits have so many bytes
-abbrev eights : ℕ → ℕ
+abbrev pub eights : ℕ → ℕ
 eights zero = zero
 eights (suc n) = suc (suc (suc (suc (suc (suc (suc (suc (eights n))))))))
 
@@ -246,11 +246,13 @@ one_more : (on : Bool) (b word k : ℕ) (front : List ℕ) → count_trailing_ze
 one_more true b word k front rest = ap (λ n. n / 8) (past_byte k word) ∙ eight_more (count_trailing_zeros k word) _ rest
 one_more false b word k front rest = ap (λ n. n / 8) (at_top k word)
 
-first_stop : (bytes : List ℕ)
-    → count_trailing_zeros (eights (length bytes)) (word_of name_stop bytes) / 8 ≡ length (while_front continues bytes)
+-- where the first byte stands that doesn't pass, from the lowest bit that is set
+pub first_stop : (test : ℕ → Bool) (bytes : List ℕ)
+    → count_trailing_zeros (eights (length bytes)) (word_of (λ b. cond (test b) 0 128) bytes) / 8
+    ≡ length (while_front test bytes)
 unfolding count_trailing_zeros
-first_stop [] = refl
-first_stop (b ∷ bytes) = one_more (continues b) b _ _ _ (first_stop bytes)
+first_stop test [] = refl
+first_stop test (b ∷ bytes) = one_more (test b) b _ _ _ (first_stop test bytes)
 
 -- by what was read of 8 bytes
 pub name_in_word : (bytes : List ℕ) → length bytes ≡ 8 → AreBytes bytes → (word : ℕ) → word ≡ from_le_bytes w64 bytes
@@ -259,7 +261,7 @@ name_in_word bytes l are word is =
     ap (λ w. count_trailing_zeros 64 w / 8) (stops_is bytes l are word is)
     ∙ subst
     (λ n. count_trailing_zeros (eights n) (word_of name_stop bytes) / 8 ≡ length (while_front continues bytes)) l
-    (first_stop bytes)
+    (first_stop continues bytes)
 
 -- where none is set
 pub name_past_word : (bytes : List ℕ) → length bytes ≡ 8 → AreBytes bytes → (word : ℕ) → word ≡ from_le_bytes w64 bytes
@@ -306,21 +308,21 @@ counted_front test zero bytes = (omega arith, omega arith)
 counted_front test (suc n) [] = (omega arith, omega arith)
 counted_front test (suc n) (b ∷ bytes) = counted_or_not test n b bytes (test b) refl (counted_front test n bytes)
 
--- after so many bytes of a name, by what was counted in the next word
-module _ (bytes inside word : List ℕ) (n more : ℕ) (rest : inside ≡ drop n bytes) (front : word ≡ take 8 inside)
-    (counted : more ≡ length (while_front continues word)) (within : n ≤ length bytes)
-    (before : n + length (while_front continues (drop n bytes)) ≡ length (while_front continues bytes)) where
-  is_front : more ≡ length (while_front continues (take 8 (drop n bytes)))
-  is_front = counted ∙ ap (λ x. length (while_front continues x)) (front ∙ ap (take 8) rest)
+-- after so many bytes that pass, by what was counted in the next word
+module _ (test : ℕ → Bool) (bytes inside word : List ℕ) (n more : ℕ) (rest : inside ≡ drop n bytes)
+    (front : word ≡ take 8 inside)
+    (counted : more ≡ length (while_front test word)) (within : n ≤ length bytes)
+    (before : n + length (while_front test (drop n bytes)) ≡ length (while_front test bytes)) where
+  is_front : more ≡ length (while_front test (take 8 (drop n bytes)))
+  is_front = counted ∙ ap (λ x. length (while_front test x)) (front ∙ ap (take 8) rest)
 
-  pub name_goes_on : (n + more ≤ length bytes)
-      × (n + more + length (while_front continues (drop (n + more) bytes)) ≡ length (while_front continues bytes))
-  name_goes_on =
-      let all = counted_front continues 8 (drop n bytes) in
-      let after : length
-      (while_front continues (drop (length (while_front continues (take 8 (drop n bytes)))) (drop n bytes)))
-      ≡ length (while_front continues (drop (n + more) bytes)) =
-      ap (λ x. length (while_front continues x))
+  pub goes_on : (n + more ≤ length bytes)
+      × (n + more + length (while_front test (drop (n + more) bytes)) ≡ length (while_front test bytes))
+  goes_on =
+      let all = counted_front test 8 (drop n bytes) in
+      let after : length (while_front test (drop (length (while_front test (take 8 (drop n bytes)))) (drop n bytes)))
+      ≡ length (while_front test (drop (n + more) bytes)) =
+      ap (λ x. length (while_front test x))
       (ap (λ m. drop m (drop n bytes)) (sym is_front) ∙ drop-drop more n bytes) in (
         omega (arith, all.0, is_front, length-drop n bytes, within),
         omega (arith, all.1, is_front, after, before),

@@ -15,6 +15,8 @@ pub mod NameFinderLemmas
 pub mod WhiteRunLemmas
 pub mod WordLemmas
 pub mod LaneLemmas
+pub mod PlainLaneLemmas
+pub mod LineLaneLemmas
 pub mod CodeLemmas
 pub mod HashLemmas
 pub mod QuotedFinderLemmas

@@ -1,57 +1,48 @@
 -- What a few bytes tell of a line comment.
 use Rattle.std.proofs.Common.{◌≡◌, ℕ, ◌+◌, ◌<◌, Bool, true, false, not, ◌==◌, inl, inr, List, [], ◌∷◌, ◌++◌}
-use Rattle.std.proofs.Common.{Bor, Option, unwrap_or, codes, length, get_or, take, drop, refl, sym, ap, ◌∙◌, subst}
-use Rattle.std.proofs.Common.{arith}
-use Rattle.std.proofs.Common.{append-nil, ap₂, eqb-true, ne_eqb, zero, suc, ◌≤◌}
+use Rattle.std.proofs.Common.{Bor, codes, length, get_or, take, drop, refl, sym, ap, ◌∙◌, subst}
+use Rattle.std.proofs.Common.{arith, get_or-drop, length-drop, nat_lt}
+use Rattle.std.proofs.Common.{append-nil, ap₂, ne_eqb, zero, suc, ◌≤◌}
 use Rattle.std.specs.List.{list_all}
-use Rattle.std.specs.Str.{chars, IsAscii, IsCharBoundary, IsUtf8}
-use Rattle.std.proofs.lemmas.Bool.{both_ways, and_parts, and_from, and_left, or_cases, or_parts, or_from, cond-false}
+use Rattle.std.specs.Str.{chars, IsCharBoundary, IsUtf8}
+use Rattle.std.proofs.lemmas.Bool.{both_ways, and_parts, and_from, and_left, or_parts, or_from, cond-false}
 use Rattle.std.proofs.lemmas.Bool.{false_from_ne_true, not-true, not_from_false, lt-ltb}
 use Rattle.std.proofs.lemmas.List.Folds.{list_all-append}
 use Rattle.std.proofs.lemmas.Str.{chars-IsAscii, chars-nil}
-use Rattle.memchr.specs.Find.{IsFirstByte, is_byte2}
 use Rattle.lexical.specs.Ascii.{all_ascii}
 use Rattle.lexical.specs.Comment.{Comment, closing, has_bare_return, is_doc, is_inner}
 use Rattle.lexical.specs.Found.{kind_of}
 use Rattle.lexical.specs.Form.{Form}
 use Rattle.lexical.specs.Piece.{IsPiece, Gap, Doc}
 use Rattle.lexical.specs.Quick.{IsAsciiAt, Line, is_line_plain}
+use Rattle.lexical.specs.Word.{is_line_ascii}
 use Rattle.lexical.specs.Text.{begins_with, ends_with, first_passes}
 use Rattle.lexical.specs.declared.piece.PieceKind.TheVariants as kinds
-use Rattle.lexical.proofs.FinderLemmas.{finds_run}
-use Rattle.lexical.proofs.QuickLemmas.{front_fails, front_of_run, get_after, low_fails, quick_cut}
-use Rattle.lexical.proofs.QuickLiteralLemmas.{all_same, ascii_all}
-use Rattle.lexical.proofs.SearchLemmas.{found_end}
+use Rattle.lexical.proofs.QuickLemmas.{front_fails, low_fails, quick_cut}
 use Rattle.lexical.proofs.TextLemmas.{all_pass, ends_splits, is_ascii}
 
 -- ---- the rest of a line
 
-line_stops : (rest : List ℕ) → first_passes (λ c. not (is_byte2 10 13 c)) rest ≡ false → (get_or rest 0 32 ≡ 13 → ⊥)
+line_ends : (rest : List ℕ) → (0 < length rest → get_or rest 0 0 ≡ 10)
     → first_passes (λ c. not (c == 10)) (chars rest) ≡ false
-line_stops [] stops other = ap (first_passes (λ c. not (c == 10))) chars-nil
-line_stops (b ∷ rest) stops other = elim (or_cases (b == 10) (b == 13) (true_from_not _ stops)) [
-  | inl feed ↦ low_fails (λ c. not (c == 10)) (b ∷ rest) (omega (arith, eqb-true b 10 feed)) (ap not feed)
-  | inr return ↦ absurd (other (eqb-true b 13 return))
-]
-  where
-    true_from_not : (b : Bool) → not b ≡ false → b ≡ true
-    true_from_not true e = refl
-    true_from_not false e = absurd (both_ways _ e refl)
+line_ends [] feed = ap (first_passes (λ c. not (c == 10))) chars-nil
+line_ends (b ∷ rest) feed =
+    low_fails (λ c. not (c == 10)) (b ∷ rest) (omega (arith, feed (omega arith)))
+    (ap (λ x. not (x == 10)) (feed (omega arith)))
 
-pub line_read : (text bytes : List ℕ) (r : Option ℕ) (n : ℕ) → bytes ≡ text → IsFirstByte (is_byte2 10 13) bytes r
-    → n ≡ unwrap_or r (length bytes) → (get_or bytes n 32 ≡ 13 → ⊥) → IsAscii (take n bytes) → IsAsciiAt Line text n
-line_read text bytes r n same found size other ascii =
-    let test : ℕ → Bool = λ b. not (is_byte2 10 13 b) in
-    let count = size ∙ sym (found_end (is_byte2 10 13) bytes r found) in
-    let run = front_of_run test bytes n count in
-    let is = ((finds_run test).sound bytes).1 in
-    let all : list_all is_line_plain (take n bytes) ≡ true =
-    all_same is_line_plain test (λ c. refl) (take n bytes) ∙ (ap (list_all test) run.0 ∙ is.each) in
-    let stops : first_passes test (drop n bytes) ≡ false = ap (first_passes test) run.1 ∙ is.stops in
+-- so many bytes that go on with a line, and a LF or nothing
+pub line_read : (text bytes : List ℕ) (n : ℕ) → bytes ≡ text → n ≤ length bytes
+    → list_all is_line_ascii (take n bytes) ≡ true → (n < length bytes → get_or bytes n 0 ≡ 10) → IsAsciiAt Line text n
+line_read text bytes n same within all feed =
     subst (λ t. IsAsciiAt Line t n) same (record {
-      within = run.2;
-      ascii = ascii_all (take n bytes) ascii;
-      stands = (all, line_stops (drop n bytes) stops (λ e. other (sym (get_after bytes n) ∙ e)));
+      within = within;
+      ascii = all_pass is_line_ascii (λ c. nat_lt c 128) (λ c h. (and_parts _ _ h).0) (take n bytes) all;
+      stands = (
+        all_pass is_line_ascii is_line_plain (λ c h. (and_parts _ _ h).1) (take n bytes) all,
+        line_ends (drop n bytes)
+            (λ some. get_or-drop n bytes 0 0 ∙ ap (λ k. get_or bytes k 0) (omega arith)
+            ∙ feed (omega (arith, some, length-drop n bytes, within))),
+      );
     })
 
 -- ---- comments

@@ -1,17 +1,22 @@
 -- What a few bytes tell of a literal between single quotes.
 use Rattle.std.proofs.Common.{◌≡◌, ℕ, ◌+◌, ◌<◌, true, inl, inr, List, [], ◌∷◌}
-use Rattle.std.proofs.Common.{get_or, drop, codes, refl, ap, ap₂, ◌∙◌, subst, arith, drop-cons, suc}
+use Rattle.std.proofs.Common.{get_or, drop, codes, length, refl, sym, ap, ap₂, ◌∙◌, subst, arith, drop-cons, suc}
+use Rattle.std.specs.Str.{chars}
+use Rattle.unicode_ident.proofs.Computing.{unicode_ident}
 use Rattle.std.proofs.lemmas.Bool.{and_from, lt-ltb}
 use Rattle.lexical.specs.Form.{Exactly}
-use Rattle.lexical.specs.Quick.{Anywhere, IsAsciiAt, Single}
+use Rattle.lexical.specs.Quick.{Anywhere, IsAsciiAt, IsLiteralAt, Single, byte_starts}
 use Rattle.lexical.specs.Quoted.{close, escape}
 use Rattle.lexical.specs.Rule.{Stands}
 use Rattle.lexical.specs.SingleQuoted.{Byte, Character, is_plain, unit}
+use Rattle.lexical.specs.declared.class.PieceStart.TheVariants as starts
+use Rattle.lexical.specs.declared.piece.PieceKind.TheVariants as kinds
+use Rattle.lexical.specs.declared.quick.Extent.{Extent}
 use Rattle.lexical.specs.declared.quoted.StringKind.{StringKind}
 use Rattle.lexical.specs.declared.quoted.StringKind.TheVariants as strings
 use Rattle.lexical.proofs.QuickEscapeLemmas.{after_backslash}
-use Rattle.lexical.proofs.QuickLemmas.{at_other, get_after}
-use Rattle.lexical.proofs.QuickLiteralLemmas.{ascii_at, closes, ends}
+use Rattle.lexical.proofs.QuickLemmas.{ascii_piece, at_other, get_after}
+use Rattle.lexical.proofs.QuickLiteralLemmas.{ascii_at, character_literal, closes, ends, literal_piece}
 use Rattle.lexical.proofs.QuickNumberLemmas.{byte_within, then_at}
 
 -- the quote that closes it
@@ -67,3 +72,25 @@ byte_read (a ∷ (b ∷ text)) inside n letter quote same at =
     (and_from _ _ (lt-ltb a 128 (omega (arith, letter))) (and_from _ _ (lt-ltb b 128 (omega (arith, quote))) refl))
     (ap₂ (λ x y. x ∷ (y ∷ [])) letter quote))
     (subst (λ t. IsAsciiAt (Single strings.Byte) t n) same at))
+
+-- ---- as a piece
+
+pub quote_front : (text : List ℕ) → get_or text 0 32 ≡ 39 → (0 < length text) × (get_or text 0 0 ≡ 39)
+quote_front [] quote = absurd (omega (arith, quote))
+quote_front (a ∷ text) quote = (omega arith, quote)
+
+pub quote_starts : starts.Quote ≡ byte_starts 39
+unfolding unicode_ident
+quote_starts = refl
+
+-- by what was read after the first quote
+pub character_extent : (text bytes inside : List ℕ) (n : ℕ) (first_byte : ℕ) (extent : Extent) → bytes ≡ text
+    → first_byte ≡ get_or bytes 0 32 → first_byte ≡ 39 → inside ≡ drop 1 bytes
+    → IsAsciiAt (Single strings.Plain) inside n → extent.bytes ≡ n + 1 → extent.chars ≡ n + 1
+    → IsLiteralAt (chars text) extent
+character_extent text bytes inside n first_byte extent same byte quote rest at size count first =
+    ascii_piece first text kinds.Literal _ (n + 1)
+    (literal_piece Character first text (n + 1) character_literal
+    (character_read text inside n (ap (λ t. get_or t 0 32) (sym same) ∙ (sym byte ∙ quote))
+    (rest ∙ ap (drop 1) same) at))
+    tt refl size count

@@ -1,15 +1,15 @@
 -- What a few bytes tell of a string.
-use Rattle.std.proofs.Common.{◌≡◌, ℕ, ◌+◌, ◌<◌, ◌≤◌, Bool, true, not, inl, inr, List, [], ◌∷◌, ◌++◌, Some}
+use Rattle.std.proofs.Common.{◌≡◌, ℕ, ◌+◌, ◌<◌, ◌≤◌, Bool, true, false, ◌&&◌, not, inl, inr, List, [], ◌∷◌, ◌++◌, Some}
 use Rattle.std.proofs.Common.{length, get_or, take, drop, codes, refl, sym, ap, ap₂, ◌∙◌, subst, arith, append_assoc}
-use Rattle.std.proofs.Common.{append-nil, drop-cons, length-append, length-drop, suc}
+use Rattle.std.proofs.Common.{append-nil, drop-cons, length-append, length-drop, nat_lt, suc}
 use Rattle.std.proofs.Math.Seq.{take-add}
 use Rattle.std.proofs.Common.{None, Option}
 use Rattle.std.specs.Prelude.{IfSome, map}
 use Rattle.std.specs.List.{list_all, concat}
 use Rattle.std.specs.Str.{IsAscii, IsCharBoundary, IsUtf8, chars, encode_utf8_all}
-use Rattle.std.proofs.lemmas.Bool.{and_parts, and_from}
-use Rattle.std.proofs.lemmas.List.{drop-drop, get_or_default, length-take-le, take-append-drop}
-use Rattle.std.proofs.lemmas.List.Folds.{concat-append, list_all-append}
+use Rattle.std.proofs.lemmas.Bool.{and_parts, and_from, both_ways}
+use Rattle.std.proofs.lemmas.List.{drop-drop, get_or-take, get_or_default, length-take-le, take-append-drop}
+use Rattle.std.proofs.lemmas.List.Folds.{concat-append, list_all-append, list_all_at}
 use Rattle.std.proofs.lemmas.Str.{IsCharBoundary-from_take, IsUtf8-append, IsUtf8-drop, IsUtf8-from_ascii, IsUtf8-take}
 use Rattle.std.proofs.lemmas.Str.{chars-IsAscii, chars-append, encodes-append, encodes-chars}
 use Rattle.memchr.specs.Find.{IsFirstByte, is_byte3}
@@ -19,21 +19,24 @@ use Rattle.lexical.specs.Form.{Each, Exactly, Form, Then}
 use Rattle.lexical.specs.Found.{IsAt, IsPieceAt, LendsText, kind_of}
 use Rattle.lexical.specs.Literal.{Literal}
 use Rattle.lexical.specs.Piece.{IsPiece}
-use Rattle.lexical.specs.Quick.{Anywhere, IsAsciiAt, IsStretch}
+use Rattle.lexical.specs.Quick.{Anywhere, IsAsciiAt, IsLiteralAt, IsStretch}
 use Rattle.lexical.specs.Quoted.{Str, body, escaped, is_plain, unit}
 use Rattle.lexical.specs.RawString.{may_stand_raw}
 use Rattle.lexical.specs.Rule.{Stands}
+use Rattle.lexical.specs.Word.{is_plain_ascii}
 use Rattle.lexical.specs.declared.piece.Piece.{Piece}
 use Rattle.lexical.specs.declared.piece.PieceKind.TheVariants as kinds
+use Rattle.lexical.specs.declared.quick.Extent.{Extent}
 use Rattle.lexical.specs.declared.quoted.StringKind.{StringKind}
 use Rattle.lexical.specs.declared.quoted.StringKind.TheVariants as strings
 use Rattle.lexical.proofs.FinderLemmas.{finds_run}
 use Rattle.lexical.proofs.QuickEscapeLemmas.{after_backslash, plain_holds}
 use Rattle.lexical.proofs.QuickLemmas.{ascii_split, get_after}
 use Rattle.lexical.proofs.QuickLiteralLemmas.{ascii_all, closes, ends, string_literal}
+use Rattle.lexical.proofs.QuickNumberLemmas.{byte_within}
 use Rattle.lexical.proofs.Scan.{run_boundary, run_front}
 use Rattle.lexical.proofs.SearchLemmas.{found_end, plain_allowed}
-use Rattle.lexical.proofs.TextLemmas.{ascii_bytes, encode_all_ascii, is_ascii, seam_boundary, seam_take}
+use Rattle.lexical.proofs.TextLemmas.{all_pass, ascii_bytes, encode_all_ascii, is_ascii, seam_boundary, seam_take}
 
 -- ---- units, whatever follows them
 
@@ -218,6 +221,36 @@ plain_stretch text bytes k same found = record {
   may = plain_holds (chars (take k text));
 }
 
+-- ---- ASCII that stands for itself
+
+and_no : (b : Bool) → (b && false) ≡ false
+and_no true = refl
+and_no false = refl
+
+-- up to a quote or a backslash
+pub plain_up_to : (inside : List ℕ) (k stop : ℕ) → list_all is_plain_ascii (take k inside) ≡ true
+    → get_or inside k 32 ≡ stop → is_byte3 34 92 13 stop ≡ true → (stop ≡ 32 → ⊥) → IsStretch strings.Plain inside k
+plain_up_to inside k stop all here stops other =
+    let within = byte_within inside k _ stop refl here other in
+    record {
+      first = (
+        record {
+          low = omega arith;
+          high = within;
+          before = λ i low before at.
+              let passes : is_plain_ascii (get_or (take k inside) i 0) ≡ false =
+              ap (λ b. nat_lt (get_or (take k inside) i 0) 128 && not (is_byte3 34 92 13 b))
+              (get_or-take k inside i 0 before)
+              ∙ (ap (λ b. nat_lt (get_or (take k inside) i 0) 128 && not b) at ∙ and_no _) in
+              let size : i < length (take k inside) =
+              omega (arith, before, length-take-le k inside (omega (arith, within))) in
+              both_ways _ (list_all_at is_plain_ascii (take k inside) i 0 size passes) all;
+        },
+        ap (is_byte3 34 92 13) (sym (get_or_default inside k 32 0 within) ∙ here) ∙ stops,
+      );
+      may = plain_holds (chars (take k inside));
+    }
+
 -- ---- a form that stands there
 
 -- a form for another
@@ -320,3 +353,17 @@ plain_string first text inside k piece utf8 split is hit low ended kind bytes co
       chars = count ∙ size;
       lends = subst LendsText (sym kind) tt;
     }
+
+-- by what was counted
+pub short_string : (inside bytes : List ℕ) (k stop : ℕ) (extent : Extent) → bytes ≡ inside → IsUtf8 inside
+    → list_all is_plain_ascii (take k inside) ≡ true → stop ≡ get_or bytes k 32 → stop ≡ 34
+    → ends (get_or bytes (k + 1) 32) ≡ true → extent.bytes ≡ k + 2 → extent.chars ≡ k + 2
+    → (text : List ℕ) → chars text ≡ codes "\"" ++ chars inside → IsLiteralAt (chars text) extent
+short_string inside bytes k stop extent same utf8 all here quote ended size count text split first =
+    let at : get_or inside k 32 ≡ 34 = ap (λ t. get_or t k 32) (sym same) ∙ (sym here ∙ quote) in
+    let is = plain_up_to inside k 34 all at refl (λ e. omega (arith, e)) in
+    let within : k < length inside = is.first.0.high in
+    plain_string first text inside k _ utf8 split is (sym (get_or_default inside k 32 0 within) ∙ at)
+    (is_ascii (take k inside)
+    (all_pass is_plain_ascii (λ c. nat_lt c 128) (λ c h. (and_parts _ _ h).0) (take k inside) all))
+    (ap (λ t. ends (get_or t (k + 1) 32)) (sym same) ∙ ended) refl size count

@@ -1,16 +1,13 @@
 -- A CR that no LF follows is looked for from one CR to the next.
 use Rattle.std.proofs.Common.{◌≡◌, ℕ, ◌==◌, Bool, true, false, not, ◌||◌, List, [], ◌∷◌, ◌++◌, codes, refl, sym, ap}
-use Rattle.std.proofs.Common.{◌∙◌, arith}
+use Rattle.std.proofs.Common.{◌∙◌, ◌≤◌, arith, length, length-append, subst}
 use Rattle.std.specs.List.{list_all}
-use Rattle.std.specs.Str.{chars}
 use Rattle.std.proofs.lemmas.Bool.{not-false}
 use Rattle.lexical.specs.Character.{carriage_return}
 use Rattle.lexical.specs.Comment.{has_bare_return}
 use Rattle.lexical.specs.Text.{begins_with, first_passes}
-use Rattle.lexical.specs.Rule.{Run}
-use Rattle.lexical.specs.Step.{Passes}
-use Rattle.lexical.specs.declared.cursor.Cursor.{Cursor}
-use Rattle.lexical.proofs.RuleSteps.{passed}
+use Rattle.lexical.specs.Finder.{while_front, while_rest}
+use Rattle.lexical.proofs.FinderLemmas.{finds_run}
 
 -- a character other than CR
 abbrev pub other : ℕ → Bool
@@ -20,20 +17,27 @@ none_in : (p r : List ℕ) → list_all other p ≡ true → has_bare_return (p 
 none_in [] r all = refl
 none_in (c ∷ p) r all = grind (arith, all, none_in p r)
 
--- the cursor is at the next CR, or at the end
-pub record AtReturn (text : List ℕ) (at : Cursor) : Type 0 where
-  pub same : has_bare_return (chars at.rest.now) ≡ has_bare_return text
-  pub stands : first_passes other (chars at.rest.now) ≡ false
+-- the rest is at the next CR, or at the end
+pub record AtReturn (text rest : List ℕ) : Type 0 where
+  pub same : has_bare_return rest ≡ has_bare_return text
+  pub stands : first_passes other rest ≡ false
 
-pub at_next : (text : List ℕ) (at to : Cursor) → has_bare_return (chars at.rest.now) ≡ has_bare_return text
-    → Passes (Run other) at to → AtReturn text to
-at_next text at to same h =
-    let is = passed (Run other) tt at to h in
-    record {
-      same = sym (none_in h.front (chars to.rest.now) is.1.each)
-          ∙ (ap has_bare_return (sym is.0) ∙ same);
-      stands = is.1.stops;
-    }
+pub at_next : (text at to : List ℕ) → has_bare_return at ≡ has_bare_return text → to ≡ while_rest other at
+    → AtReturn text to
+at_next text at to same rest =
+    let run = (finds_run other).sound at in
+    subst (AtReturn text) (sym rest) (record {
+      same = sym (none_in (while_front other at) (while_rest other at) run.1.each)
+          ∙ (ap has_bare_return (sym run.0) ∙ same);
+      stands = run.1.stops;
+    })
+
+pub rest_within : (text : List ℕ) → length (while_rest other text) ≤ length text
+rest_within text = omega (
+  arith,
+  ap length ((finds_run other).sound text).0,
+  length-append (while_front other text) (while_rest other text),
+)
 
 -- of a text that begins with a CR
 pub at_return : (c : ℕ) (rest text : List ℕ) → text ≡ c ∷ rest → first_passes other text ≡ false

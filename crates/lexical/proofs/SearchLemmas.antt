@@ -7,7 +7,7 @@ use Rattle.std.proofs.lemmas.Bool.{cases_Bool, cond-true, cond-false, false_from
 use Rattle.std.proofs.lemmas.Bool.{not_from_false}
 use Rattle.memchr.specs.Find.{IsFirstByte, is_byte3}
 use Rattle.memchr.specs.Find as bytes
-use Rattle.lexical.specs.Finder.{while_front}
+use Rattle.lexical.specs.Finder.{while_front, while_rest}
 use Rattle.lexical.specs.Quoted.{is_plain}
 use Rattle.lexical.specs.RawString.{may_stand_raw}
 use Rattle.lexical.specs.Rule.{Run}
@@ -15,7 +15,7 @@ use Rattle.lexical.specs.Step.{Passes}
 use Rattle.lexical.specs.declared.cursor.Cursor.{Cursor}
 use Rattle.lexical.specs.declared.quoted.StringKind.{StringKind}
 use Rattle.lexical.specs.declared.quoted.StringKind.TheVariants as kinds
-use Rattle.lexical.proofs.Scan.{run_boundary, run_over}
+use Rattle.lexical.proofs.Scan.{run_boundary, run_over, run_rest}
 
 module _ (test : ℕ → Bool) where
   -- the byte at k is the first that passes, or the bytes end there
@@ -44,6 +44,17 @@ module _ (test : ℕ → Bool) where
   found_run past at to bs r n utf8 same found e rest count =
       run_over (λ c. not (test c)) true (λ c high. not_from_false _ (past c high)) at to (subst IsUtf8 same utf8) n
       (e ∙ (sym (found_end bs r found) ∙ ap (λ x. length (while_front (λ c. not (test c)) x)) same)) rest count
+
+  -- where the search ends, as a place in the text
+  pub found_rest : ((c : ℕ) → 128 ≤ c → test c ≡ false) → (text bs : List ℕ) (r : Option ℕ) (n : ℕ)
+      → IsUtf8 text → bs ≡ text → IsFirstByte test bs r → n ≡ unwrap_or r (length bs)
+      → IsCharBoundary text n × (chars (drop n text) ≡ while_rest (λ c. not (test c)) (chars text))
+  found_rest past text bs r n utf8 same found e =
+      let other : ℕ → Bool = λ c. not (test c) in
+      let high : (c : ℕ) → 128 ≤ c → other c ≡ true = λ c h. not_from_false _ (past c h) in
+      let size : n ≡ length (while_front other text) =
+      e ∙ (sym (found_end bs r found) ∙ ap (λ x. length (while_front other x)) same) in
+      (run_boundary other true high text utf8 n size, run_rest other true high text utf8 n size)
 
 -- a stretch that is checked: what passes both may stand in it and ends it not
 module _ (test allowed both : ℕ → Bool) (same : (c : ℕ) → both c ≡ (allowed c && not (test c))) where

@@ -16,17 +16,19 @@ line_comment = Then (Exactly (codes "//")) (Run (λ c. not (c == line_feed)))
 abbrev pub block_comment : Rule
 block_comment = Then (Exactly (codes "/*")) (Ends 1)
 
--- a comment
+-- the rule of a comment: a line comment or a block comment
 abbrev pub comment : Rule
 comment = Either line_comment block_comment
 
--- what they say
+-- `line-comment`: `//` up to the end of the line
 abbrev pub LineComment : Form
 LineComment = Stands line_comment
 
+-- `block-comment`: `/*` up to the `*/` that closes it, with block comments inside
 abbrev pub BlockComment : Form
 BlockComment = Stands block_comment
 
+-- a line comment or a block comment
 abbrev pub Comment : Form
 Comment = Stands comment
 

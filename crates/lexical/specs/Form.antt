@@ -52,10 +52,6 @@ Else A B = Either A (Unless A B)
 abbrev pub Nothing : Form
 Nothing p r = p ≡ []
 
--- a piece of the form where one stands, and else nothing
-abbrev pub Perhaps : Form → Form
-Perhaps A = Else A Nothing
-
 -- texts that stand one after another, each a piece of the form before what follows it
 abbrev pub Each : Form → List (List ℕ) → List ℕ → Type 0
 Each A [] r = Unit {0}

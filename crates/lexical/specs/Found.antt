@@ -30,7 +30,7 @@ LendsText Literal = Unit {0}
 LendsText (Mark joint mark) = Unit {0}
 LendsText (Name raw name) = IsUtf8 name.now
 
--- the piece stands at the front of the text, with so many bytes and characters
+-- the piece stands at the front of the text, and takes so many bytes and characters
 pub record IsPieceAt (first : Bool) (text : List ℕ) (piece : Piece) : Type 0 where
   pub front : List ℕ
   pub rest : List ℕ
@@ -40,7 +40,7 @@ pub record IsPieceAt (first : Bool) (text : List ℕ) (piece : Piece) : Type 0 w
   pub chars : piece.chars ≡ length front
   pub lends : LendsText piece.kind
 
--- a piece of the form stands at the front of the text, with so many bytes
+-- a piece of the form stands at the front of the text, and takes so many bytes
 pub record IsAt (A : Form) (text : List ℕ) (bytes : ℕ) : Type 0 where
   pub front : List ℕ
   pub rest : List ℕ

@@ -12,7 +12,7 @@ use Rattle.lexical.specs.Token.{raw_front}
 abbrev pub name : Rule
 name = Then (One is_ident_start) (Run is_ident_continue)
 
--- what it says
+-- `name`: a start of an identifier and all the continues that follow it, before a rest
 abbrev pub Name : Form
 Name = Stands name
 

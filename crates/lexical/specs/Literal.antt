@@ -31,11 +31,11 @@ QuotedLiteral =
     (Either (Either ByteStr RawByteStr)
     (Either Byte (Either CStr RawCStr))))
 
--- `literal`: one between quotes, or a number
+-- `literal`: the rule of one between quotes, or of a number
 abbrev pub literal : Rule
 literal = rules.Either quoted_literal number
 
--- what it says
+-- `literal`: one between quotes, or a number, before a rest
 unfoldable pub Literal : Form
 Literal = Either QuotedLiteral Number
 

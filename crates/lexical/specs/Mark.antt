@@ -13,11 +13,11 @@ use Rattle.lexical.specs.Identifier.{Named, written}
 abbrev pub marks : List ℕ
 marks = codes "~!@#$%^&*-=+|;:,<.>/?'"
 
--- one of the 22 marks
+-- whether the character is one of the 22 marks
 abbrev pub is_mark : ℕ → Bool
 is_mark c = list_any (λ d. d == c) marks
 
--- how a comment begins
+-- how a comment begins: `//` or `/*`
 abbrev pub comment_fronts : List (List ℕ)
 comment_fronts = codes "//" ∷ codes "/*" ∷ []
 

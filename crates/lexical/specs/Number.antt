@@ -104,9 +104,10 @@ integer = Either decimal based
 unfoldable pub number : Rule
 number = Else float (Then integer end)
 
--- what the rules say
+-- `digits`: a digit and all digits and `_` that follow, before a rest
 abbrev pub Digits : Form
 Digits = Stands digits
 
+-- `number`: a float or an integer, before a rest
 abbrev pub Number : Form
 Number = Stands number

@@ -13,6 +13,7 @@ use Rattle.lexical.specs.Gap as gaps
 -- what kind of piece it is: the front mark U+FEFF, a gap, a doc comment with `!` or not and its text,
 -- an opener, a closer, a token
 pub data Kind : Type 0 where
+  -- the mark U+FEFF at the front of a text
   FrontMark : Kind
   Gap : Kind
   Doc : Bool → List ℕ → Kind

@@ -28,7 +28,7 @@ find_literal = find literal
 abbrev pub find_front_mark : Bool → Finder
 find_front_mark first = find_if first (find (Exactly (0xFEFF ∷ [])))
 
--- `lone-quote`
+-- `lone-quote`: the mark `'` of a lifetime, right before its name
 abbrev pub find_lone_quote : Finder
 find_lone_quote = find_where (λ p r. follows_quote r) (find (Exactly (codes "'")))
 

@@ -11,7 +11,7 @@ use Rattle.lexical.specs.Identifier.{name}
 use Rattle.lexical.specs.declared.quoted.StringKind.{StringKind}
 use Rattle.lexical.specs.declared.quoted.StringKind.TheVariants.{Plain, Byte, C}
 
--- whether the character is one of these
+-- whether the character is one of these characters
 abbrev pub is_one_of : List ℕ → ℕ → Bool
 is_one_of characters c = list_any (λ d. d == c) characters
 
@@ -21,7 +21,7 @@ is_one_of characters c = list_any (λ d. d == c) characters
 abbrev pub simple : List ℕ → Rule
 simple letters = rules.One (is_one_of letters)
 
--- and which of them
+-- the letters that are an escape by themselves after a backslash, in strings of this kind
 abbrev pub letters : StringKind → List ℕ
 letters Plain = codes "nrt\\0'\""
 letters Byte = codes "nrt\\0'\""
@@ -81,7 +81,7 @@ code allowed = rules.Where (is_code allowed) code_digits
 abbrev pub unicode : (ℕ → Bool) → Rule
 unicode allowed = rules.Then (rules.Exactly (codes "u{")) (rules.Then (code allowed) (rules.Exactly (codes "}")))
 
--- whether the escape of a character may give this one: of a byte none, of a C string all but zero
+-- whether `\u{..}` may give this character: in a byte string none, in a C string all but zero
 abbrev pub allows : StringKind → ℕ → Bool
 allows Plain n = true
 allows Byte n = false
@@ -91,7 +91,7 @@ allows C n = nat_lt 0 n
 abbrev pub escape_of : List ℕ → Rule → (ℕ → Bool) → Rule
 escape_of letters pair allowed = rules.Either (simple letters) (rules.Either (hex pair) (unicode allowed))
 
--- `string-escape`, `byte-escape`, `c-string-escape`
+-- `string-escape`, `byte-escape`, `c-string-escape`: what may stand after a backslash
 abbrev pub escape : StringKind → Rule
 escape kind = escape_of (letters kind) (pair kind) (allows kind)
 
@@ -192,13 +192,15 @@ front C = codes "c\""
 abbrev pub cooked : StringKind → Rule
 cooked kind = rules.Then (rules.Exactly (front kind)) (body (unit kind) (codes "\""))
 
--- what they say: `string` is a literal between `"` and `"`
+-- `string`: a literal between `"` and `"`, before a rest
 unfoldable pub Str : Form
 Str = Stands (cooked Plain)
 
+-- `byte-string`: a literal between `b"` and `"`, before a rest
 abbrev pub ByteStr : Form
 ByteStr = Stands (cooked Byte)
 
+-- `c-string`: a literal between `c"` and `"`, before a rest
 abbrev pub CStr : Form
 CStr = Stands (cooked C)
 

@@ -21,11 +21,11 @@ abbrev pub raw_quotes : (ℕ → Bool) → List ℕ → Rule
 raw_quotes allowed hashes =
     Then (Exactly (codes "\"")) (body (raw_unit allowed (double_quote ∷ hashes)) (double_quote ∷ hashes))
 
--- what opens it, hash signs, and the string between its quotes
+-- a raw string: what opens it, hash signs, and what stands between its quotes
 abbrev pub raw : List ℕ → (ℕ → Bool) → Rule
 raw front allowed = Then (Exactly front) (Next hashes (raw_quotes allowed))
 
--- the characters that may stand in a raw string
+-- whether the character may stand in a raw string of this kind
 abbrev pub may_stand_raw : StringKind → ℕ → Bool
 may_stand_raw Plain c = true
 may_stand_raw Byte c = is_ascii c
@@ -41,17 +41,11 @@ raw_front Plain = codes "r"
 raw_front Byte = codes "br"
 raw_front C = codes "cr"
 
--- `raw-string`, `raw-byte-string`, `raw-c-string`
+-- `raw-string`, `raw-byte-string`, `raw-c-string`: with at most 255 hash signs
 abbrev pub raw_string : StringKind → Rule
 raw_string kind = raw (raw_front kind) (may_stand_raw kind)
 
 -- ---- what they say
-
-abbrev pub Hashes : Form
-Hashes = Stands hashes
-
-abbrev pub RawQuotes : (ℕ → Bool) → List ℕ → Form
-RawQuotes allowed hashes = Stands (raw_quotes allowed hashes)
 
 abbrev pub Raw : List ℕ → (ℕ → Bool) → Form
 Raw front allowed = Stands (raw front allowed)

@@ -16,7 +16,7 @@ is_char_plain c = not (is_one_of (codes "'\\\n\r\t") c)
 abbrev pub is_byte_char_plain : ℕ → Bool
 is_byte_char_plain c = is_char_plain c && is_ascii c
 
--- the characters that stand for themselves
+-- whether the character stands for itself between `'` and `'`
 abbrev pub is_plain : StringKind → ℕ → Bool
 is_plain kinds.Plain = is_char_plain
 is_plain kinds.Byte = is_byte_char_plain
@@ -26,22 +26,23 @@ is_plain kinds.C = is_char_plain
 abbrev pub unit : (ℕ → Bool) → Rule → Rule
 unit plain escape = rules.Either (rules.One plain) (rules.Then (rules.Exactly (codes "\\")) escape)
 
--- what opens it, a unit, `'` and a suffix
+-- a literal of one unit: what opens it, a unit, `'` and a suffix
 abbrev pub single : List ℕ → (ℕ → Bool) → Rule → Rule
 single front plain escape = rules.Then (rules.Exactly front) (rules.Then (unit plain escape) (close (codes "'")))
 
--- `character`
+-- `character`: `'`, one character or escape, `'` and a suffix
 abbrev pub character : Rule
 character = single (codes "'") is_char_plain (escape kinds.Plain)
 
--- `byte`
+-- `byte`: `b'`, one character of ASCII or escape, `'` and a suffix
 abbrev pub byte : Rule
 byte = single (codes "b'") is_byte_char_plain (escape kinds.Byte)
 
--- what they say
+-- `character`: a literal between `'` and `'`, before a rest
 abbrev pub Character : Form
 Character = Stands character
 
+-- `byte`: a literal between `b'` and `'`, before a rest
 abbrev pub Byte : Form
 Byte = Stands byte
 

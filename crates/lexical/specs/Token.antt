@@ -3,8 +3,11 @@ use Rattle.std.specs.Prelude.{ℕ, Bool, true, false, List, [], ◌∷◌, ◌++
 
 -- an identifier, raw or not, by its name; a mark, and whether it is Joint; a literal by its text
 pub data Token : Type 0 where
+  -- an identifier: whether it is raw, and its name
   Name : Bool → List ℕ → Token
+  -- a mark, and whether it is Joint
   Mark : ℕ → Bool → Token
+  -- a literal by its text
   Literal : List ℕ → Token
 
 -- what stands before the name of an identifier

@@ -7,10 +7,9 @@ ghost use Rattle.lexical.specs.CommentKind.{comment_kind as kind_of_comment, doc
 ghost use Rattle.lexical.specs.Form.{Where};
 ghost use Rattle.lexical.specs.PieceStep.{Tells};
 
-use crate::cursor::Cursor;
 use crate::piece::PieceKind;
-use crate::search::skip_to;
-use crate::text::{before, begins, without_return};
+use crate::search::from_first;
+use crate::text::{before, begins, split_first, without_return};
 
 /// Whether the comment documents what it stands in.
 fn is_inner(comment: &str) -> bool
@@ -47,12 +46,12 @@ fn doc_text<'a>(comment: &'a str, rest: &str) -> &'a str
 fn has_bare_return(text: &str) -> bool
     ensures { result ≡ bare (chars text.now) }
 {
-    let mut at = skip_to(Cursor::new(text), b'\r');
-    while let Some((_, after)) = at.advance() {
-        if !begins(after.rest, "\n") {
+    let mut rest = from_first(text, b'\r');
+    while let Some((_, after)) = split_first(rest) {
+        if !begins(after, "\n") {
             return true;
         }
-        at = skip_to(after, b'\r');
+        rest = from_first(after, b'\r');
     }
     false
 }

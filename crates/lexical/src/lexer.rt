@@ -1,7 +1,9 @@
 //! Which piece stands at the front of a text.
 
-ghost use Rattle.std.specs.Prelude.{IfNone, IfSome};
+ghost use Rattle.std.specs.Prelude.{◌≡◌, ◌++◌, Bool, List, ℕ, IfNone, IfSome, IsTrue, codes, get_or, take};
+ghost use Rattle.std.specs.List.{list_all};
 ghost use Rattle.std.specs.Str.{chars};
+ghost use Rattle.lexical.specs.Character.{backslash};
 ghost use Rattle.lexical.specs.Form.{HasNone};
 ghost use Rattle.lexical.specs.Found.{IsAt, IsPieceAt};
 ghost use Rattle.lexical.specs.Identifier.{Name};
@@ -9,11 +11,13 @@ ghost use Rattle.lexical.specs.Literal.{Literal};
 ghost use Rattle.lexical.specs.Piece.{HasNoPiece};
 ghost use Rattle.lexical.specs.PieceFinder.{found, found_literal};
 ghost use Rattle.lexical.specs.PieceStep.{Answers};
+ghost use Rattle.lexical.specs.Quick.{IsLiteralAt};
 ghost use Rattle.lexical.specs.Rule.{Rule};
 ghost use Rattle.lexical.specs.Step.{Reads};
+ghost use Rattle.lexical.specs.Word.{is_plain_ascii};
 ghost use Rattle.lexical.specs.declared.cursor.Cursor.{Cursor};
 
-use crate::class::{PieceStart, piece_start_of};
+use crate::class::{PieceStart, byte_start, piece_start_of};
 use crate::comments::comment;
 use crate::cursor::Cursor;
 use crate::identifiers::{identifier, name};
@@ -21,7 +25,15 @@ use crate::literals::{literal, quoted};
 use crate::marks::{begins_comment, follows_quote, mark};
 use crate::numbers::number;
 use crate::piece::{Piece, PieceKind};
-use crate::quick::{quick, quick_extent, quick_literal, quick_quote_or_comment};
+use crate::quick::quoted::{
+    bare_character, character, escaped_string, letter_character, plain_string, string,
+    wide_character,
+};
+use crate::quick::{
+    Extent, byte_at, byte_literal, line_comment, lone_quote, long_number, quick, quick_literal,
+};
+use crate::text::strip;
+use crate::words::{count_few_plain, count_plain};
 
 /// A literal that was read, if one was, as a piece: its kind, and the cursor after it.
 #[inline(always)]
@@ -98,21 +110,187 @@ pub fn piece_at(text: &str, first: bool) -> Option<Piece<'_>>
     }
 }
 
-/// The same, of pieces that stand more seldom.
-#[inline(never)]
+/// The same, of pieces that stand more seldom: by the first byte, in a function of its own for each.
+#[inline(always)]
 fn other_piece(text: &str, first: bool) -> Option<Piece<'_>>
     ensures found { IfSome result (λ piece. IsPieceAt first (chars text.now) piece) }
     ensures none { IfNone result (HasNoPiece first (chars text.now)) }
 {
-    if let Some(extent) = quick_extent(text) {
-        return Some(Piece {
-            kind: PieceKind::Literal,
-            bytes: extent.bytes,
-            chars: extent.chars,
-        });
+    match byte_start(byte_at(text.as_bytes(), 0)) {
+        PieceStart::Letter => letter_piece(text, first),
+        PieceStart::Digit => digit_piece(text, first),
+        PieceStart::Slash => slash_piece(text, first),
+        PieceStart::Quote => quote_piece(text, first),
+        PieceStart::DoubleQuote => string_piece(text, first),
+        _ => piece_by_characters(text, first),
     }
-    match quick_quote_or_comment(text) {
+}
+
+/// The literal of this extent, as a piece.
+#[inline(always)]
+fn literal_piece<'a>(extent: Extent) -> Piece<'a>
+    ensures { (first : Bool) (text : List ℕ) → IsLiteralAt text extent → IsPieceAt first text result }
+{
+    Piece {
+        kind: PieceKind::Literal,
+        bytes: extent.bytes,
+        chars: extent.chars,
+    }
+}
+
+/// The same, of a text that begins with a letter: often a byte or a byte string.
+#[inline(never)]
+fn letter_piece(text: &str, first: bool) -> Option<Piece<'_>>
+    ensures found { IfSome result (λ piece. IsPieceAt first (chars text.now) piece) }
+    ensures none { IfNone result (HasNoPiece first (chars text.now)) }
+{
+    match byte_literal(text) {
+        Some(extent) => Some(literal_piece(extent)),
+        None => piece_by_characters(text, first),
+    }
+}
+
+/// The same, of a text that begins with a digit.
+#[inline(never)]
+fn digit_piece(text: &str, first: bool) -> Option<Piece<'_>>
+    ensures found { IfSome result (λ piece. IsPieceAt first (chars text.now) piece) }
+    ensures none { IfNone result (HasNoPiece first (chars text.now)) }
+{
+    match long_number(text) {
+        Some(extent) => Some(literal_piece(extent)),
+        None => piece_by_characters(text, first),
+    }
+}
+
+/// The same, of a text that begins with `/`: often a line comment.
+#[inline(never)]
+fn slash_piece(text: &str, first: bool) -> Option<Piece<'_>>
+    ensures found { IfSome result (λ piece. IsPieceAt first (chars text.now) piece) }
+    ensures none { IfNone result (HasNoPiece first (chars text.now)) }
+{
+    match line_comment(text) {
         Some(piece) => Some(piece),
+        None => piece_by_characters(text, first),
+    }
+}
+
+/// The same, of a text that begins with `'`: a character of one byte, or a lone quote.
+///
+/// Other characters have functions of their own, so that this one needs few registers.
+#[inline(never)]
+fn quote_piece(text: &str, first: bool) -> Option<Piece<'_>>
+    ensures found { IfSome result (λ piece. IsPieceAt first (chars text.now) piece) }
+    ensures none { IfNone result (HasNoPiece first (chars text.now)) }
+{
+    let second = byte_at(text.as_bytes(), 1);
+    if second == b'\\' {
+        return match letter_character(text) {
+            Some(extent) => Some(literal_piece(extent)),
+            None => escaped_piece(text, first),
+        };
+    }
+    if let Some(extent) = bare_character(text) {
+        return Some(literal_piece(extent));
+    }
+    if !second.is_ascii() {
+        return wide_piece(text, first);
+    }
+    match lone_quote(text) {
+        Some(piece) => Some(piece),
+        None => piece_by_characters(text, first),
+    }
+}
+
+/// The same, of a text that begins with `'` and a backslash.
+#[inline(never)]
+fn escaped_piece(text: &str, first: bool) -> Option<Piece<'_>>
+    ensures found { IfSome result (λ piece. IsPieceAt first (chars text.now) piece) }
+    ensures none { IfNone result (HasNoPiece first (chars text.now)) }
+{
+    match character(text) {
+        Some(extent) => Some(literal_piece(extent)),
+        None => piece_by_characters(text, first),
+    }
+}
+
+/// The same, of a text that begins with `'` and a character past ASCII.
+#[inline(never)]
+fn wide_piece(text: &str, first: bool) -> Option<Piece<'_>>
+    ensures found { IfSome result (λ piece. IsPieceAt first (chars text.now) piece) }
+    ensures none { IfNone result (HasNoPiece first (chars text.now)) }
+{
+    match wide_character(text) {
+        Some(extent) => Some(literal_piece(extent)),
+        None => piece_by_characters(text, first),
+    }
+}
+
+/// The same, of a text that begins with `"`: a string of a few characters of ASCII.
+///
+/// Other strings have functions of their own, so that this one needs few registers.
+#[inline(never)]
+fn string_piece(text: &str, first: bool) -> Option<Piece<'_>>
+    ensures found { IfSome result (λ piece. IsPieceAt first (chars text.now) piece) }
+    ensures none { IfNone result (HasNoPiece first (chars text.now)) }
+{
+    let Some(inside) = strip(text, "\"") else {
+        return piece_by_characters(text, first);
+    };
+    let bytes = inside.as_bytes();
+    let stretch = count_few_plain(bytes);
+    if byte_at(bytes, stretch) == b'\\' {
+        return escaped_string_piece(text, inside, stretch, first);
+    }
+    if let Some(extent) = plain_string(inside, stretch) {
+        return Some(literal_piece(extent));
+    }
+    if stretch < 8 {
+        return other_string_piece(text, first);
+    }
+    long_string_piece(text, inside, first)
+}
+
+/// The same, of a string whose first escape comes after so many bytes of ASCII.
+#[inline(never)]
+fn escaped_string_piece<'a>(
+    text: &'a str,
+    inside: &str,
+    stretch: usize,
+    first: bool,
+) -> Option<Piece<'a>>
+    requires split { chars text.now ≡ codes "\"" ++ chars inside.now }
+    requires plain { IsTrue (list_all is_plain_ascii (take stretch inside.now)) }
+    requires backslash { get_or inside.now stretch 32 ≡ backslash }
+    ensures found { IfSome result (λ piece. IsPieceAt first (chars text.now) piece) }
+    ensures none { IfNone result (HasNoPiece first (chars text.now)) }
+{
+    match escaped_string(text, inside, stretch) {
+        Some(extent) => Some(literal_piece(extent)),
+        None => piece_by_characters(text, first),
+    }
+}
+
+/// The same, of a string with more than a few bytes before its first escape.
+#[inline(never)]
+fn long_string_piece<'a>(text: &'a str, inside: &str, first: bool) -> Option<Piece<'a>>
+    requires { chars text.now ≡ codes "\"" ++ chars inside.now }
+    ensures found { IfSome result (λ piece. IsPieceAt first (chars text.now) piece) }
+    ensures none { IfNone result (HasNoPiece first (chars text.now)) }
+{
+    match plain_string(inside, count_plain(inside.as_bytes())) {
+        Some(extent) => Some(literal_piece(extent)),
+        None => other_string_piece(text, first),
+    }
+}
+
+/// The same, of another string.
+#[inline(never)]
+fn other_string_piece(text: &str, first: bool) -> Option<Piece<'_>>
+    ensures found { IfSome result (λ piece. IsPieceAt first (chars text.now) piece) }
+    ensures none { IfNone result (HasNoPiece first (chars text.now)) }
+{
+    match string(text) {
+        Some(extent) => Some(literal_piece(extent)),
         None => piece_by_characters(text, first),
     }
 }

@@ -3,6 +3,8 @@
 //! What is searched for is ASCII, so it is found among the bytes: no byte of another character is below 0x80.
 
 ghost use Rattle.std.specs.Prelude.{◌≡◌, ◌<◌, ◌==◌, ◌||◌, not};
+ghost use Rattle.std.specs.Str.{IsUtf8, chars};
+ghost use Rattle.lexical.specs.Finder.{while_rest};
 ghost use Rattle.lexical.specs.Rule.{Run};
 ghost use Rattle.lexical.specs.Step.{Passes};
 
@@ -17,6 +19,17 @@ pub fn skip_to(at: Cursor<'_>, stop: u8) -> Cursor<'_>
     let bytes = at.rest.as_bytes();
     let size = memchr(stop, bytes).unwrap_or(bytes.len());
     at.after_bytes(size)
+}
+
+/// The text from the first `stop` on, an ASCII character, or its end where none stands. It counts no characters.
+pub fn from_first(text: &str, stop: u8) -> &str
+    requires { stop < 128 }
+    ensures rest { chars result.now ≡ while_rest (λ c. not (c == stop)) (chars text.now) }
+    ensures utf8 { IsUtf8 result.now }
+{
+    let bytes = text.as_bytes();
+    let before = memchr(stop, bytes).unwrap_or(bytes.len());
+    &text[before..]
 }
 
 /// The cursor before the first of the two ASCII characters, or at the end of the text where none stands.

@@ -1,6 +1,7 @@
 //! Literals between quotes that a few bytes tell.
 
-ghost use Rattle.std.specs.Prelude.{◌≡◌, ◌<◌, ◌^◌, ◌&&◌, IfSome, IsTrue, codes, nat_lt, not};
+ghost use Rattle.std.specs.Prelude.{◌≡◌, ◌++◌, ◌<◌, ◌^◌, ◌&&◌, List, ℕ, IfSome, IsTrue};
+ghost use Rattle.std.specs.Prelude.{codes, get_or, nat_lt, not, take};
 ghost use Rattle.std.specs.List.{list_all};
 ghost use Rattle.std.specs.Str.{chars};
 ghost use Rattle.memchr.specs.Find.{IsFirstByte, is_byte3};
@@ -12,6 +13,7 @@ ghost use Rattle.lexical.specs.Quoted.{ByteStr, Str, allows, body, escape, escap
 ghost use Rattle.lexical.specs.RawString.{may_stand_raw};
 ghost use Rattle.lexical.specs.Rule.{Stands};
 ghost use Rattle.lexical.specs.SingleQuoted.{Byte, Character};
+ghost use Rattle.lexical.specs.Word.{is_plain_ascii};
 
 use crate::bytes::{Base, Class, count_ascii, holds_ascii};
 use crate::escapes::{is_letter, writes_character};
@@ -76,15 +78,26 @@ fn unicode_size(bytes: &[u8], kind: StringKind) -> Option<usize>
     Some(digits + 3)
 }
 
+/// How many bytes the escape of one letter has at the front, after its backslash.
+#[inline(always)]
+fn letter_size(bytes: &[u8], kind: StringKind) -> Option<usize>
+    ensures { IfSome result (IsAsciiAt (Anywhere (Stands (escape kind))) bytes.now) }
+{
+    let first = byte_at(bytes, 0);
+    if first.is_ascii() && is_letter(first as char, kind) {
+        return Some(1);
+    }
+    None
+}
+
 /// How many bytes the escape has at the front, after its backslash: a letter, `x` and two digits, or the code of a
 /// character.
 #[inline(always)]
 fn escape_size(bytes: &[u8], kind: StringKind) -> Option<usize>
     ensures { IfSome result (IsAsciiAt (Anywhere (Stands (escape kind))) bytes.now) }
 {
-    let first = byte_at(bytes, 0);
-    if first.is_ascii() && is_letter(first as char, kind) {
-        return Some(1);
+    if let Some(size) = letter_size(bytes, kind) {
+        return Some(size);
     }
     match hex_size(bytes, kind) {
         Some(size) => Some(size),
@@ -93,25 +106,50 @@ fn escape_size(bytes: &[u8], kind: StringKind) -> Option<usize>
 }
 
 /// How many bytes the literal between single quotes has that stands at the front, after its first quote: one of ASCII
-/// or an escape, and the other quote.
+/// that stands for itself, and the other quote.
 #[inline(always)]
-fn single_size(inside: &[u8], kind: StringKind) -> Option<usize>
+fn bare_size(inside: &[u8], kind: StringKind) -> Option<usize>
     ensures { IfSome result (IsAsciiAt (Single kind) inside.now) }
 {
     let byte = byte_at(inside, 0);
-    if byte == b'\\' {
-        let unit = escape_size(&inside[1..], kind)? + 1;
-        if byte_at(inside, unit) == b'\'' && ends_literal(byte_at(inside, unit + 1)) {
-            return Some(unit + 1);
-        }
-        return None;
-    }
     if byte.is_ascii()
         && byte_at(inside, 1) == b'\''
         && stands_bare(byte as char, kind)
         && ends_literal(byte_at(inside, 2))
     {
         return Some(2);
+    }
+    None
+}
+
+/// How many bytes the literal between single quotes has that stands at the front, after its first quote: a backslash
+/// with a letter, and the other quote.
+#[inline(always)]
+fn backslash_size(inside: &[u8], kind: StringKind) -> Option<usize>
+    ensures { IfSome result (IsAsciiAt (Single kind) inside.now) }
+{
+    if byte_at(inside, 0) != b'\\' {
+        return None;
+    }
+    let unit = letter_size(&inside[1..], kind)? + 1;
+    if byte_at(inside, unit) == b'\'' && ends_literal(byte_at(inside, unit + 1)) {
+        return Some(unit + 1);
+    }
+    None
+}
+
+/// How many bytes the literal between single quotes has that stands at the front, after its first quote: one of ASCII
+/// or an escape, and the other quote.
+#[inline(always)]
+fn single_size(inside: &[u8], kind: StringKind) -> Option<usize>
+    ensures { IfSome result (IsAsciiAt (Single kind) inside.now) }
+{
+    if byte_at(inside, 0) != b'\\' {
+        return bare_size(inside, kind);
+    }
+    let unit = escape_size(&inside[1..], kind)? + 1;
+    if byte_at(inside, unit) == b'\'' && ends_literal(byte_at(inside, unit + 1)) {
+        return Some(unit + 1);
     }
     None
 }
@@ -128,6 +166,40 @@ pub fn character_size(text: &str) -> Option<usize>
     Some(single_size(&bytes[1..], StringKind::Plain)? + 1)
 }
 
+/// The extent of the character at the front, between its quotes one of ASCII that stands for itself.
+#[inline(always)]
+pub fn bare_character(text: &str) -> Option<Extent>
+    ensures { IfSome result (IsLiteralAt (chars text.now)) }
+{
+    let bytes = text.as_bytes();
+    if byte_at(bytes, 0) != b'\'' {
+        return None;
+    }
+    let size = bare_size(&bytes[1..], StringKind::Plain)?;
+    Some(ascii_extent(size + 1))
+}
+
+/// The extent of the character at the front, between its quotes a backslash with a letter.
+#[inline(always)]
+pub fn letter_character(text: &str) -> Option<Extent>
+    ensures { IfSome result (IsLiteralAt (chars text.now)) }
+{
+    let bytes = text.as_bytes();
+    if byte_at(bytes, 0) != b'\'' {
+        return None;
+    }
+    let size = backslash_size(&bytes[1..], StringKind::Plain)?;
+    Some(ascii_extent(size + 1))
+}
+
+/// The extent of the character at the front, between its quotes one of ASCII or an escape.
+#[inline(always)]
+pub fn character(text: &str) -> Option<Extent>
+    ensures { IfSome result (IsLiteralAt (chars text.now)) }
+{
+    Some(ascii_extent(character_size(text)?))
+}
+
 /// How many bytes the byte literal has that stands at the front.
 #[inline(always)]
 pub fn byte_size(text: &str) -> Option<usize>
@@ -141,7 +213,7 @@ pub fn byte_size(text: &str) -> Option<usize>
 }
 
 /// The extent of the character that stands at the front, between its quotes one that stands for itself, past ASCII too.
-#[inline(never)]
+#[inline(always)]
 pub fn wide_character(text: &str) -> Option<Extent>
     ensures { IfSome result (IsLiteralAt (chars text.now)) }
 {
@@ -232,22 +304,40 @@ fn body_size(inside: &str, stretch: usize, kind: StringKind) -> Option<usize>
     None
 }
 
+/// The extent of the string after whose first quote `inside` stands: so many bytes of ASCII that stand for themselves,
+/// and the other quote.
+#[inline(always)]
+pub fn plain_string(inside: &str, stretch: usize) -> Option<Extent>
+    requires { IsTrue (list_all is_plain_ascii (take stretch inside.now)) }
+    ensures { (text : List ℕ) → chars text ≡ codes "\"" ++ chars inside.now → IfSome result (IsLiteralAt (chars text)) }
+{
+    let bytes = inside.as_bytes();
+    if byte_at(bytes, stretch) == b'"' && ends_literal(byte_at(bytes, stretch + 1)) {
+        return Some(ascii_extent(stretch + 2));
+    }
+    None
+}
+
+/// The extent of the string that `text` begins with, after whose first quote `inside` stands: so many bytes of ASCII
+/// that stand for themselves, and then an escape.
+#[inline(always)]
+pub fn escaped_string(text: &str, inside: &str, stretch: usize) -> Option<Extent>
+    requires split { chars text.now ≡ codes "\"" ++ chars inside.now }
+    requires plain { IsTrue (list_all is_plain_ascii (take stretch inside.now)) }
+    requires backslash { get_or inside.now stretch 32 ≡ backslash }
+    ensures { IfSome result (IsLiteralAt (chars text.now)) }
+{
+    let size = body_size(inside, stretch, StringKind::Plain)?;
+    Some(counted(text, size + 1))
+}
+
 /// The extent of the string that stands at the front, with no CR.
 #[inline(always)]
 pub fn string(text: &str) -> Option<Extent>
     ensures { IfSome result (IsLiteralAt (chars text.now)) }
 {
     let inside = strip(text, "\"")?;
-    let bytes = inside.as_bytes();
-    // Few are empty or begin with an escape: here the search begins at once.
-    let stretch = memchr3(b'"', b'\\', b'\r', bytes)?;
-    // Most strings are one stretch of ASCII, whose characters want no count.
-    if bytes[stretch] == b'"' && bytes[..stretch].is_ascii() {
-        if ends_literal(byte_at(bytes, stretch + 1)) {
-            return Some(ascii_extent(stretch + 2));
-        }
-        return None;
-    }
+    let stretch = memchr3(b'"', b'\\', b'\r', inside.as_bytes())?;
     let size = body_size(inside, stretch, StringKind::Plain)?;
     Some(counted(text, size + 1))
 }

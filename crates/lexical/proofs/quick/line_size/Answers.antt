@@ -1,9 +1,15 @@
-use Rattle.std.proofs.Common.{◌∙◌}
+use Rattle.std.proofs.Common.{arith}
 use Rattle.lexical.proofs.QuickCommentLemmas.{line_read}
 use Rattle.lexical.proofs.quick.line_size.Goals as goal
 
-pub returns-then-is_ascii : goal.returns-then-is_ascii
-returns-then-is_ascii c =
-    line_read c.args.text.now c.as_bytes-bytes.result.now c.memchr2.result _ c.as_bytes-bytes.ensures.value
-    c.memchr2.ensures c.unwrap_or-size.ensures (λ e. c.if-byte_at-ne13.true (c.byte_at.ensures ∙ e))
-    c.if-is_ascii.ensures.cases
+pub returns-then-size-bytes : goal.returns-then-size-bytes
+returns-then-size-bytes c =
+    line_read c.args.text.now c.as_bytes-bytes.result.now _ c.as_bytes-bytes.ensures.value
+    c.count_line-size.ensures.within c.count_line-size.ensures.plain
+    (λ some. absurd (omega (arith, some, c.if-size-bytes.true)))
+
+pub returns-then-bytes-size-eq10 : goal.returns-then-bytes-size-eq10
+returns-then-bytes-size-eq10 c =
+    line_read c.args.text.now c.as_bytes-bytes.result.now _ c.as_bytes-bytes.ensures.value
+    c.count_line-size.ensures.within c.count_line-size.ensures.plain
+    (λ some. c.if-bytes-size-eq10.true)

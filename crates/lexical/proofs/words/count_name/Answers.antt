@@ -1,13 +1,13 @@
 use Rattle.std.proofs.Common.{◌-◌, length, take, drop, ap, arith, length-drop}
 use Rattle.std.proofs.lemmas.List.{take_rest}
 use Rattle.lexical.specs.declared.bytes.Class.TheVariants.{IdentifierContinue}
-use Rattle.lexical.proofs.LaneLemmas.{name_goes_on}
+use Rattle.lexical.proofs.LaneLemmas.{continues, goes_on}
 use Rattle.lexical.proofs.QuickNumberLemmas.{run_within}
 use Rattle.lexical.proofs.words.count_name.Goals as goal
 
 pub loop-word-preserved : goal.loop-word-preserved
 loop-word-preserved c =
-    name_goes_on c.args.bytes.now _ c.in-Some.word.now c.loop-word.count 8
+    goes_on continues c.args.bytes.now _ c.in-Some.word.now c.loop-word.count 8
     (take_rest c.args.bytes.now c.loop-word.count) c.in-Some.ensures.cases.same c.in_default-count_in_word.ensures.all
     c.loop-word.invariant.0 c.loop-word.invariant.1
 

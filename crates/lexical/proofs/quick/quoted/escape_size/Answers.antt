@@ -3,8 +3,9 @@ use Rattle.lexical.proofs.QuickEscapeLemmas.{some_other}
 use Rattle.lexical.proofs.QuickLemmas.{at_other}
 use Rattle.lexical.proofs.quick.quoted.escape_size.Goals as goal
 
-pub returns-in-Some : goal.returns-in-Some
-returns-in-Some c = at_other _ _ c.args.bytes.now _ (λ p r h rest. inr (inl (h rest))) c.in-Some.ensures
+pub returns-in-Some-hex_size : goal.returns-in-Some-hex_size
+returns-in-Some-hex_size c =
+    at_other _ _ c.args.bytes.now _ (λ p r h rest. inr (inl (h rest))) c.in-Some-hex_size.ensures
 
 pub returns-in-None : goal.returns-in-None
 returns-in-None c = some_other _ _ c.args.bytes.now _ (λ p r h rest. inr (inr (h rest))) c.unicode_size.ensures
