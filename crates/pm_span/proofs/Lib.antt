@@ -9,3 +9,4 @@ pub mod ConsecutiveLemmas
 pub mod PlaceLemmas
 pub mod SeamLemmas
 pub mod SplitLemmas
+pub mod PlainLemmas

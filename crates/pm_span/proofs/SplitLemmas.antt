@@ -26,7 +26,7 @@ one_line_of : (bytes : List ℕ) → IsUtf8 bytes → NoCharPasses is_line_feed 
 one_line_of bytes utf8 h = subst (λ cs. is_one_line cs ≡ true) (chars_from_encodes h.0 bytes utf8 h.1)
     (one_line h.0 h.2)
 
-feed_first : (bytes : List ℕ) → chars (10 ∷ bytes) ≡ 10 ∷ chars bytes
+pub feed_first : (bytes : List ℕ) → chars (10 ∷ bytes) ≡ 10 ∷ chars bytes
 unfolding chars
 feed_first [] = refl
 feed_first (b ∷ bytes) = refl

@@ -7,7 +7,7 @@ pub record Files : Type 0 where
   pub texts : List (List ℕ)
   pub limit : ℕ
 
--- a map that has read nothing, and has all positions to give
+-- a map without files, which may give all positions
 abbrev pub new_map : Files
 new_map = record { texts = []; limit = 4294967295 }
 
@@ -47,7 +47,7 @@ pub record Holds (map : Files) (span : Extent) : Type 0 where
   pub from : lo ≤ span.lo
   pub to : span.hi ≤ lo + length text
 
--- the map with one file more
+-- the map with one more file of this text
 abbrev pub with_file : Files → List ℕ → Files
 with_file map text = record { texts = map.texts ++ (text ∷ []); limit = map.limit }
 

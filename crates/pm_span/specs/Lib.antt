@@ -8,3 +8,4 @@ pub mod Files
 pub mod Consecutive
 pub mod Lookup
 pub mod Order
+pub mod Plain

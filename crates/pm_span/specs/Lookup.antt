@@ -6,31 +6,31 @@ use Rattle.pm_span.specs.Files.{Files, IsFile, Holds, file_name}
 use Rattle.pm_span.specs.CharOffset.{line_column, byte_offset, between}
 use Rattle.pm_span.specs.declared.location.LineColumn.{LineColumn}
 
--- `line`, `column`: those of the offset in its file where the span begins
+-- `line`, `column`: the line and column in its file at which the span begins
 abbrev pub StartsAt : Files → Extent → LineColumn → Type 0
 StartsAt map span start =
     (text : List ℕ) (lo : ℕ) → IsFile map text lo → lo ≤ span.lo → span.hi ≤ lo + length text
     → start ≡ line_column text (span.lo - lo)
 
--- `line`, `column`: those of the offset in its file where the span ends
+-- `line`, `column`: the line and column in its file at which the span ends
 abbrev pub EndsAt : Files → Extent → LineColumn → Type 0
 EndsAt map span end =
     (text : List ℕ) (lo : ℕ) → IsFile map text lo → lo ≤ span.lo → span.hi ≤ lo + length text
     → end ≡ line_column text (span.hi - lo)
 
--- `byte-offset`: those of the two offsets in its file where the span begins and ends
+-- `byte-offset`: the byte offsets in its file at which the span begins and ends
 abbrev pub HasBytes : Files → Extent → Range ℕ → Type 0
 HasBytes map span bytes =
     (text : List ℕ) (lo : ℕ) → IsFile map text lo → lo ≤ span.lo → span.hi ≤ lo + length text
     → bytes ≡ record { start = byte_offset text (span.lo - lo); end = byte_offset text (span.hi - lo) }
 
--- `source-text`: what stands in its file between the two offsets where the span begins and ends
+-- `source-text`: the text of its file from where the span begins to where it ends
 abbrev pub HasText : Files → Extent → List ℕ → Type 0
 HasText map span source =
     (text : List ℕ) (lo : ℕ) → IsFile map text lo → lo ≤ span.lo → span.hi ≤ lo + length text
     → source ≡ between text (span.lo - lo) (span.hi - lo)
 
--- `file-name`: that of the span's file
+-- `file-name`: the name of the span's file
 abbrev pub HasName : Files → Extent → List ℕ → Type 0
 HasName map span name =
     (text : List ℕ) (lo : ℕ) (file : IsFile map text lo) → lo ≤ span.lo → span.hi ≤ lo + length text
@@ -51,6 +51,6 @@ pub record AreInOneFile (map : Files) (first second : Extent) : Type 0 where
   pub second_from : lo ≤ second.lo
   pub second_to : second.hi ≤ lo + length text
 
--- `join`: from where the first of the two begins to where the last of them ends
+-- `join`: the span from where the first of the two begins to where the last of them ends
 abbrev pub joined : Extent → Extent → Extent
 joined first second = record { lo = min first.lo second.lo; hi = max first.hi second.hi }

@@ -103,6 +103,7 @@ fn block_of(char_offset: u32, block: u32) -> u32
 
 impl LineIndex {
     /// The index of these line starts, which ascend, in a text of so many characters.
+    #[inline(always)]
     pub(crate) fn new(alloc: Global, starts: Vec<u32>, count: u32) -> Result<LineIndex, AllocError>
         requires { IsNonDecreasing starts.items }
         ensures ok { IfOk result (λ index. index ≡ starts.items) }

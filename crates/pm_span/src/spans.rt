@@ -1,6 +1,6 @@
 //! Where tokens stand.
 ghost use Rattle.std.specs.Prelude.{◌≡◌, ◌≤◌, ◌↔◌, IsTrue, None};
-ghost use Rattle.pm_span.specs.Extent.{nowhere};
+ghost use Rattle.pm_span.specs.Extent.{extent_eq, nowhere};
 ghost use Rattle.pm_span.specs.Files.{Files, Holds};
 
 use std::fmt;
@@ -96,7 +96,8 @@ impl Span {
 
     /// Whether two spans have the same positions.
     pub fn eq(&self, other: &Span) -> bool
-        ensures { IsTrue result ↔ (self.now ≡ other.now) }
+        ensures value { result ≡ extent_eq self.now other.now }
+        ensures same { IsTrue result ↔ (self.now ≡ other.now) }
     {
         self.lo == other.lo && self.hi == other.hi
     }

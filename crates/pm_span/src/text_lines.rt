@@ -5,7 +5,7 @@ ghost use Rattle.pm_span.specs.LineIndex.{after_line_feeds};
 ghost use Rattle.pm_span.specs.ByteIndex.{AreNonAsciiBounds, IsByteOffset, IsNonAsciiLine};
 
 use crate::byte_index::OffsetPair;
-use crate::text::{char_count, split_line};
+use crate::text::{FirstLine, first_line};
 use std::alloc::{AllocError, Global};
 
 /// What one pass over a text finds.
@@ -20,6 +20,7 @@ pub(crate) struct Lines {
 }
 
 /// The lines of the text.
+#[inline(always)]
 pub(crate) fn find_lines(alloc: Global, text: &str) -> Result<Lines, AllocError>
     requires { length (chars text.now) < 2 ^ 32 }
     ensures starts { IfOk result (λ lines. lines.starts.items ≡ after_line_feeds (chars text.now)) }
@@ -31,32 +32,37 @@ pub(crate) fn find_lines(alloc: Global, text: &str) -> Result<Lines, AllocError>
     let mut non_ascii_bounds = Vec::new(alloc);
     let mut start = OffsetPair { chars: 0, bytes: 0 };
     let mut rest = text;
-    while let Some((line, after)) = split_line(rest) {
-        let count = char_count(line);
-        let next = OffsetPair {
-            chars: start.chars + count as u32 + 1,
-            bytes: text.len() - after.len(),
-        };
-        starts.push(next.chars)?;
-        if count < line.len() {
-            push_bounds(&mut non_ascii_bounds, start, next)?;
+    loop {
+        let FirstLine { count, split } = first_line(rest);
+        match split {
+            Some((line, after)) => {
+                let next = OffsetPair {
+                    chars: start.chars + count as u32 + 1,
+                    bytes: text.len() - after.len(),
+                };
+                starts.push(next.chars)?;
+                if count < line.len() {
+                    push_bounds(&mut non_ascii_bounds, start, next)?;
+                }
+                start = next;
+                rest = after;
+            }
+            None => {
+                let end = OffsetPair {
+                    chars: start.chars + count as u32,
+                    bytes: text.len(),
+                };
+                if count < rest.len() {
+                    push_bounds(&mut non_ascii_bounds, start, end)?;
+                }
+                return Ok(Lines {
+                    starts,
+                    non_ascii_bounds,
+                    count: end.chars,
+                });
+            }
         }
-        start = next;
-        rest = after;
     }
-    let count = char_count(rest);
-    let end = OffsetPair {
-        chars: start.chars + count as u32,
-        bytes: text.len(),
-    };
-    if count < rest.len() {
-        push_bounds(&mut non_ascii_bounds, start, end)?;
-    }
-    Ok(Lines {
-        starts,
-        non_ascii_bounds,
-        count: end.chars,
-    })
 }
 
 /// Keeps where a line that isn't ASCII begins and ends. The first is kept already where the line before it is.

@@ -1,6 +1,9 @@
 use Rattle.std.proofs.Common.{◌≡◌, ℕ, ◌+◌, ◌-◌, ◌<◌, ◌≤◌, true, List, [], ◌∷◌, ◌++◌, length, drop, ap, sym, subst, refl}
 use Rattle.std.proofs.Common.{◌∙◌}
-use Rattle.std.proofs.Common.{append_assoc, append-nil, arith, inl, inr}
+use Rattle.std.proofs.Common.{append_assoc, append-nil, arith, inl, inr, Option, Some, None, IfSome}
+use Rattle.std.specs.Borrow.{Bor}
+use Rattle.std.specs.Option.{MatchOption}
+use Rattle.std.proofs.lemmas.Option.{none-some, same_Some}
 use Rattle.std.proofs.lemmas.Bool.{cases_lt}
 use Rattle.std.specs.Str.{chars, IsUtf8}
 use Rattle.pm_span.specs.LineIndex.{after_line_feeds_from}
@@ -15,7 +18,36 @@ use Rattle.pm_span.proofs.SplitLemmas.{after_line_feeds_from-line, after_line_fe
 use Rattle.pm_span.proofs.SplitLemmas.{line_bytes}
 use Rattle.pm_span.proofs.SplitLemmas.{only_line, split_size}
 use Rattle.pm_span.proofs.text_lines.find_lines.Goals as goal
-use Rattle.pm_span.proofs.text_lines.find_lines.Goals.{then-count-rest+in_ok-push_bounds-2, else-count-rest}
+use Rattle.pm_span.proofs.text_lines.find_lines.Goals.{then-count-rest+in_ok-push_bounds-in-None, else-count-rest}
+
+-- the first line of what is left, and what follows it
+record IsFirst (rest : List ℕ) (x : Bor (List ℕ) × Bor (List ℕ)) (count : ℕ) : Type 0 where
+  split : chars rest ≡ chars x.0.now ++ (10 ∷ chars x.1.now)
+  one : is_one_line (chars x.0.now) ≡ true
+  line : IsUtf8 x.0.now
+  after : IsUtf8 x.1.now
+  size : count ≡ length (chars x.0.now)
+
+is_first :
+    (rest : List ℕ) (o : Option (Bor (List ℕ) × Bor (List ℕ))) (x : Bor (List ℕ) × Bor (List ℕ)) (count : ℕ)
+    → o ≡ Some x
+    → MatchOption o (is_one_line (chars rest) ≡ true)
+    (λ x. (chars rest ≡ chars x.0.now ++ (10 ∷ chars x.1.now)) × (is_one_line (chars x.0.now) ≡ true))
+    → IfSome o (λ x. IsUtf8 x.0.now × IsUtf8 x.1.now)
+    → MatchOption o (count ≡ length (chars rest)) (λ x. count ≡ length (chars x.0.now)) → IsFirst rest x count
+is_first rest None x count is split utf8 size = absurd (none-some x is)
+is_first rest (Some y) x count is split utf8 size = subst (λ x. IsFirst rest x count) (same_Some y x is)
+    (record { split = split.0; one = split.1; line = utf8.0; after = utf8.1; size = size })
+
+-- the last line
+is_last :
+    (rest : List ℕ) (o : Option (Bor (List ℕ) × Bor (List ℕ))) (count : ℕ) → o ≡ None
+    → MatchOption o (is_one_line (chars rest) ≡ true)
+    (λ x. (chars rest ≡ chars x.0.now ++ (10 ∷ chars x.1.now)) × (is_one_line (chars x.0.now) ≡ true))
+    → MatchOption o (count ≡ length (chars rest)) (λ x. count ≡ length (chars x.0.now))
+    → (is_one_line (chars rest) ≡ true) × (count ≡ length (chars rest))
+is_last rest None count is split size = (split, size)
+is_last rest (Some x) count is split size = absurd (none-some x (sym is))
 
 -- what is left after a line more, and the bytes before it
 next_line :
@@ -31,9 +63,12 @@ next_line text after line {rest} count n utf8 left cut size split is =
 
 pub overflow_sub-next : goal.overflow_sub-next
 overflow_sub-next c =
+    let found = c.first_line-count.ensures in
+    let first = is_first c.loop-line.rest.now c.first_line-count.result.split (c.in-Some.line, c.in-Some.after)
+    c.first_line-count.result.count c.in-Some.is found.split found.utf8 found.count in
     let next = next_line c.args.text.now c.in-Some.after.now (chars c.in-Some.line.now) c.loop-line.start.chars
-    (c.loop-line.start.chars + (length (chars c.in-Some.line.now) + 1)) c.utf8.text c.in-Some.ensures.utf8.1
-    c.loop-line.invariant.left c.loop-line.invariant.count c.in-Some.ensures.split.0 refl in
+    (c.loop-line.start.chars + (length (chars c.in-Some.line.now) + 1)) c.utf8.text first.after
+    c.loop-line.invariant.left c.loop-line.invariant.count first.split refl in
     omega (arith, next.2)
 
 -- a line more, from one offset to the next, and its bytes
@@ -61,34 +96,36 @@ line_more text after line rest start next utf8 left first last begins cut split 
       );
     }
 
-pub loop-line-preserved-in_ok-push_bounds : goal.loop-line-preserved-in_ok-push_bounds
-loop-line-preserved-in_ok-push_bounds c =
+pub loop-line-preserved-in_ok-push_bounds-in-Some : goal.loop-line-preserved-in_ok-push_bounds-in-Some
+loop-line-preserved-in_ok-push_bounds-in-Some c =
     let text = c.args.text.now in
-    let split = c.in-Some.ensures.split in
     let line = c.in-Some.line.now in
     let after = c.in-Some.after.now in
-    let n = c.loop-line.start.chars + c.char_count-count.result + 1 in
-    let size : n ≡ c.loop-line.start.chars + (length (chars line) + 1) = omega (arith, c.char_count-count.ensures) in
-    let next = next_line text after (chars line) c.loop-line.start.chars n c.utf8.text
-    c.in-Some.ensures.utf8.1 c.loop-line.invariant.left c.loop-line.invariant.count split.0 size in
+    let found = c.first_line-count.ensures in
+    let first = is_first c.loop-line.rest.now c.first_line-count.result.split (c.in-Some.line, c.in-Some.after)
+    c.first_line-count.result.count c.in-Some.is found.split found.utf8 found.count in
+    let n = c.loop-line.start.chars + c.first_line-count.result.count + 1 in
+    let size : n ≡ c.loop-line.start.chars + (length (chars line) + 1) = omega (arith, first.size) in
+    let next = next_line text after (chars line) c.loop-line.start.chars n c.utf8.text first.after
+    c.loop-line.invariant.left c.loop-line.invariant.count first.split size in
     let one = line_more text after line c.loop-line.rest.now c.loop-line.start.chars n c.utf8.text
-    c.loop-line.invariant.utf8
-    c.in-Some.ensures.utf8.0 c.in-Some.ensures.utf8.1 c.loop-line.invariant.begins c.loop-line.invariant.left split.0
-    split.1 size next.2 in
+    c.loop-line.invariant.utf8 first.line first.after c.loop-line.invariant.begins c.loop-line.invariant.left
+    first.split first.one size next.2 in
     let start : IsByteOffset (chars text) n (length text - length after) =
     record { within = omega (arith, next.1); value = omega (arith, next.2) } in
     let left = after_line_feeds_from n (chars after) in
-    let more = after_line_feeds_from-split c.loop-line.start.chars n _ _ _ split.0 split.1 size in
+    let more = after_line_feeds_from-split c.loop-line.start.chars n _ _ _ first.split first.one size in
     record {
-      utf8 = c.in-Some.ensures.utf8.1;
+      utf8 = first.after;
       left = next.0;
       count = next.1;
       start = start;
       begins = one.begins;
-      starts = ap (λ xs. xs ++ left) c.in_ok-push.ensures.items
+      starts = ap (λ xs. xs ++ left) c.in_ok-push-in-Some.ensures.items
           ∙ (append_assoc c.loop-line.starts.items (n ∷ []) left
           ∙ (ap (λ xs. c.loop-line.starts.items ++ xs) (sym more) ∙ c.loop-line.invariant.starts));
-      bounds = c.in_ok-push_bounds.ensures.ok (chars text) c.loop-line.invariant.bounds c.loop-line.invariant.start
+      bounds = c.in_ok-push_bounds-in-Some.ensures.ok (chars text) c.loop-line.invariant.bounds
+          c.loop-line.invariant.start
           start
           (record { line = one.line; more_bytes = omega (arith, one.size, c.if-count-line.true) });
     }
@@ -96,36 +133,39 @@ loop-line-preserved-in_ok-push_bounds c =
 pub loop-line-preserved : goal.loop-line-preserved
 loop-line-preserved c =
     let text = c.args.text.now in
-    let split = c.in-Some.ensures.split in
     let line = c.in-Some.line.now in
     let after = c.in-Some.after.now in
-    let n = c.loop-line.start.chars + c.char_count-count.result + 1 in
-    let size : n ≡ c.loop-line.start.chars + (length (chars line) + 1) = omega (arith, c.char_count-count.ensures) in
-    let next = next_line text after (chars line) c.loop-line.start.chars n c.utf8.text
-    c.in-Some.ensures.utf8.1 c.loop-line.invariant.left c.loop-line.invariant.count split.0 size in
+    let found = c.first_line-count.ensures in
+    let first = is_first c.loop-line.rest.now c.first_line-count.result.split (c.in-Some.line, c.in-Some.after)
+    c.first_line-count.result.count c.in-Some.is found.split found.utf8 found.count in
+    let n = c.loop-line.start.chars + c.first_line-count.result.count + 1 in
+    let size : n ≡ c.loop-line.start.chars + (length (chars line) + 1) = omega (arith, first.size) in
+    let next = next_line text after (chars line) c.loop-line.start.chars n c.utf8.text first.after
+    c.loop-line.invariant.left c.loop-line.invariant.count first.split size in
     let one = line_more text after line c.loop-line.rest.now c.loop-line.start.chars n c.utf8.text
-    c.loop-line.invariant.utf8
-    c.in-Some.ensures.utf8.0 c.in-Some.ensures.utf8.1 c.loop-line.invariant.begins c.loop-line.invariant.left split.0
-    split.1 size next.2 in
+    c.loop-line.invariant.utf8 first.line first.after c.loop-line.invariant.begins c.loop-line.invariant.left
+    first.split first.one size next.2 in
     let left = after_line_feeds_from n (chars after) in
-    let more = after_line_feeds_from-split c.loop-line.start.chars n _ _ _ split.0 split.1 size in
+    let more = after_line_feeds_from-split c.loop-line.start.chars n _ _ _ first.split first.one size in
     record {
-      utf8 = c.in-Some.ensures.utf8.1;
+      utf8 = first.after;
       left = next.0;
       count = next.1;
       start = record { within = omega (arith, next.1); value = omega (arith, next.2) };
       begins = one.begins;
-      starts = ap (λ xs. xs ++ left) c.in_ok-push.ensures.items
+      starts = ap (λ xs. xs ++ left) c.in_ok-push-in-Some.ensures.items
           ∙ (append_assoc c.loop-line.starts.items (n ∷ []) left
           ∙ (ap (λ xs. c.loop-line.starts.items ++ xs) (sym more) ∙ c.loop-line.invariant.starts));
       bounds = AreNonAsciiBounds-ascii c.loop-line.invariant.bounds one.line
           (omega (arith, one.size, c.if-count-line.false));
     }
 
-pub returns-clause-starts : goal.returns-clause-starts
-returns-clause-starts c =
+pub returns-in-None-clause-starts : goal.returns-in-None-clause-starts
+returns-in-None-clause-starts c =
+    let last = is_last c.loop-line.rest.now c.first_line-count.result.split c.first_line-count.result.count
+    c.in-None.is c.first_line-count.ensures.split c.first_line-count.ensures.count in
     sym (ap (λ xs. c.loop-line.starts.items ++ xs)
-    (after_line_feeds_from-line c.loop-line.start.chars (chars c.loop-line.rest.now) c.in_default.ensures.split)
+    (after_line_feeds_from-line c.loop-line.start.chars (chars c.loop-line.rest.now) last.0)
     ∙ append-nil c.loop-line.starts.items)
     ∙ c.loop-line.invariant.starts
 
@@ -154,19 +194,22 @@ last_line text rest start n count bounds utf8 left begins cut one is size =
           )
     ]
 
-pub returns-clause-bounds : goal.returns-clause-bounds
-returns-clause-bounds c =
+pub returns-in-None-clause-bounds : goal.returns-in-None-clause-bounds
+returns-in-None-clause-bounds c =
     let text = chars c.args.text.now in
-    let n = c.loop-line.start.chars + c.char_count-count-2.result in
-    let is : n ≡ length text = omega (arith, c.loop-line.invariant.count, c.char_count-count-2.ensures) in
+    let count = c.first_line-count.result.count in
+    let found = is_last c.loop-line.rest.now c.first_line-count.result.split count c.in-None.is
+    c.first_line-count.ensures.split c.first_line-count.ensures.count in
+    let n = c.loop-line.start.chars + count in
+    let is : n ≡ length text = omega (arith, c.loop-line.invariant.count, found.1) in
     let end : IsByteOffset text n (length c.args.text.now) = text_end n c.utf8.text refl is in
-    let last = last_line c.args.text.now c.loop-line.rest.now c.loop-line.start.chars n c.char_count-count-2.result
+    let last = last_line c.args.text.now c.loop-line.rest.now c.loop-line.start.chars n count
     c.loop-line.non_ascii_bounds.items c.utf8.text c.loop-line.invariant.utf8 c.loop-line.invariant.begins
-    c.loop-line.invariant.left c.in_default.ensures.split is refl in
+    c.loop-line.invariant.left found.0 is refl in
     elim c.if-count-rest.branch [
-      | then-count-rest+in_ok-push_bounds-2 w ↦
+      | then-count-rest+in_ok-push_bounds-in-None w ↦
           subst (λ ends. AreNonAsciiBounds text n ends.items) (sym w.non_ascii_bounds-is)
-          (w.in_ok-push_bounds-2.ensures.ok text c.loop-line.invariant.bounds c.loop-line.invariant.start end
+          (w.in_ok-push_bounds-in-None.ensures.ok text c.loop-line.invariant.bounds c.loop-line.invariant.start end
           (last.0 w.if-count-rest.true))
       | else-count-rest w ↦
           subst (λ ends. AreNonAsciiBounds text n ends.items) (sym w.non_ascii_bounds-is)
