@@ -20,7 +20,7 @@ pub record Parts : Type 0 where
   pub marks : List TokenTree
   pub group : Grouped
 
--- what an attribute lends
+-- the trees of an attribute's parts
 abbrev pub parts_of : Attribute → Parts
 parts_of attribute = record { marks = attribute.marks.now; group = attribute.group.now }
 
@@ -40,7 +40,7 @@ is_outer hash g = (hash.mark == 35) && is_bracket g.delimiter
 abbrev pub is_inner : Mark → Mark → Grouped → Bool
 is_inner hash mark g = (hash.mark == 35) && ((mark.mark == 33) && is_bracket g.delimiter)
 
--- the attributes at the front of trees, as far as they go
+-- the attributes at the front of trees, up to what is none
 abbrev pub attributes_in : List TokenTree → List Parts
 attributes_in (Punct hash ∷ Group g ∷ rest) =
     if is_outer hash g then record { marks = Punct hash ∷ []; group = g } ∷ attributes_in rest else []
@@ -55,6 +55,7 @@ IsAttributeAt trees attribute rest = trees ≡ attribute_trees (parts_of attribu
 
 -- ---- what stands in its brackets
 
+-- the trees in the attribute's brackets
 abbrev pub inside : Attribute → List TokenTree
 inside attribute = trees_of attribute.group.now.stream
 
@@ -69,11 +70,11 @@ goes_on (Ident i) = true
 goes_on (Punct p) = not (p.mark == 61)
 goes_on (Literal l) = true
 
--- the path at the front
+-- the path at the front of the trees
 abbrev pub path_of : List TokenTree → List TokenTree
 path_of trees = take_while goes_on trees
 
--- the trees after it
+-- the trees after the path at the front
 abbrev pub after_path : List TokenTree → List TokenTree
 after_path trees = drop (prefix_len goes_on trees) trees
 

@@ -9,7 +9,7 @@ use Rattle.pm_stream.specs.Trees.{forest}
 use Rattle.pm_stream.specs.declared.stream.TokenTree.{TokenTree}
 use Rattle.pm_stream.specs.declared.stream.TokenTree.TheVariants.{Group, Ident, Punct, Literal}
 
--- where a fault is told: at its tree, or at no place where more trees are missing
+-- where a fault is reported: at its tree, or in no file where more trees are missing
 abbrev pub told_at : Option Extent → Extent
 told_at None = nowhere
 told_at (Some extent) = extent

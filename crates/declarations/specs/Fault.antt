@@ -1,6 +1,9 @@
 -- Where a fault stands, and what it says.
-use Rattle.std.specs.Prelude.{ℕ, List, [], ◌∷◌, Option, Some, None, codes, drop}
-use Rattle.pm_span.specs.Extent.{Extent}
+use Rattle.std.specs.Prelude.{ℕ, Bool, ◌==◌, List, [], ◌∷◌, Option, Some, None, codes, drop}
+use Rattle.std.specs.Option.{option_eq}
+use Rattle.std.specs.Ordering.{eq_of_both, on}
+use Rattle.declarations.specs.declared.fault.Fault.{Fault}
+use Rattle.pm_span.specs.Extent.{Extent, extent_eq}
 use Rattle.pm_stream.specs.TreeSpan.{extent_of}
 use Rattle.pm_stream.specs.declared.stream.TokenTree.{TokenTree}
 
@@ -9,10 +12,15 @@ abbrev pub first_extent : List TokenTree → Option Extent
 first_extent [] = None
 first_extent (tree ∷ left) = Some (extent_of tree)
 
--- where the tree stands before which there are so many
+-- the span of the tree with this index, or nothing where the trees end before it
 abbrev pub extent_at : List TokenTree → ℕ → Option Extent
 extent_at trees at = first_extent (drop at trees)
 
+-- the sentence for a fault at a tree with this span, or at the end of the trees
 abbrev pub fault_text : Option Extent → List ℕ
 fault_text None = codes "the declaration ends too early"
 fault_text (Some extent) = codes "not expected here"
+
+-- whether both count as many trees, and have the same span or none
+abbrev pub fault_eq : Fault → Fault → Bool
+fault_eq = eq_of_both (on (λ fault. fault.at) ◌==◌) (on (λ fault. fault.span) (option_eq extent_eq))

@@ -32,13 +32,13 @@ pub record HasFieldParts (trees : List TokenTree) (field : Field) : Type 0 where
   pub is_colon : tree_class colon ≡ classes.Colon
   pub type_read : ReadsAll IsType field.field_type.now
 
--- the same of one without a name
+-- the trees are a field without a name, and these are its parts: a type stands after its visibility
 pub record HasTypeParts (trees : List TokenTree) (field : Field) : Type 0 where
   pub front : HasFront trees field.attributes.now field.visibility.now field.field_type.now
   pub none : field.name ≡ None
   pub type_read : ReadsAll IsType field.field_type.now
 
--- the trees begin with a field, and these are its parts
+-- the trees begin with a field of the form, and these are its parts
 pub record IsFieldAt (form : List Class → List Class → Type 0) (has_parts : List TokenTree → Field → Type 0)
     (trees : List TokenTree) (field : Field) (rest : List TokenTree) : Type 0 where
   pub part : List TokenTree

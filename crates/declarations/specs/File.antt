@@ -47,7 +47,7 @@ pub record ItemFaultAt (trees : List TokenTree) (at : ℕ) : Type 0 where
   pub fault : FaultAt IsAnyItem left within
   pub counted : at ≡ length front + within
 
--- that of the inner attributes, or of the first item that isn't read
+-- the fault of a file is that of its inner attributes, or that of the first item that isn't read
 abbrev pub FileFaultAt : List TokenTree → ℕ → Type 0
 FileFaultAt trees at = FaultAt AreInnerAttributes trees at ⊎ ItemFaultAt trees at
 

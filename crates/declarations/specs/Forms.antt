@@ -90,5 +90,6 @@ AreInnerAttributes = IsFrom (start rules.Alone (states.At spots.Inner))
 abbrev pub any_item : Place
 any_item = start rules.Alone (states.At (spots.Before parts.AnyItem))
 
+-- an item of any kind: what it begins with, its name, header and body, or a group without delimiters
 abbrev pub IsAnyItem : List Class → List Class → Type 0
 IsAnyItem = IsFrom any_item

@@ -251,7 +251,7 @@ abbrev pub step_from : State → Place → Class → Option Place
 step_from (states.Range state) place class = else_follow (range_step place state class) place state class
 step_from (states.At spot) place class = else_type (spot_step place.item place.rule spot class) place spot class
 
--- what a sign leads to
+-- the place of the grammar that a sign leads to, or nothing where it may not stand
 abbrev pub step : Place → Class → Option Place
 step place class = step_from place.state place class
 
@@ -304,7 +304,7 @@ abbrev pub ends_at : State → Place → Bool
 ends_at (states.Range state) place = ((place.depth == 0) && may_end state) && rule_ends place.item place.rule
 ends_at (states.At spot) place = spot_ends place.item place.rule spot
 
--- whether what is read may end there
+-- whether what is read may end at this place of the grammar
 abbrev pub ends : Place → Bool
 ends place = ends_at place.state place
 

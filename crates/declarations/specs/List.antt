@@ -73,11 +73,11 @@ GivesField old given new =
     (λ found. BeginsList (IsFieldOf old.named) (field_form old.named) old.left.now found new.left.now
     × (new.named ≡ old.named))
 
--- the trees in a group
+-- these are the trees in the group
 abbrev pub AreInside : List TokenTree → Grouped → Type 0
 AreInside trees g = forest trees ≡ g.stream
 
--- the fields that a struct or a variant has
+-- the list reads the fields that a struct or a variant has
 abbrev pub ListsFields : Fields → FieldList → Type 0
 ListsFields (fields.Named g) list = (list.named ≡ true) × AreInside list.left.now g.now
 ListsFields (fields.Tuple g) list = (list.named ≡ false) × AreInside list.left.now g.now

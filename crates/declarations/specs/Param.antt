@@ -59,6 +59,7 @@ pub record ParamTrees : Type 0 where
   pub bounds : List TokenTree
   pub default : List TokenTree
 
+-- the trees of a parameter's parts, as the library gives them
 abbrev pub param_trees : Param → ParamTrees
 param_trees param = record {
   attributes = param.attributes.now;
@@ -113,7 +114,7 @@ pub record IsParamAt (trees : List TokenTree) (param : ParamTrees) (rest : List 
   pub default : HasDefault param.kind from_default param.default from_end
   pub ends : EndsElement from_end rest
 
--- and nothing else is one there
+-- no other parameter with another rest stands at the front of the trees
 abbrev pub IsOnlyParam : List TokenTree → ParamTrees → List TokenTree → Type 0
 IsOnlyParam trees param rest =
     (param2 : ParamTrees) (rest2 : List TokenTree) → IsParamAt trees param2 rest2
@@ -121,10 +122,12 @@ IsOnlyParam trees param rest =
 
 -- ---- predicates
 
+-- the trees of a predicate's parts
 pub record PredicateTrees : Type 0 where
   pub bounded : List TokenTree
   pub bounds : List TokenTree
 
+-- the trees of a predicate's parts, as the library gives them
 abbrev pub predicate_trees : Predicate → PredicateTrees
 predicate_trees predicate = record { bounded = predicate.bounded.now; bounds = predicate.bounds.now }
 
@@ -137,6 +140,7 @@ pub record IsPredicateAt (trees : List TokenTree) (predicate : PredicateTrees) (
   pub bounds : MustHave classes.Colon (Reads AreBounds) from_colon predicate.bounds from_end
   pub ends : EndsElement from_end rest
 
+-- no other predicate with another rest stands at the front of the trees
 abbrev pub IsOnlyPredicate : List TokenTree → PredicateTrees → List TokenTree → Type 0
 IsOnlyPredicate trees predicate rest =
     (predicate2 : PredicateTrees) (rest2 : List TokenTree) → IsPredicateAt trees predicate2 rest2
@@ -148,14 +152,14 @@ abbrev pub is_mark_of : ℕ → TokenTree → Bool
 is_mark_of c (Punct p) = p.mark == c
 is_mark_of c _ = false
 
--- nothing, or all between `<` (60) and `>` (62)
+-- the trees between `<` (60) and `>` (62), or none where there are no generics
 abbrev pub IsWithin : List TokenTree → List TokenTree → Type 0
 IsWithin [] inside = inside ≡ []
 IsWithin (first ∷ rest) inside =
     (close : TokenTree) × (rest ≡ inside ++ close ∷ []) × (is_mark_of 60 first ≡ true)
     × (is_mark_of 62 close ≡ true)
 
--- nothing, or all after `where`
+-- the trees of a where clause after `where`, or none where there is no clause
 abbrev pub IsAfterWhere : List TokenTree → List TokenTree → Type 0
 IsAfterWhere [] inside = inside ≡ []
 IsAfterWhere (Ident i ∷ rest) inside = (is_written i (codes "where") ≡ true) × (inside ≡ rest)

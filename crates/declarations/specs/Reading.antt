@@ -33,7 +33,7 @@ pub record FaultAt (form : List Class → List Class → Type 0) (trees : List T
   pub longest : StopsBefore form (classes_of front) (classes_of (signs left))
   pub nothing : (part rest : List TokenTree) → Reads form trees part rest → ⊥
 
--- nothing else is read
+-- no other part and rest are read by the form from these trees
 abbrev pub IsOnly : (List Class → List Class → Type 0) → List TokenTree → List TokenTree → List TokenTree → Type 0
 IsOnly form trees part rest =
     (part2 rest2 : List TokenTree) → Reads form trees part2 rest2 → (part2 ≡ part) × (rest2 ≡ rest)

@@ -4,7 +4,7 @@ use Rattle.pm_stream.specs.declared.stream.TokenTree.{TokenTree}
 use Rattle.declarations.specs.Reading.{Reads}
 use Rattle.declarations.specs.declared.class.Class.{Class}
 
--- the form, with nothing after it
+-- a part of the form is all there is: nothing stands after it
 abbrev pub IsWhole : (List Class → List Class → Type 0) → List Class → List Class → Type 0
 IsWhole form piece rest = form piece rest × (rest ≡ [])
 

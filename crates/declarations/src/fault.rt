@@ -1,6 +1,8 @@
 //! Where trees aren't as the grammar has them.
 ghost use Rattle.std.specs.Prelude.{◌≡◌};
+ghost use Rattle.std.specs.Option.{option_eq};
 ghost use Rattle.declarations.specs.Fault.{first_extent};
+ghost use Rattle.pm_span.specs.Extent.{extent_eq};
 
 use pm_span::Span;
 use pm_stream::TokenTree;
@@ -27,6 +29,46 @@ impl Fault {
             None => None,
         };
         Fault { at, span }
+    }
+
+    /// The field [`span`](Fault::span): where the first tree that doesn't fit stands.
+    pub fn span(&self) -> Option<Span>
+        ensures { result ≡ self.now.span }
+    {
+        self.span
+    }
+}
+
+impl PartialEq for Fault {
+    ghost use Rattle.std.proofs.Common.{rules};
+    ghost use Rattle.std.specs.Cmp.Rules.{comparing};
+    ghost use Rattle.declarations.specs.Fault.{fault_eq};
+
+    ghost eq = { fault_eq };
+
+    ghost laws = { Prim.search (comparing, rules) };
+
+    /// Whether both count as many trees, and have the same span or none.
+    fn eq(&self, other: &Fault) -> bool {
+        self.at == other.at && are_same(self.span, other.span)
+    }
+}
+
+impl Eq for Fault {
+    ghost use Rattle.std.proofs.Common.{rules};
+    ghost use Rattle.std.specs.Cmp.Rules.{comparing};
+
+    ghost laws = { Prim.search (comparing, rules) };
+}
+
+// Whether both are the same span, or none.
+fn are_same(span: Option<Span>, other: Option<Span>) -> bool
+    ensures { result ≡ option_eq extent_eq span other }
+{
+    match (span, other) {
+        (Some(span), Some(other)) => span.eq(&other),
+        (None, None) => true,
+        _ => false,
     }
 }
 

@@ -33,12 +33,13 @@ pub record EndedLast (start from to : Cursor) : Type 0 where
   pub stands : BlockComment comment.part (chars to.rest.now)
   pub last : Stands no_end (chars to.rest.now) []
 
+-- so many comments are open at the end of the text, and the last that ended stands between the two cursors
 abbrev pub LeftComments : Cursor → ℕ → Option (Cursor × Cursor) → Type 0
 LeftComments start depth closed =
     AreOpen depth (chars start.rest.now) []
     × MatchOption closed (Stands no_end (chars start.rest.now) []) (λ x. EndedLast start x.0 x.1)
 
--- the quote and its hash signs stand from one cursor to the other
+-- a quote with as many hash signs after it as any in the content stands from one cursor to the other
 pub record CameNearest (inside from to : Cursor) : Type 0 where
   pub before : IsPast inside from
   pub signs : List ℕ

@@ -29,7 +29,7 @@ abbrev pub each_waiting : List Opener → List Waiting
 each_waiting [] = []
 each_waiting (x ∷ openers) = (x.delimiter, x.at.span.lo) ∷ each_waiting openers
 
--- how those in a list wait whose innermost is the last
+-- the open groups of a list of openers, whose last is the innermost
 abbrev pub waiting : List Opener → List Waiting
 waiting openers = each_waiting (reverse openers)
 
@@ -50,7 +50,7 @@ abbrev pub Steps : List Opener → List Opener → List Event → Type 0
 Steps old new events =
     (groups : List Opened) (trees : Forest) → waiting old ≡ openers_of groups → Grows new groups trees events
 
--- they wait so where the innermost was taken out, if there is one
+-- the open groups are those of the list and then the innermost, if there is one; else none is open
 abbrev pub WaitsAs : List Waiting → Option Opener → List Opener → Type 0
 WaitsAs all None outer = (all ≡ []) × (outer ≡ [])
 WaitsAs all (Some x) outer = all ≡ (x.delimiter, x.at.span.lo) ∷ waiting outer
@@ -61,7 +61,7 @@ Gains (kinds.Opener c) at old new = new ≡ old ++ (record { delimiter = delimit
 Gains (kinds.Closer c) at old new = (x : Opener) × (old ≡ new ++ x ∷ [])
 Gains _ at old new = new ≡ old
 
--- the innermost was taken out, if there is one
+-- the first list is the second and then the innermost opener, if there is one; else both are empty
 abbrev pub Loses : List Opener → Option Opener → List Opener → Type 0
 Loses all None outer = (all ≡ []) × (outer ≡ [])
 Loses all (Some x) outer = all ≡ outer ++ x ∷ []
@@ -74,6 +74,7 @@ RefusesFor d MismatchedCloser None = ⊥
 RefusesFor d MismatchedCloser (Some opener) = opener.delimiter ≡ d → ⊥
 RefusesFor d _ innermost = ⊥
 
+-- a closer of the delimiter can't stand where the innermost opener is this one, for the reason that is given
 abbrev pub Refuses : Delimiter → Refusal → Type 0
 Refuses d x = RefusesFor d x.reason x.innermost
 

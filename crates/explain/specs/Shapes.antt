@@ -23,7 +23,7 @@ use Rattle.explain.specs.declared.quotes.SingleKind.TheVariants.{Character, Byte
 abbrev pub any : ℕ → Bool
 any c = true
 
--- whether it is this character
+-- whether the character is `#`
 abbrev pub is_hash : ℕ → Bool
 is_hash c = c == hash_sign
 
@@ -36,7 +36,7 @@ is_quote c = c == single_quote
 abbrev pub pair : Rule
 pair = Either (One (λ c. not (is_one_of (codes "\"\\") c))) (Then (Exactly (codes "\\")) (One any))
 
--- such pairs up to the first `"` that is in none of them
+-- pairs of a string's body up to the first `"` that is in none of them
 abbrev pub closed_body : Rule
 closed_body = UpTo pair (Exactly (codes "\""))
 
@@ -121,16 +121,16 @@ closed_named =
     (Then (Exactly (codes "'"))
     (Then (Either name (Then (One is_ascii_digit) (Run is_ident_continue))) (Exactly (codes "'"))))
 
--- whatever stands in it
+-- a character literal that ends, whatever stands in it
 abbrev pub closed_character : Rule
 closed_character = Either closed_single closed_named
 
--- what opens it
+-- what opens a character or a byte literal
 abbrev pub single_front : SingleKind → List ℕ
 single_front Character = codes "'"
 single_front Byte = codes "b'"
 
--- and what it is where nothing is wrong with it
+-- the rule of a character or a byte literal
 abbrev pub single_rule : SingleKind → Rule
 single_rule Character = character
 single_rule Byte = byte

@@ -38,6 +38,7 @@ pub record IsPast (at to : Cursor) : Type 0 where
 abbrev pub IsLeft : ℕ → List ℕ → Cursor → Cursor → Type 0
 IsLeft quote left at end = chars at.rest.now ≡ left ++ (quote ∷ chars end.rest.now)
 
+-- some content is left from the one cursor to the other, which the quote before the other closes
 abbrev pub IsInside : ℕ → Cursor → Cursor → Type 0
 IsInside quote at end = (left : List ℕ) × IsLeft quote left at end
 
@@ -73,7 +74,7 @@ IsStep kind at end (IsUnit after) = Passes (unit kind) at after × IsInside doub
 IsStep kind at end (Fault e after) = IsFaultAt kind e at after end
 IsStep kind at end End = IsLeft double_quote [] at end
 
--- of what stands from one cursor to the other this is at fault, for this error
+-- this is wrong, by this error, in the text from one cursor to the other
 pub record IsFaulty (e : EscapeError) (at after : Cursor) (x : Trouble) : Type 0 where
   pub start : IsPast at x.at
   pub part : IsPast x.at x.after

@@ -7,9 +7,11 @@ use Rattle.explain.specs.declared.reason.Reason.TheVariants.{ReservedRawName, Un
 use Rattle.explain.specs.declared.reason.Reason.TheVariants.{DigitLifetime, HashAfterLifetime, NoDigits, BadDigit}
 use Rattle.explain.specs.declared.reason.Reason.TheVariants.{BadNumberEnd, MisplacedMark, NoToken, StrayCloser}
 use Rattle.explain.specs.declared.reason.Reason.TheVariants.{MismatchedCloser, UnclosedOpener, BareReturnInDoc, Content}
-use Rattle.literal_escaper.specs.declared.errors.EscapeError.{EscapeError}
-use Rattle.literal_escaper.specs.declared.errors.EscapeError.TheVariants as faults
+use Rattle.explain.specs.declared.explained.ExplainError.{ExplainError}
+use Rattle.explain.specs.declared.explained.ExplainError.TheVariants as errors
+use Rattle.literal_escaper.specs.EscapeMessage.{escape_message}
 
+-- the short name of a reason, in words with hyphens
 unfoldable pub name_of : Reason → List ℕ
 name_of UnclosedComment = codes "unclosed-comment"
 name_of BareReturnInDoc = codes "bare-return-in-doc"
@@ -31,32 +33,7 @@ name_of StrayCloser = codes "stray-closer"
 name_of MismatchedCloser = codes "mismatched-closer"
 name_of UnclosedOpener = codes "unclosed-opener"
 
--- what is wrong with the content of a literal
-unfoldable pub content_of : EscapeError → List ℕ
-content_of faults.ZeroChars = codes "no character stands between the quotes"
-content_of faults.MoreThanOneChar = codes "more than one character stands between the quotes"
-content_of faults.LoneSlash = codes "nothing follows the backslash"
-content_of faults.InvalidEscape = codes "no escape begins so"
-content_of faults.BareCarriageReturn = codes "CR that is not escaped"
-content_of faults.BareCarriageReturnInRawString = codes "CR in a raw string"
-content_of faults.EscapeOnlyChar = codes "this character stands here only escaped"
-content_of faults.TooShortHexEscape = codes "fewer than two digits in the escape"
-content_of faults.InvalidCharInHexEscape = codes "this is no digit to the base 16"
-content_of faults.OutOfRangeHexEscape = codes "an escape past ASCII where characters are wanted"
-content_of faults.NoBraceInUnicodeEscape = codes "no brace follows the front of the escape"
-content_of faults.InvalidCharInUnicodeEscape = codes "this is no digit to the base 16"
-content_of faults.EmptyUnicodeEscape = codes "no digit stands in the escape"
-content_of faults.UnclosedUnicodeEscape = codes "no brace ends the escape"
-content_of faults.LeadingUnderscoreUnicodeEscape = codes "an underscore before the digits of the escape"
-content_of faults.OverlongUnicodeEscape = codes "more than six digits in the escape"
-content_of faults.LoneSurrogateUnicodeEscape = codes "the code of a surrogate"
-content_of faults.OutOfRangeUnicodeEscape = codes "a code above 10FFFF"
-content_of faults.UnicodeEscapeInByte = codes "an escape of a character where bytes are wanted"
-content_of faults.NonAsciiCharInByte = codes "a character past ASCII where bytes are wanted"
-content_of faults.NulInCStr = codes "a zero in a C string"
-content_of faults.UnskippedWhitespaceWarning = codes "white space that is not skipped"
-content_of faults.MultipleSkippedLinesWarning = codes "more than one line end is skipped"
-
+-- the sentence for a reason
 unfoldable pub sentence_of : Reason → List ℕ
 sentence_of UnclosedComment = codes "unclosed block comment"
 sentence_of BareReturnInDoc = codes "CR in a doc comment that no LF follows"
@@ -66,7 +43,7 @@ sentence_of TooManyHashes = codes "more than 255 hash signs before a raw string"
 sentence_of HashesWithoutQuote = codes "neither a quote nor a name follows the hash signs"
 sentence_of ReservedRawName = codes "this name is never raw"
 sentence_of UnclosedCharacter = codes "unclosed character"
-sentence_of (Content error) = content_of error
+sentence_of (Content error) = escape_message error
 sentence_of DigitLifetime = codes "a lifetime begins with no digit"
 sentence_of HashAfterLifetime = codes "a hash sign right after a lifetime"
 sentence_of NoDigits = codes "no digit follows the prefix of the number"
@@ -77,3 +54,8 @@ sentence_of NoToken = codes "no token begins with this character"
 sentence_of StrayCloser = codes "no opener waits for this closer"
 sentence_of MismatchedCloser = codes "the innermost opener waits for another closer"
 sentence_of UnclosedOpener = codes "no closer matches this opener"
+
+-- what is said where no reason is answered
+abbrev pub error_message : ExplainError → List ℕ
+error_message errors.MapFull = codes "map full"
+error_message (errors.Memory error) = codes "no memory"

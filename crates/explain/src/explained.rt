@@ -4,6 +4,8 @@ use crate::reason::Reason;
 use pm_span::Span;
 use pm_token::Delimiter;
 use std::alloc::AllocError;
+use std::error::Error;
+use std::fmt;
 
 /// A stretch of a text.
 #[derive(Clone, Copy)]
@@ -42,13 +44,29 @@ pub struct Explained {
 }
 
 /// Why no reason is answered.
-#[derive(Debug, Drop)]
+#[derive(Debug, Drop, PartialEq, Eq)]
 pub enum ExplainError {
     /// The text doesn't fit a new map.
     MapFull,
     /// Memory ran out.
     Memory(AllocError),
 }
+
+impl fmt::Display for ExplainError {
+    ghost use Rattle.std.specs.Prelude.{Some};
+    ghost use Rattle.explain.specs.Words.{error_message};
+
+    ghost output = { λ error. Some (error_message error) };
+
+    fn fmt<W: fmt::Write>(&self, f: &mut fmt::Formatter<W>) -> fmt::Result {
+        match self {
+            ExplainError::MapFull => f.write_str("map full"),
+            ExplainError::Memory(_) => f.write_str("no memory"),
+        }
+    }
+}
+
+impl Error for ExplainError {}
 
 impl From<AllocError> for ExplainError {
     ghost use Rattle.std.specs.Prelude.{◌≡◌};

@@ -144,10 +144,6 @@ line_step line next rest part after whole split moved all =
     ap (λ n. line_after n after) moved ∙ sym (line_after-append line part after) ∙ ap (line_after line) (sym split)
     ∙ all
 
-pub escaped_end : (out : List ℕ) (line : ℕ) (rest whole : List ℕ) → rest ≡ [] → out ++ escaped line rest ≡ whole
-    → out ≡ whole
-escaped_end out line rest whole none all = sym (append-nil out) ∙ ap (λ l. out ++ escaped line l) (sym none) ∙ all
-
 pub line_end : (line : ℕ) (rest : List ℕ) (whole : ℕ) → rest ≡ [] → line_after line rest ≡ whole → line ≡ whole
 line_end line rest whole none all = ap (line_after line) (sym none) ∙ all
 

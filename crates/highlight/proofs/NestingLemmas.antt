@@ -17,10 +17,6 @@ or_false : (x y : Bool) → (x || y) ≡ false → (x ≡ false) × (y ≡ false
 or_false true y e = absurd (cc)
 or_false false y e = (refl, e)
 
-or_right : (x y : Bool) → x ≡ false → (x || y) ≡ true → y ≡ true
-or_right true y off e = absurd (cc)
-or_right false y off e = e
-
 pub reverse_more : (openers : List Opener) (opener : Opener)
     → reverse (openers ++ opener ∷ []) ≡ opener ∷ reverse openers
 reverse_more openers opener = reverse-append openers (opener ∷ [])
@@ -48,53 +44,11 @@ pub no_match : (c : ℕ) (awaited : Awaited) (openers : List Opener) → IsTrue 
     → flag c awaited ≡ false → from_match c (waiting_of openers) ≡ []
 no_match c awaited openers is known none = none_waits c awaited (reverse openers) is known.know none
 
--- the last opener, taken out
-module _ (awaited : Awaited) (before after : List Opener) (opener : Opener) (popped : before ≡ after ++ opener ∷ [])
-    (known : IsAwaited awaited before) where
-  whole : reverse before ≡ opener ∷ reverse after
-  whole = ap reverse popped ∙ reverse_more after opener
-
-  know : Know awaited (opener ∷ reverse after)
-  know = rw whole at known.know
-
-  pub known_around : IsAwaited opener.around after
-  known_around = record { know = know.1 }
-
-  pub waits_around : (c : ℕ) → IsTrue (is_closer c) → (opener.closer == c) ≡ false → flag c awaited ≡ true
-      → flag c opener.around ≡ true
-  waits_around c is differs has = or_right _ _ differs (sym (know.0 c is) ∙ has)
-
-  pub match_around : (c : ℕ) → (opener.closer == c) ≡ false
-      → from_match c (waiting_of before) ≡ from_match c (waiting_of after)
-  match_around c differs = rw (whole, differs)
-
-  pub match_here : (c : ℕ) → (opener.closer == c) ≡ true
-      → from_match c (waiting_of before) ≡ record { closer = opener.closer; index = opener.index } ∷ waiting_of after
-  match_here c same = rw (whole, same)
-
 -- no opener is there, but one waits
 pub none_left : (c : ℕ) (awaited : Awaited) (openers : List Opener) → length openers ≡ 0 → IsAwaited awaited openers
     → flag c awaited ≡ true → ⊥
 none_left c awaited [] none known has = absurd (let off : flag c awaited ≡ false = known.know c in cc)
 none_left c awaited (opener ∷ openers) none known has = absurd (omega (arith, none))
-
--- the flags after one more opener
-pub flags_more : (closer : ℕ) (around more : Awaited) (c : ℕ) → IsTrue (is_closer c)
-    → more.round ≡ ((closer == 41) || around.round) → more.square ≡ ((closer == 93) || around.square)
-    → more.curly ≡ ((closer == 125) || around.curly)
-    → flag c more ≡ ((closer == c) || flag c around)
-flags_more closer around more c is round square curly = grind (arith, round, square, curly)
-
-pub known_more : (openers : List Opener) (opener : Opener) (more : Awaited)
-    → IsAwaited opener.around openers
-    → more.round ≡ ((opener.closer == 41) || opener.around.round)
-    → more.square ≡ ((opener.closer == 93) || opener.around.square)
-    → more.curly ≡ ((opener.closer == 125) || opener.around.curly)
-    → IsAwaited more (openers ++ opener ∷ [])
-known_more openers opener more known round square curly = record {
-  know = rw (reverse_more openers opener)
-      (λ c is. flags_more opener.closer opener.around more c is round square curly, known.know);
-}
 
 -- ---- the styles
 

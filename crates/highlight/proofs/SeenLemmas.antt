@@ -13,7 +13,8 @@ use Rattle.std.proofs.lemmas.Str.{encodes-append, encodes-chars}
 use Rattle.lexical.specs.Piece.{Piece}
 use Rattle.literal_escaper.specs.declared.errors.EscapeError.{EscapeError}
 use Rattle.literal_escaper.specs.declared.errors.EscapeError.TheVariants as faults
-use Rattle.explain.specs.Words.{content_of, sentence_of}
+use Rattle.explain.specs.Words.{sentence_of}
+use Rattle.literal_escaper.specs.EscapeMessage.{escape_message}
 use Rattle.explain.specs.declared.explained.Explained.{Explained}
 use Rattle.explain.specs.declared.reason.Reason.{Reason}
 use Rattle.explain.specs.declared.reason.Reason.TheVariants as reasons
@@ -215,8 +216,8 @@ colour_stays styles.NoPiece = refl
 colour_stays styles.Unread = refl
 
 -- what is said of a fault ends no tag
-content_stays : (e : EscapeError) → stays_in_tag Html (content_of e) ≡ true
-unfolding content_of
+content_stays : (e : EscapeError) → stays_in_tag Html (escape_message e) ≡ true
+unfolding escape_message
 content_stays faults.ZeroChars = refl
 content_stays faults.MoreThanOneChar = refl
 content_stays faults.LoneSlash = refl

@@ -6,7 +6,7 @@ use Rattle.item_headers.specs.declared.errors.HeaderError.{HeaderError}
 use Rattle.item_headers.specs.declared.errors.HeaderError.TheVariants as errors
 use Rattle.pm_stream.specs.declared.stream.TokenTree.{TokenTree}
 
--- if the error is a fault, this holds
+-- if the error is a fault of the item, this holds
 abbrev pub IfFault : HeaderError → Type 0 → Type 0
 IfFault (errors.Fault fault) told = told
 IfFault (errors.Keyword error) told = Unit {0}
@@ -20,7 +20,7 @@ HasNoParams generics = (params : List ParamTrees) → HasParams generics params 
 abbrev pub HasNoPredicates : List TokenTree → Type 0
 HasNoPredicates clause = (predicates : List PredicateTrees) → HasPredicates clause predicates → ⊥
 
--- they aren't both
+-- the trees aren't the generic parameters and the where clause of an item
 abbrev pub HasNotBoth : List TokenTree → List TokenTree → Type 0
 HasNotBoth generics clause =
     (params : List ParamTrees) (predicates : List PredicateTrees) → HasParams generics params

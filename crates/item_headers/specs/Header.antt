@@ -63,11 +63,11 @@ generics lead form params = joined (listed lead (map (param_in form) params)) (c
 abbrev pub impl_generics : List ParamTrees → Forest
 impl_generics params = generics leads.Angle forms.Declared params
 
--- `<'a, T, N>`: their names
+-- `<'a, T, N>`: the parameters' names, as in a type
 abbrev pub type_generics : List ParamTrees → Forest
 type_generics params = generics leads.Angle forms.Named params
 
--- `::<'a, T, N>`
+-- `::<'a, T, N>`: the parameters' names, as in an expression
 abbrev pub turbofish : List ParamTrees → Forest
 turbofish params = generics leads.Turbofish forms.Named params
 
@@ -84,6 +84,7 @@ bounded_as bound param kinds.Const rest = rest
 abbrev pub bounded : Forest → ParamTrees → List Forest → List Forest
 bounded bound param rest = bounded_as bound param param.kind rest
 
+-- `T: bound` for each parameter that is a type
 abbrev pub bounds_on_types : Forest → List ParamTrees → List Forest
 bounds_on_types bound [] = []
 bounds_on_types bound (param ∷ params) = bounded bound param (bounds_on_types bound params)
@@ -98,6 +99,6 @@ front params name path =
     joined (word (codes "impl")) (joined (impl_generics params) (joined path (joined (word (codes "for"))
     (joined (alone (Ident name)) (type_generics params)))))
 
--- and a where clause
+-- `impl<'a, T> Trait for Name<'a, T>` and a where clause
 abbrev pub header : List ParamTrees → Name → Forest → Forest → Forest
 header params name path clause = joined (front params name path) clause

@@ -2,14 +2,14 @@
 ghost use Rattle.std.specs.Prelude.{◌≡◌};
 
 use declarations::Fault;
-use proc_macro2::IdentError;
+use proc_macro2::{IdentError, Span};
 use quoting::QuoteError;
 use std::alloc::AllocError;
 use std::error::Error;
 use std::fmt;
 
 /// Why nothing is written.
-#[derive(Debug, Drop)]
+#[derive(Debug, Drop, PartialEq)]
 pub enum HeaderError {
     /// The generic parameters or the where clause aren't as the grammar has them. The trees are counted from the
     /// parameter or the predicate that doesn't fit, and from the front of all where the brackets or the `where` don't.
@@ -18,6 +18,20 @@ pub enum HeaderError {
     Keyword(IdentError),
     /// No printed text shows what was put together, or memory ran out.
     Quote(QuoteError),
+}
+
+impl HeaderError {
+    ghost use Rattle.item_headers.specs.Message.{header_span};
+
+    /// Where the fault stands, as [`Fault::span`] has it: `None` if more trees are missing, or for another error.
+    pub fn span(&self) -> Option<Span>
+        ensures { result ≡ header_span self.now }
+    {
+        match self {
+            HeaderError::Fault(fault) => fault.span(),
+            HeaderError::Keyword(_) | HeaderError::Quote(_) => None,
+        }
+    }
 }
 
 impl fmt::Display for HeaderError {

@@ -11,6 +11,6 @@ abbrev pub LayoutsComeBack : Type 0
 LayoutsComeBack = (base : ℕ) (stream : Forest) (text : List ℕ) → IsBuilt stream → IsWellSpaced stream
     → IsLayout stream text → Gives base text stream
 
--- its printed text is one
+-- the printed text of a well spaced stream is one of its layouts
 abbrev pub PrintedIsLayout : Type 0
 PrintedIsLayout = (stream : Forest) → IsBuilt stream → IsWellSpaced stream → IsLayout stream (printed stream)

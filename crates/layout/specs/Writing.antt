@@ -112,7 +112,7 @@ front_char (c ∷ text) = Some c
 abbrev pub ReadsBack : Forest → List ℕ → Type 0
 ReadsBack stream text = (base : ℕ) → Gives base text stream
 
--- it isn't that a writer failed
+-- the error is not that of a writer
 abbrev pub IsNoWrite : LayoutError → Type 0
 IsNoWrite NotWellSpaced = Unit {0}
 IsNoWrite (Memory error) = Unit {0}

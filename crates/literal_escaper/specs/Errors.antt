@@ -42,7 +42,7 @@ abbrev pub at_most_one : Option Error → List Error
 at_most_one None = []
 at_most_one (Some e) = e ∷ []
 
--- `content-errors`: those of a content of this kind
+-- `content-errors`: the errors and warnings in a content of this mode
 abbrev pub errors_in : Mode → List ℕ → List Error
 errors_in Char text = at_most_one (single_error string_kind text)
 errors_in Byte text = at_most_one (single_error byte_kind text)

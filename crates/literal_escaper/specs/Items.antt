@@ -19,7 +19,7 @@ use Rattle.literal_escaper.specs.Text.{bytes, first_is, while_front, while_rest}
 abbrev pub Item : Type 0 → Type 0
 Item U = Range ℕ × Result U EscapeError
 
--- how many bytes stand before the rest
+-- the byte offset in a content of this size where so much of the text is left
 abbrev pub byte_offset : ℕ → List ℕ → ℕ
 byte_offset end rest = end - bytes rest
 
@@ -29,6 +29,7 @@ between end text rest = record { start = byte_offset end text; end = byte_offset
 
 -- what the front of a text gives, and what follows the characters that were read for it
 pub record Front (U : Type 0) : Type 0 where
+  -- the items that are read at the front of a text: none, one, or one and a warning
   pub items : List (Item U)
   pub rest : List ℕ
 
@@ -87,7 +88,7 @@ items_within kind end zero text = []
 items_within kind end (suc n) text =
     (front kind end text).items ++ items_within kind end n (front kind end text).rest
 
--- the items of the end of a content that this text is: each front has a character at least
+-- the items that are left of a content, from this text to its end
 abbrev pub items_from : {U : Type 0} → Kind U → ℕ → List ℕ → List (Item U)
 items_from kind end text = items_within kind end (length text) text
 
@@ -107,6 +108,6 @@ raw_items_from of_char end [] = []
 raw_items_from of_char end (c ∷ text) =
     (between end (c ∷ text) text, raw_unit of_char c) ∷ raw_items_from of_char end text
 
--- `raw-items`: those of a raw content
+-- `raw-items`: the items of a raw content
 abbrev pub raw_items : {U : Type 0} → (ℕ → Result U EscapeError) → List ℕ → List (Item U)
 raw_items of_char text = raw_items_from of_char (bytes text) text

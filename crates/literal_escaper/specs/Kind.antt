@@ -17,14 +17,14 @@ pub record Kind (U : Type 0) : Type 0 where
   -- of the character whose code stands in braces, or of what is wrong with the code
   pub of_code : Result ℕ EscapeError → Result U EscapeError
 
--- the character of this code
+-- the character with this code, or what is wrong with the code
 abbrev pub character : ℕ → Result ℕ EscapeError
 character code =
     if nat_lt 0x10_FFFF code then Err OutOfRangeUnicodeEscape
     else if nat_le 0xD800 code && nat_lt code 0xE000 then Err LoneSurrogateUnicodeEscape
     else Ok code
 
--- in a string, any character
+-- a character of a string: any
 abbrev pub any_char : ℕ → Result ℕ EscapeError
 any_char c = Ok c
 
@@ -32,7 +32,7 @@ any_char c = Ok c
 abbrev pub ascii_char : ℕ → Result ℕ EscapeError
 ascii_char n = if is_ascii n then Ok n else Err OutOfRangeHexEscape
 
--- in a byte string, a character is an ASCII one
+-- a character of a byte string: one of ASCII
 abbrev pub ascii_byte : ℕ → Result ℕ EscapeError
 ascii_byte c = if is_ascii c then Ok c else Err NonAsciiCharInByte
 
@@ -41,14 +41,14 @@ abbrev pub c_code : Result ℕ EscapeError → Result MixedUnit EscapeError
 c_code (Ok c) = c_char c
 c_code (Err e) = Err e
 
--- `string-kind`: characters
+-- `string-kind`: the kind of strings, whose units are characters
 abbrev pub string_kind : Kind ℕ
 string_kind = record { of_char = any_char; of_hex = ascii_char; of_code = λ code. code }
 
--- `byte-kind`: bytes
+-- `byte-kind`: the kind of byte strings, whose units are bytes
 abbrev pub byte_kind : Kind ℕ
 byte_kind = record { of_char = ascii_byte; of_hex = λ n. Ok n; of_code = λ code. Err UnicodeEscapeInByte }
 
--- `c-kind`: characters and bytes, none of them zero
+-- `c-kind`: the kind of C strings, whose units are characters and bytes, none of them zero
 abbrev pub c_kind : Kind MixedUnit
 c_kind = record { of_char = c_char; of_hex = c_byte; of_code = c_code }

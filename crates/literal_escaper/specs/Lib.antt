@@ -1,5 +1,6 @@
 pub mod Mode
 pub mod Warning
+pub mod EscapeMessage
 pub mod Units
 pub mod Character
 pub mod Text

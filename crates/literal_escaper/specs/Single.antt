@@ -29,7 +29,7 @@ abbrev pub only : {U : Type 0} → Result U EscapeError → List ℕ → Read U
 only (Ok unit) rest = only_unit unit rest
 only (Err e) rest = fault e rest
 
--- `single-item`: the one unit of the content
+-- `single-item`: the one unit that a content is, or what is wrong with it
 unfoldable pub single : {U : Type 0} → Kind U → List ℕ → Read U
 single kind [] = fault ZeroChars []
 single kind (c ∷ text) = let read = single_front kind c text in only read.unit read.rest

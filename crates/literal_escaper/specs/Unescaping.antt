@@ -77,10 +77,10 @@ abbrev pub GivesFront : {U : Type 0} → Items.Front U → ContentCursor → Opt
 GivesFront front at item warning after =
     (front_items item warning ≡ front.items) × (text_at after ≡ front.rest) × (after.end ≡ at.end)
 
--- what a content with escapes has left, after a cursor in it
+-- the items of a content with escapes that are left after a cursor
 abbrev pub cooked_left : {U : Type 0} → Kind U → Cooked → List (Item U)
 cooked_left kind content = white_items content.warning ++ items_from kind content.cursor.end (text_at content.cursor)
 
--- what a raw content has left behind the cursor
+-- the items of a raw content that are left after a cursor
 abbrev pub raw_left : {U : Type 0} → (ℕ → Result U EscapeError) → ContentCursor → List (Item U)
 raw_left of_char cursor = raw_items_from of_char cursor.end (text_at cursor)

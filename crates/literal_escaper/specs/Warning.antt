@@ -4,7 +4,7 @@ use Rattle.literal_escaper.specs.declared.errors.EscapeError.{EscapeError}
 use Rattle.literal_escaper.specs.declared.errors.EscapeError.TheVariants.{UnskippedWhitespaceWarning}
 use Rattle.literal_escaper.specs.declared.errors.EscapeError.TheVariants.{MultipleSkippedLinesWarning}
 
--- `fatal`: whether it is a fault, and no warning
+-- `fatal`: whether the error is a fault, and no warning
 abbrev pub is_fault : EscapeError → Bool
 is_fault UnskippedWhitespaceWarning = false
 is_fault MultipleSkippedLinesWarning = false

@@ -10,6 +10,6 @@ pub record IsRangeIn (text : List ℕ) (range : Range ℕ) : Type 0 where
   pub start : IsCharBoundary text range.start
   pub end : IsCharBoundary text range.end
 
--- `item-range`: so has the range of each item or error
+-- `item-range`: the range of each item or error lies in the text, and both ends are between characters
 abbrev pub AreWithin : {A : Type 0} → List ℕ → List (Range ℕ × A) → Type 0
 AreWithin text items = All (λ item. IsRangeIn text item.0) items

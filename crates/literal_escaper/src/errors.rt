@@ -1,7 +1,11 @@
 //! What can be wrong with the content of a literal.
 
 ghost use Rattle.std.specs.Prelude.{◌≡◌};
+ghost use Rattle.literal_escaper.specs.EscapeMessage.{escape_message};
 ghost use Rattle.literal_escaper.specs.Warning.{is_fault};
+
+use std::error::Error;
+use std::fmt;
 
 /// A fault in the content of a literal, or a warning about it.
 #[derive(Debug, Drop, PartialEq, Eq)]
@@ -68,4 +72,49 @@ impl EscapeError {
             _ => true,
         }
     }
+
+    /// What is wrong, in a few words, as `Display` writes it: `nothing follows the backslash` for `LoneSlash`.
+    #[tactic(auto, unfolding(crate::specs::EscapeMessage::escape_message))]
+    pub fn message(&self) -> &'static str
+        ensures { result.now ≡ escape_message self.now }
+    {
+        match self {
+            EscapeError::ZeroChars => "no character stands between the quotes",
+            EscapeError::MoreThanOneChar => "more than one character stands between the quotes",
+            EscapeError::LoneSlash => "nothing follows the backslash",
+            EscapeError::InvalidEscape => "no escape begins so",
+            EscapeError::BareCarriageReturn => "CR that is not escaped",
+            EscapeError::BareCarriageReturnInRawString => "CR in a raw string",
+            EscapeError::EscapeOnlyChar => "this character stands here only escaped",
+            EscapeError::TooShortHexEscape => "fewer than two digits in the escape",
+            EscapeError::InvalidCharInHexEscape => "this is no digit to the base 16",
+            EscapeError::OutOfRangeHexEscape => "an escape past ASCII where characters are wanted",
+            EscapeError::NoBraceInUnicodeEscape => "no brace follows the front of the escape",
+            EscapeError::InvalidCharInUnicodeEscape => "this is no digit to the base 16",
+            EscapeError::EmptyUnicodeEscape => "no digit stands in the escape",
+            EscapeError::UnclosedUnicodeEscape => "no brace ends the escape",
+            EscapeError::LeadingUnderscoreUnicodeEscape =>
+                "an underscore before the digits of the escape",
+            EscapeError::OverlongUnicodeEscape => "more than six digits in the escape",
+            EscapeError::LoneSurrogateUnicodeEscape => "the code of a surrogate",
+            EscapeError::OutOfRangeUnicodeEscape => "a code above 10FFFF",
+            EscapeError::UnicodeEscapeInByte => "an escape of a character where bytes are wanted",
+            EscapeError::NonAsciiCharInByte => "a character past ASCII where bytes are wanted",
+            EscapeError::NulInCStr => "a zero in a C string",
+            EscapeError::UnskippedWhitespaceWarning => "white space that is not skipped",
+            EscapeError::MultipleSkippedLinesWarning => "more than one line end is skipped",
+        }
+    }
 }
+
+impl fmt::Display for EscapeError {
+    ghost use Rattle.std.specs.Prelude.{Some};
+
+    ghost output = { λ error. Some (escape_message error) };
+
+    fn fmt<W: fmt::Write>(&self, f: &mut fmt::Formatter<W>) -> fmt::Result {
+        f.write_str(self.message())
+    }
+}
+
+impl Error for EscapeError {}

@@ -69,7 +69,7 @@ written quote plain c rest =
 abbrev pub is_plain_ascii : ℕ → ℕ → Bool
 is_plain_ascii quote c = nat_le 32 c && (nat_lt c 127 && (not (c == backslash) && not (c == quote)))
 
--- `content`: the characters one after another
+-- `content`: the characters one after another, each as it is written
 abbrev pub content : ℕ → (ℕ → List ℕ) → List ℕ → List ℕ
 content quote plain [] = []
 content quote plain (c ∷ rest) = written quote plain c rest ++ content quote plain rest

@@ -25,7 +25,7 @@ is_plain_start b = is_ascii_alphabetic b || (b == 95)
 abbrev pub is_plain_continue : ℕ → Bool
 is_plain_continue b = is_ascii_alphanumeric b || (b == 95)
 
--- `identifier-fault`: the first of these that holds
+-- `identifier-fault`: the first reason why the text is no name of an identifier, raw or plain
 abbrev pub ident_fault : Bool → List ℕ → Option IdentError
 ident_fault raw name =
     if length name == 0 then Some Empty else

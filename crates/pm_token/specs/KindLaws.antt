@@ -8,23 +8,23 @@ use Rattle.pm_token.specs.CString.{IsCStringText, has_no_zero}
 use Rattle.pm_token.specs.Escaped.{byte_string_text, byte_text, character_text, string_text}
 use Rattle.pm_token.specs.Text.{IsText}
 
--- what is written for a text is a string by itself
+-- the literal that is written for a text is a string by itself
 abbrev pub StringsAreStrings : Type 0
 StringsAreStrings = (text : List ℕ) → IsText text → Str (string_text text) []
 
--- for some bytes a byte string
+-- the literal that is written for some bytes is a byte string by itself
 abbrev pub ByteStringsAreByteStrings : Type 0
 ByteStringsAreByteStrings = (bytes : List ℕ) → AllByRecursion (λ b. b < 256) bytes → ByteStr (byte_string_text bytes) []
 
--- for some bytes, none of them zero, a C string
+-- the literal that is written for some bytes, none of them zero, is a C string by itself
 abbrev pub CStringsAreCStrings : Type 0
 CStringsAreCStrings = (bytes text : List ℕ) → AllByRecursion (λ b. b < 256) bytes → IsTrue (has_no_zero bytes)
     → IsCStringText bytes text → CStr text []
 
--- for a character a character literal
+-- the literal that is written for a character is a character literal by itself
 abbrev pub CharactersAreCharacters : Type 0
 CharactersAreCharacters = (c : ℕ) → IsScalar c → Character (character_text c) []
 
--- for a byte a byte literal
+-- the literal that is written for a byte is a byte literal by itself
 abbrev pub BytesAreBytes : Type 0
 BytesAreBytes = (b : ℕ) → b < 256 → Byte (byte_text b) []

@@ -5,33 +5,36 @@ use Rattle.pm_span.specs.Extent.{Extent}
 use Rattle.pm_token.specs.declared.marks.Spacing.{Spacing}
 use Rattle.pm_token.specs.declared.marks.Spacing.TheVariants.{Alone, Joint}
 
+-- whether the spacing is Joint
 abbrev pub is_joint : Spacing → Bool
 is_joint Alone = false
 is_joint Joint = true
 
--- an identifier: its name, without `r#`
+-- an identifier: its name without `r#`, whether it is raw, and its span
 pub record Name : Type 0 where
   pub name : List ℕ
   pub raw : Bool
   pub span : Extent
 
--- a mark
+-- a mark: its character, its spacing and its span
 pub record Mark : Type 0 where
   pub mark : ℕ
   pub spacing : Spacing
   pub span : Extent
 
--- a literal
+-- a literal: its text and its span
 pub record Text : Type 0 where
   pub text : List ℕ
   pub span : Extent
 
--- the tokens that these are
+-- the token that an identifier is
 abbrev pub name_token : Name → tokens.Token
 name_token ident = tokens.Name ident.raw ident.name
 
+-- the token that a mark is
 abbrev pub mark_token : Mark → tokens.Token
 mark_token punct = tokens.Mark punct.mark (is_joint punct.spacing)
 
+-- the token that a literal is
 abbrev pub text_token : Text → tokens.Token
 text_token literal = tokens.Literal literal.text

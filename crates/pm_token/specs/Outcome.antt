@@ -4,13 +4,13 @@ use Rattle.pm_span.specs.Extent.{Extent, nowhere}
 use Rattle.pm_token.specs.declared.errors.ParseError.{ParseError}
 use Rattle.pm_token.specs.declared.errors.ParseError.TheVariants.{Lex, MapFull, Memory}
 
--- what holds of the fault's span, if that is what the error says
+-- if the error is a fault of the text, this holds of the fault's span
 abbrev pub IfLex : ParseError → (Extent → Type 0) → Type 0
 IfLex (Lex fault) holds = holds fault
 IfLex MapFull holds = Unit {0}
 IfLex (Memory error) holds = Unit {0}
 
--- the text was read, and parsed or found to have a fault
+-- whether the text was read: it parsed, or a fault was found in it
 abbrev pub was_read : {T : Type 0} → Result T ParseError → Bool
 was_read (Ok parsed) = true
 was_read (Err (Lex fault)) = true

@@ -27,11 +27,11 @@ abbrev pub single_value : Kind ℕ → List ℕ → List ℕ → Result ℕ Conv
 single_value kind front text =
     value_from_single (option_map (λ content. (single kind content).unit) (single_content front text))
 
--- `character-value`
+-- `character-value`: the character that a character literal stands for, or what is wrong
 abbrev pub char_value : List ℕ → Result ℕ ConversionErrorKind
 char_value text = single_value string_kind (codes "'") text
 
--- `byte-value`
+-- `byte-value`: the byte that a byte literal stands for, or what is wrong
 abbrev pub byte_value : List ℕ → Result ℕ ConversionErrorKind
 byte_value text = single_value byte_kind (codes "b'") text
 

@@ -11,17 +11,16 @@ use Rattle.lexical.specs.Text.{begins_with}
 use Rattle.lexical.specs.Token.{token_text}
 use Rattle.pm_token.specs.Leaf.{Name, name_token}
 
--- the characters of the identifier as it is written
+-- the characters of the identifier as it is written, with `r#` if it is raw
 abbrev pub name_text : Name → List ℕ
 name_text ident = token_text (name_token ident)
 
 -- the characters that the bytes of a text spell. They are `chars` of it, but those of an ASCII text are its bytes, so
--- that
--- they compute where the text is known.
+-- that they compute where the text is known
 abbrev pub spelled : List ℕ → List ℕ
 spelled text = cond (all_ascii text) text (chars text)
 
--- its bytes
+-- the bytes of the identifier as it is written
 abbrev pub spelling : Name → List ℕ
 spelling ident = encode_utf8_all (name_text ident)
 

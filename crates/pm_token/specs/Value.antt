@@ -42,12 +42,12 @@ text_of string = chars (string_bytes string)
 abbrev pub bytes_of : {A : Type 0} → Vec ℕ A → List ℕ
 bytes_of vector = vector.items
 
--- `string-value`: characters
+-- `string-value`: the characters that a string stands for, or what is wrong
 abbrev pub str_value : List ℕ → Result (List ℕ) ConversionErrorKind
 str_value text =
     value_from (option_map (units string_kind) (cooked_content (codes "\"") text)) (raw_content (codes "r") text)
 
--- `byte-string-value`: bytes
+-- `byte-string-value`: the bytes that a byte string stands for, or what is wrong
 abbrev pub byte_str_value : List ℕ → Result (List ℕ) ConversionErrorKind
 byte_str_value text =
     value_from (option_map (units byte_kind) (cooked_content (codes "b\"") text))
@@ -62,12 +62,12 @@ unit_bytes (HighByte byte) = byte ∷ []
 abbrev pub ended : List ℕ → List ℕ
 ended bytes = bytes ++ 0 ∷ []
 
--- those of units
+-- the bytes of the units of a C string, or what is wrong with them
 abbrev pub c_bytes : Result (List MixedUnit) EscapeError → Result (List ℕ) EscapeError
 c_bytes (Ok units) = Ok (ended (flat_map unit_bytes units))
 c_bytes (Err fault) = Err fault
 
--- `c-string-value`: bytes, the last of them zero
+-- `c-string-value`: the bytes that a C string stands for, the last of them zero, or what is wrong
 abbrev pub cstr_value : List ℕ → Result (List ℕ) ConversionErrorKind
 cstr_value text =
     value_from (option_map (λ content. c_bytes (units c_kind content)) (cooked_content (codes "c\"") text))

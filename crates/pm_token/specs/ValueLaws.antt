@@ -22,12 +22,12 @@ use Rattle.pm_token.specs.Value.{byte_str_value, cstr_value, ended, str_value}
 abbrev pub StringsComeBack : Type 0
 StringsComeBack = (text : List ℕ) → IsText text → str_value (string_text text) ≡ Ok text
 
--- that of the byte string literal of some bytes the bytes
+-- the value of the byte string literal of some bytes is these bytes
 abbrev pub ByteStringsComeBack : Type 0
 ByteStringsComeBack = (bytes : List ℕ) → AllByRecursion (λ b. b < 256) bytes
     → byte_str_value (byte_string_text bytes) ≡ Ok bytes
 
--- that of the C string literal of some bytes, none of them zero, the bytes and a zero byte
+-- the value of the C string literal of some bytes, none of them zero, is these bytes and a zero byte
 abbrev pub CStringsComeBack : Type 0
 CStringsComeBack = (bytes text : List ℕ) → AllByRecursion (λ b. b < 256) bytes → IsTrue (has_no_zero bytes)
     → IsCStringText bytes text → cstr_value text ≡ Ok (ended bytes)
@@ -38,7 +38,7 @@ CharactersComeBack = (c : ℕ) → IsScalar c
     → (content : List ℕ)
     × (character_text c ≡ codes "'" ++ (content ++ codes "'")) × ((single string_kind content).unit ≡ Ok c)
 
--- that of a byte the byte
+-- what stands between the quotes of the literal of a byte is one unit, the byte
 abbrev pub BytesComeBack : Type 0
 BytesComeBack = (b : ℕ) → b < 256
     → (content : List ℕ) × (byte_text b ≡ codes "b'" ++ (content ++ codes "'"))
@@ -54,11 +54,11 @@ pub record HasSingle (kind : Kind ℕ) (front text : List ℕ) (value : Result �
   pub unit_is : (single kind content).unit ≡ Ok unit
   pub value_is : suffix ≡ [] → value ≡ Ok unit
 
--- so it is of every character
+-- what stands between the quotes of a character literal is one unit, and without a suffix its value
 abbrev pub CharactersHaveUnits : Type 0
 CharactersHaveUnits = (text : List ℕ) → Character text [] → HasSingle string_kind (codes "'") text (char_value text)
 
--- and of every byte
+-- what stands between the quotes of a byte literal is one unit, and without a suffix its value
 abbrev pub BytesHaveUnits : Type 0
 BytesHaveUnits = (text : List ℕ) → Byte text [] → HasSingle byte_kind (codes "b'") text (byte_value text)
 
@@ -66,7 +66,7 @@ BytesHaveUnits = (text : List ℕ) → Byte text [] → HasSingle byte_kind (cod
 abbrev pub CharacterValuesComeBack : Type 0
 CharacterValuesComeBack = (c : ℕ) → IsScalar c → char_value (character_text c) ≡ Ok c
 
--- that of the literal of a byte the byte
+-- the value of the literal of a byte is the byte
 abbrev pub ByteValuesComeBack : Type 0
 ByteValuesComeBack = (b : ℕ) → b < 256 → byte_value (byte_text b) ≡ Ok b
 
@@ -79,12 +79,12 @@ abbrev pub RawStringsHaveBodies : Type 0
 RawStringsHaveBodies = (signs body : List ℕ) → IsTrue (list_all is_hash signs)
     → str_value (raw_text (codes "r") signs body) ≡ Ok body
 
--- that of a raw byte string the bytes of its body
+-- the value of a raw byte string is the bytes of its body
 abbrev pub RawByteStringsHaveBodies : Type 0
 RawByteStringsHaveBodies = (signs body : List ℕ) → IsTrue (list_all is_hash signs)
     → byte_str_value (raw_text (codes "br") signs body) ≡ Ok (encode_utf8_all body)
 
--- that of a raw C string these and a zero byte
+-- the value of a raw C string is the bytes of its body and a zero byte
 abbrev pub RawCStringsHaveBodies : Type 0
 RawCStringsHaveBodies = (signs body : List ℕ) → IsTrue (list_all is_hash signs)
     → cstr_value (raw_text (codes "cr") signs body) ≡ Ok (ended (encode_utf8_all body))
@@ -110,13 +110,13 @@ abbrev pub StringsHaveValues : Type 0
 StringsHaveValues = (content : List ℕ) → Str (cooked_text (codes "\"") content) [] → IsTrue (has_no_return content)
     → IsJoined StringUnit string_joined content (str_value (cooked_text (codes "\"") content))
 
--- so is that of a byte string
+-- the value of a byte string without CR is its units joined
 abbrev pub ByteStringsHaveValues : Type 0
 ByteStringsHaveValues =
     (content : List ℕ) → ByteStr (cooked_text (codes "b\"") content) [] → IsTrue (has_no_return content)
     → IsJoined ByteUnit string_joined content (byte_str_value (cooked_text (codes "b\"") content))
 
--- and that of a C string, with a zero byte after them
+-- the value of a C string without CR is its units joined, and a zero byte
 abbrev pub CStringsHaveValues : Type 0
 CStringsHaveValues = (content : List ℕ) → CStr (cooked_text (codes "c\"") content) [] → IsTrue (has_no_return content)
     → IsJoined CUnit (λ units. ended (c_joined units)) content (cstr_value (cooked_text (codes "c\"") content))

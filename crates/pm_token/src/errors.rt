@@ -40,6 +40,22 @@ impl LexError {
     }
 }
 
+impl PartialEq for LexError {
+    ghost use Rattle.pm_span.specs.Extent.{extent_eq};
+    ghost use Rattle.std.proofs.Common.{rules};
+    ghost use Rattle.std.specs.Cmp.Rules.{comparing};
+
+    ghost eq = { extent_eq };
+
+    ghost laws = { Prim.search (comparing, rules) };
+
+    /// Whether both faults have the same span.
+    fn eq(&self, other: &LexError) -> bool {
+        let LexError { span } = self;
+        span.eq(&other.span)
+    }
+}
+
 impl fmt::Display for LexError {
     ghost use Rattle.std.specs.Prelude.{Some, codes};
 
@@ -53,7 +69,7 @@ impl fmt::Display for LexError {
 impl Error for LexError {}
 
 /// Why a text was not parsed.
-#[derive(Debug, Drop)]
+#[derive(Debug, Drop, PartialEq)]
 pub enum ParseError {
     /// The text has a fault, and is a file of the map. The fault of a stream has its span there;
     /// that of a literal is 0..0.
@@ -62,6 +78,20 @@ pub enum ParseError {
     MapFull,
     /// Memory ran out. The map is as before.
     Memory(AllocError),
+}
+
+impl ParseError {
+    ghost use Rattle.pm_token.specs.Message.{fault_span};
+
+    /// Where the fault of the text stands, as [`LexError::span`] has it; `None` if the text has no fault.
+    pub fn span(&self) -> Option<Span>
+        ensures { result ≡ fault_span self.now }
+    {
+        match self {
+            ParseError::Lex(error) => Some(error.span()),
+            ParseError::MapFull | ParseError::Memory(_) => None,
+        }
+    }
 }
 
 impl fmt::Display for ParseError {

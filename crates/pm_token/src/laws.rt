@@ -2,6 +2,7 @@
 //! nothing: their contracts are the laws, those of literals by `specs/KindLaws.antt` and
 //! `specs/ValueLaws.antt`.
 ghost use Rattle.std.specs.Prelude.{◌≡◌, ◌↔◌, IsTrue};
+ghost use Rattle.pm_span.specs.Extent.{Extent};
 ghost use Rattle.pm_token.specs.KindLaws.{
   ByteStringsAreByteStrings,
   BytesAreBytes,
@@ -28,6 +29,8 @@ ghost use Rattle.pm_token.specs.ValueLaws.{
 };
 
 use crate::delimiters::Delimiter;
+use crate::errors::{LexError, ParseError};
+use crate::identifiers::IdentError;
 use crate::literals::ConversionErrorKind;
 use crate::marks::Spacing;
 
@@ -39,6 +42,14 @@ pub fn equal_delimiters_spacings_and_errors()
     ensures delimiters { (a b : Delimiter) → IsTrue (⟦<Delimiter as PartialEq>⟧.eq a b) ↔ (a ≡ b) }
     ensures spacings { (a b : Spacing) → IsTrue (⟦<Spacing as PartialEq>⟧.eq a b) ↔ (a ≡ b) }
     ensures errors { (a b : ConversionErrorKind) → IsTrue (⟦<ConversionErrorKind as PartialEq>⟧.eq a b) ↔ (a ≡ b) }
+{}
+
+/// Two errors of a text, or of a name, are equal exactly if they are the same: of one kind, and for a fault of
+/// a text with the same span.
+pub fn equal_errors()
+    ensures lexing { (a b : Extent) → IsTrue (⟦<LexError as PartialEq>⟧.eq a b) ↔ (a ≡ b) }
+    ensures parsing { (a b : ParseError) → IsTrue (⟦<ParseError as PartialEq>⟧.eq a b) ↔ (a ≡ b) }
+    ensures names { (a b : IdentError) → IsTrue (⟦<IdentError as PartialEq>⟧.eq a b) ↔ (a ≡ b) }
 {}
 
 /// A literal that was made is one of its kind, with nothing after it: what `Literal::string` writes is a

@@ -21,21 +21,21 @@ use Rattle.pm_stream.specs.declared.stream.TokenTree.{TokenTree}
 abbrev pub OneCover : Type 0
 OneCover = (source : List ℕ) (us vs : List Piece) → IsCover us source → IsCover vs source → us ≡ vs
 
--- it parses to at most one stream
+-- a source parses to at most one stream
 abbrev pub OneStream : Type 0
 OneStream = (base : ℕ) (source : List ℕ) (s t : Forest) → ParsesTo base source s → ParsesTo base source t → s ≡ t
 
--- it parses or has a fault
+-- a source parses or has a fault
 abbrev pub ParsesOrFails : Type 0
 ParsesOrFails = (base : ℕ) (source : List ℕ)
     → ((stream : Forest) × ParsesTo base source stream) ⊎ ((position : ℕ) × FaultAt base source position)
 
--- and never both
+-- a source that parses has no fault
 abbrev pub NeverBoth : Type 0
 NeverBoth = (base : ℕ) (source : List ℕ) (stream : Forest) (position : ℕ)
     → ParsesTo base source stream → FaultAt base source position → ⊥
 
--- its fault has one position
+-- a source has at most one position that is its fault
 abbrev pub OneFault : Type 0
 OneFault = (base : ℕ) (source : List ℕ) (j k : ℕ) → FaultAt base source j → FaultAt base source k → j ≡ k
 
@@ -55,11 +55,11 @@ ComesBack = (base : ℕ) (stream : Forest) → IsBuilt stream → Gives base (pr
 abbrev pub ParsedIsWellSpaced : Type 0
 ParsedIsWellSpaced = (base : ℕ) (source : List ℕ) (stream : Forest) → ParsesTo base source stream → IsWellSpaced stream
 
--- so is what is the same as one, up to spans
+-- every stream that a source parses to up to spans is well spaced
 abbrev pub GivenIsWellSpaced : Type 0
 GivenIsWellSpaced = (base : ℕ) (source : List ℕ) (stream : Forest) → Gives base source stream → IsWellSpaced stream
 
--- and every stream that a text parses to is built
+-- every stream that a text parses to is built
 abbrev pub ParsedIsBuilt : Type 0
 ParsedIsBuilt = (base : ℕ) (source : List ℕ) (stream : Forest)
     → IsText source → ParsesTo base source stream → IsBuilt stream

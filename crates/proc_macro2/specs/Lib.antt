@@ -20,6 +20,7 @@ pub use Rattle.lexical.specs.Text as Front
 pub use Rattle.lexical.specs.Token
 pub use Rattle.lexical.specs.Walk
 pub use Rattle.literal_escaper.specs.Errors
+pub use Rattle.literal_escaper.specs.EscapeMessage
 pub use Rattle.literal_escaper.specs.Items
 pub use Rattle.literal_escaper.specs.Kind
 pub use Rattle.literal_escaper.specs.Mode

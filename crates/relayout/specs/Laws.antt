@@ -19,7 +19,7 @@ PiecesStay = (source : List ℕ) (xs : List Spaced) (old : List ℕ) (ys : List 
 abbrev pub KeepsTokens : List ℕ → List ℕ → Type 0
 KeepsTokens source text = (base first : ℕ) (stream : Forest) → ParsesTo first source stream → Gives base text stream
 
--- so it is where both are covered by the same pieces but for white characters
+-- if the same pieces cover two texts but for white characters, both give the same tokens
 abbrev pub TokensStay : Type 0
 TokensStay = (source text : List ℕ) (us vs : List Piece) → IsCover us source → IsCover vs text
     → solid_pieces vs ≡ solid_pieces us → KeepsTokens source text

@@ -4,3 +4,4 @@ pub mod Relaid
 pub mod Commented
 pub mod Comments
 pub mod Laws
+pub mod Message

@@ -23,7 +23,7 @@ pub record IsRelaid (choices : List White) (source text : List ℕ) : Type 0 whe
   pub same : solid_pieces pieces_now ≡ solid_pieces pieces
   pub tokens : KeepsTokens source text
 
--- what holds if the error is that no piece stands somewhere
+-- if the error is that no piece stands somewhere, this holds
 abbrev pub IfNoPiece : Type 0 → RelayoutError → Type 0
 IfNoPiece holds NoPiece = holds
 IfNoPiece holds (Memory refused) = Unit {0}

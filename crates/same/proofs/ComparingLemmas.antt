@@ -17,8 +17,8 @@ use Rattle.pm_token.proofs.ValueLawLemmas.{strings_come_back}
 use Rattle.pm_stream.specs.Events.{One}
 use Rattle.lexical.specs.Cover.{StandBefore, IsCover}
 use Rattle.lexical.specs.Piece.{Piece}
-use Rattle.same.specs.Difference.{DifferAt, SoFar, bare, first_place, first_word}
-use Rattle.same.specs.Said.{Comment, Placed, Token, Word, doc_left, word_of}
+use Rattle.same.specs.Difference.{SoFar, bare}
+use Rattle.same.specs.Said.{Comment, Placed, Token, doc_left, word_of}
 use Rattle.same.specs.Words.{ComesFirst, Covers, placed_onto, words, words_left}
 use Rattle.same.specs.declared.words.Words.{Words}
 use Rattle.same.specs.declared.said.Said.{Said}
@@ -163,55 +163,6 @@ goes_on comments first second ones ones_now others others_now one (Some other) s
             mine.first yours.first words,
       );
 }
-
-first_of_next : (others after : Words) (other : Option Said) (ys : List Piece) → Covers others.walk ys
-    → Next others other after
-    → (first_word (words_left others ys) ≡ option_map word_of other)
-    × (chars after.here.now ≡ first_place (words_left others ys))
-first_of_next others after None ys covers next =
-    let at = next ys covers in (ap first_word at.0, at.1 ∙ sym (ap first_place at.0))
-first_of_next others after (Some other) ys covers next =
-    let at = next ys covers in (ap first_word at.first, sym (ap first_place at.first))
-
--- another word comes first, or none
-pub differ_word : (comments : Bool) (first second : List ℕ) (ones ones_now others others_now : Words) (one : Said)
-    (other : Option Said) → Goes comments first second ones others
-    → ((xs : List Piece) → Covers ones.walk xs → ComesFirst ones one ones_now xs) → Next others other others_now
-    → (Some (word_of one) ≡ option_map word_of other → ⊥) → (us vs : List Piece) → IsCover us first → IsCover vs second
-    → DifferAt (words comments us) (words comments vs) (chars ones_now.here.now) (chars others_now.here.now)
-differ_word comments first second ones ones_now others others_now one other so comes next apart us vs covers
-    other_covers =
-    let before = so.goes us vs covers other_covers in
-    let mine = comes before.0 before.1 in
-    let yours = first_of_next others others_now other before.2 before.3 next in
-    record {
-      more = words_left ones before.0;
-      others = words_left others before.2;
-      so_far = before.4;
-      differ = λ e. apart (sym (ap first_word mine.first) ∙ (e ∙ yours.0));
-      first_is = sym (ap first_place mine.first);
-      second_is = yours.1;
-    }
-
--- the first text ends, and the second goes on
-pub differ_end : (comments : Bool) (first second : List ℕ) (ones ones_now others others_now : Words) (other : Said)
-    → Goes comments first second ones others → Next ones None ones_now → Next others (Some other) others_now
-    → (us vs : List Piece) → IsCover us first → IsCover vs second
-    → DifferAt (words comments us) (words comments vs) (chars ones_now.here.now) (chars others_now.here.now)
-differ_end comments first second ones ones_now others others_now other so ends next us vs covers other_covers =
-    let before = so.goes us vs covers other_covers in
-    let mine = ends before.0 before.1 in
-    let yours = next before.2 before.3 in
-    record {
-      more = words_left ones before.0;
-      others = words_left others before.2;
-      so_far = before.4;
-      differ = λ e.
-          absurd (let clash : ◌≡◌ {A = Option Word} None (Some (word_of other)) =
-          sym (ap first_word mine.0) ∙ (e ∙ ap first_word yours.first) in cc);
-      first_is = mine.1 ∙ sym (ap first_place mine.0);
-      second_is = sym (ap first_place yours.first);
-    }
 
 -- both end
 pub all_same : (comments : Bool) (first second : List ℕ) (ones ones_now others others_now : Words)

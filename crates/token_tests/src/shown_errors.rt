@@ -100,3 +100,28 @@ fn a_refusal_of_a_value_shows_its_fault(rt: HostRuntime) -> Result<(), AllocErro
     ];
     are_shown(&rt, rt.alloc(), &rows)
 }
+
+#[test]
+fn a_refusal_of_a_value_says_what_is_wrong(rt: HostRuntime) -> Result<(), AllocError> {
+    let rows = [
+        (
+            ConversionErrorKind::FailedToUnescape(EscapeError::LoneSlash),
+            "cannot unescape the literal",
+        ),
+        (
+            ConversionErrorKind::InvalidLiteralKind,
+            "the literal is of another kind or has a suffix",
+        ),
+        (ConversionErrorKind::Memory(AllocError), "no memory"),
+    ];
+    are_displayed(&rt, rt.alloc(), &rows)
+}
+
+#[test]
+fn an_error_of_a_content_says_what_is_wrong(rt: HostRuntime) -> Result<(), AllocError> {
+    let rows = [
+        (EscapeError::LoneSlash, "nothing follows the backslash"),
+        (EscapeError::NulInCStr, "a zero in a C string"),
+    ];
+    are_displayed(&rt, rt.alloc(), &rows)
+}

@@ -13,7 +13,7 @@ use std::error::Error;
 use std::fmt;
 
 /// Why an identifier was not made: the first of these that holds of its name.
-#[derive(Debug, Drop)]
+#[derive(Debug, Drop, PartialEq, Eq)]
 pub enum IdentError {
     /// It has no character.
     Empty,

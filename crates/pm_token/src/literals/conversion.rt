@@ -4,6 +4,8 @@ ghost use Rattle.pm_token.specs.declared.literals.conversion.ConversionErrorKind
 
 use literal_escaper::EscapeError;
 use std::alloc::{AllocError, AllocFailed};
+use std::error::Error;
+use std::fmt;
 
 /// Why the value of a literal was not answered.
 #[derive(Debug, Drop, PartialEq, Eq)]
@@ -16,6 +18,25 @@ pub enum ConversionErrorKind {
     /// Memory ran out.
     Memory(AllocError),
 }
+
+impl fmt::Display for ConversionErrorKind {
+    ghost use Rattle.std.specs.Prelude.{Some};
+    ghost use Rattle.pm_token.specs.Message.{conversion_message};
+
+    ghost output = { λ error. Some (conversion_message error) };
+
+    fn fmt<W: fmt::Write>(&self, f: &mut fmt::Formatter<W>) -> fmt::Result {
+        match self {
+            ConversionErrorKind::FailedToUnescape(_) => f.write_str("cannot unescape the literal"),
+            ConversionErrorKind::InvalidLiteralKind => {
+                f.write_str("the literal is of another kind or has a suffix")
+            }
+            ConversionErrorKind::Memory(_) => f.write_str("no memory"),
+        }
+    }
+}
+
+impl Error for ConversionErrorKind {}
 
 impl From<EscapeError> for ConversionErrorKind {
     ghost from_gives = { λ fault result. result ≡ FailedToUnescape fault };

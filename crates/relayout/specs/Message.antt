@@ -1,0 +1,8 @@
+-- What the error says.
+use Rattle.std.specs.Prelude.{ℕ, List, codes}
+use Rattle.relayout.specs.declared.errors.RelayoutError.{RelayoutError}
+use Rattle.relayout.specs.declared.errors.RelayoutError.TheVariants.{NoPiece, Memory}
+
+abbrev pub message : RelayoutError → List ℕ
+message NoPiece = codes "cannot split the text into tokens"
+message (Memory error) = codes "no memory"
