@@ -23,6 +23,6 @@ is_brace Brace = true
 is_brace Bracket = false
 is_brace None = false
 
--- the delimiter of which c is the opener or the closer
+-- the delimiter that the character opens or closes
 abbrev pub delimiter_of : ℕ → Delimiter
 delimiter_of c = if (c == 40) || (c == 41) then Parenthesis else (if (c == 123) || (c == 125) then Brace else Bracket)

@@ -39,7 +39,7 @@ abbrev pub doc_in : Delimiter → List TokenTree → Option Text
 doc_in Bracket (name ∷ mark ∷ text ∷ []) = doc_literal name mark text
 doc_in _ _ = None
 
--- the literal of a doc comment's group
+-- the literal of the group of a doc comment, `[doc = ".."]`
 abbrev pub doc_of : Grouped → Option Text
 doc_of g = doc_in g.delimiter (trees_of g.stream)
 

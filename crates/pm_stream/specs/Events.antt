@@ -9,8 +9,11 @@ use Rattle.pm_stream.specs.Delimited.{delimiter_of}
 
 -- a token with its span; a group that begins at a position, and one that ends there
 pub data Event : Type 0 where
+  -- a token, with the positions where it begins and ends
   One : Token → ℕ → ℕ → Event
+  -- a group's opener, with the position where the group begins
   Opens : Delimiter → ℕ → Event
+  -- a group's closer, with the position where the group ends
   Closes : Delimiter → ℕ → Event
 
 -- the marks `#`, `!` and `=`

@@ -7,8 +7,11 @@ use Rattle.pm_stream.specs.Events.{Event, One, Opens, Closes}
 
 -- a leaf or a group, with the positions where it begins and ends, before the other trees
 pub data Forest : Type 0 where
+  -- no trees
   nil : Forest
+  -- a token, with the positions where it begins and ends, before the other trees
   leaf : Token → ℕ → ℕ → Forest → Forest
+  -- a group, with the positions where it begins and ends and the trees inside, before the other trees
   group : Delimiter → ℕ → ℕ → Forest → Forest → Forest
 
 -- the flattening, and then other events
@@ -17,7 +20,7 @@ flat_onto nil events = events
 flat_onto (leaf token lo hi rest) events = One token lo hi ∷ flat_onto rest events
 flat_onto (group d lo hi inside rest) events = Opens d lo ∷ flat_onto inside (Closes d hi ∷ flat_onto rest events)
 
--- `flattening`: the trees in reading order
+-- `flattening`: the tokens and delimiters of the trees in reading order, with their positions
 abbrev pub flattening : Forest → List Event
 flattening forest = flat_onto forest []
 
@@ -27,7 +30,7 @@ joined nil more = more
 joined (leaf token lo hi rest) more = leaf token lo hi (joined rest more)
 joined (group d lo hi inside rest) more = group d lo hi inside (joined rest more)
 
--- `built`: what every stream is promised to be
+-- `built`: each token is one of the grammar's, and no span ends before it begins. Every stream is built
 abbrev pub IsBuilt : Forest → Type 0
 IsBuilt nil = Unit {0}
 IsBuilt (leaf token lo hi rest) = IsBuiltToken token × (lo ≤ hi) × IsBuilt rest

@@ -15,7 +15,7 @@ pub record HoldsAll (map : Files) (stream : Forest) : Type 0 where
 abbrev pub HoldsTree : Files → TokenTree → Type 0
 HoldsTree map tree = Holds map (extent_of tree) × HoldsAll map (inside tree)
 
--- it does so for each tree of the list
+-- the map holds the span of each tree of the list, at any depth
 abbrev pub HoldsEach : Files → List TokenTree → Type 0
 HoldsEach map trees =
     (tree : TokenTree) (index : ℕ) → index < length trees → tree ≡ slice_index_or trees index tree → HoldsTree map tree

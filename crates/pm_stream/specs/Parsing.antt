@@ -52,7 +52,7 @@ pub record StaysOpenAt (base : ℕ) (source : List ℕ) (position : ℕ) : Type 
 abbrev pub FaultAt : ℕ → List ℕ → ℕ → Type 0
 FaultAt base source position = StopsAt base source position ⊎ StaysOpenAt base source position
 
--- no position is a fault
+-- no position of the source is a fault
 abbrev pub HasNoFault : ℕ → List ℕ → Type 0
 HasNoFault base source = (position : ℕ) → FaultAt base source position → ⊥
 

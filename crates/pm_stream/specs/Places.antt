@@ -61,7 +61,7 @@ placed place tree =
 abbrev pub listed : (ℕ → Place) → Forest → List PlacedTree
 listed place trees = map (placed place) (in_order trees)
 
--- they are those of the stream that the source parses to
+-- the trees, with their places, are those of the stream that the source parses to
 pub record ArePlaced (base : ℕ) (source : List ℕ) (trees : List PlacedTree) : Type 0 where
   pub stream : Forest
   pub parses : ParsesTo base source stream

@@ -18,7 +18,7 @@ enclosed Brace empty text = if empty then codes "{ }" else (codes "{ " ++ (text 
 enclosed Bracket empty text = codes "[" ++ (text ++ codes "]")
 enclosed None empty text = text
 
--- the trees in order
+-- what the trees print, one after another
 abbrev pub ruled : Forest → List ℕ
 ruled nil = []
 ruled (leaf token lo hi rest) = token_text token ++ (separator (parts token) rest ++ ruled rest)

@@ -16,11 +16,14 @@ use Rattle.pm_stream.specs.declared.stream.TokenTree.TheVariants.{Group}
 
 -- into a group, out of it again, or past a token, with the trees that follow in the same list
 pub data Step : Type 0 where
+  -- into this group; the other trees are those that follow it
   Enter : Grouped → Forest → Step
+  -- out of this group; the other trees are those that follow it
   Leave : Grouped → Forest → Step
+  -- past this token; the other trees are those that follow it
   Token : TokenTree → Forest → Step
 
--- the step that was given
+-- the step that the walk gave
 abbrev pub step_of : Given → Step
 step_of (given.Enter g after) = Enter g.now (forest after.now)
 step_of (given.Leave g after) = Leave g.now (forest after.now)

@@ -16,12 +16,12 @@ before (Ident i) rest = leaf (name_token i) i.span.lo i.span.hi rest
 before (Punct p) rest = leaf (mark_token p) p.span.lo p.span.hi rest
 before (Literal l) rest = leaf (text_token l) l.span.lo l.span.hi rest
 
--- the trees of a list
+-- the stream of the trees of a list
 abbrev pub forest : List TokenTree → Forest
 forest [] = nil
 forest (tree ∷ trees) = before tree (forest trees)
 
--- one tree alone
+-- the stream of this tree alone
 abbrev pub alone : TokenTree → Forest
 alone tree = before tree nil
 

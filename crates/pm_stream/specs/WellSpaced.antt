@@ -40,6 +40,6 @@ well_spaced nil = true
 well_spaced (leaf token lo hi rest) = fits token (next_token rest) && well_spaced rest
 well_spaced (group d lo hi inside rest) = is_shown d && (well_spaced inside && well_spaced rest)
 
--- `well-spaced`
+-- `well-spaced`: spacings fit what follows and each group has delimiters, so that the printed text reads back
 abbrev pub IsWellSpaced : Forest → Type 0
 IsWellSpaced stream = IsTrue (well_spaced stream)

@@ -314,7 +314,8 @@ impl Parser {
         if let Some(frame) = frames.pop() {
             return Err(fault_at(frame.lo));
         }
-        // It held the trees of all open groups too. Where memory for a smaller list is refused it stays as it is.
+        // The list also held the trees of all open groups. If the smaller allocation is refused,
+        // the list stays as it is.
         if trees.capacity().saturating_sub(trees.len()) > FEW_TREES {
             trees.shrink_to_fit();
         }

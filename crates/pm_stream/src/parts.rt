@@ -1,7 +1,7 @@
 //! What the crates above make streams of, and users don't.
 ghost use Rattle.std.specs.Prelude.{◌≡◌, IfOk, OnErr, OnOk};
 ghost use Rattle.pm_stream.specs.Building.{split};
-ghost use Rattle.pm_stream.specs.Forest.{IsBuilt, joined};
+ghost use Rattle.pm_stream.specs.Forest.{IsBuilt, joined, nil};
 ghost use Rattle.pm_stream.specs.Trees.{forest};
 ghost use Rattle.pm_stream.specs.declared.stream.TokenTree.TheVariants.{Group as GroupTree, Ident as IdentTree};
 ghost use Rattle.pm_stream.specs.declared.stream.TokenTree.TheVariants.{Punct as PunctTree, Literal as LiteralTree};
@@ -24,6 +24,32 @@ pub fn stream(alloc: Global, trees: Vec<TokenTree>) -> Result<TokenStream, Alloc
     ensures ok { IfOk result (λ stream. stream ≡ forest trees.items) }
 {
     TokenStream::from_vec(alloc, trees)
+}
+
+/// The trees of the stream, in order. A list that no other stream shares is taken over. Another is copied, which fails
+/// where memory runs out.
+pub fn into_trees(stream: TokenStream) -> Result<Vec<TokenTree>, AllocError>
+    ensures value { IfOk result (λ list. forest list.items ≡ stream) }
+    ensures built { IsBuilt stream }
+{
+    stream.into_list()
+}
+
+/// The trees of the group, which keeps none.
+#[inline(always)]
+pub fn take_stream(group: &mut Group) -> TokenStream
+    ensures value { result ≡ group.old.stream }
+    ensures left { group.new ≡ record group.old { stream = nil } }
+{
+    group.take_stream()
+}
+
+/// Puts these trees into the group in place of its own.
+#[inline(always)]
+pub fn set_stream(group: &mut Group, stream: TokenStream)
+    ensures { group.new ≡ record group.old { stream = stream } }
+{
+    group.set_stream(stream);
 }
 
 /// Puts a group after the trees of a stream. Where memory runs out the stream stays as it was.

@@ -373,4 +373,23 @@ impl Group {
     {
         self.span = span;
     }
+
+    /// Its trees, of which it keeps none.
+    #[inline(always)]
+    pub(crate) fn take_stream(&mut self) -> TokenStream
+        ensures value { result ≡ self.old.stream }
+        ensures left { self.new ≡ record self.old { stream = nil } }
+    {
+        let alloc = self.stream.alloc;
+        let trees = self.stream.trees.take();
+        TokenStream { alloc, trees }
+    }
+
+    /// Puts these trees in place of its own.
+    #[inline(always)]
+    pub(crate) fn set_stream(&mut self, stream: TokenStream)
+        ensures { self.new ≡ record self.old { stream = stream } }
+    {
+        self.stream = stream;
+    }
 }

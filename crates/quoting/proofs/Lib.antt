@@ -9,6 +9,7 @@ mod Examples
 mod BuilderLemmas
 mod FixedLemmas
 mod FillLemmas
+mod InPlaceLemmas
 mod TurnLemmas
 mod NameLemmas
 mod TextLemmas

@@ -26,7 +26,7 @@ IsChoiceFor stream chosen = unspaced chosen ≡ unspaced stream
 abbrev pub IsHopeless : Forest → Type 0
 IsHopeless stream = (chosen : Forest) → IsChoiceFor stream chosen → IsWellSpaced chosen → ⊥
 
--- so it is where a fault is named
+-- if the error names a fault, no choice of spacings makes the stream well spaced
 abbrev pub HopelessIfNamed : Forest → QuoteError → Type 0
 HopelessIfNamed stream NoneGroup = IsHopeless stream
 HopelessIfNamed stream LoneQuote = IsHopeless stream

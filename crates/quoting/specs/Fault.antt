@@ -26,11 +26,11 @@ fault_or (leaf token lo hi rest) after =
 fault_or (group d lo hi inside rest) after =
     if is_shown d then fault_or inside (fault_or rest after) else Some NoneGroup
 
--- `first-fault`
+-- `first-fault`: the first fault of the stream in reading order that no choice of spacings mends
 abbrev pub first_fault : Forest → Option QuoteError
 first_fault stream = fault_or stream None
 
--- a fault that is named is the stream's first; want of memory says nothing of the stream
+-- a fault that is named is the stream's first; an error of memory says nothing of the stream
 abbrev pub IsFaultOf : Forest → QuoteError → Type 0
 IsFaultOf stream NoneGroup = first_fault stream ≡ Some NoneGroup
 IsFaultOf stream LoneQuote = first_fault stream ≡ Some LoneQuote

@@ -99,7 +99,6 @@ depth_limit = 64
 
 -- `filled`: the template with its holes filled, or its first fault in reading order, a group coming before its
 -- contents. So a repetition that names no list is the fault, whatever is wrong inside of it. Of the faults at one pair
--- of
--- parentheses `Nested` comes first, then `TooDeep`, then `NoList`.
+-- of parentheses `Nested` comes first, then `TooDeep`, then `NoList`
 abbrev pub filled : List Named → Forest → Outcome
 filled holes template = filled_by (at_top holes) depth_limit 0 template

@@ -1,5 +1,6 @@
 -- What the code's values are in the words of templates.
-use Rattle.std.specs.Prelude.{ℕ, zero, suc, Bool, true, false, ◌==◌, List, [], ◌∷◌, Option, Some, None, Err, not}
+use Rattle.std.specs.Prelude.{ℕ, zero, suc, Bool, true, false, ◌≡◌, ◌==◌, List, [], ◌∷◌, Option, Some, None, Ok, Err}
+use Rattle.std.specs.Prelude.{not}
 use Rattle.std.specs.Prelude.{if◌then◌else◌}
 use Rattle.std.specs.Borrow.{Bor}
 use Rattle.std.specs.Char.{is_ascii_digit}
@@ -42,10 +43,11 @@ abbrev pub looked_up : Option Filler → Option Filling
 looked_up None = None
 looked_up (Some filler) = Some (filling_by filler)
 
--- a hole
+-- a hole's name, with what the hole stands for
 abbrev pub named : Hole → Named
 named hole = record { name = chars hole.name.now; filling = filling_by hole.filling }
 
+-- the names of the holes, each with what the hole stands for
 abbrev pub named_all : List Hole → List Named
 named_all [] = []
 named_all (hole ∷ holes) = named hole ∷ named_all holes
@@ -141,7 +143,22 @@ abbrev pub inside_at : (ℕ → Interpolation → Outcome) → ℕ → Grouped �
 inside_at given zero g = Err (TooDeep g.span)
 inside_at given (suc depth) g = filled_by given depth 0 g.stream
 
--- that holds of a template's fault, which isn't that of a text; want of memory says nothing
+-- what comes out of the inside of a tree: a token has none
+abbrev pub inside_tree : (ℕ → Interpolation → Outcome) → ℕ → TokenTree → Outcome
+inside_tree given depth (Group g) = inside_at given depth g
+inside_tree given depth (Ident i) = Ok nil
+inside_tree given depth (Punct p) = Ok nil
+inside_tree given depth (Literal l) = Ok nil
+
+-- a tree that begins nothing and what it becomes: a group is filled inside, a mark may come out Alone
+abbrev pub Settles : (ℕ → Interpolation → Outcome) → ℕ → Bool → TokenTree → TokenTree → Type 0
+Settles given depth alone (Group g) new =
+    (inside : Forest) × (inside_at given depth g ≡ Ok inside) × (new ≡ Group (record g { stream = inside }))
+Settles given depth alone (Ident i) new = new ≡ Ident i
+Settles given depth alone (Punct p) new = new ≡ apart alone (Punct p)
+Settles given depth alone (Literal l) new = new ≡ Literal l
+
+-- this holds of the error if it is a fault of the template, not of a text, and memory did not run out
 abbrev pub UnlessMemory : TemplateError → Type 0 → Type 0
 UnlessMemory (NoHole span) holds = holds
 UnlessMemory (LoneList span) holds = holds

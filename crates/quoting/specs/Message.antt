@@ -1,7 +1,11 @@
--- What the errors say.
-use Rattle.std.specs.Prelude.{ℕ, List, codes}
+-- What the errors say, and where.
+use Rattle.std.specs.Prelude.{ℕ, Bool, ◌==◌, List, Option, Some, None, codes}
+use Rattle.std.specs.Option.{option_eq}
+use Rattle.std.specs.Ordering.{eq_of_both, on}
+use Rattle.proc_macro2.specs.Extent.{Extent, extent_eq}
 use Rattle.quoting.specs.declared.errors.QuoteError.{QuoteError}
-use Rattle.proc_macro2.specs.Message.{message}
+use Rattle.proc_macro2.specs.Message.{fault_span, message}
+use Rattle.proc_macro2.specs.declared.ParseError.TheVariants as parsing
 use Rattle.quoting.specs.declared.errors.QuoteError.TheVariants.{NoneGroup, LoneQuote, Memory}
 use Rattle.quoting.specs.declared.errors.TemplateError.{TemplateError}
 use Rattle.quoting.specs.declared.errors.TemplateError.TheVariants.{NoHole, LoneList, NoList, UnequalLists, Nested}
@@ -23,3 +27,31 @@ template_message (Nested span) = codes "a repetition inside a repetition"
 template_message (TooDeep span) = codes "groups nested too deep"
 template_message (Parse error) = message error
 template_message (NoMemory error) = codes "no memory"
+
+-- the span of the fault
+abbrev pub template_span : TemplateError → Option Extent
+template_span (NoHole span) = Some span
+template_span (LoneList span) = Some span
+template_span (NoList span) = Some span
+template_span (UnequalLists span) = Some span
+template_span (Nested span) = Some span
+template_span (TooDeep span) = Some span
+template_span (Parse error) = fault_span error
+template_span (NoMemory error) = None
+
+-- a number for the kind of the error, and of the text's
+abbrev pub kind_of : TemplateError → ℕ
+kind_of (NoHole span) = 0
+kind_of (LoneList span) = 1
+kind_of (NoList span) = 2
+kind_of (UnequalLists span) = 3
+kind_of (Nested span) = 4
+kind_of (TooDeep span) = 5
+kind_of (Parse (parsing.Lex error)) = 6
+kind_of (Parse parsing.MapFull) = 7
+kind_of (Parse (parsing.Memory error)) = 8
+kind_of (NoMemory error) = 9
+
+-- whether both are of one kind, with the same span or none
+abbrev pub template_eq : TemplateError → TemplateError → Bool
+template_eq = eq_of_both (on kind_of ◌==◌) (on template_span (option_eq extent_eq))

@@ -1,5 +1,5 @@
 //! Streams that are put together.
-ghost use Rattle.std.specs.Prelude.{◌≡◌, ◌++◌, ◌∷◌, [], IfOk, OnErr, OnOk};
+ghost use Rattle.std.specs.Prelude.{◌≡◌, ◌≤◌, ◌++◌, ◌∷◌, [], IfOk, OnErr, OnOk, drop, length, take};
 ghost use Rattle.proc_macro2.specs.Forest.{IsBuilt, joined, nil};
 ghost use Rattle.proc_macro2.specs.Trees.{alone, forest, GoesInside};
 
@@ -58,6 +58,29 @@ impl StreamBuilder {
         }
     }
 
+    /// The first so many trees of the list, and the others. With none, what is put in first may still be shared.
+    pub(crate) fn of_first(
+        alloc: Global,
+        list: Vec<TokenTree>,
+        count: usize,
+    ) -> Result<(StreamBuilder, Vec<TokenTree>), AllocError>
+        requires within { count ≤ length list.items }
+        requires built { IsBuilt (forest list.items) }
+        ensures first { IfOk result (λ parts. parts.0 ≡ forest (take count list.items)) }
+        ensures rest { IfOk result (λ parts. parts.1.items ≡ drop count list.items) }
+    {
+        if count == 0 {
+            return Ok((StreamBuilder::new(alloc), list));
+        }
+        let mut first = list;
+        let rest = first.split_off(count)?;
+        let builder = StreamBuilder {
+            alloc,
+            trees: Trees::Listed(first),
+        };
+        Ok((builder, rest))
+    }
+
     /// Puts the tree at the end. So many more are expected.
     #[inline(always)]
     pub(crate) fn put(&mut self, tree: TokenTree, more: usize) -> Result<(), AllocError>
@@ -75,6 +98,23 @@ impl StreamBuilder {
         Ok(())
     }
 
+    /// Puts a copy of the tree at the end. So many more are expected.
+    #[inline(always)]
+    pub(crate) fn put_copy(&mut self, tree: &TokenTree, more: usize) -> Result<(), AllocError>
+        requires { GoesInside tree.now }
+        ensures { OnOk result (self.new ≡ joined self.old (alone tree.now)) }
+    {
+        match &mut self.trees {
+            Trees::Listed(list) => copy_onto(list, tree)?,
+            Trees::Shared(stream) => {
+                let mut list = listed(self.alloc, stream, more.saturating_add(1))?;
+                copy_onto(&mut list, tree)?;
+                self.trees = Trees::Listed(list);
+            }
+        }
+        Ok(())
+    }
+
     // Puts copies of the trees at the end. So many more are expected.
     #[inline(never)]
     fn copy(&mut self, trees: &[TokenTree], more: usize) -> Result<(), AllocError>
@@ -82,7 +122,11 @@ impl StreamBuilder {
         ensures { OnOk result (self.new ≡ joined self.old (forest trees.now)) }
     {
         match &mut self.trees {
-            Trees::Listed(list) => push_copies(list, trees)?,
+            Trees::Listed(list) => {
+                // Room for what is expected too, so that the list grows once.
+                list.reserve(trees.len().saturating_add(more.min(MOST_ROOM)))?;
+                push_copies(list, trees)?;
+            }
             Trees::Shared(stream) => {
                 let mut list = listed(self.alloc, stream, more.saturating_add(trees.len()))?;
                 push_copies(&mut list, trees)?;
@@ -147,6 +191,20 @@ fn push(list: &mut Vec<TokenTree>, tree: TokenTree) -> Result<(), AllocError>
     // It computes nothing: proofs learn what is true of every tree.
     tree.span();
     list.push(tree)?;
+    Ok(())
+}
+
+// Puts a copy of the tree at the end of the list.
+#[inline(always)]
+fn copy_onto(list: &mut Vec<TokenTree>, tree: &TokenTree) -> Result<(), AllocError>
+    requires list { IsBuilt (forest list.old.items) }
+    requires tree { GoesInside tree.now }
+    ensures ok { OnOk result (forest list.new.items ≡ joined (forest list.old.items) (alone tree.now)) }
+    ensures built { IsBuilt (forest list.new.items) }
+{
+    // It computes nothing: proofs learn what is true of every tree.
+    tree.span();
+    push_copy(list, tree)?;
     Ok(())
 }
 

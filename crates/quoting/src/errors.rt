@@ -1,5 +1,6 @@
 //! Why a quote gives no stream, and why a template is not filled.
 ghost use Rattle.std.specs.Prelude.{◌≡◌};
+ghost use Rattle.quoting.specs.Message.{template_span};
 
 use proc_macro2::{ParseError, Span};
 use std::alloc::AllocError;
@@ -8,7 +9,7 @@ use std::fmt;
 
 /// Why a quote gives no stream: the first fault in reading order, a group coming before its contents, or
 /// that memory ran out.
-#[derive(Debug, Drop)]
+#[derive(Debug, Drop, PartialEq, Eq)]
 pub enum QuoteError {
     /// A group has no delimiters, so that its printed text does not show it.
     NoneGroup,
@@ -71,6 +72,53 @@ pub enum TemplateError {
     Parse(ParseError),
     /// Memory ran out where the template was filled.
     Memory(AllocError),
+}
+
+impl TemplateError {
+    /// Where the fault stands in the template: its span, or that of the text's fault as [`ParseError::span`] has it.
+    /// `None` if the map has no room or memory ran out.
+    pub fn span(&self) -> Option<Span>
+        ensures { result ≡ template_span self.now }
+    {
+        match self {
+            TemplateError::NoHole(span)
+            | TemplateError::LoneList(span)
+            | TemplateError::NoList(span)
+            | TemplateError::UnequalLists(span)
+            | TemplateError::Nested(span)
+            | TemplateError::TooDeep(span) => Some(*span),
+            TemplateError::Parse(error) => error.span(),
+            TemplateError::Memory(_) => None,
+        }
+    }
+}
+
+impl PartialEq for TemplateError {
+    ghost use Rattle.std.proofs.Common.{rules};
+    ghost use Rattle.std.specs.Cmp.{and_per, nat_eq_equiv, on_per, partial_equiv_from_equiv};
+    ghost use Rattle.std.specs.Cmp.Lexicographic.{options_equiv};
+    ghost use Rattle.std.specs.Cmp.Rules.{comparing};
+    ghost use Rattle.quoting.specs.Message.{kind_of, template_eq};
+
+    ghost eq = { template_eq };
+
+    ghost laws = { and_per (on_per kind_of (partial_equiv_from_equiv nat_eq_equiv))
+        (on_per template_span (partial_equiv_from_equiv (options_equiv (Prim.search (comparing, rules))))) };
+
+    /// Whether both are of one kind, and have the same span or none.
+    fn eq(&self, other: &TemplateError) -> bool {
+        match (self, other) {
+            (TemplateError::NoHole(span), TemplateError::NoHole(other))
+            | (TemplateError::LoneList(span), TemplateError::LoneList(other))
+            | (TemplateError::NoList(span), TemplateError::NoList(other))
+            | (TemplateError::UnequalLists(span), TemplateError::UnequalLists(other))
+            | (TemplateError::Nested(span), TemplateError::Nested(other))
+            | (TemplateError::TooDeep(span), TemplateError::TooDeep(other)) => span.eq(other),
+            (TemplateError::Parse(error), TemplateError::Parse(other)) => error == other,
+            (TemplateError::Memory(_), TemplateError::Memory(_)) => true,
+            _ => false,
+        }
+    }
 }
 
 impl fmt::Display for TemplateError {

@@ -91,8 +91,8 @@ fn apart_before(tree: &TokenTree, after: &[TokenTree]) -> Result<TokenTree, Allo
     }
 }
 
-// Whether what comes first has a meaning.
-fn has_meaning(trees: &[TokenTree]) -> bool
+/// Whether what comes first has a meaning.
+pub(crate) fn has_meaning(trees: &[TokenTree]) -> bool
     ensures { result ≡ has_meaning (forest trees.now) }
 {
     match trees.split_first() {
@@ -125,8 +125,8 @@ fn filled_inside(
     filled(alloc, template, holes, turn, inner)
 }
 
-// Whether the trees are neither groups nor `#`, and so come out as they are.
-fn are_fixed(trees: &[TokenTree]) -> bool
+/// Whether the trees are neither groups nor `#`, and so come out as they are.
+pub(crate) fn are_fixed(trees: &[TokenTree]) -> bool
     ensures { result ≡ list_all is_fixed trees.now }
 {
     for tree in trees {
@@ -148,10 +148,10 @@ fn is_fixed(tree: &TokenTree) -> bool
     }
 }
 
-// Puts the turns of a repetition after the trees of the stream, with the separator between them. That it names no list
-// comes before what is wrong inside.
+/// Puts the turns of a repetition after the trees of the stream, with the separator between them. That it names no list
+/// comes before what is wrong inside.
 #[cycle(filled)]
-fn repeat_onto(
+pub(crate) fn repeat_onto(
     alloc: Global,
     out: &mut StreamBuilder,
     repetition: &Repetition<'_>,

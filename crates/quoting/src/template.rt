@@ -11,6 +11,7 @@ ghost use Rattle.quoting.specs.TextFault.{IsTextFault, LeavesMap};
 use crate::errors::TemplateError;
 use crate::fill::filled;
 use crate::holes::Hole;
+use crate::owned::filled_in_place;
 use crate::quote::Quote;
 use proc_macro2::{ParseError, SourceMap, TokenStream};
 
@@ -67,6 +68,8 @@ impl Quote {
         ensures kept { OnErr result (self.new ≡ self.old) }
     {
         let template = TokenStream::from_str(template, map)?;
-        self.fill(&template, holes)
+        let stream = filled_in_place(self.alloc(), template, holes, DEPTH_LIMIT)?;
+        self.push_stream(stream)?;
+        Ok(())
     }
 }

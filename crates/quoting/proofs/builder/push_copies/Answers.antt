@@ -1,4 +1,4 @@
-use Rattle.std.proofs.Common.{◌≡◌, ap, ◌∙◌, refl, rules}
+use Rattle.std.proofs.Common.{ap, ◌∙◌, refl, rules}
 use Rattle.proc_macro2.specs.Trees.{forest}
 use Rattle.quoting.proofs.BuilderLemmas.{built_copies, copies_begun, copies_more}
 use Rattle.quoting.proofs.builder.push_copies.Goals as goal
