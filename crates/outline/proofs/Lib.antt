@@ -1,4 +1,7 @@
+mod AnswerLemmas
 mod FilesLemmas
+mod HollowLemmas
+mod LevelLemmas
 mod LineLemmas
 mod OutlineLemmas
 mod OnlyLemmas

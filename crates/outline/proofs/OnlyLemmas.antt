@@ -1,60 +1,51 @@
 -- Trees have no outline but the one that is found.
-use Rattle.std.proofs.Common.{◌≡◌, refl, sym, ◌∙◌, ap, ap₂, subst, ℕ, List, [], ◌∷◌, ◌++◌, length, arith, reverse}
+use Rattle.std.proofs.Common.{◌≡◌, refl, sym, ◌∙◌, ap, ap₂, subst, List, [], ◌∷◌, ◌++◌, length, arith}
 use Rattle.std.proofs.Common.{Option, Some, None, Result, Ok, Err, IfErr, true, false, ◌==◌, ne_eqb}
-use Rattle.std.proofs.lemmas.List.{append_cancel_right, reverse-append}
+use Rattle.std.proofs.lemmas.List.{append_cancel_right}
 use Rattle.pm_token.specs.Leaf.{Name, is_joint}
 use Rattle.pm_token.specs.declared.marks.Spacing.{Spacing}
 use Rattle.pm_token.specs.declared.marks.Spacing.TheVariants.{Alone, Joint}
-use Rattle.pm_stream.specs.Forest.{Forest, nil, leaf, group}
-use Rattle.pm_stream.specs.InOrder.{spacing_of, token_tree}
+use Rattle.pm_stream.specs.InOrder.{spacing_of}
 use Rattle.pm_stream.specs.Trees.{forest}
 use Rattle.pm_stream.specs.declared.stream.Group.{Group as Grouped}
 use Rattle.pm_stream.specs.declared.stream.TokenTree.{TokenTree}
 use Rattle.pm_stream.specs.declared.stream.TokenTree.TheVariants.{Group, Ident, Punct, Literal}
 use Rattle.declarations.proofs.ListLemmas.{reads_fewer}
 use Rattle.declarations.proofs.ReadingLemmas.{split_only}
-use Rattle.declarations.specs.File.{TellsOf, body_of}
+use Rattle.declarations.specs.File.{body_of}
 use Rattle.declarations.specs.Forms.{AreAttributes, AreInnerAttributes, IsAnyItem, any_item, start}
 use Rattle.declarations.specs.Grammar.{step}
 use Rattle.declarations.specs.Kind.{Tells, kind_of}
 use Rattle.declarations.specs.Reading.{Reads}
 use Rattle.declarations.specs.Signs.{Sign, classes_of, signs}
 use Rattle.declarations.specs.Walk.{walk}
-use Rattle.declarations.specs.declared.any_item.AnyItem.{AnyItem}
 use Rattle.declarations.specs.declared.any_item.ItemKind.{ItemKind}
-use Rattle.declarations.specs.declared.file.Items.{Items}
 use Rattle.declarations.specs.declared.place.Place.{Place}
 use Rattle.declarations.specs.declared.place.Rule.TheVariants as rules
 use Rattle.declarations.specs.declared.place.State.TheVariants as states
 use Rattle.declarations.specs.declared.place.Spot.TheVariants as spots
-use Rattle.outline.specs.Outline.{AreInside, AreTrees, IsOutline, IsTreesOutline, Opens, Outline}
-use Rattle.outline.specs.Outline.{NeverOpens, item, nothing}
-use Rattle.outline.specs.declared.entries.Entry.{Entry as Given}
-use Rattle.outline.proofs.OutlineLemmas.{AreOutlines}
+use Rattle.outline.specs.Hollow.{trees_in}
+use Rattle.outline.specs.Outline.{AreInside, AreTrees, BeginsWithItem, IsOutline, IsTreesOutline, NeverIs, Outline}
+use Rattle.outline.specs.Outline.{item, nothing}
+use Rattle.outline.proofs.OutlineLemmas.{AreOutlines, stack, stack_last}
 
 -- ---- the trees of a stream
-
-abbrev unforest : Forest → List TokenTree
-unforest nil = []
-unforest (leaf token lo hi rest) = token_tree token lo hi ∷ unforest rest
-unforest (group d lo hi inside rest) =
-    Group (record { delimiter = d; stream = inside; span = record { lo = lo; hi = hi } }) ∷ unforest rest
 
 same_spacing : (spacing : Spacing) → spacing_of (is_joint spacing) ≡ spacing
 same_spacing Alone = refl
 same_spacing Joint = refl
 
-unforested : (trees : List TokenTree) → unforest (forest trees) ≡ trees
-unforested [] = refl
-unforested (Group g ∷ trees) = ap (λ (ts : List TokenTree). Group g ∷ ts) (unforested trees)
-unforested (Ident i ∷ trees) = ap (λ (ts : List TokenTree). Ident i ∷ ts) (unforested trees)
-unforested (Punct p ∷ trees) =
+pub trees_in-forest : (trees : List TokenTree) → trees_in (forest trees) ≡ trees
+trees_in-forest [] = refl
+trees_in-forest (Group g ∷ trees) = ap (λ (ts : List TokenTree). Group g ∷ ts) (trees_in-forest trees)
+trees_in-forest (Ident i ∷ trees) = ap (λ (ts : List TokenTree). Ident i ∷ ts) (trees_in-forest trees)
+trees_in-forest (Punct p ∷ trees) =
     ap₂ (λ (s : Spacing) (ts : List TokenTree). Punct (record { mark = p.mark; spacing = s; span = p.span }) ∷ ts)
-    (same_spacing p.spacing) (unforested trees)
-unforested (Literal l ∷ trees) = ap (λ (ts : List TokenTree). Literal l ∷ ts) (unforested trees)
+    (same_spacing p.spacing) (trees_in-forest trees)
+trees_in-forest (Literal l ∷ trees) = ap (λ (ts : List TokenTree). Literal l ∷ ts) (trees_in-forest trees)
 
 pub same_trees : (xs ys : List TokenTree) → forest xs ≡ forest ys → xs ≡ ys
-same_trees xs ys same = sym (unforested xs) ∙ ap unforest same ∙ unforested ys
+same_trees xs ys same = sym (trees_in-forest xs) ∙ ap trees_in same ∙ trees_in-forest ys
 
 -- ---- what is inside
 
@@ -103,31 +94,31 @@ kind_only trees rest kind kind2 name name2 one other =
 
 -- ---- what the outline of all trees has of those that are left
 
-abbrev pub Requires : List TokenTree → List Items → Type 0
+abbrev pub Requires : List TokenTree → List (List TokenTree) → Type 0
 Requires trees levels =
     (whole : Outline) → IsTreesOutline trees whole → (os : List Outline) × AreOutlines levels os
 
-pub requires_start : (trees : List TokenTree) (items : Items) (empty levels : List Items)
-    → ((inner : List TokenTree) × Reads AreInnerAttributes trees inner items.left.now) → empty ≡ []
-    → levels ≡ empty ++ items ∷ [] → Requires trees (reverse levels)
-requires_start trees items empty levels (inner, read) none pushed whole (inner2, left, other, is) =
-    let stack : reverse levels ≡ items ∷ [] = ap reverse (pushed ∙ ap (λ l. l ++ items ∷ []) none) in
-    subst (λ ls. (os : List Outline) × AreOutlines ls os) (sym stack) (
+pub requires_start : {T : Type 0} (of : T → List TokenTree) (trees : List TokenTree) (level : T) (empty levels : List T)
+    → ((inner : List TokenTree) × Reads AreInnerAttributes trees inner (of level)) → empty ≡ []
+    → levels ≡ empty ++ level ∷ [] → Requires trees (stack of levels)
+requires_start of trees level empty levels (inner, read) none pushed whole (inner2, left, other, is) =
+    let one : stack of levels ≡ of level ∷ [] =
+    stack_last of levels empty level pushed ∙ ap (λ l. of level ∷ stack of l) none in
+    subst (λ ls. (os : List Outline) × AreOutlines ls os) (sym one) (
       whole ∷ [],
-      (subst (λ ts. IsOutline ts whole) (inner_only trees inner items.left.now inner2 left read other) is, tt),
+      (subst (λ ts. IsOutline ts whole) (inner_only trees inner (of level) inner2 left read other) is, tt),
     )
 
-requires-pop : (items : Items) (outer : List Items) → (os : List Outline) × AreOutlines (items ∷ outer) os
-    → (os : List Outline) × AreOutlines outer os
+requires-pop : (items : List TokenTree) (outer : List (List TokenTree))
+    → (os : List Outline) × AreOutlines (items ∷ outer) os → (os : List Outline) × AreOutlines outer os
 requires-pop items outer ([], are) = absurd are
 requires-pop items outer (o ∷ os, are) = (os, are.1)
 
-pub requires_pop : (trees : List TokenTree) (items : Items) (levels less : List Items)
-    → levels ≡ less ++ items ∷ [] → Requires trees (reverse levels) → Requires trees (reverse less)
-requires_pop trees items levels less split h whole is =
-    requires-pop items (reverse less)
-    (subst (λ ls. (os : List Outline) × AreOutlines ls os) (ap reverse split ∙ reverse-append less (items ∷ []))
-    (h whole is))
+pub requires_pop : {T : Type 0} (of : T → List TokenTree) (trees : List TokenTree) (last : T) (levels less : List T)
+    → levels ≡ less ++ last ∷ [] → Requires trees (stack of levels) → Requires trees (stack of less)
+requires_pop of trees last levels less split h whole is =
+    requires-pop (of last) (stack of less)
+    (subst (λ ls. (os : List Outline) × AreOutlines ls os) (stack_last of levels less last split) (h whole is))
 
 not_before : (trees : List TokenTree) (part rest : List TokenTree) → Reads IsAnyItem trees part rest → trees ≡ [] → ⊥
 not_before trees part rest reads none =
@@ -136,101 +127,99 @@ not_before trees part rest reads none =
     omega arith
 
 -- an outline that begins with the item that is read
-requires-item : (old new inside : Items) (it : AnyItem) (entry : Given) (depth : ℕ) (o : Outline)
-    → Reads IsAnyItem old.left.now it.trees.now new.left.now → TellsOf old.left.now new.left.now it
-    → Opens depth it entry inside → IsOutline old.left.now o
-    → (within : Outline) × (after : Outline) × IsOutline inside.left.now within × IsOutline new.left.now after
-requires-item old new inside it entry depth nothing reads told opens is =
-    absurd (not_before old.left.now it.trees.now new.left.now reads is)
-requires-item old new inside it entry depth (item kind name header within after) reads told opens
+requires-item : (old new inside : List TokenTree) (kind : ItemKind) (name : Option Name) (header : List TokenTree)
+    (o : Outline) → BeginsWithItem old kind name header inside new → IsOutline old o
+    → (within : Outline) × (after : Outline) × IsOutline inside within × IsOutline new after
+requires-item old new inside kind name header nothing found is =
+    absurd (not_before old found.part new found.read is)
+requires-item old new inside kind name header (item kind2 name2 header2 within after) found
     (items, rest, begins, is_within, is_after) =
-    let only = split_only any_item old.left.now it.trees.now new.left.now reads begins.part rest begins.read in
-    let told2 : Tells old.left.now new.left.now kind name =
-    subst (λ ts. Tells old.left.now ts kind name) only.1 begins.told in
-    let kinds : kind ≡ it.kind =
-    kind_only old.left.now new.left.now it.kind kind told.0 name told.1 told2 in
-    let holds : AreInside (body_of it.kind it.trees.now) items =
-    subst (λ k. AreInside (body_of k it.trees.now) items) kinds
-    (subst (λ ts. AreInside (body_of kind ts) items) only.0 begins.inside) in
-    let same : items ≡ inside.left.now =
-    inside_only (body_of it.kind it.trees.now) inside.left.now items opens.holds holds in (
+    let only = split_only any_item old found.part new found.read begins.part rest begins.read in
+    let told2 : Tells old new kind2 name2 = subst (λ ts. Tells old ts kind2 name2) only.1 begins.told in
+    let kinds : kind2 ≡ kind = kind_only old new kind kind2 name name2 found.told told2 in
+    let holds : AreInside (body_of kind found.part) items =
+    subst (λ k. AreInside (body_of k found.part) items) kinds
+    (subst (λ ts. AreInside (body_of kind2 ts) items) only.0 begins.inside) in
+    let same : items ≡ inside = inside_only (body_of kind found.part) inside items found.inside holds in (
       within,
       after,
       subst (λ ts. IsOutline ts within) same is_within,
       subst (λ ts. IsOutline ts after) only.1 is_after,
     )
 
-requires-more : (old new inside : Items) (outer : List Items) (it : AnyItem) (entry : Given) (depth : ℕ)
-    → Reads IsAnyItem old.left.now it.trees.now new.left.now → TellsOf old.left.now new.left.now it
-    → Opens depth it entry inside → (os : List Outline) × AreOutlines (old ∷ outer) os
-    → (os : List Outline) × AreOutlines (inside ∷ new ∷ outer) os
-requires-more old new inside outer it entry depth reads told opens ([], are) = absurd are
-requires-more old new inside outer it entry depth reads told opens (o ∷ os, are) =
-    let both = requires-item old new inside it entry depth o reads told opens are.0 in
+requires-more : (old new inside : List TokenTree) (outer : List (List TokenTree)) (kind : ItemKind) (name : Option Name)
+    (header : List TokenTree) → BeginsWithItem old kind name header inside new
+    → (os : List Outline) × AreOutlines (old ∷ outer) os → (os : List Outline) × AreOutlines (inside ∷ new ∷ outer) os
+requires-more old new inside outer kind name header found ([], are) = absurd are
+requires-more old new inside outer kind name header found (o ∷ os, are) =
+    let both = requires-item old new inside kind name header o found are.0 in
     (both.0 ∷ both.1 ∷ os, (both.2, (both.3, are.1)))
 
-pub requires_item : (trees : List TokenTree) (old new inside : Items) (levels less once twice : List Items)
-    (depth : ℕ) (it : AnyItem) (entry : Given) → Requires trees (reverse levels) → levels ≡ less ++ old ∷ []
-    → Reads IsAnyItem old.left.now it.trees.now new.left.now → TellsOf old.left.now new.left.now it
-    → Opens depth it entry inside → once ≡ less ++ new ∷ [] → twice ≡ once ++ inside ∷ []
-    → Requires trees (reverse twice)
-requires_item trees old new inside levels less once twice depth it entry h split reads told opens pushed again whole
-    is =
-    let stack : reverse twice ≡ inside ∷ new ∷ reverse less =
-    ap reverse again ∙ (reverse-append once (inside ∷ []) ∙ ap (λ l. inside ∷ l)
-    (ap reverse pushed ∙ reverse-append less (new ∷ []))) in
-    subst (λ ls. (os : List Outline) × AreOutlines ls os) (sym stack)
-    (requires-more old new inside (reverse less) it entry depth reads told opens
-    (subst (λ ls. (os : List Outline) × AreOutlines ls os) (ap reverse split ∙ reverse-append less (old ∷ []))
-    (h whole is)))
+pub requires_item : {T : Type 0} (of : T → List TokenTree) (trees : List TokenTree) (old new inside : T)
+    (levels less once twice : List T) (kind : ItemKind) (name : Option Name) (header : List TokenTree)
+    → Requires trees (stack of levels) → levels ≡ less ++ old ∷ []
+    → BeginsWithItem (of old) kind name header (of inside) (of new)
+    → once ≡ less ++ new ∷ [] → twice ≡ once ++ inside ∷ [] → Requires trees (stack of twice)
+requires_item of trees old new inside levels less once twice kind name header h split found pushed again whole is =
+    subst (λ ls. (os : List Outline) × AreOutlines ls os)
+    (sym (stack_last of twice once inside again ∙ ap (λ l. of inside ∷ l) (stack_last of once less new pushed)))
+    (requires-more (of old) (of new) (of inside) (stack of less) kind name header found
+    (subst (λ ls. (os : List Outline) × AreOutlines ls os) (stack_last of levels less old split) (h whole is)))
+
+-- the same of one in which there are no items
+pub requires_alone : {T : Type 0} (of : T → List TokenTree) (trees : List TokenTree) (old new : T)
+    (levels less once : List T) (kind : ItemKind) (name : Option Name) (header : List TokenTree)
+    → Requires trees (stack of levels) → levels ≡ less ++ old ∷ []
+    → BeginsWithItem (of old) kind name header [] (of new) → once ≡ less ++ new ∷ []
+    → Requires trees (stack of once)
+requires_alone of trees old new levels less once kind name header h split found pushed whole is =
+    subst (λ ls. (os : List Outline) × AreOutlines ls os) (sym (stack_last of once less new pushed))
+    (requires-pop [] (of new ∷ stack of less) (requires-more (of old) (of new) [] (stack of less) kind name header found
+    (subst (λ ls. (os : List Outline) × AreOutlines ls os) (stack_last of levels less old split) (h whole is))))
 
 -- ---- no outline
 
 -- what is left is no item
-first-stops : (old : Items) (outer : List Items) → (old.left.now ≡ [] → ⊥)
-    → ((part rest : List TokenTree) → Reads IsAnyItem old.left.now part rest → ⊥)
+first-stops : (old : List TokenTree) (outer : List (List TokenTree)) → (old ≡ [] → ⊥)
+    → ((part rest : List TokenTree) → Reads IsAnyItem old part rest → ⊥)
     → (os : List Outline) × AreOutlines (old ∷ outer) os → ⊥
 first-stops old outer some never ([], are) = are
 first-stops old outer some never (nothing ∷ os, are) = some are.0
 first-stops old outer some never (item kind name header within after ∷ os, ((items, rest, begins, is, also), more)) =
     never begins.part rest begins.read
 
-pub item_stops : (trees : List TokenTree) (old : Items) (levels less : List Items)
-    → Requires trees (reverse levels) → levels ≡ less ++ old ∷ [] → (old.left.now ≡ [] → ⊥)
-    → ((part rest : List TokenTree) → Reads IsAnyItem old.left.now part rest → ⊥)
+pub item_stops : {T : Type 0} (of : T → List TokenTree) (trees : List TokenTree) (old : T) (levels less : List T)
+    → Requires trees (stack of levels) → levels ≡ less ++ old ∷ [] → (of old ≡ [] → ⊥)
+    → ((part rest : List TokenTree) → Reads IsAnyItem (of old) part rest → ⊥)
     → (whole : Outline) → IsTreesOutline trees whole → ⊥
-item_stops trees old levels less h split some never whole is =
-    first-stops old (reverse less) some never
-    (subst (λ ls. (os : List Outline) × AreOutlines ls os) (ap reverse split ∙ reverse-append less (old ∷ []))
-    (h whole is))
+item_stops of trees old levels less h split some never whole is =
+    first-stops (of old) (stack of less) some never
+    (subst (λ ls. (os : List Outline) × AreOutlines ls os) (stack_last of levels less old split) (h whole is))
 
 -- what is left begins with an item that has no outline
-first-closed : (old new : Items) (outer : List Items) (it : AnyItem)
-    → Reads IsAnyItem old.left.now it.trees.now new.left.now → TellsOf old.left.now new.left.now it → NeverOpens it
+first-closed : (old new part : List TokenTree) (outer : List (List TokenTree)) (kind : ItemKind) (name : Option Name)
+    → Reads IsAnyItem old part new → Tells old new kind name → NeverIs kind part
     → (os : List Outline) × AreOutlines (old ∷ outer) os → ⊥
-first-closed old new outer it reads told never ([], are) = are
-first-closed old new outer it reads told never (nothing ∷ os, are) =
-    not_before old.left.now it.trees.now new.left.now reads are.0
-first-closed old new outer it reads told never
-    (item kind name header within after ∷ os, ((items, rest, begins, is, also), more)) =
-    let only = split_only any_item old.left.now it.trees.now new.left.now reads begins.part rest begins.read in
-    let told2 : Tells old.left.now new.left.now kind name =
-    subst (λ ts. Tells old.left.now ts kind name) only.1 begins.told in
-    let kinds : kind ≡ it.kind =
-    kind_only old.left.now new.left.now it.kind kind told.0 name told.1 told2 in
+first-closed old new part outer kind name reads told never ([], are) = are
+first-closed old new part outer kind name reads told never (nothing ∷ os, are) = not_before old part new reads are.0
+first-closed old new part outer kind name reads told never
+    (item kind2 name2 header within after ∷ os, ((items, rest, begins, is, also), more)) =
+    let only = split_only any_item old part new reads begins.part rest begins.read in
+    let told2 : Tells old new kind2 name2 = subst (λ ts. Tells old ts kind2 name2) only.1 begins.told in
+    let kinds : kind2 ≡ kind = kind_only old new kind kind2 name name2 told told2 in
     never begins.attributes header items
     (subst (λ ts. Reads AreAttributes ts begins.attributes header) only.0 begins.front)
-    (subst (λ k. AreInside (body_of k it.trees.now) items) kinds
-    (subst (λ ts. AreInside (body_of kind ts) items) only.0 begins.inside))
+    (subst (λ k. AreInside (body_of k part) items) kinds
+    (subst (λ ts. AreInside (body_of kind2 ts) items) only.0 begins.inside))
 
-pub closed_stops : (trees : List TokenTree) (old new : Items) (levels less : List Items) (it : AnyItem)
-    → Requires trees (reverse levels) → levels ≡ less ++ old ∷ []
-    → Reads IsAnyItem old.left.now it.trees.now new.left.now → TellsOf old.left.now new.left.now it → NeverOpens it
+pub closed_stops : {T : Type 0} (of : T → List TokenTree) (trees : List TokenTree) (old : T) (levels less : List T)
+    (part new : List TokenTree) (kind : ItemKind) (name : Option Name)
+    → Requires trees (stack of levels) → levels ≡ less ++ old ∷ []
+    → Reads IsAnyItem (of old) part new → Tells (of old) new kind name → NeverIs kind part
     → (whole : Outline) → IsTreesOutline trees whole → ⊥
-closed_stops trees old new levels less it h split reads told never whole is =
-    first-closed old new (reverse less) it reads told never
-    (subst (λ ls. (os : List Outline) × AreOutlines ls os) (ap reverse split ∙ reverse-append less (old ∷ []))
-    (h whole is))
+closed_stops of trees old levels less part new kind name h split reads told never whole is =
+    first-closed (of old) new part (stack of less) kind name reads told never
+    (subst (λ ls. (os : List Outline) × AreOutlines ls os) (stack_last of levels less old split) (h whole is))
 
 -- ---- whether some are left
 

@@ -1,7 +1,7 @@
 -- What is left to list.
 use Rattle.std.proofs.Common.{◌≡◌, refl, sym, ◌∙◌, ap, subst, ℕ, suc, List, [], ◌∷◌, ◌++◌, length, map}
 use Rattle.std.proofs.Common.{append_assoc, append-nil, reverse, Option, Some, None, MatchOption}
-use Rattle.std.proofs.lemmas.List.{length-reverse, reverse-append}
+use Rattle.std.proofs.lemmas.List.{length-map, length-reverse, reverse-append}
 use Rattle.std.specs.Borrow.{Bor}
 use Rattle.std.specs.Prelude.{option_copied}
 use Rattle.pm_token.specs.Leaf.{Name}
@@ -20,11 +20,11 @@ use Rattle.outline.specs.Outline.{is_listed, item, last_of, listed, nothing, see
 use Rattle.outline.specs.declared.entries.Entry.{Entry as Given}
 
 -- the items that are left, the innermost first
-abbrev pub AreOutlines : List Items → List Outline → Type 0
+abbrev pub AreOutlines : List (List TokenTree) → List Outline → Type 0
 AreOutlines [] [] = Unit {0}
 AreOutlines [] (o ∷ os) = ⊥
 AreOutlines (items ∷ outer) [] = ⊥
-AreOutlines (items ∷ outer) (o ∷ os) = IsOutline items.left.now o × AreOutlines outer os
+AreOutlines (items ∷ outer) (o ∷ os) = IsOutline items o × AreOutlines outer os
 
 -- the declarations among them
 abbrev pub rests : List Outline → List Entry
@@ -32,54 +32,65 @@ rests [] = []
 rests (o ∷ os) = entries_onto (length os) o (rests os)
 
 -- those that were found, and those of what is left, are those of all items
-abbrev pub Completes : List TokenTree → List Given → List Items → Type 0
+abbrev pub Completes : List TokenTree → List Entry → List (List TokenTree) → Type 0
 Completes trees found levels =
     (os : List Outline) → AreOutlines levels os
-    → (whole : Outline) × IsTreesOutline trees whole × (map seen found ++ rests os ≡ entries_of whole)
+    → (whole : Outline) × IsTreesOutline trees whole × (found ++ rests os ≡ entries_of whole)
 
-completes-one : (trees : List TokenTree) (items : Items)
-    → ((inner : List TokenTree) × Reads AreInnerAttributes trees inner items.left.now)
+-- what is left of levels, the innermost first, by what is left of each. They stand with the innermost last
+abbrev pub stack : {T : Type 0} → (T → List TokenTree) → List T → List (List TokenTree)
+stack of levels = map of (reverse levels)
+
+pub stack_last : {T : Type 0} (of : T → List TokenTree) (levels less : List T) (last : T) → levels ≡ less ++ last ∷ []
+    → stack of levels ≡ of last ∷ stack of less
+stack_last of levels less last split = ap (map of) (ap reverse split ∙ reverse-append less (last ∷ []))
+
+stack_length : {T : Type 0} (of : T → List TokenTree) (levels : List T) → length (stack of levels) ≡ length levels
+stack_length of levels = length-map (reverse levels) of ∙ length-reverse levels
+
+-- the items of a level in the program
+abbrev pub items_left : Items → List TokenTree
+items_left items = items.left.now
+
+-- ---- from the first level to the last
+
+completes-one : (trees items : List TokenTree) → ((inner : List TokenTree) × Reads AreInnerAttributes trees inner items)
     → Completes trees [] (items ∷ [])
 completes-one trees items read [] are = absurd are
-completes-one trees items read (o ∷ []) are = (o, (read.0, items.left.now, read.1, are.0), refl)
+completes-one trees items read (o ∷ []) are = (o, (read.0, items, read.1, are.0), refl)
 completes-one trees items read (o ∷ next ∷ os) are = absurd are.1
 
-pub completes_start : (trees : List TokenTree) (items : Items) (found : List Given) (empty levels : List Items)
-    → ((inner : List TokenTree) × Reads AreInnerAttributes trees inner items.left.now) → found ≡ [] → empty ≡ []
-    → levels ≡ empty ++ items ∷ [] → Completes trees found (reverse levels)
-completes_start trees items found empty levels read none is_empty pushed =
-    subst (λ (fs : List Given). Completes trees fs (reverse levels)) (sym none)
-    (subst (λ (ls : List Items). Completes trees [] (reverse ls))
-    (sym (pushed ∙ ap (λ l. l ++ items ∷ []) is_empty)) (completes-one trees items read))
+pub completes_start : {T : Type 0} (of : T → List TokenTree) (trees : List TokenTree) (level : T) (found : List Entry)
+    (empty levels : List T) → ((inner : List TokenTree) × Reads AreInnerAttributes trees inner (of level))
+    → found ≡ [] → empty ≡ [] → levels ≡ empty ++ level ∷ [] → Completes trees found (stack of levels)
+completes_start of trees level found empty levels read none is_empty pushed =
+    let one : stack of levels ≡ of level ∷ [] =
+    stack_last of levels empty level pushed ∙ ap (λ l. of level ∷ stack of l) is_empty in
+    subst (λ (fs : List Entry). Completes trees fs (stack of levels)) (sym none)
+    (subst (Completes trees []) (sym one) (completes-one trees (of level) read))
 
-completes-pop : (trees : List TokenTree) (found : List Given) (items : Items) (outer : List Items)
-    → items.left.now ≡ [] → Completes trees found (items ∷ outer) → Completes trees found outer
+completes-pop : (trees : List TokenTree) (found : List Entry) (items : List TokenTree) (outer : List (List TokenTree))
+    → items ≡ [] → Completes trees found (items ∷ outer) → Completes trees found outer
 completes-pop trees found items outer none h os are = h (nothing ∷ os) (none, are)
 
-pub completes_pop : (trees : List TokenTree) (found : List Given) (items : Items) (levels less : List Items)
-    → items.left.now ≡ [] → levels ≡ less ++ items ∷ []
-    → Completes trees found (reverse levels) → Completes trees found (reverse less)
-completes_pop trees found items levels less none split h =
-    completes-pop trees found items (reverse less) none
-    (subst (Completes trees found) (ap reverse split ∙ reverse-append less (items ∷ [])) h)
+pub completes_pop : {T : Type 0} (of : T → List TokenTree) (trees : List TokenTree) (found : List Entry) (last : T)
+    (levels less : List T) → of last ≡ [] → levels ≡ less ++ last ∷ []
+    → Completes trees found (stack of levels) → Completes trees found (stack of less)
+completes_pop of trees found last levels less none split h =
+    completes-pop trees found (of last) (stack of less) none
+    (subst (Completes trees found) (stack_last of levels less last split) h)
 
-completes-all : (trees : List TokenTree) (found : List Given) → Completes trees found []
-    → (whole : Outline) × IsTreesOutline trees whole × (map seen found ≡ entries_of whole)
+completes-all : (trees : List TokenTree) (found : List Entry) → Completes trees found []
+    → (whole : Outline) × IsTreesOutline trees whole × (found ≡ entries_of whole)
 completes-all trees found h =
     let all = h [] tt in
-    (all.0, all.1, sym (append-nil (map seen found)) ∙ all.2)
+    (all.0, all.1, sym (append-nil found) ∙ all.2)
 
-pub completes_all : (trees : List TokenTree) (found : List Given) (levels : List Items) → levels ≡ []
-    → Completes trees found (reverse levels)
-    → (whole : Outline) × IsTreesOutline trees whole × (map seen found ≡ entries_of whole)
-completes_all trees found levels none h =
-    completes-all trees found (subst (λ (os : List Items). Completes trees found (reverse os)) none h)
-
-as_many : (outer : List Items) (os : List Outline) → AreOutlines outer os → length outer ≡ length os
-as_many [] [] are = refl
-as_many [] (o ∷ os) are = absurd are
-as_many (items ∷ outer) [] are = absurd are
-as_many (items ∷ outer) (o ∷ os) are = ap suc (as_many outer os are.1)
+pub completes_all : {T : Type 0} (of : T → List TokenTree) (trees : List TokenTree) (found : List Entry)
+    (levels : List T) → levels ≡ [] → Completes trees found (stack of levels)
+    → (whole : Outline) × IsTreesOutline trees whole × (found ≡ entries_of whole)
+completes_all of trees found levels none h =
+    completes-all trees found (subst (λ os. Completes trees found (stack of os)) none h)
 
 -- ---- an item
 
@@ -88,6 +99,11 @@ same_name : (name : Option Name) (given : Option (Bor Name))
 same_name name None is = is
 same_name name (Some ident) is = is
 
+pub told_copied : (trees rest : List TokenTree) (it : AnyItem) → TellsOf trees rest it
+    → Tells trees rest it.kind (option_copied it.name)
+told_copied trees rest it told =
+    subst (λ name. Tells trees rest it.kind name) (same_name told.0 it.name told.2) told.1
+
 pub begins_with : (trees rest : List TokenTree) (depth : ℕ) (it : AnyItem) (entry : Given) (inside : Items)
     → Reads IsAnyItem trees it.trees.now rest → TellsOf trees rest it → Opens depth it entry inside
     → BeginsWithItem trees it.kind (option_copied it.name) entry.header.now inside.left.now rest
@@ -95,57 +111,73 @@ begins_with trees rest depth it entry inside reads told opens = record {
   part = it.trees.now;
   attributes = opens.attributes;
   read = reads;
-  told = subst (λ name. Tells trees rest it.kind name) (same_name told.0 it.name told.2) told.1;
+  told = told_copied trees rest it told;
   front = opens.front;
   inside = opens.holds;
 }
 
-completes-item : (trees : List TokenTree) (found more : List Given) (old new inside : Items) (outer : List Items)
-    (kind : ItemKind) (name : Option Name) (header : List TokenTree) (entry : Given)
-    → Completes trees found (old ∷ outer)
-    → BeginsWithItem old.left.now kind name header inside.left.now new.left.now
-    → seen entry ≡ entry_of (length outer) kind name header
-    → map seen more ≡ map seen found ++ listed (is_listed kind name) (seen entry)
-    → Completes trees more (inside ∷ new ∷ outer)
-completes-item trees found more old new inside outer kind name header entry h begins is put [] are = absurd are
-completes-item trees found more old new inside outer kind name header entry h begins is put (o ∷ []) are =
-    absurd are.1
-completes-item trees found more old new inside outer kind name header entry h begins is put (o ∷ after ∷ os) are =
-    let all = h (item kind name header o after ∷ os)
-    ((inside.left.now, new.left.now, begins, are.0, are.1.0), are.1.1) in
+as_many : (outer : List (List TokenTree)) (os : List Outline) → AreOutlines outer os → length outer ≡ length os
+as_many [] [] are = refl
+as_many [] (o ∷ os) are = absurd are
+as_many (items ∷ outer) [] are = absurd are
+as_many (items ∷ outer) (o ∷ os) are = ap suc (as_many outer os are.1)
+
+-- those that were found are followed by this one, if it is listed
+abbrev pub IsPut : List Entry → List Entry → ℕ → ItemKind → Option Name → List TokenTree → Type 0
+IsPut found more depth kind name header =
+    more ≡ found ++ listed (is_listed kind name) (entry_of depth kind name header)
+
+completes-item : (trees : List TokenTree) (found more : List Entry) (old new inside : List TokenTree)
+    (outer : List (List TokenTree)) (kind : ItemKind) (name : Option Name) (header : List TokenTree)
+    → Completes trees found (old ∷ outer) → BeginsWithItem old kind name header inside new
+    → IsPut found more (length outer) kind name header → Completes trees more (inside ∷ new ∷ outer)
+completes-item trees found more old new inside outer kind name header h begins put [] are = absurd are
+completes-item trees found more old new inside outer kind name header h begins put (o ∷ []) are = absurd are.1
+completes-item trees found more old new inside outer kind name header h begins put (o ∷ after ∷ os) are =
+    let all = h (item kind name header o after ∷ os) ((inside, new, begins, are.0, are.1.0), are.1.1) in
     let later : List Entry = entries_onto (suc (length os)) o (entries_onto (length os) after (rests os)) in
-    let here : seen entry ≡ entry_of (length os) kind name header =
-    is ∙ ap (λ n. entry_of n kind name header) (as_many outer os are.1.1) in (
+    let here : more ≡ found ++ listed (is_listed kind name) (entry_of (length os) kind name header) =
+    put ∙ ap (λ n. found ++ listed (is_listed kind name) (entry_of n kind name header)) (as_many outer os are.1.1) in (
       all.0,
       all.1,
-      ap (λ xs. xs ++ later) (put ∙ ap (λ e. map seen found ++ listed (is_listed kind name) e) here)
-          ∙ append_assoc (map seen found) _ later ∙ all.2,
+      ap (λ xs. xs ++ later) here ∙ append_assoc found _ later ∙ all.2,
     )
 
-pub completes_item : (trees : List TokenTree) (found more : List Given) (old new inside : Items)
-    (levels less once twice : List Items) (depth : ℕ) (it : AnyItem) (entry : Given)
-    → Completes trees found (reverse levels) → levels ≡ less ++ old ∷ []
-    → Reads IsAnyItem old.left.now it.trees.now new.left.now → TellsOf old.left.now new.left.now it
-    → Opens depth it entry inside → depth ≡ length less
+pub completes_item : {T : Type 0} (of : T → List TokenTree) (trees : List TokenTree) (found more : List Entry)
+    (old new inside : T) (levels less once twice : List T) (kind : ItemKind) (name : Option Name)
+    (header : List TokenTree) → Completes trees found (stack of levels) → levels ≡ less ++ old ∷ []
+    → BeginsWithItem (of old) kind name header (of inside) (of new)
+    → IsPut found more (length less) kind name header → once ≡ less ++ new ∷ [] → twice ≡ once ++ inside ∷ []
+    → Completes trees more (stack of twice)
+completes_item of trees found more old new inside levels less once twice kind name header h split begins put pushed
+    again =
+    subst (Completes trees more)
+    (sym (stack_last of twice once inside again ∙ ap (λ l. of inside ∷ l) (stack_last of once less new pushed)))
+    (completes-item trees found more (of old) (of new) (of inside) (stack of less) kind name header
+    (subst (Completes trees found) (stack_last of levels less old split) h) begins
+    (subst (λ n. IsPut found more n kind name header) (sym (stack_length of less)) put))
+
+-- the same of one in which there are no items
+pub completes_alone : {T : Type 0} (of : T → List TokenTree) (trees : List TokenTree) (found more : List Entry)
+    (old new : T) (levels less once : List T) (kind : ItemKind) (name : Option Name) (header : List TokenTree)
+    → Completes trees found (stack of levels) → levels ≡ less ++ old ∷ []
+    → BeginsWithItem (of old) kind name header [] (of new) → IsPut found more (length less) kind name header
+    → once ≡ less ++ new ∷ [] → Completes trees more (stack of once)
+completes_alone of trees found more old new levels less once kind name header h split begins put pushed =
+    subst (Completes trees more) (sym (stack_last of once less new pushed))
+    (completes-pop trees more [] (of new ∷ stack of less) refl
+    (completes-item trees found more (of old) (of new) [] (stack of less) kind name header
+    (subst (Completes trees found) (stack_last of levels less old split) h) begins
+    (subst (λ n. IsPut found more n kind name header) (sym (stack_length of less)) put)))
+
+-- what was put in after it was seen
+pub is_put : (found more : List Given) (entry : Given) (depth size : ℕ) (it : AnyItem) (inside : Items)
+    → Opens depth it entry inside → depth ≡ size
     → map seen more ≡ map seen found ++ listed (is_listed entry.kind (option_copied entry.name)) (seen entry)
-    → once ≡ less ++ new ∷ [] → twice ≡ once ++ inside ∷ [] → Completes trees more (reverse twice)
-completes_item trees found more old new inside levels less once twice depth it entry h split reads told opens deep
-    put pushed again =
-    let kind : entry.kind ≡ it.kind = ap (λ (e : Entry). e.kind) opens.is in
-    let name : option_copied entry.name ≡ option_copied it.name = ap (λ (e : Entry). e.name) opens.is in
-    let there : depth ≡ length (reverse less) = deep ∙ sym (length-reverse less) in
-    let here : seen entry ≡ entry_of (length (reverse less)) it.kind (option_copied it.name) entry.header.now =
-    opens.is ∙ ap (λ (n : ℕ). entry_of n it.kind (option_copied it.name) entry.header.now) there in
-    let puts : map seen more ≡ map seen found ++ listed (is_listed it.kind (option_copied it.name)) (seen entry) =
-    subst (λ k. map seen more ≡ map seen found ++ listed (is_listed k (option_copied it.name)) (seen entry)) kind
-    (subst (λ n. map seen more ≡ map seen found ++ listed (is_listed entry.kind n) (seen entry)) name put) in
-    let stack : reverse twice ≡ inside ∷ new ∷ reverse less =
-    ap reverse again ∙ (reverse-append once (inside ∷ []) ∙ ap (λ l. inside ∷ l)
-    (ap reverse pushed ∙ reverse-append less (new ∷ []))) in
-    subst (Completes trees more) (sym stack)
-    (completes-item trees found more old new inside (reverse less) it.kind (option_copied it.name) entry.header.now
-    entry (subst (Completes trees found) (ap reverse split ∙ reverse-append less (old ∷ [])) h)
-    (begins_with old.left.now new.left.now depth it entry inside reads told opens) here puts)
+    → IsPut (map seen found) (map seen more) size it.kind (option_copied it.name) entry.header.now
+is_put found more entry depth size it inside opens deep put =
+    subst (λ n. IsPut (map seen found) (map seen more) n it.kind (option_copied it.name) entry.header.now) deep
+    (subst (λ (e : Entry). map seen more ≡ map seen found ++ listed (is_listed e.kind e.name) e) opens.is put)
 
 -- ---- the tree before the last
 

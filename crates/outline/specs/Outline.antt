@@ -113,11 +113,16 @@ pub record Opens (depth : ℕ) (item : AnyItem) (entry : Given) (inside : Items)
   pub is : seen entry ≡ entry_of depth item.kind (option_copied item.name) entry.header.now
   pub holds : AreInside (body_of item.kind item.trees.now) inside.left.now
 
--- it has none: it doesn't begin with attributes, or holds no items where some should be
+-- an item of this kind and these trees has none: it doesn't begin with attributes, or holds no items where some should
+-- be
+abbrev pub NeverIs : ItemKind → List TokenTree → Type 0
+NeverIs kind part =
+    (attributes header items : List TokenTree) → Reads AreAttributes part attributes header
+    → AreInside (body_of kind part) items → ⊥
+
+-- this item has none
 abbrev pub NeverOpens : AnyItem → Type 0
-NeverOpens it =
-    (attributes header items : List TokenTree) → Reads AreAttributes it.trees.now attributes header
-    → AreInside (body_of it.kind it.trees.now) items → ⊥
+NeverOpens it = NeverIs it.kind it.trees.now
 
 -- ---- where it stands
 

@@ -10,15 +10,18 @@ ghost use Rattle.outline.specs.Line.{line_of, seen as seen_line};
 ghost use Rattle.outline.specs.Outline.{first_of, last_of, seen};
 
 use crate::entries::{Entry, Stop, entries, first_of, last_of};
+use crate::levels::lines_in;
 use crate::lines::{Shown, line_of};
 use crate::names::one_line;
 use crate::options::Form;
 use declarations::Fault;
 use messages::Failure;
 use pm_span::Span;
+use pm_span::parts::{add_file, fits};
 use pm_token::Ident;
 use proc_macro2::{LineColumn, SourceMap, TokenStream};
 use std::alloc::{AllocError, Global};
+use token_buffer::{BufferError, TokenBuffer};
 
 /// Where a file has what is no declaration.
 #[derive(Clone, Copy)]
@@ -43,6 +46,43 @@ pub fn lines_of(
     ensures none { IfOk result (λ found. IfErr found (λ unlisted. IsUnlisted (chars text.now))) }
     ensures err { IfErr result (MayFail (chars text.now) None None) }
 {
+    let map = map_of(alloc, text)?;
+    let buffer = match TokenBuffer::new(alloc, text) {
+        Ok(buffer) => buffer,
+        Err(BufferError::Parse(error)) => return Err(Failure::unparsed(error, &map)),
+        Err(BufferError::TooLong) => return lines_by_trees(alloc, form, path, text),
+    };
+    match lines_in(alloc, form, path, &map, buffer.begin())? {
+        Ok(lines) => Ok(Ok(lines)),
+        Err(stop) => Ok(Err(stop.unlisted(&map))),
+    }
+}
+
+// The map of this text alone.
+fn map_of(alloc: Global, text: &str) -> Result<SourceMap, Failure>
+    ensures ok { IfOk result (λ map. map ≡ with_file new_map (chars text.now)) }
+    ensures err { IfErr result (MayFail (chars text.now) None None) }
+{
+    let mut map = SourceMap::new(alloc);
+    if fits(&map, text).is_none() {
+        return Err(Failure::MapFull);
+    }
+    add_file(&mut map, text)?;
+    Ok(map)
+}
+
+// The same of a text that has too many bytes or tokens for a buffer: all of its trees are made.
+fn lines_by_trees(
+    alloc: Global,
+    form: Form,
+    path: &str,
+    text: &str,
+) -> Result<Result<Vec<String>, Unlisted>, Failure>
+    ensures ok { IfOk result (λ found. IfOk found (λ lines.
+        Lists form path.now (chars text.now) (mapped string_bytes lines.items))) }
+    ensures none { IfOk result (λ found. IfErr found (λ unlisted. IsUnlisted (chars text.now))) }
+    ensures err { IfErr result (MayFail (chars text.now) None None) }
+{
     let mut map = SourceMap::new(alloc);
     let stream = match TokenStream::from_str(text, &mut map) {
         Ok(stream) => stream,
@@ -50,10 +90,7 @@ pub fn lines_of(
     };
     match entries(alloc, stream.trees())? {
         Ok(entries) => Ok(Ok(all_lines(alloc, form, path, &map, entries.as_slice())?)),
-        Err(stop) => Ok(Err(Unlisted {
-            start: stop.place(&map),
-            fault: stop.fault,
-        })),
+        Err(stop) => Ok(Err(stop.unlisted(&map))),
     }
 }
 
@@ -77,8 +114,8 @@ fn all_lines(
     Ok(lines)
 }
 
-// The line of an entry of the map's one text.
-fn entry_line(
+/// The line of an entry of the map's one text.
+pub fn entry_line(
     alloc: Global,
     form: Form,
     path: &str,
@@ -167,6 +204,13 @@ fn start_of(span: Span, map: &SourceMap) -> LineColumn
 }
 
 impl Stop {
+    // What is said of it.
+    fn unlisted(self, map: &SourceMap) -> Unlisted {
+        let fault = self.fault;
+        let start = self.place(map);
+        Unlisted { start, fault }
+    }
+
     // Where the fault stands: at its tree, or after the last one.
     fn place(self, map: &SourceMap) -> LineColumn {
         if let Some(span) = self.fault.span {

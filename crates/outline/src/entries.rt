@@ -93,8 +93,8 @@ fn push_listed<'a>(entries: &mut Vec<Entry<'a>>, entry: Entry<'a>) -> Result<(),
     Ok(())
 }
 
-// Whether an item is listed: it has a name, or a header in place of one.
-fn is_listed(entry: &Entry<'_>) -> bool
+/// Whether an item is listed: it has a name, or a header in place of one.
+pub fn is_listed(entry: &Entry<'_>) -> bool
     ensures { result ≡ is_listed entry.now.kind (option_copied entry.now.name) }
 {
     match entry.kind {
@@ -143,8 +143,8 @@ fn items_in<'a>(item: &AnyItem<'a>) -> Result<Items<'a>, Stop>
     }
 }
 
-// The entry of an item that is in so many.
-fn entry_of<'a>(depth: usize, item: &AnyItem<'a>) -> Result<Entry<'a>, Stop>
+/// The entry of an item that is in so many.
+pub fn entry_of<'a>(depth: usize, item: &AnyItem<'a>) -> Result<Entry<'a>, Stop>
     ensures ok { IfOk result (λ entry. (attributes : List Tree)
         × Reads AreAttributes item.now.trees.now attributes entry.header.now
         × (seen entry ≡ entry_of depth item.now.kind (option_copied item.now.name) entry.header.now)) }
@@ -186,8 +186,8 @@ pub fn last_of(trees: &[TokenTree]) -> Span
 }
 
 impl Stop {
-    // The fault of these trees.
-    fn at(fault: Fault, trees: &[TokenTree]) -> Stop {
+    /// The fault of these trees.
+    pub fn at(fault: Fault, trees: &[TokenTree]) -> Stop {
         let last = match trees.split_last() {
             Some((last, _)) => Some(last.span()),
             None => None,

@@ -18,6 +18,8 @@
 mod answer;
 mod entries;
 mod files;
+mod level;
+mod levels;
 mod lines;
 mod names;
 mod options;

@@ -6,5 +6,6 @@ pub mod FilledLemmas
 pub mod LifetimeLemmas
 mod MerelyBuiltLemmas
 mod MadeLemmas
+mod OuterLemmas
 mod PartLemmas
 mod StringLemmas

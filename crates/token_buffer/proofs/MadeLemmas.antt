@@ -15,7 +15,7 @@ use Rattle.token_buffer.proofs.HeldLemmas.{joined_nil}
 use Rattle.token_buffer.proofs.MerelyBuiltLemmas.{merely_built}
 use Rattle.token_buffer.specs.declared.trees.OpenTrees.{OpenTrees}
 
-joined_joined : (f g k : Forest) → joined (joined f g) k ≡ joined f (joined g k)
+pub joined_joined : (f g k : Forest) → joined (joined f g) k ≡ joined f (joined g k)
 joined_joined nil g k = refl
 joined_joined (leaf t lo hi f) g k = ap (leaf t lo hi) (joined_joined f g k)
 joined_joined (group d lo hi f h) g k = ap (group d lo hi f) (joined_joined h g k)

@@ -28,7 +28,7 @@ AreEntries text (frame ∷ frames) (group ∷ groups) all trees =
     (before : List Entry) × (inner : List Entry) × IsInnermost text frame group trees all before inner
     × AreEntries text frames groups before group.outer
 
--- these open groups and trees, which need not be there, were put in
+-- these open groups and trees were put into the buffer
 abbrev pub Fills : List ℕ → Filling → List Opened → Forest → Type 0
 Fills text filling groups trees = AreEntries text (reverse filling.groups.items) groups filling.entries.items trees
 
@@ -40,12 +40,12 @@ pub record FillsMore (text : List ℕ) (filling : Filling) (groups : List Opened
   pub fills : Fills text filling groups_now trees_now
   pub grows : unclosed_onto groups_now trees_now [] ≡ unclosed_onto groups trees events
 
--- the step put in these events more
+-- the step put the tokens and delimiters of these events into the buffer
 abbrev pub FillsEvents : List ℕ → Filling → Filling → List Event → Type 0
 FillsEvents text old new events = (groups : List Opened) (trees : Forest) → Fills text old groups trees
     → FillsMore text new groups trees events
 
--- something was put in
+-- some open groups and trees were put into the buffer
 pub record IsFilling (filling : Filling) : Type 0 where
   pub text : List ℕ
   pub groups : List Opened

@@ -8,6 +8,7 @@ pub mod Many
 pub mod Message
 pub mod Reads
 pub mod Made
+pub mod Outer
 pub mod Parts
 pub mod Strings
 pub mod Compared

@@ -1,5 +1,6 @@
--- What is said of a buffer that isn't made.
-use Rattle.std.specs.Prelude.{ℕ, List, codes}
+-- What is said of a buffer that isn't made, and where its text has a fault.
+use Rattle.std.specs.Prelude.{ℕ, List, Option, None, codes}
+use Rattle.pm_span.specs.Extent.{Extent}
 use Rattle.pm_token.specs.Message as parsing
 use Rattle.token_buffer.specs.declared.errors.BufferError.{BufferError}
 use Rattle.token_buffer.specs.declared.errors.BufferError.TheVariants.{Parse, TooLong}
@@ -7,3 +8,8 @@ use Rattle.token_buffer.specs.declared.errors.BufferError.TheVariants.{Parse, To
 abbrev pub message : BufferError → List ℕ
 message (Parse error) = parsing.message error
 message TooLong = codes "text too long"
+
+-- the span of the fault
+abbrev pub fault_span : BufferError → Option Extent
+fault_span (Parse error) = parsing.fault_span error
+fault_span TooLong = None

@@ -18,7 +18,7 @@ use Rattle.token_buffer.specs.declared.cursor.TokenText.TheVariants as texts
 abbrev pub left : Cursor → Forest
 left cursor = trees_of cursor.text.now cursor.entries.now
 
--- the text of a literal
+-- the text of a literal as it is written
 abbrev pub literal_text : LiteralText → List ℕ
 literal_text (literals.Source text) = chars text.now
 literal_text (literals.Doc text) = string_text (chars text.now)
@@ -32,22 +32,24 @@ abbrev pub BeginsWithGroup : Delimiter → Cursor → Cursor → Cursor → Type
 BeginsWithGroup d cursor inside after =
     (lo : ℕ) × (hi : ℕ) × (left cursor ≡ group d lo hi (left inside) (left after))
 
--- this comes first
+-- the token or group comes first, and the cursors are those after it and inside it
 abbrev pub Begins : TokenText → Cursor → Cursor → Type 0
 Begins (texts.Ident name) cursor rest = BeginsWith (Name name.raw (chars name.text.now)) cursor rest
 Begins (texts.Punct mark spacing) cursor rest = BeginsWith (Mark mark (is_joint spacing)) cursor rest
 Begins (texts.Literal literal) cursor rest = BeginsWith (Literal (literal_text literal)) cursor rest
 Begins (texts.Group delimiter inside) cursor rest = BeginsWithGroup delimiter cursor inside rest
 
--- whether an identifier comes first; a mark; a literal
+-- whether an identifier comes first
 abbrev pub name_first : Forest → Bool
 name_first (leaf (Name raw name) lo hi rest) = true
 name_first _ = false
 
+-- whether a mark comes first
 abbrev pub mark_first : Forest → Bool
 mark_first (leaf (Mark c joint) lo hi rest) = true
 mark_first _ = false
 
+-- whether a literal comes first
 abbrev pub literal_first : Forest → Bool
 literal_first (leaf (Literal text) lo hi rest) = true
 literal_first _ = false
@@ -57,13 +59,13 @@ abbrev pub lifetime_first : Forest → Bool
 lifetime_first (leaf (Mark c joint) lo hi rest) = (c == 39) && joint && name_first rest
 lifetime_first _ = false
 
--- how the group that comes first is delimited
+-- the delimiter of the group that comes first, if one does
 abbrev pub group_first : Forest → Option Delimiter
 group_first nil = None
 group_first (leaf token lo hi rest) = None
 group_first (group d lo hi inside rest) = Some d
 
--- where the first tree stands
+-- the span of the first tree
 abbrev pub first_extent : Forest → Option Extent
 first_extent nil = None
 first_extent (leaf token lo hi rest) = Some (record { lo = lo; hi = hi })

@@ -3,18 +3,33 @@ ghost use Rattle.std.specs.Prelude.{◌≡◌};
 ghost use Rattle.pm_token.specs.declared.errors.ParseError.TheVariants.{Memory};
 ghost use Rattle.token_buffer.specs.declared.errors.BufferError.TheVariants.{Parse};
 
+use pm_span::Span;
 use pm_token::ParseError;
 use std::alloc::{AllocError, AllocFailed};
 use std::error::Error;
 use std::fmt;
 
 /// Why a buffer was not made.
-#[derive(Debug, Drop)]
+#[derive(Debug, Drop, PartialEq)]
 pub enum BufferError {
     /// The text wasn't read.
     Parse(ParseError),
     /// The text has more than 4294967295 bytes, or more tokens.
     TooLong,
+}
+
+impl BufferError {
+    ghost use Rattle.token_buffer.specs.Message.{fault_span};
+
+    /// Where the fault of the text stands, as [`ParseError::span`] has it; `None` if the text has no fault.
+    pub fn span(&self) -> Option<Span>
+        ensures { result ≡ fault_span self.now }
+    {
+        match self {
+            BufferError::Parse(error) => error.span(),
+            BufferError::TooLong => None,
+        }
+    }
 }
 
 impl fmt::Display for BufferError {

@@ -1,11 +1,31 @@
-use Rattle.std.proofs.Common.{Err, None, ap}
-use Rattle.messages.proofs.ParsedLemmas.{unparsed_may_fail}
-use Rattle.proc_macro2.specs.declared.TokenStream.{TokenStream}
+use Rattle.std.proofs.Common.{Err, ap, map, string_bytes, sym, ◌∙◌}
+use Rattle.std.specs.Str.{chars}
+use Rattle.token_buffer.specs.declared.errors.BufferError.TheVariants.{Parse}
+use Rattle.outline.proofs.AnswerLemmas.{buffer_lists, buffer_unlisted, fault_is_held, lex_of, unread_may_fail}
 use Rattle.outline.proofs.answer.lines_of.Goals as goal
 
-pub returns-in-Err-clause-err : goal.returns-in-Err-clause-err
-returns-in-Err-clause-err c =
-    let full = rw c.new-map.ensures at c.in-Err.ensures.map_full.0 in
-    unparsed_may_fail TokenStream _ None _ _ _ (rw c.new-map.ensures at c.in-Err.ensures.kept)
-    (rw c.new-map.ensures at c.in-Err.ensures.lex) (λ is. full (ap Err is))
-    c.unparsed.ensures.fault c.unparsed.ensures.map_full c.unparsed.ensures.memory
+pub unparsed-requires : goal.unparsed-requires
+unparsed-requires c =
+    let is = c.in-Err-Parse.field-0-is ∙ ap Parse (sym c.in-Err-Parse.error-is) in
+    fault_is_held c.in_ok-map.map (chars c.args.text.now) c.in-Err-Parse.error c.in_ok-map.ensures.ok
+    (lex_of c.in-Err-Parse.field-0 c.in-Err-Parse.error is _ c.in-Err-Parse.ensures.lex)
+
+pub returns-in-Err-Parse-clause-err : goal.returns-in-Err-Parse-clause-err
+returns-in-Err-Parse-clause-err c =
+    let is = c.in-Err-Parse.field-0-is ∙ ap Parse (sym c.in-Err-Parse.error-is) in
+    unread_may_fail (chars c.args.text.now) c.in_ok-map.map c.in-Err-Parse.error c.unparsed.result
+    c.in_ok-map.ensures.ok (lex_of c.in-Err-Parse.field-0 c.in-Err-Parse.error is _ c.in-Err-Parse.ensures.lex)
+    (λ full. (c.in-Err-Parse.ensures.map_full.0 (ap Err (is ∙ ap Parse full))).1) c.unparsed.ensures.fault
+    c.unparsed.ensures.map_full c.unparsed.ensures.memory
+
+pub returns-in-Ok-2-clause-ok : goal.returns-in-Ok-2-clause-ok
+returns-in-Ok-2-clause-ok c =
+    let text = chars c.args.text.now in
+    let listed = rw c.in-Ok-2.is at (c.in_ok-lines.ensures.ok text c.in_ok-map.ensures.ok) in
+    buffer_lists c.args.form c.args.path.now text c.in-Ok.buffer c.begin.result
+    (map string_bytes c.in-Ok-2.lines.items) c.in-Ok.ensures.ok c.begin.ensures listed
+
+pub returns-clause-none : goal.returns-clause-none
+returns-clause-none c =
+    let never = rw c.in-Err.is at c.in_ok-lines.ensures.none in
+    buffer_unlisted (chars c.args.text.now) c.in-Ok.buffer c.begin.result c.in-Ok.ensures.ok c.begin.ensures never

@@ -1,0 +1,82 @@
+-- Texts that are read into a buffer, with a map of their own.
+use Rattle.std.proofs.Common.{◌≡◌, ◌∙◌, refl, sym, subst, ℕ, List, None, length}
+use Rattle.std.specs.declared.alloc.AllocError.{AllocError}
+use Rattle.pm_span.specs.Extent.{Extent}
+use Rattle.pm_span.specs.Files.{Files, Fits, Holds, new_map, next_lo, with_file}
+use Rattle.pm_span.specs.Lookup.{StartsAt}
+use Rattle.pm_token.specs.Outcome.{IfLex}
+use Rattle.pm_token.specs.declared.errors.ParseError.{ParseError}
+use Rattle.pm_token.specs.declared.errors.ParseError.TheVariants.{Lex, MapFull, Memory}
+use Rattle.pm_stream.specs.Forest.{Forest}
+use Rattle.pm_stream.specs.Parsing.{FaultAt, ParsesTo}
+use Rattle.pm_stream.specs.Trees.{forest}
+use Rattle.pm_stream.proofs.FaultLemmas.{fault_held}
+use Rattle.pm_stream.proofs.LineColumnLemmas.{fault_starts}
+use Rattle.token_buffer.specs.Reads.{left}
+use Rattle.token_buffer.specs.Refused.{IfParse}
+use Rattle.token_buffer.specs.declared.cursor.Cursor.{Cursor}
+use Rattle.token_buffer.specs.declared.errors.BufferError.{BufferError}
+use Rattle.token_buffer.specs.declared.errors.BufferError.TheVariants.{Parse}
+use Rattle.proc_macro2.specs.declared.LineColumn.{LineColumn}
+use Rattle.messages.specs.Parsed.{MayFail, first}
+use Rattle.messages.specs.declared.errors.Failure.{Failure}
+use Rattle.messages.specs.declared.errors.Failure.TheVariants.{Fault, MapFull as TooLong, Memory as NoMemory}
+use Rattle.messages.proofs.ParsedLemmas.{Keeps-same}
+use Rattle.outline.specs.Answer.{IsUnlisted, Lists, lines_of}
+use Rattle.outline.specs.Levels.{trees_left}
+use Rattle.outline.specs.Outline.{IsTreesOutline, Outline, entries_of}
+use Rattle.outline.specs.declared.options.Form.{Form}
+use Rattle.outline.proofs.LevelLemmas.{forest-trees_in}
+
+-- what the buffer's error says of the text's
+pub lex_of : (failure : BufferError) (error : ParseError) → failure ≡ Parse error → (P : Extent → Type 0)
+    → IfParse failure (λ parse. IfLex parse P) → IfLex error P
+lex_of failure error is P h = subst (λ e. IfParse e (λ parse. IfLex parse P)) is h
+
+-- the map of the text holds its fault
+pub fault_is_held : (map : Files) (text : List ℕ) (error : ParseError) → map ≡ with_file new_map text
+    → IfLex error (λ fault. (fault.lo ≡ fault.hi) × FaultAt (next_lo new_map) text fault.lo) → IfLex error (Holds map)
+fault_is_held map text (Lex fault) is h = subst (λ m. Holds m fault) (sym is) (fault_held new_map text fault h.0 h.1)
+fault_is_held map text MapFull is h = tt
+fault_is_held map text (Memory refused) is h = tt
+
+-- and so what is said of it may be said
+pub unread_may_fail : (text : List ℕ) (map : Files) (error : ParseError) (failure : Failure)
+    → map ≡ with_file new_map text
+    → IfLex error (λ fault. (fault.lo ≡ fault.hi) × FaultAt (next_lo new_map) text fault.lo)
+    → (error ≡ MapFull → Fits new_map (length text) → ⊥)
+    → IfLex error (λ fault. (start : LineColumn) × (failure ≡ Fault start) × StartsAt map fault start)
+    → (error ≡ MapFull → failure ≡ TooLong) → ((refused : AllocError) → error ≡ Memory refused → failure ≡ NoMemory)
+    → MayFail text None None failure
+unread_may_fail text map (Lex fault) failure is stands full (start, said, starts) too_long no_memory =
+    rw said (fault.lo, stands.1, fault_starts new_map map text fault start is stands starts, Keeps-same None)
+unread_may_fail text map MapFull failure is stands full said too_long no_memory =
+    rw (too_long refl) (full refl, Keeps-same None)
+unread_may_fail text map (Memory refused) failure is stands full said too_long no_memory =
+    rw (no_memory refused refl) tt
+
+-- the trees of the buffer's first cursor are those that the text parses to
+begin_parses : (text : List ℕ) (trees : Forest) (begin : Cursor) → ParsesTo first text trees → left begin ≡ trees
+    → ParsesTo first text (forest (trees_left begin))
+begin_parses text trees begin parses is =
+    subst (ParsesTo first text) (sym is ∙ sym (forest-trees_in (left begin))) parses
+
+pub buffer_lists : (form : Form) (path text : List ℕ) (trees : Forest) (begin : Cursor) (lines : List (List ℕ))
+    → ParsesTo first text trees → left begin ≡ trees
+    → ((outline : Outline) × IsTreesOutline (trees_left begin) outline
+    × (lines ≡ lines_of form path text (entries_of outline))) → Lists form path text lines
+buffer_lists form path text trees begin lines parses is (outline, are, each) = record {
+  trees = trees_left begin;
+  parses = begin_parses text trees begin parses is;
+  outline = outline;
+  are = are;
+  each = each;
+}
+
+pub buffer_unlisted : (text : List ℕ) (trees : Forest) (begin : Cursor) → ParsesTo first text trees
+    → left begin ≡ trees → ((outline : Outline) → IsTreesOutline (trees_left begin) outline → ⊥) → IsUnlisted text
+buffer_unlisted text trees begin parses is never = record {
+  trees = trees_left begin;
+  parses = begin_parses text trees begin parses is;
+  never = never;
+}
